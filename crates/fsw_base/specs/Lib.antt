@@ -1,0 +1,9 @@
+pub mod Blocks
+pub mod Clean
+pub mod Events
+pub mod Limits
+pub mod Memory
+pub mod Outside
+pub mod ScriptFaults
+pub mod Starts
+pub mod Statuses

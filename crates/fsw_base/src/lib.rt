@@ -1,0 +1,39 @@
+//! What every layer of the flight software core shares: limits, statuses by their printed names,
+//! small value types, and the traits through which the core meets the outside.
+//!
+//! It promises that each type keeps its range, and that a source or a sink tells a failure only
+//! where its count of faults rose.
+//!
+//! ```text
+//! let app = AppNo::try_new(3).unwrap();       // applications are numbered 1 to 16
+//! let config = Config::usual();               // the usual limits of a mission
+//! config.sizes.class_of(100)                  // Some(6): a block of 128 bytes
+//! ```
+#![tactic(auto)]
+
+mod application;
+mod blocks;
+mod clean;
+mod config;
+mod events;
+mod memory;
+mod outside;
+mod script_faults;
+mod standard;
+mod starts;
+mod statuses;
+
+pub use application::{AppNo, MAX_APPS};
+pub use blocks::{BlockSizes, MAX_BLOCK_SIZE, MAX_BLOCK_SIZES};
+pub use clean::{CleanSink, CleanSource};
+pub use config::{Budget, BusStats, Config, PoolStats, Scope};
+pub use events::{EventKind, FilterList, MAX_FILTERS};
+pub use memory::{MemSink, MemSource};
+pub use outside::{Gate, OpenGate, ReadAnswer, Sink, Source, WriteAnswer};
+pub use script_faults::{FaultKind, ScriptFault, WriteFault};
+pub use standard::{StdSink, StdSource};
+pub use starts::{CountStarts, MAX_STARTS};
+pub use statuses::{EsStatus, EvsStatus, SbStatus};
+
+#[cfg(test)]
+mod tests;
