@@ -1,0 +1,29 @@
+//! The primary header of space packets (CCSDS 133.0-B-2, section 4.1), read and written in place in
+//! a slice of bytes. A packet's message id is its first 16 bits, as the cFE Software Bus uses it.
+//!
+//! Every reader answers the header's fields exactly, every writer changes its field alone, and bytes
+//! are refused exactly where they are no message.
+//!
+//! ```
+//! /// Makes a packet of the whole slice, and gives it a new sequence count.
+//! fn stamp(packet: &mut [u8], count: u16) -> Result<Header, MsgFault>
+//!     requires long { 7 ≤ length packet.old }
+//!     requires short { length packet.old ≤ 65542 }
+//!     requires count { count < 16384 }
+//! {
+//!     write_header(packet, 0x0801, 0);
+//!     set_count(packet, count);
+//!     read_header(packet)
+//! }
+//! ```
+#![tactic(auto)]
+
+mod command;
+mod packet;
+mod reading;
+mod writing;
+
+pub use command::{function_code, set_function_code};
+pub use packet::{Header, MsgFault};
+pub use reading::{count_of, front, id_of, read_header, size_of};
+pub use writing::{set_count, write_header};
