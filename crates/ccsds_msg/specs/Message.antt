@@ -1,5 +1,5 @@
 -- Space packets of CCSDS 133.0-B-2, section 4.1, as whole lists of bytes. Numbers are big-endian.
-use Rattle.std.specs.Prelude.{◌≡◌, ℕ, ◌+◌, ◌-◌, ◌*◌, ◌/◌, ◌%◌, ◌==◌, ◌&&◌, nat_lt, nat_le, if◌then◌else◌, Bool, true, false, List, ◌++◌, length, take, drop, slice_index, slice_set, Option, Some, None, Result, Ok, Err}
+use Rattle.std.specs.Prelude.{◌≡◌, ℕ, ◌+◌, ◌-◌, ◌*◌, ◌/◌, ◌%◌, ◌==◌, ◌&&◌, nat_lt, nat_le, if◌then◌else◌, Bool, List, ◌++◌, length, take, drop, slice_index, slice_set, Option, Some, None, Result, Ok, Err}
 use Rattle.byteorder.specs.Endian.{big_number, big_bytes}
 use Rattle.ccsds_msg.specs.declared.packet.Header.{Header}
 use Rattle.ccsds_msg.specs.declared.packet.MsgFault.{MsgFault}

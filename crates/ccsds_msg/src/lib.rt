@@ -4,16 +4,18 @@
 //! Every reader answers the header's fields exactly, every writer changes its field alone, and bytes
 //! are refused exactly where they are no message.
 //!
+//! The caller below is proved, in `tests.rt`.
+//!
 //! ```
-//! /// Makes a packet of the whole slice, and gives it a new sequence count.
-//! fn stamp(packet: &mut [u8], count: u16) -> Result<Header, MsgFault>
-//!     requires long { 7 ≤ length packet.old }
-//!     requires short { length packet.old ≤ 65542 }
+//! /// Makes a telemetry packet of the whole slice, with this sequence count.
+//! fn stamp(packet: &mut [u8], count: u16)
+//!     requires least { 7 ≤ length packet.old }
+//!     requires most { length packet.old ≤ 65542 }
 //!     requires count { count < 16384 }
+//!     ensures { header_of packet.new ≡ record { id = 0x0801; flags = 3; count = count; size = length packet.old } }
 //! {
 //!     write_header(packet, 0x0801, 0);
 //!     set_count(packet, count);
-//!     read_header(packet)
 //! }
 //! ```
 #![tactic(auto)]
@@ -27,3 +29,6 @@ pub use command::{function_code, set_function_code};
 pub use packet::{Header, MsgFault};
 pub use reading::{count_of, front, id_of, read_header, size_of};
 pub use writing::{set_count, write_header};
+
+#[cfg(test)]
+mod tests;

@@ -105,10 +105,7 @@ fn fields(bytes: &[u8]) -> Header
 fn with_valid_id(header: Header) -> Result<Header, MsgFault>
     ensures { result ≡ header_or_fault (id_fault header.id) header }
 {
-    if header.id == 0 {
-        return Err(MsgFault::BadId(header.id));
-    }
-    if header.id > 0x1FFF {
+    if header.id == 0 || header.id > 0x1FFF {
         return Err(MsgFault::BadId(header.id));
     }
     Ok(header)
