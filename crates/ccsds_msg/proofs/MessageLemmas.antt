@@ -152,3 +152,14 @@ IsMessage-front bytes sound =
 pub is_ok-header_or_fault : (why : Option MsgFault) (header : Header) → is_ok (header_or_fault why header) ≡ is_none why
 is_ok-header_or_fault None header = refl
 is_ok-header_or_fault (Some fault) header = refl
+
+-- a new count leaves the other fields of the header
+pub header_of-with_count : (bytes : List ℕ) (count : ℕ) → 6 ≤ length bytes → count < 16384 → header_of (with_count bytes count) ≡ record (header_of bytes) { count = count }
+header_of-with_count bytes count header small =
+    rw (message_id-with_count bytes count (omega arith), message_flags-with_count bytes count header small, message_count-with_count bytes count header small, message_size-with_count bytes count header) refl
+
+-- a message with a new count is a message
+pub IsMessage-with_count : (bytes : List ℕ) (count : ℕ) → IsMessage bytes → IsMessage (with_count bytes count)
+IsMessage-with_count bytes count message =
+    let least = IsMessage-length bytes message in
+    fault-with_count bytes count (omega arith) ∙ message
