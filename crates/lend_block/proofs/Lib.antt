@@ -1,0 +1,4 @@
+pub mod Borrowed
+pub mod Crossing
+pub mod Fields
+pub mod Tokens

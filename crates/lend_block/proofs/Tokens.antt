@@ -1,0 +1,33 @@
+-- No part of a loan is there twice. Assumes `Logic`.
+use Rattle.std.proofs.Common.{◌≡◌, ℕ, ◌+◌, ◌-◌, ◌^◌, ◌<◌, ◌≤◌, [], ◌∷◌, refl, arith}
+use mathlib.Core.Logic.{dite}
+use native.Mathlib.Decide.{ℕ_discrete}
+use seplogic.Ra.Ura.{Ura}
+use base.Fml.{flft}
+use base.Fraction.{full_share}
+use base.Logic.{SProp, ent, sep, emp, via, never_e}
+use contract.Monad.{fact, fact_i}
+use types.Kit.{‵, raw, ◌$◌, ◌∵◌, !, qed, by, move, use0, use1, use2, fpick, rewrite, updating, now, done}
+use types.Logic.{Logic, sem}
+use types.Tokens.{lft_end}
+use Rattle.left_right.proofs.PartSteps.{tokens_whole}
+use Rattle.left_right.specs.Parted.{tokens}
+
+module _ {M : Type 1} {𝓤 : Ura M} (𝓛 : Logic 𝓤) (loan : ℕ) where
+  open 𝓛 use {H}
+
+  -- beside all parts there is none more: all of them end the loan, and a part says that it has not ended
+  pub all_and_more : (k : ℕ) (G : SProp 𝓤) → ent 𝓤 (sep 𝓤 (sem 𝓛 (tokens loan (2 ^ 63))) (sem 𝓛 (tokens loan k))) (H.⇛ G)
+  all_and_more k G = qed 𝓛 (‵ (tokens loan (2 ^ 63)) ∷ ‵ (tokens loan k) ∷ []) ∵
+      updating ! $ use1 𝓛 (‵ (flft (loan ∷ []) full_share)) (tokens_whole 𝓛 loan) $ lft_end ! tt $
+      move ! (1 ∷ []) $ fpick ! (λ e. fpick ! (λ counted. move ! (0 ∷ 1 ∷ []) $
+      use2 𝓛 (raw G) (via 𝓤 _ (𝓛.lfts.lft-dead (loan ∷ []) e) (never_e 𝓤 G)) $ now ! $ done !))
+
+  -- so whoever has k parts beside one more has not all of them
+  pub not_all : (k : ℕ) → k ≤ 2 ^ 63
+      → ent 𝓤 (sep 𝓤 (sem 𝓛 (tokens loan k)) (sem 𝓛 (tokens loan 1))) (H.⇛ (sep 𝓤 (fact 𝓤 (k < 2 ^ 63)) (sep 𝓤 (sem 𝓛 (tokens loan k)) (sem 𝓛 (tokens loan 1)))))
+  not_all k le =
+      let fewer = sep 𝓤 (fact 𝓤 (k < 2 ^ 63)) (sep 𝓤 (sem 𝓛 (tokens loan k)) (sem 𝓛 (tokens loan 1))) in
+      dite (ℕ_discrete k (2 ^ 63))
+      (λ all. qed 𝓛 (‵ (tokens loan k) ∷ ‵ (tokens loan 1) ∷ []) ∵ rewrite ! 0 (λ (j : ℕ). ‵ (tokens loan j)) all refl $ by ! (all_and_more 1 fewer))
+      (λ other. qed 𝓛 (‵ (tokens loan k) ∷ ‵ (tokens loan 1) ∷ []) ∵ updating ! $ now ! $ use0 𝓛 (raw (fact 𝓤 (k < 2 ^ 63))) (fact_i 𝓤 (k < 2 ^ 63) (emp 𝓤) (omega arith)) $ done !)
