@@ -21,13 +21,13 @@
 //! ```
 #![tactic(auto)]
 
-mod root;
-mod view;
 mod name;
 mod note;
 mod part;
+mod root;
 #[cfg(test)]
 mod tests;
+mod view;
 
 pub use name::LoanName;
 pub use note::Note;

@@ -48,8 +48,7 @@ impl<'r> Model for Root<'r> {
         × (r.part.count + r.out ≡ 2 ^ 63)
         × (r.out < 2 ^ 32)
         × (length r.deed.block.now ≡ r.whole)
-        × (r.len ≤ r.whole)
-    };
+        × (r.len ≤ r.whole) };
 }
 
 impl<'r> Root<'r> {
