@@ -3,7 +3,7 @@
 //! Every raw pointer of the crate stands in this file. A loan is a lifetime of its own, whose number is
 //! the loan's: the borrowed block is lent for that lifetime, a part is a share of the lifetime's token,
 //! and with all 2^63 parts the lifetime ends and the borrow is back.
-ghost use Rattle.std.specs.Prelude.{◌≡◌, ℕ, ◌+◌, ◌-◌, ◌^◌, ◌<◌, ◌≤◌, List, length, take};
+ghost use Rattle.std.specs.Prelude.{◌≡◌, ◌≢◌, ℕ, ◌+◌, ◌-◌, ◌^◌, ◌<◌, ◌≤◌, List, length, take};
 ghost use denote.Ref.{MutBor};
 ghost use denote.RawPtr.{block_ptr, block_of, count_of};
 ghost use Rattle.lend_block.specs.Owned.{part_owns, part_shares, deed_owns};
@@ -124,6 +124,16 @@ impl<'r> Part<'r> {
     {
         let Part { ptr: _, marker: _ } = other;
     }
+
+    /// Two that each have more than half of their loan's parts are not of one loan. This does nothing, and
+    /// is there for what it ensures.
+    pub(crate) fn tell_apart(&mut self, other: &mut Part<'_>)
+        requires most { (2 ^ 62 < self.old.count) × (self.old.count ≤ 2 ^ 63) }
+        requires most_of_other { (2 ^ 62 < other.old.count) × (other.old.count ≤ 2 ^ 63) }
+        ensures apart { self.old.loan ≢ other.old.loan }
+        ensures same { self.new ≡ self.old }
+        ensures same_other { other.new ≡ other.old }
+    {}
 }
 
 unsafe impl<'r> Send for Part<'r> {}

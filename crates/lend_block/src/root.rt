@@ -1,16 +1,18 @@
 //! A sealed block.
 //!
 //! ```text
-//! block   [ b0 b1 b2 b3 b4 b5 | b6 b7 b8 b9 ]
-//!           ------ len ------
-//!           ------------- whole -----------
-//!           ^      ^      ^
-//!           Root   View   View   ..
+//!        |<-------------- whole ------------->|
+//!        |<---- len ---->|                    |
+//! block  | b0 | b1 | b2  | b3 | b4 | b5 | ..  |
+//!        ^
+//!        |-- Root: the parts that no view has, and the deed
+//!        |-- View: one part
+//!        |-- View: one part
 //! ```
 //!
 //! The right to read the block has 2^63 parts. Each view that is out has one of them and the root has
 //! the others, so the root has all of them exactly when no view is out.
-ghost use Rattle.std.specs.Prelude.{◌≡◌, ◌+◌, ◌^◌, ◌<◌, ◌≤◌, length, take};
+ghost use Rattle.std.specs.Prelude.{◌≡◌, ◌≢◌, ◌+◌, ◌^◌, ◌<◌, ◌≤◌, length, take};
 ghost use Rattle.lend_block.specs.Loan.{LentBlock};
 
 use crate::name::LoanName;
@@ -132,5 +134,15 @@ impl<'r> Root<'r> {
         ensures loan { result.loan ≡ self.now.loan }
     {
         self.part.name()
+    }
+
+    /// Two roots that exist at the same time are of different loans. This does nothing, and is there for
+    /// what it ensures.
+    pub(crate) fn tell_apart(&mut self, other: &mut Root<'_>)
+        ensures apart { self.old.loan ≢ other.old.loan }
+        ensures same { self.new ≡ self.old }
+        ensures same_other { other.new ≡ other.old }
+    {
+        self.part.tell_apart(&mut other.part);
     }
 }

@@ -1,6 +1,6 @@
 -- `again` makes a name of no bytes, with the number that it has before it.
 use Rattle.lend_block.proofs.Fields.{no_words, NameWords, name_made}
-use Rattle.lend_block.proofs.Steps.{ℕ, [], ◌∷◌, refl, Fml, ftrue, fsep, flft, SProp, emp, fact_i, proved, leaves, tables, yes, RefOf, owns, shr_vals, shr_Tells, types_at, plain, nothing, Stays, stay_dropped, walk_of, Goes-dropped, named, Val, vptr, alloc_all, pass_all, free_all, look_at, sets, ‵, raw, ◌⊛◌, ◌$◌, ◌∵◌, !, qed, by, keep, split, fjoin, use0, agg, no_more, returns, enter}
+use Rattle.lend_block.proofs.Steps.{[], ◌∷◌, refl, ftrue, fsep, flft, SProp, emp, fact_i, proved, leaves, tables, yes, RefOf, owns, shr_vals, shr_Tells, types_at, plain, nothing, Stays, stay_dropped, walk_of, Goes-dropped, named, Val, vptr, alloc_all, pass_all, free_all, look_at, sets, ‵, raw, ◌⊛◌, ◌$◌, ◌∵◌, !, qed, by, keep, split, fjoin, use0, agg, no_more, returns, enter}
 use Rattle.lend_block.proofs.name.LoanName.again.Code as code
 use Rattle.lend_block.proofs.name.LoanName.again.Statement.{statement}
 use Rattle.lend_block.specs.contracts.name.LoanName as name

@@ -1,6 +1,5 @@
 -- `get` shows a front of the bytes for as long as the part is borrowed.
 use borrow.Table.Elements.{length-take-le}
-use denote.Triple.Clauses.{at_exit}
 use Rattle.left_right.proofs.PartSteps.{part_sees}
 use Rattle.lend_block.proofs.Borrowed.{readable_laws, front_shared}
 use Rattle.lend_block.proofs.Fields.{words_at, PartWords, part_told, part_opened}

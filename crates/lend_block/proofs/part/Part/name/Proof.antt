@@ -1,6 +1,6 @@
 -- `name` makes a name of no bytes, with the number of the part's loan.
 use Rattle.lend_block.proofs.Fields.{no_words, NameWords, name_made}
-use Rattle.lend_block.proofs.Steps.{ℕ, [], ◌∷◌, refl, Fml, ftrue, fsep, flft, SProp, emp, fact_i, proved, leaves, tables, yes, RefOf, owns, shr_vals, shr_Tells, types_at, plain, named_lft, nothing, Stays, stay_dropped, walk_of, Goes-dropped, named, Val, vptr, alloc_all, pass_all, free_all, look_at, sets, ‵, raw, ◌⊛◌, ◌$◌, ◌∵◌, !, qed, by, keep, split, fjoin, use0, agg, no_more, returns, enter}
+use Rattle.lend_block.proofs.Steps.{[], ◌∷◌, refl, Fml, ftrue, fsep, flft, SProp, emp, fact_i, proved, leaves, tables, yes, RefOf, owns, shr_vals, shr_Tells, types_at, plain, named_lft, nothing, Stays, stay_dropped, walk_of, Goes-dropped, named, Val, vptr, alloc_all, pass_all, free_all, look_at, sets, ‵, raw, ◌⊛◌, ◌$◌, ◌∵◌, !, qed, by, keep, split, fjoin, use0, agg, no_more, returns, enter}
 use Rattle.lend_block.proofs.part.Part.name.Code as code
 use Rattle.lend_block.proofs.part.Part.name.Statement.{statement}
 use Rattle.lend_block.specs.contracts.name.LoanName as name
