@@ -7,7 +7,7 @@ use crate::outside::{ReadAnswer, Sink, Source, WriteAnswer};
 use std::marker::Model;
 
 /// A source over a slice, read in pieces as large as asked for.
-#[derive(Debug)]
+#[derive(Debug, Drop)]
 pub struct CleanSource<'a> {
     left: &'a [u8],
 }

@@ -8,6 +8,7 @@ use std::alloc::{AllocError, Global};
 use std::marker::Model;
 
 /// A source over a slice that gives at most a piece at a time, and fails at the calls that it is told.
+#[derive(Drop)]
 pub struct MemSource<'a> {
     // Not read yet.
     left: &'a [u8],
