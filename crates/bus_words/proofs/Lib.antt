@@ -1,0 +1,4 @@
+pub mod Bounds
+pub mod Journals
+pub mod Replay
+pub mod Steps

@@ -1,0 +1,248 @@
+-- What holds after every step of the bus, and so after every history: how many standings there are, and that live
+-- pipes and subscriptions stand in order of number, none above those that were made.
+use Rattle.std.proofs.Common.{◌≡◌, ℕ, ◌+◌, ◌-◌, ◌<◌, ◌≤◌, ◌==◌, not, Bool, true, false, cond, if◌then◌else◌, append-nil, append_assoc, List, [], ◌∷◌, ◌++◌, length, map, filter, Option, Some, None, refl, ap, sym, ◌∙◌, subst, arith}
+use Rattle.std.proofs.lemmas.List.{length-set, length-replicate, length_push, map_push}
+use Rattle.ccsds_msg.specs.Message.{message_id}
+use Rattle.fsw_base.specs.declared.config.Scope.{Scope}
+use Rattle.fsw_base.specs.declared.statuses.SbStatus.{SbStatus}
+use Rattle.fsw_base.specs.declared.statuses.SbStatus.TheVariants.{BadArgument, MaxPipesMet, PipeCrErr, MaxMsgsMet, MaxDestsMet, MsgTooBig, BufAlocErr, NoMessage, BufferInvalid}
+use Rattle.fsw_base.specs.Limits.{Limits}
+use Rattle.bus_words.specs.declared.history.Call.{Call}
+use Rattle.bus_words.specs.declared.history.Call.TheVariants.{Create, Subscribe, Transmit, Receive, End}
+use Rattle.bus_words.specs.declared.history.Entry.{Entry}
+use Rattle.bus_words.specs.Bus.{Pipe, Subscription, State, Ended, Sending, opening, with_pipe, route, is_subscribed, has_route, offered, deliver, is_in, verdict, item_for, after_receive, owns}
+use Rattle.bus_words.specs.Machine.{delivered, created, sent_along, received, ended, cause, create_cause, subscribe_cause, accept, refused_state, decided, step, state_from, state_after}
+
+-- Steps by cases. --
+
+-- the bus with one subscription more
+abbrev pub with_subscription : State → ℕ → ℕ → ℕ → Scope → State
+with_subscription s id pipe limit scope = record s {
+  subscriptions = s.subscriptions ++ record { number = s.subscriptions_made + 1; id = id; pipe = pipe; limit = limit; scope = scope } ∷ [];
+  subscriptions_made = s.subscriptions_made + 1;
+  routed = if has_route s.routed id then s.routed else s.routed ++ id ∷ [];
+}
+
+-- the bus once these subscriptions were offered what is sent
+abbrev pub with_sent : State → Sending → List Subscription → State
+with_sent s sending subs = record s { pipes = deliver sending subs s.pipes; numbers_given = sending.number }
+
+-- a fact of a state that each change of it keeps
+pub record Keeps (F : State → Type 0) (limits : Limits) (s : State) (app : ℕ) : Type 0 where
+  pub same : F s
+  pub creates : (depth : ℕ) (name : List ℕ) → create_cause limits s depth name ≡ None → F ((created s app depth name).1)
+  pub subscribes : (id pipe limit : ℕ) (scope : Scope) → subscribe_cause limits s app id pipe ≡ None →
+      is_subscribed s.subscriptions id pipe ≡ false → F (with_subscription s id pipe limit scope)
+  pub sends : (sending : Sending) (id : ℕ) → sending.sender ≡ app → sending.number ≡ s.numbers_given + 1 →
+      F (with_sent s sending (route s.subscriptions id))
+  pub receives : (pipe : ℕ) → F (received s pipe)
+  pub ends : F (ended s app)
+
+refused_receive : (F : State → Type 0) (s : State) (pipe : ℕ) (status : SbStatus) → F s → F (received s pipe) → F (refused_state s (Receive pipe) status)
+refused_receive F s pipe BadArgument same receives = same
+refused_receive F s pipe MaxPipesMet same receives = same
+refused_receive F s pipe PipeCrErr same receives = same
+refused_receive F s pipe MaxMsgsMet same receives = same
+refused_receive F s pipe MaxDestsMet same receives = same
+refused_receive F s pipe MsgTooBig same receives = same
+refused_receive F s pipe BufAlocErr same receives = same
+refused_receive F s pipe NoMessage same receives = receives
+refused_receive F s pipe BufferInvalid same receives = same
+
+after_refusal : (F : State → Type 0) (s : State) (call : Call) (status : SbStatus) → F s → ((pipe : ℕ) → F (received s pipe)) → F (refused_state s call status)
+after_refusal F s (Create depth name) status same receives = same
+after_refusal F s (Subscribe id pipe limit scope) status same receives = same
+after_refusal F s (Transmit bytes inc) status same receives = same
+after_refusal F s (Receive pipe) status same receives = refused_receive F s pipe status same (receives pipe)
+after_refusal F s End status same receives = same
+
+after_subscribe : (F : State → Type 0) (s next : State) (live : Bool) → F s → (live ≡ false → F next) → F (if live then s else next)
+after_subscribe F s next true same other = same
+after_subscribe F s next false same other = other refl
+
+after_send : (F : State → Type 0) (s : State) (sending : Sending) (subs : List Subscription) → F s → F (with_sent s sending subs) → F ((sent_along subs sending s).1)
+after_send F s sending [] same sends = same
+after_send F s sending (sub ∷ subs) same sends = sends
+
+after_accepted : (F : State → Type 0) (limits : Limits) (history : List Entry) (s : State) (app : ℕ) (call : Call) →
+    cause limits s app call ≡ None → Keeps F limits s app → F ((accept limits history s app call).1)
+after_accepted F limits history s app (Create depth name) none keeps = keeps.creates depth name none
+after_accepted F limits history s app (Subscribe id pipe limit scope) none keeps =
+    after_subscribe F s (with_subscription s id pipe limit scope) (is_subscribed s.subscriptions id pipe) keeps.same (keeps.subscribes id pipe limit scope none)
+after_accepted F limits history s app (Transmit bytes inc) none keeps =
+    let sending : Sending = record { sender = app; number = s.numbers_given + 1; asked = length bytes; message = delivered limits history bytes inc } in
+    after_send F s sending (route s.subscriptions (message_id bytes)) keeps.same (keeps.sends sending (message_id bytes) refl refl)
+after_accepted F limits history s app (Receive pipe) none keeps = keeps.receives pipe
+after_accepted F limits history s app End none keeps = keeps.ends
+
+after_decided : (F : State → Type 0) (limits : Limits) (history : List Entry) (s : State) (app : ℕ) (call : Call) (why : Option SbStatus) →
+    cause limits s app call ≡ why → Keeps F limits s app → F ((decided limits history s app call why).1)
+after_decided F limits history s app call (Some status) is keeps = after_refusal F s call status keeps.same keeps.receives
+after_decided F limits history s app call None is keeps = after_accepted F limits history s app call is keeps
+
+-- what each change keeps holds after a step
+pub after_step : (F : State → Type 0) (limits : Limits) (history : List Entry) (s : State) (app : ℕ) (call : Call) →
+    Keeps F limits s app → F ((step limits history s app call).1)
+after_step F limits history s app call keeps = after_decided F limits history s app call (cause limits s app call) refl keeps
+
+-- what each step keeps holds after more entries
+pub state_from-keeps : (F : State → Type 0) (limits : Limits) →
+    ((history : List Entry) (s : State) (app : ℕ) (call : Call) → F s → F ((step limits history s app call).1)) →
+    (history : List Entry) (s : State) (es : List Entry) → F s → F (state_from limits history s es)
+state_from-keeps F limits keeps history s [] holds = holds
+state_from-keeps F limits keeps history s (e ∷ es) holds =
+    state_from-keeps F limits keeps (history ++ e ∷ []) ((step limits history s e.app e.call).1) es (keeps history s e.app e.call holds)
+
+-- Standings. --
+
+-- a step changes no application's being there
+pub length-standings-step : (limits : Limits) (history : List Entry) (s : State) (app : ℕ) (call : Call) →
+    length ((step limits history s app call).1).standings ≡ length s.standings
+length-standings-step limits history s app call =
+    after_step (λ t. length t.standings ≡ length s.standings) limits history s app call (record {
+      same = refl;
+      creates = λ depth name none. refl;
+      subscribes = λ id pipe limit scope none other. refl;
+      sends = λ sending id who number. refl;
+      receives = λ pipe. refl;
+      ends = length-set s.standings (app - 1) Ended;
+    })
+
+-- after a history of so many applications there are so many standings
+pub length-standings : (limits : Limits) (apps : ℕ) (history : List Entry) → length (state_after limits apps history).standings ≡ apps
+length-standings limits apps history =
+    state_from-keeps (λ t. length t.standings ≡ apps) limits
+    (λ before s app call is. length-standings-step limits before s app call ∙ is)
+    [] (opening apps) history (length-replicate apps _)
+
+-- Numbers. --
+
+-- above `low`, each above the one before, none above `top`
+abbrev pub AreRising : ℕ → ℕ → List ℕ → Type 0
+AreRising low top [] = low ≤ top
+AreRising low top (n ∷ ns) = (low < n) × AreRising n top ns
+
+-- the numbers of live pipes
+abbrev pub pipe_numbers : State → List ℕ
+pipe_numbers s = map (λ pipe. pipe.number) s.pipes
+
+-- the numbers of live subscriptions
+abbrev pub subscription_numbers : State → List ℕ
+subscription_numbers s = map (λ sub. sub.number) s.subscriptions
+
+-- live pipes and subscriptions stand in order of number, none above those that were made
+pub record AreNumbered (s : State) : Type 0 where
+  pub pipes : AreRising 0 s.pipes_created (pipe_numbers s)
+  pub subscriptions : AreRising 0 s.subscriptions_made (subscription_numbers s)
+
+AreRising-lower : (low next top : ℕ) (ns : List ℕ) → low ≤ next → AreRising next top ns → AreRising low top ns
+AreRising-lower low next top [] below rising = omega arith
+AreRising-lower low next top (n ∷ ns) below rising = (omega arith, rising.1)
+
+AreRising-push : (low top : ℕ) (ns : List ℕ) → AreRising low top ns → AreRising low (top + 1) (ns ++ (top + 1) ∷ [])
+AreRising-push low top [] rising = (omega arith, omega arith)
+AreRising-push low top (n ∷ ns) rising = (rising.0, AreRising-push n top ns rising.1)
+
+AreRising-filter : {X : Type 0} (number : X → ℕ) (p : X → Bool) (low top : ℕ) (xs : List X) → AreRising low top (map number xs) → AreRising low top (map number (filter p xs))
+AreRising-filter number p low top [] rising = rising
+AreRising-filter {X} number p low top (x ∷ xs) rising =
+    elim (p x) as (λ b. AreRising low top (map number (cond {A = List X} b (x ∷ filter p xs) (filter p xs)))) [
+      | true ↦ (rising.0, AreRising-filter number p (number x) top xs rising.1)
+      | false ↦ AreRising-lower low (number x) top (map number (filter p xs)) (omega (arith, rising.0)) (AreRising-filter number p (number x) top xs rising.1)
+    ]
+
+-- a change that keeps a pipe's number keeps the numbers
+pub pipe_numbers-with_pipe : (change : Pipe → Pipe) → ((pipe : Pipe) → (change pipe).number ≡ pipe.number) → (number : ℕ) (pipes : List Pipe) →
+    map (λ pipe. pipe.number) (with_pipe change number pipes) ≡ map (λ pipe. pipe.number) pipes
+pipe_numbers-with_pipe change keeps number [] = refl
+pipe_numbers-with_pipe change keeps number (pipe ∷ pipes) =
+    ap (λ n. n ∷ map (λ p. p.number) (with_pipe change number pipes))
+    (elim (pipe.number == number) as (λ b. (cond {A = Pipe} b (change pipe) pipe).number ≡ pipe.number) [ true ↦ keeps pipe | false ↦ refl ])
+    ∙ ap (λ ns. pipe.number ∷ ns) (pipe_numbers-with_pipe change keeps number pipes)
+
+-- an offer keeps the pipe's number
+pub number-offered : (sending : Sending) (sub : Subscription) (pipe : Pipe) → (offered sending sub pipe).number ≡ pipe.number
+number-offered sending sub pipe =
+    elim (is_in (verdict pipe sub sending.sender)) as (λ b. (cond {A = Pipe} b (record pipe { queue = pipe.queue ++ item_for sending sub ∷ [] }) pipe).number ≡ pipe.number) [
+      | true ↦ refl
+      | false ↦ refl
+    ]
+
+-- a delivery keeps the numbers
+pub pipe_numbers-deliver : (sending : Sending) (subs : List Subscription) (pipes : List Pipe) →
+    map (λ pipe. pipe.number) (deliver sending subs pipes) ≡ map (λ pipe. pipe.number) pipes
+pipe_numbers-deliver sending [] pipes = refl
+pipe_numbers-deliver sending (sub ∷ subs) pipes =
+    pipe_numbers-deliver sending subs (with_pipe (offered sending sub) sub.pipe pipes)
+    ∙ pipe_numbers-with_pipe (offered sending sub) (number-offered sending sub) sub.pipe pipes
+
+-- a step keeps the order of numbers
+pub AreNumbered-step : (limits : Limits) (history : List Entry) (s : State) (app : ℕ) (call : Call) → AreNumbered s → AreNumbered ((step limits history s app call).1)
+AreNumbered-step limits history s app call numbered =
+    after_step AreNumbered limits history s app call (record {
+      same = numbered;
+      creates = λ depth name none. record {
+        pipes = subst (AreRising 0 (s.pipes_created + 1)) (sym (map_push (λ (p : Pipe). p.number) s.pipes _)) (AreRising-push 0 s.pipes_created (pipe_numbers s) numbered.pipes);
+        subscriptions = numbered.subscriptions;
+      };
+      subscribes = λ id pipe limit scope none other. record {
+        pipes = numbered.pipes;
+        subscriptions = subst (AreRising 0 (s.subscriptions_made + 1)) (sym (map_push (λ (x : Subscription). x.number) s.subscriptions _)) (AreRising-push 0 s.subscriptions_made (subscription_numbers s) numbered.subscriptions);
+      };
+      sends = λ sending id who number. record {
+        pipes = subst (AreRising 0 s.pipes_created) (sym (pipe_numbers-deliver sending (route s.subscriptions id) s.pipes)) numbered.pipes;
+        subscriptions = numbered.subscriptions;
+      };
+      receives = λ pipe. record {
+        pipes = subst (AreRising 0 s.pipes_created) (sym (pipe_numbers-with_pipe after_receive (λ p. refl) pipe s.pipes)) numbered.pipes;
+        subscriptions = numbered.subscriptions;
+      };
+      ends = record {
+        pipes = AreRising-filter (λ (p : Pipe). p.number) (λ p. not (p.owner == app)) 0 s.pipes_created s.pipes numbered.pipes;
+        subscriptions = AreRising-filter (λ (x : Subscription). x.number) (λ x. not (owns s.pipes app x.pipe)) 0 s.subscriptions_made s.subscriptions numbered.subscriptions;
+      };
+    })
+
+-- after every history
+pub AreNumbered-after : (limits : Limits) (apps : ℕ) (history : List Entry) → AreNumbered (state_after limits apps history)
+AreNumbered-after limits apps history =
+    state_from-keeps AreNumbered limits (AreNumbered-step limits) [] (opening apps) history (record { pipes = omega arith; subscriptions = omega arith })
+
+-- Counts. --
+
+-- how far a step takes the counts
+pub record AtMostOneMore (s t : State) : Type 0 where
+  pub pipes : t.pipes_created ≤ s.pipes_created + 1
+  pub subscriptions : t.subscriptions_made ≤ s.subscriptions_made + 1
+  pub numbers : t.numbers_given ≤ s.numbers_given + 1
+
+-- a step makes at most one pipe, one subscription and one send number
+pub AtMostOneMore-step : (limits : Limits) (history : List Entry) (s : State) (app : ℕ) (call : Call) → AtMostOneMore s ((step limits history s app call).1)
+AtMostOneMore-step limits history s app call =
+    after_step (AtMostOneMore s) limits history s app call (record {
+      same = record { pipes = omega arith; subscriptions = omega arith; numbers = omega arith };
+      creates = λ depth name none. record { pipes = omega arith; subscriptions = omega arith; numbers = omega arith };
+      subscribes = λ id pipe limit scope none other. record { pipes = omega arith; subscriptions = omega arith; numbers = omega arith };
+      sends = λ sending id who number. record { pipes = omega arith; subscriptions = omega arith; numbers = omega (arith, number) };
+      receives = λ pipe. record { pipes = omega arith; subscriptions = omega arith; numbers = omega arith };
+      ends = record { pipes = omega arith; subscriptions = omega arith; numbers = omega arith };
+    })
+
+-- the counts are at most so high
+pub record AreCounted (s : State) (entries : ℕ) : Type 0 where
+  pub pipes : s.pipes_created ≤ entries
+  pub subscriptions : s.subscriptions_made ≤ entries
+  pub numbers : s.numbers_given ≤ entries
+
+counted_from : (limits : Limits) (history : List Entry) (s : State) (es : List Entry) → AreCounted s (length history) → AreCounted (state_from limits history s es) (length (history ++ es))
+counted_from limits history s [] counted = subst (λ (h : List Entry). AreCounted s (length h)) (sym (append-nil history)) counted
+counted_from limits history s (e ∷ es) counted =
+    let one = AtMostOneMore-step limits history s e.app e.call in
+    let longer = length_push history e in
+    let next = (step limits history s e.app e.call).1 in
+    let now : AreCounted next (length (history ++ e ∷ [])) = record { pipes = omega arith; subscriptions = omega arith; numbers = omega arith } in
+    subst (λ (h : List Entry). AreCounted (state_from limits (history ++ e ∷ []) next es) (length h)) (append_assoc history (e ∷ []) es) (counted_from limits (history ++ e ∷ []) next es now)
+
+-- no count is higher than the number of entries
+pub AreCounted-after : (limits : Limits) (apps : ℕ) (history : List Entry) → AreCounted (state_after limits apps history) (length history)
+AreCounted-after limits apps history = counted_from limits [] (opening apps) history (record { pipes = omega arith; subscriptions = omega arith; numbers = omega arith })

@@ -1,0 +1,176 @@
+-- The bus as a machine: why a call is refused, what it answers and what it changes, and which histories are legal.
+use Rattle.std.specs.Prelude.{◌≡◌, ℕ, ◌+◌, ◌-◌, ◌%◌, ◌==◌, ◌&&◌, ◌||◌, not, nat_le, nat_lt, Bool, true, false, List, [], ◌∷◌, ◌++◌, length, filter, count_by, slice_set, Option, Some, None, is_some, IsTrue, if◌then◌else◌}
+use Rattle.std.specs.List.{list_any}
+use Rattle.std.specs.Str.{bytes_eq}
+use Rattle.std.specs.Option.{option_map_or}
+use Rattle.fsw_base.specs.declared.config.Scope.{Scope}
+use Rattle.fsw_base.specs.Limits.{Limits}
+use Rattle.fsw_base.specs.Starts.{start_of}
+use Rattle.fsw_base.specs.declared.statuses.SbStatus.{SbStatus}
+use Rattle.fsw_base.specs.declared.statuses.SbStatus.TheVariants.{BadArgument, MaxPipesMet, PipeCrErr, MaxMsgsMet, MaxDestsMet, MsgTooBig, NoMessage}
+use Rattle.ccsds_msg.specs.Message.{fault, message_id, with_count, is_valid_id}
+use Rattle.bus_words.specs.declared.calls.BusAnswer.{BusAnswer}
+use Rattle.bus_words.specs.declared.calls.BusAnswer.TheVariants.{Done, Number, Sent, Got, Sb}
+use Rattle.bus_words.specs.declared.history.Call.{Call}
+use Rattle.bus_words.specs.declared.history.Call.TheVariants.{Create, Subscribe, Transmit, Receive, End}
+use Rattle.bus_words.specs.declared.history.Entry.{Entry}
+use Rattle.bus_words.specs.Bus.{Pipe, Subscription, State, Standing, Active, Waiting, Ended, Sending, opening, standing_of, pipe_at, owns, with_pipe, route, is_subscribed, has_route, deliver, reached, oldest, after_receive}
+
+-- Sequence counts (CCSDS 133.0-B, 4.1.3.4.3). --
+
+-- whether this call, so answered, was an accepted send of the id that moved its count
+abbrev pub counts_for : ℕ → Call → BusAnswer → Bool
+counts_for id (Transmit bytes inc) (Sent number reached) = inc && (message_id bytes == id) && nat_le 1 number
+counts_for id call answer = false
+
+-- the id's next count: its start, one for each accepted send of it that moved it, and one more, in 14 bits
+abbrev pub next_count : Limits → List Entry → ℕ → ℕ
+next_count limits history id = (start_of limits.starts id + count_by (λ e. counts_for id e.call e.answer) history + 1) % 16384
+
+-- the message as it is delivered: with the next count where the send asks for it, else as given
+abbrev pub delivered : Limits → List Entry → List ℕ → Bool → List ℕ
+delivered limits history bytes inc = if inc then with_count bytes (next_count limits history (message_id bytes)) else bytes
+
+-- Refusals. Each call has its own, in the order in which they are tried. --
+
+-- this refusal where the test is true, else the ones that follow
+abbrev pub refused_if : Bool → SbStatus → Option SbStatus → Option SbStatus
+refused_if test status others = if test then Some status else others
+
+abbrev pub create_cause : Limits → State → ℕ → List ℕ → Option SbStatus
+create_cause limits s depth name =
+    refused_if (depth == 0 || nat_lt limits.depth depth || length name == 0 || nat_lt 19 (length name)) BadArgument
+    (refused_if (nat_le limits.pipes (length s.pipes)) MaxPipesMet
+    (refused_if (list_any (λ pipe. bytes_eq pipe.name name) s.pipes) PipeCrErr None))
+
+-- a duplicate is never refused
+abbrev pub subscribe_cause : Limits → State → ℕ → ℕ → ℕ → Option SbStatus
+subscribe_cause limits s app id pipe =
+    refused_if (not (is_valid_id id) || not (owns s.pipes app pipe)) BadArgument
+    (if is_subscribed s.subscriptions id pipe then None
+    else refused_if (not (has_route s.routed id) && nat_le limits.msgids (length s.routed)) MaxMsgsMet
+    (refused_if (nat_le limits.dests (length (route s.subscriptions id))) MaxDestsMet None))
+
+abbrev pub transmit_cause : Limits → State → List ℕ → Option SbStatus
+transmit_cause limits s bytes =
+    refused_if (is_some (fault bytes)) BadArgument
+    (refused_if (nat_lt limits.msgmax (length bytes)) MsgTooBig None)
+
+-- whether no message is queued on the pipe of this number
+abbrev pub is_empty : List Pipe → ℕ → Bool
+is_empty pipes number = option_map_or (λ pipe. length pipe.queue == 0) (pipe_at pipes number) true
+
+abbrev pub receive_cause : State → ℕ → ℕ → Option SbStatus
+receive_cause s app pipe =
+    refused_if (not (owns s.pipes app pipe)) BadArgument
+    (refused_if (is_empty s.pipes pipe) NoMessage None)
+
+-- the first refusal whose condition holds
+abbrev pub cause : Limits → State → ℕ → Call → Option SbStatus
+cause limits s app (Create depth name) = create_cause limits s depth name
+cause limits s app (Subscribe id pipe limit scope) = subscribe_cause limits s app id pipe
+cause limits s app (Transmit bytes inc) = transmit_cause limits s bytes
+cause limits s app (Receive pipe) = receive_cause s app pipe
+cause limits s app End = None
+
+-- What a call that isn't refused answers and changes. --
+
+abbrev pub created : State → ℕ → ℕ → List ℕ → BusAnswer × State
+created s app depth name = (
+  Number (s.pipes_created + 1),
+  record s {
+    pipes = s.pipes ++ record { number = s.pipes_created + 1; name = name; owner = app; depth = depth; bits = 0; queue = []; last = None } ∷ [];
+    pipes_created = s.pipes_created + 1;
+  },
+)
+
+-- a live pair changes nothing
+abbrev pub subscribed : State → ℕ → ℕ → ℕ → Scope → BusAnswer × State
+subscribed s id pipe limit scope = (
+  Done,
+  (if is_subscribed s.subscriptions id pipe then s
+      else (record s {
+        subscriptions = s.subscriptions ++ record { number = s.subscriptions_made + 1; id = id; pipe = pipe; limit = limit; scope = scope } ∷ [];
+        subscriptions_made = s.subscriptions_made + 1;
+        routed = (if has_route s.routed id then s.routed else s.routed ++ id ∷ []);
+      })),
+)
+
+-- without a live subscription of its id a message goes nowhere and takes no number
+abbrev pub sent_along : List Subscription → Sending → State → BusAnswer × State
+sent_along [] sending s = (Sent 0 0, s)
+sent_along (sub ∷ subs) sending s = (
+  Sent sending.number (reached sending (sub ∷ subs) s.pipes),
+  record s { pipes = deliver sending (sub ∷ subs) s.pipes; numbers_given = sending.number },
+)
+
+abbrev pub transmitted : Limits → List Entry → State → ℕ → List ℕ → Bool → BusAnswer × State
+transmitted limits history s app bytes inc =
+    sent_along (route s.subscriptions (message_id bytes))
+    (record { sender = app; number = s.numbers_given + 1; asked = length bytes; message = delivered limits history bytes inc }) s
+
+-- the number of the oldest message that is queued on the pipe
+abbrev pub oldest_number : List Pipe → ℕ → ℕ
+oldest_number pipes number = option_map_or (λ pipe. option_map_or (λ item. item.number) (oldest pipe.queue) 0) (pipe_at pipes number) 0
+
+-- the bus after a receive on the pipe
+abbrev pub received : State → ℕ → State
+received s pipe = record s { pipes = with_pipe after_receive pipe s.pipes }
+
+-- the application's pipes with their subscriptions leave
+abbrev pub ended : State → ℕ → State
+ended s app = record s {
+  pipes = filter (λ pipe. not (pipe.owner == app)) s.pipes;
+  subscriptions = filter (λ sub. not (owns s.pipes app sub.pipe)) s.subscriptions;
+  standings = slice_set s.standings (app - 1) Ended;
+}
+
+abbrev pub accept : Limits → List Entry → State → ℕ → Call → BusAnswer × State
+accept limits history s app (Create depth name) = created s app depth name
+accept limits history s app (Subscribe id pipe limit scope) = subscribed s id pipe limit scope
+accept limits history s app (Transmit bytes inc) = transmitted limits history s app bytes inc
+accept limits history s app (Receive pipe) = (Got (oldest_number s.pipes pipe), received s pipe)
+accept limits history s app End = (Done, ended s app)
+
+-- A refused call changes nothing, but that a receive that finds no message has released the last one.
+abbrev pub refused_state : State → Call → SbStatus → State
+refused_state s (Receive pipe) NoMessage = received s pipe
+refused_state s call status = s
+
+-- Steps and histories. --
+
+abbrev pub decided : Limits → List Entry → State → ℕ → Call → Option SbStatus → BusAnswer × State
+decided limits history s app call (Some status) = (Sb status, refused_state s call status)
+decided limits history s app call None = accept limits history s app call
+
+-- what the call answers after this history, and the bus afterwards
+abbrev pub step : Limits → List Entry → State → ℕ → Call → BusAnswer × State
+step limits history s app call = decided limits history s app call (cause limits s app call)
+
+-- the bus after the entries that follow a history
+abbrev pub state_from : Limits → List Entry → State → List Entry → State
+state_from limits history s [] = s
+state_from limits history s (e ∷ es) = state_from limits (history ++ e ∷ []) ((step limits history s e.app e.call).1) es
+
+-- the bus after a history of so many applications
+abbrev pub state_after : Limits → ℕ → List Entry → State
+state_after limits apps history = state_from limits [] (opening apps) history
+
+-- whether an application may make this call: while it is active; its end also while it waits
+abbrev pub may_call : Standing → Call → Bool
+may_call Active call = true
+may_call (Waiting pipe) End = true
+may_call (Waiting pipe) call = false
+may_call Ended call = false
+
+-- each entry's application may make its call, and is answered what the machine answers
+abbrev pub LegalFrom : Limits → List Entry → State → List Entry → Type 0
+LegalFrom limits history s [] = Unit {0}
+LegalFrom limits history s (e ∷ es) =
+    IsTrue (may_call (standing_of s e.app) e.call)
+    × (e.answer ≡ (step limits history s e.app e.call).0)
+    × LegalFrom limits (history ++ e ∷ []) ((step limits history s e.app e.call).1) es
+
+-- a history that the bus can have
+abbrev pub IsLegal : Limits → ℕ → List Entry → Type 0
+IsLegal limits apps history = LegalFrom limits [] (opening apps) history

@@ -1,0 +1,62 @@
+-- How a journal keeps its entries: rows of one size, whose bytes lie one after another in one list.
+use Rattle.std.specs.Prelude.{ℕ, ◌+◌, ◌^◌, ◌<◌, ◌≤◌, ◌≡◌, List, [], ◌++◌, length, map, All, slice_range}
+use Rattle.bus_words.specs.declared.history.Call.{Call}
+use Rattle.bus_words.specs.declared.history.Call.TheVariants.{Create, Subscribe, Transmit, Receive, End}
+use Rattle.bus_words.specs.declared.history.Entry.{Entry}
+use Rattle.bus_words.specs.declared.journal.Allowance.{Allowance}
+use Rattle.bus_words.specs.declared.journal.Span.{Span}
+use Rattle.bus_words.specs.declared.journal.Row.{Row}
+use Rattle.bus_words.specs.declared.journal.RowCall.{RowCall}
+use Rattle.bus_words.specs.declared.journal.RowCall.TheVariants as rows
+use Rattle.bus_words.specs.Log.{entries_left, bytes_left}
+
+-- the bytes of a span
+abbrev pub bytes_of : List ℕ → Span → List ℕ
+bytes_of bytes span = slice_range bytes span.start (span.start + span.len)
+
+-- the call of a row
+abbrev pub call_in : List ℕ → RowCall → Call
+call_in bytes (rows.Create depth name) = Create depth (bytes_of bytes name)
+call_in bytes (rows.Subscribe id pipe limit scope) = Subscribe id pipe limit scope
+call_in bytes (rows.Transmit message inc) = Transmit (bytes_of bytes message) inc
+call_in bytes (rows.Receive pipe) = Receive pipe
+call_in bytes rows.End = End
+
+-- the entry of a row
+abbrev pub entry_in : List ℕ → Row → Entry
+entry_in bytes row = record { app = row.app; call = call_in bytes row.call; answer = row.answer }
+
+-- the entries of the rows
+abbrev pub entries_in : List ℕ → List Row → List Entry
+entries_in bytes rows = map (entry_in bytes) rows
+
+-- the bytes that a call brings: its name or its message
+abbrev pub call_text : Call → List ℕ
+call_text (Create depth name) = name
+call_text (Subscribe id pipe limit scope) = []
+call_text (Transmit bytes inc) = bytes
+call_text (Receive pipe) = []
+call_text End = []
+
+-- where the bytes of a call end
+abbrev pub call_end : RowCall → ℕ
+call_end (rows.Create depth name) = name.start + name.len
+call_end (rows.Subscribe id pipe limit scope) = 0
+call_end (rows.Transmit message inc) = message.start + message.len
+call_end (rows.Receive pipe) = 0
+call_end rows.End = 0
+
+-- the call was stored: its bytes lie behind those that were there before, and the row's call is the call
+pub record IsStored (before now : List ℕ) (call : Call) (row : RowCall) : Type 0 where
+  pub grown : now ≡ before ++ call_text call
+  pub there : call_end row ≤ length now
+  pub same : call_in now row ≡ call
+
+-- each row's bytes are there, and all that the applications may still add has room
+pub record IsLaidOut (rows : List Row) (bytes : List ℕ) (row_room byte_room : ℕ) (left : List Allowance) : Type 0 where
+  pub there : All (λ row. call_end row.call ≤ length bytes) rows
+  pub rows_fit : length rows + entries_left left ≤ row_room
+  pub bytes_fit : length bytes + bytes_left left ≤ byte_room
+  pub rows_few : length rows + entries_left left < 2 ^ 32
+  pub bytes_few : length bytes + bytes_left left < 2 ^ 32
+  pub few : length left ≤ 16

@@ -1,0 +1,76 @@
+//! The calls of the software bus, their answers, and both together as an entry of the journal.
+ghost use Rattle.std.specs.Prelude.{◌≡◌};
+
+use fsw_base::{AppNo, SbStatus, Scope};
+
+/// A call of the software bus by one application, with its bytes borrowed (cFE Software Bus).
+#[derive(Clone, Copy, Debug)]
+pub enum BusCall<'a> {
+    /// Makes a pipe that holds up to `depth` messages.
+    Create {
+        depth: u32,
+        name: &'a [u8],
+    },
+    /// Has messages of this id queued on the pipe, up to `limit` of them at once.
+    Subscribe {
+        id: u16,
+        pipe: u32,
+        limit: u32,
+        scope: Scope,
+    },
+    /// Sends a message; `inc` gives it the id's next sequence count.
+    Transmit {
+        bytes: &'a [u8],
+        inc: bool,
+    },
+    /// Takes the pipe's oldest message.
+    Receive {
+        pipe: u32,
+    },
+    /// The application's last call.
+    End,
+}
+
+/// What a call of the software bus was answered.
+#[derive(Debug, Drop)]
+pub enum BusAnswer {
+    /// Done, with nothing to tell.
+    Done,
+    /// The number of the pipe that was made.
+    Number(u32),
+    /// The number of the message sent and of the pipes that it reached; both 0 where nobody subscribes.
+    Sent { number: u32, reached: u32 },
+    /// The number of the message received.
+    Got(u32),
+    /// Refused.
+    Sb(SbStatus),
+}
+
+impl BusAnswer {
+    /// The same answer once more.
+    pub fn again(&self) -> BusAnswer
+        ensures { result ≡ self.now }
+    {
+        match self {
+            BusAnswer::Done => BusAnswer::Done,
+            BusAnswer::Number(number) => BusAnswer::Number(*number),
+            BusAnswer::Sent { number, reached } => BusAnswer::Sent {
+                number: *number,
+                reached: *reached,
+            },
+            BusAnswer::Got(number) => BusAnswer::Got(*number),
+            BusAnswer::Sb(status) => BusAnswer::Sb(*status),
+        }
+    }
+}
+
+/// One call with its answer.
+#[derive(Debug, Drop)]
+pub struct BusEntry<'a> {
+    /// Who called.
+    pub app: AppNo,
+    /// The call.
+    pub call: BusCall<'a>,
+    /// What it was answered.
+    pub answer: BusAnswer,
+}

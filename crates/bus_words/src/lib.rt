@@ -1,0 +1,28 @@
+//! The words of the software bus: its calls, its answers, the journal that keeps them, and the
+//! definitions of what each call does, which stand in `specs/`.
+//!
+//! It promises that a journal is a list: a push adds one entry at the end, and reading gives each
+//! entry back as it was.
+//!
+//! ```text
+//! let mut journal = BusJournal::new(alloc, &[Budget { entries: 8, bytes: 200, buffers: 0 }])?;
+//! let call = BusCall::Create { depth: 4, name: b"TLM" };
+//! journal.push(&BusEntry { app, call, answer: BusAnswer::Number(1) });
+//! journal.get(0)   // the same entry
+//! ```
+#![tactic(auto)]
+
+mod calls;
+mod history;
+mod journal;
+mod laws;
+mod receipts;
+
+pub use calls::{BusAnswer, BusCall, BusEntry};
+pub use history::{Call, Entry};
+pub use journal::{Allowance, BusJournal};
+pub use laws::histories_are_runs;
+pub use receipts::{HEAD_BYTES, Head, Receipt, ReceiptList};
+
+#[cfg(test)]
+mod tests;

@@ -1,0 +1,131 @@
+//! A journal and a list of receipts on their happy path.
+ghost use Rattle.std.specs.Prelude.{◌≡◌, ◌<◌, ◌≤◌, ◌↔◌, IsTrue, length};
+ghost use Rattle.bus_words.specs.Entries.{call_of, call_bytes};
+ghost use Rattle.bus_words.specs.Log.{HasRoom};
+
+use crate::{Allowance, BusAnswer, BusCall, BusEntry, BusJournal, Head, Receipt, ReceiptList};
+use fsw_base::{AppNo, Budget, SbStatus, Scope};
+use std::alloc::{AllocError, Global};
+use std::test::Fail;
+
+#[test]
+fn journal_gives_back_each_kind_of_call(rt: HostRuntime) -> Result<(), Fail> {
+    let budget = Budget {
+        entries: 6,
+        bytes: 20,
+        buffers: 0,
+    };
+    let mut journal = BusJournal::new(rt.alloc(), &[budget, budget])?;
+    let app = AppNo::try_new(2).expect(&rt, "an application's number");
+    let rows = [
+        (
+            BusCall::Create {
+                depth: 4,
+                name: b"TLM",
+            },
+            BusAnswer::Number(1),
+        ),
+        (
+            BusCall::Subscribe {
+                id: 0x0801,
+                pipe: 1,
+                limit: 2,
+                scope: Scope::Local,
+            },
+            BusAnswer::Done,
+        ),
+        (
+            BusCall::Transmit {
+                bytes: &[8, 1, 192, 0, 0, 0, 42],
+                inc: true,
+            },
+            BusAnswer::Sent {
+                number: 1,
+                reached: 1,
+            },
+        ),
+        (BusCall::Receive { pipe: 1 }, BusAnswer::Got(1)),
+        (
+            BusCall::Receive { pipe: 1 },
+            BusAnswer::Sb(SbStatus::NoMessage),
+        ),
+        (BusCall::End, BusAnswer::Done),
+    ];
+    for (call, answer) in &rows {
+        let entry = BusEntry {
+            app,
+            call: *call,
+            answer: answer.again(),
+        };
+        assert!(rt; keeps(rt.alloc(), &mut journal, &entry)?, "at {entry:?}");
+    }
+    assert_eq!(rt; journal.len(), 6);
+    Ok(())
+}
+
+// Whether the journal takes the entry and gives it back.
+fn keeps(
+    alloc: Global,
+    journal: &mut BusJournal,
+    entry: &BusEntry<'_>,
+) -> Result<bool, AllocError> {
+    if !has_room(journal, entry) {
+        return Ok(false);
+    }
+    let place = journal.len();
+    journal.push(entry);
+    let kept = format!(in alloc; "{:?}", journal.get(place))?;
+    let given = format!(in alloc; "{entry:?}")?;
+    Ok(kept == given)
+}
+
+// Whether the entry may be pushed.
+fn has_room(journal: &BusJournal, entry: &BusEntry<'_>) -> bool
+    ensures { IsTrue result → HasRoom journal.now.left entry.now.app (call_bytes (call_of entry.now.call)) }
+{
+    if journal.apps() < entry.app.get() {
+        return false;
+    }
+    let Allowance { entries, bytes } = journal.left(entry.app);
+    1 <= entries && call_len(&entry.call) <= bytes as usize
+}
+
+// How many bytes a call brings.
+fn call_len(call: &BusCall<'_>) -> usize
+    ensures { result ≡ call_bytes (call_of call.now) }
+{
+    match call {
+        BusCall::Create { name, .. } => name.len(),
+        BusCall::Transmit { bytes, .. } => bytes.len(),
+        BusCall::Subscribe { .. } | BusCall::Receive { .. } | BusCall::End => 0,
+    }
+}
+
+#[test]
+fn receipts_are_kept_in_order(rt: HostRuntime) -> Result<(), Fail> {
+    let mut receipts = ReceiptList::new(rt.alloc(), 2)?;
+    let head = Head::try_new(&[8, 1, 192, 0, 0, 0, 42]).expect(&rt, "a short head");
+    receipts.push(Receipt::Nothing);
+    receipts.push(Receipt::Message {
+        pipe: 1,
+        number: 1,
+        id: 0x0801,
+        count: 0,
+        size: 7,
+        sum: 243,
+        head,
+    });
+    assert_eq!(rt; receipts.len(), 2);
+    assert!(rt; matches!(receipts.get(0), Receipt::Nothing));
+    assert!(rt;
+        matches!(
+            receipts.get(1),
+            Receipt::Message {
+                id: 0x0801,
+                sum: 243,
+                ..
+            }
+        )
+    );
+    Ok(())
+}
