@@ -1,0 +1,12 @@
+mod After
+mod Counts
+mod Creates
+mod Ends
+mod Loops
+mod Meaning
+mod OpenedCore
+mod Receipts
+mod Receives
+mod Refusals
+mod Subscribes
+mod Transmits

@@ -1,0 +1,11 @@
+use Rattle.std.proofs.Common.{cond, eqb, set, ap, sym, ◌∙◌}
+use Rattle.std.proofs.lemmas.List.Edits.{map_over_more}
+use Rattle.sb_calls.specs.Rows.{Row, after_take}
+use Rattle.sb_calls.proofs.pipes.take.Goals as goal
+
+pub loop-row-preserved : goal.loop-row-preserved
+loop-row-preserved c =
+    let f : Row → Row = λ row. cond (eqb row.number c.args.number) (after_take row) row in
+    let at = c.loop-row in
+    ap (λ row. set at.row-items at.row-index row) (c.take_one.ensures ∙ ap f (sym c.row-item.is))
+    ∙ map_over_more f c.deref_mut-row-items.result.now at.row-items at.row-index c.row-item.result c.loop-row-test.true at.invariant c.row-item.is

@@ -1,0 +1,58 @@
+-- The bus core as its callers see it: its limits and its journal. What the bus is follows from them.
+use Rattle.std.specs.Prelude.{◌≡◌, ℕ, ◌≤◌, nat_le, Bool, true, List, length, IsTrue, Option, None, option_and_then, if◌then◌else◌}
+use Rattle.std.specs.Option.{option_map}
+use Rattle.fsw_base.specs.Limits.{Limits}
+use Rattle.bus_words.specs.declared.calls.BusAnswer.{BusAnswer}
+use Rattle.bus_words.specs.declared.history.Call.{Call}
+use Rattle.bus_words.specs.declared.history.Call.TheVariants.{Create, Subscribe, Transmit, Receive, End}
+use Rattle.bus_words.specs.declared.receipts.Receipt.{Receipt}
+use Rattle.bus_words.specs.Bus.{State, standing_of, owns, pipe_at}
+use Rattle.bus_words.specs.Entries.{call_bytes}
+use Rattle.bus_words.specs.Log.{Log, HasRoom, with_entry}
+use Rattle.bus_words.specs.Receipts.{message_receipt}
+use Rattle.bus_words.specs.Machine.{IsLegal, may_call, state_after, step}
+
+pub record Core : Type 0 where
+  pub limits : Limits
+  pub log : Log
+
+-- how many applications the core serves
+abbrev pub apps_of : Core → ℕ
+apps_of core = length core.log.left
+
+-- the bus after the core's history
+abbrev pub state_of : Core → State
+state_of core = state_after core.limits (apps_of core) core.log.entries
+
+-- the core's history is one that the bus can have
+abbrev pub IsLegalCore : Core → Type 0
+IsLegalCore core = IsLegal core.limits (apps_of core) core.log.entries
+
+-- a name of at most 64 bytes, a message of at most 65542
+abbrev pub is_within : Call → Bool
+is_within (Create depth name) = nat_le (length name) 64
+is_within (Subscribe id pipe limit scope) = true
+is_within (Transmit bytes inc) = nat_le (length bytes) 65542
+is_within (Receive pipe) = true
+is_within End = true
+
+-- the application may make this call now
+pub record MayCall (core : Core) (app : ℕ) (call : Call) : Type 0 where
+  pub known : app ≤ apps_of core
+  pub standing : IsTrue (may_call (standing_of (state_of core) app) call)
+  pub room : HasRoom core.log.left app (call_bytes call)
+  pub within : IsTrue (is_within call)
+
+-- the call was answered as the bus answers it after the core's history, and its entry stands at the history's end
+pub record Does (old new : Core) (app : ℕ) (call : Call) (answer : BusAnswer) : Type 0 where
+  pub entry : new ≡ record { limits = old.limits; log = with_entry old.log (record { app = app; call = call; answer = answer }) }
+  pub as_machine : answer ≡ (step old.limits old.log.entries (state_of old) app call).0
+  pub state : state_of new ≡ (step old.limits old.log.entries (state_of old) app call).1
+  pub legal : IsLegalCore new
+
+-- the receipt of the last message of an application's pipe, where the pipe is live and has one
+abbrev pub receipt_in : State → ℕ → ℕ → Option Receipt
+receipt_in s app pipe =
+    if owns s.pipes app pipe
+    then option_and_then (λ found. option_map (λ item. message_receipt pipe item.number item.message) found.last) (pipe_at s.pipes pipe)
+    else None

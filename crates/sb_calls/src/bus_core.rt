@@ -1,0 +1,109 @@
+//! The core: what it keeps, how it opens, and what it tells.
+ghost use Rattle.std.specs.Prelude.{◌≡◌, ◌≤◌, [], length, IfOk};
+ghost use Rattle.fsw_base.specs.Limits.{limits_of};
+ghost use Rattle.bus_words.specs.Log.{AreBudgets, allowances, allowance_of};
+ghost use Rattle.sb_calls.specs.Core.{IsLegalCore, apps_of};
+
+use crate::opening::{all_active, empty_queues, total_entries};
+use crate::pipe_row::PipeRow;
+use crate::rows::{Activity, ItemRow, RouteRow, SendRow, SubscriptionRow};
+use bus_words::BusJournal;
+use circular_buffer::HeapCircularBuffer;
+use fsw_base::{AppNo, Budget, Config};
+use std::alloc::{AllocError, Global};
+use std::marker::Model;
+
+/// The software bus of up to 16 applications, with its journal. All its memory is taken when it is
+/// made.
+#[derive(Drop)]
+pub struct BusCore {
+    // The limits that it was made with.
+    pub(crate) config: Config,
+    // Every call with its answer, in order. All that follows is the bus after these entries.
+    pub(crate) journal: BusJournal,
+    // What each application does, from application 1.
+    pub(crate) activities: Vec<Activity>,
+    // The live pipes, by rising number, with room for as many as may be live.
+    pub(crate) pipes: Vec<PipeRow>,
+    // How many pipes were created.
+    pub(crate) pipes_created: u32,
+    // An empty queue of the greatest depth for each pipe that may be created beside the live ones.
+    pub(crate) spare: Vec<HeapCircularBuffer<ItemRow>>,
+    // The live subscriptions, by rising number.
+    pub(crate) subscriptions: Vec<SubscriptionRow>,
+    // How many subscriptions were made.
+    pub(crate) subscriptions_made: u32,
+    // The ids that have a route; the count of each is that of the journal's entries.
+    pub(crate) routes: Vec<RouteRow>,
+    // The accepted sends that a subscription waited for, by number, from 1.
+    pub(crate) sends: Vec<SendRow>,
+}
+
+impl Model for BusCore {
+    ghost use Rattle.sb_calls.specs.Core.{Core};
+
+    ghost Value = { Core };
+
+    ghost use Rattle.sb_calls.specs.Inside.{core_of, Stands};
+
+    ghost view = { core_of };
+
+    ghost invariant = { Stands };
+}
+
+impl BusCore {
+    /// A bus on which no call was made, for the applications 1, 2, 3 and so on that have these
+    /// budgets: 1 to 16 of them, whose entries, bytes and buffers each add up to less than 2^32.
+    ///
+    /// # Errors
+    /// Where memory runs out.
+    pub fn new(alloc: Global, cfg: &Config, budgets: &[Budget]) -> Result<BusCore, AllocError>
+        requires { AreBudgets budgets.now }
+        ensures { IfOk result (λ core. core ≡ record { limits = limits_of cfg.now; log = record { entries = []; left = allowances budgets.now } }) }
+    {
+        let entries = total_entries(budgets);
+        Ok(BusCore {
+            config: cfg.again(),
+            journal: BusJournal::new(alloc, budgets)?,
+            activities: all_active(alloc, budgets.len())?,
+            pipes: Vec::with_capacity(alloc, cfg.pipes as usize)?,
+            pipes_created: 0,
+            spare: empty_queues(alloc, cfg.pipes, cfg.depth)?,
+            subscriptions: Vec::with_capacity(alloc, entries)?,
+            subscriptions_made: 0,
+            routes: Vec::with_capacity(alloc, cfg.msgids as usize)?,
+            sends: Vec::with_capacity(alloc, entries)?,
+        })
+    }
+
+    /// How many applications it serves, 1 to 16.
+    pub fn apps(&self) -> u32
+        ensures { result ≡ apps_of self.now }
+    {
+        self.journal.apps()
+    }
+
+    /// How many entries the application may still add to the journal.
+    pub fn entries_left(&self, app: AppNo) -> u32
+        requires { app ≤ apps_of self.now }
+        ensures { result ≡ (allowance_of self.now.log.left app).entries }
+    {
+        self.journal.left(app).entries
+    }
+
+    /// How many bytes of names and messages the application may still add to the journal.
+    pub fn bytes_left(&self, app: AppNo) -> u32
+        requires { app ≤ apps_of self.now }
+        ensures { result ≡ (allowance_of self.now.log.left app).bytes }
+    {
+        self.journal.left(app).bytes
+    }
+
+    /// Every call with its answer, in order.
+    pub fn journal(&self) -> &BusJournal
+        ensures journal { result.now ≡ self.now.log }
+        ensures legal { IsLegalCore self.now }
+    {
+        &self.journal
+    }
+}

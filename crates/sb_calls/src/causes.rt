@@ -1,0 +1,111 @@
+//! Why a call is refused: the first cause that applies, in the order of the guides.
+ghost use Rattle.std.specs.Prelude.{◌≡◌, ◌==◌, ◌||◌, ◌&&◌, not, nat_lt, nat_le, length, is_some, ◌≤◌};
+ghost use Rattle.ccsds_msg.specs.Message.{fault, is_valid_id};
+ghost use Rattle.std.specs.List.{list_any};
+ghost use Rattle.bus_words.specs.Bus.{route};
+ghost use Rattle.bus_words.specs.Machine.{create_cause, subscribe_cause, transmit_cause};
+ghost use Rattle.sb_calls.specs.Core.{state_of};
+ghost use Rattle.sb_calls.specs.Rows.{owns_row};
+
+use crate::bus_core::BusCore;
+use crate::pipe_row::{MAX_NAME, PipeRow};
+use crate::pipes::{is_name_taken, owns};
+use crate::routes::has_route;
+use crate::rows::{RouteRow, SubscriptionRow};
+use crate::subscriptions::{is_subscribed, route_length};
+use ccsds_msg::read_header;
+use fsw_base::{AppNo, SbStatus};
+
+impl BusCore {
+    /// Why the pipe can't be created.
+    pub(crate) fn create_cause(&self, depth: u32, name: &[u8]) -> Option<SbStatus>
+        ensures { result ≡ create_cause self.now.limits (state_of self.now) depth name.now }
+    {
+        if is_bad_pipe(depth, self.config.depth, name) {
+            return Some(SbStatus::BadArgument);
+        }
+        if self.pipes.len() >= self.config.pipes as usize {
+            return Some(SbStatus::MaxPipesMet);
+        }
+        if is_name_taken(&self.pipes, name) {
+            return Some(SbStatus::PipeCrErr);
+        }
+        None
+    }
+
+    /// Why the pipe can't be subscribed to the id.
+    pub(crate) fn subscribe_cause(&self, app: AppNo, id: u16, pipe: u32) -> Option<SbStatus>
+        ensures { result ≡ subscribe_cause self.now.limits (state_of self.now) app id pipe }
+    {
+        if is_bad_subscription(&self.pipes, app, id, pipe) {
+            return Some(SbStatus::BadArgument);
+        }
+        if is_subscribed(&self.subscriptions, id, pipe) {
+            return None;
+        }
+        if lacks_route(&self.routes, id, self.config.msgids) {
+            return Some(SbStatus::MaxMsgsMet);
+        }
+        if is_route_full(&self.subscriptions, id, self.config.dests) {
+            return Some(SbStatus::MaxDestsMet);
+        }
+        None
+    }
+
+    /// Why the bytes can't be sent.
+    pub(crate) fn transmit_cause(&self, bytes: &[u8]) -> Option<SbStatus>
+        requires { length bytes.now ≤ 65542 }
+        ensures { result ≡ transmit_cause self.now.limits (state_of self.now) bytes.now }
+    {
+        if !is_message(bytes) {
+            return Some(SbStatus::BadArgument);
+        }
+        if bytes.len() > self.config.msgmax as usize {
+            return Some(SbStatus::MsgTooBig);
+        }
+        None
+    }
+}
+
+// Whether the depth or the name is out of its range.
+fn is_bad_pipe(depth: u32, greatest: u32, name: &[u8]) -> bool
+    ensures { result ≡ (depth == 0 || nat_lt greatest depth || length name.now == 0 || nat_lt 19 (length name.now)) }
+{
+    depth == 0 || depth > greatest || name.is_empty() || name.len() > MAX_NAME
+}
+
+// Whether the id is out of its range, or the pipe isn't the application's.
+fn is_bad_subscription(pipes: &[PipeRow], app: AppNo, id: u16, pipe: u32) -> bool
+    ensures { result ≡ (not (is_valid_id id) || not (owns_row pipes.now app pipe)) }
+{
+    !is_valid_id(id) || !owns(pipes, app, pipe)
+}
+
+// Whether the id has no route where as many ids have one as may.
+fn lacks_route(routes: &[RouteRow], id: u16, most: u32) -> bool
+    ensures { result ≡ (not (list_any (λ route. route.id == id) routes.now) && nat_le most (length routes.now)) }
+{
+    !has_route(routes, id) && routes.len() >= most as usize
+}
+
+// Whether the id has as many subscriptions as it may.
+fn is_route_full(subscriptions: &[SubscriptionRow], id: u16, most: u32) -> bool
+    ensures { result ≡ nat_le most (length (route subscriptions.now id)) }
+{
+    route_length(subscriptions, id) >= most as usize
+}
+
+// Whether it is a message id, 1 to 0x1FFF (CCSDS 133.0-B, 4.1.3.2 and 4.1.3.3).
+fn is_valid_id(id: u16) -> bool
+    ensures { result ≡ is_valid_id id }
+{
+    1 <= id && id <= 0x1FFF
+}
+
+// Whether the bytes are one whole message.
+fn is_message(bytes: &[u8]) -> bool
+    requires { length bytes.now ≤ 65542 }
+    ensures { result ≡ not (is_some (fault bytes.now)) }
+{
+    read_header(bytes).is_ok()
+}
