@@ -1,0 +1,16 @@
+use Rattle.std.proofs.Common.{◌++◌, ◌∷◌, [], ap, arith, drop}
+use Rattle.run_report.specs.ReceiptText.{receipts_text}
+use Rattle.bus_words.specs.Bus.{opening}
+use Rattle.run_report.proofs.Legal.{legal_answers}
+use Rattle.run_report.proofs.Telling.{lines_tell, reports_tell}
+use Rattle.run_report.proofs.laws.reports_tell_applications_and_answers.Goals as goal
+
+pub returns-clause-lines : goal.returns-clause-lines
+returns-clause-lines c = λ one other plain clear same. lines_tell 1 114 one other [] [] (omega arith) plain clear (ap (λ text. text ++ 114 ∷ []) same)
+
+pub returns-clause-reports : goal.returns-clause-reports
+returns-clause-reports c = λ one other receipts others plain clear same.
+    reports_tell one other (receipts_text receipts) (receipts_text others) plain clear (ap (drop 10) same)
+
+pub returns-clause-legal : goal.returns-clause-legal
+returns-clause-legal c = λ limits apps history legal. legal_answers limits [] (opening apps) history legal

@@ -1,0 +1,13 @@
+use Rattle.std.proofs.Common.{sym, ap}
+use Rattle.run_report.specs.Texts.{hex_bytes}
+use Rattle.run_report.specs.ReceiptText.{seen_text}
+use Rattle.run_report.proofs.Putting.{◌▸◌, puts_as}
+use Rattle.run_report.proofs.receipts.put_seen.Goals as goal
+
+pub returns-in-Message : goal.returns-in-Message
+returns-in-Message g c =
+    puts_as (seen_text c.args.receipt.now) (ap seen_text (sym c.in-Message.is))
+    (c.put-in-Message.ensures ▸ c.put_number.ensures ▸ c.put-in-Message-2.ensures ▸ c.put_number-in-Message.ensures
+    ▸ c.put-in-Message-3.ensures ▸ c.put_hex_id.ensures ▸ c.put-in-Message-4.ensures ▸ c.put_number-in-Message-2.ensures
+    ▸ c.put-in-Message-5.ensures ▸ c.put_number-in-Message-3.ensures ▸ c.put-in-Message-6.ensures ▸ c.put_number-in-Message-4.ensures
+    ▸ c.put-in-Message-7.ensures ▸ puts_as (hex_bytes c.in-Message.head) (ap hex_bytes c.as_slice.ensures.bytes) c.put_hex_bytes.ensures)

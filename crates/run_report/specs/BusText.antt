@@ -1,0 +1,47 @@
+-- The lines of a report on the calls of the software bus.
+use Rattle.std.specs.Prelude.{ℕ, Bool, true, false, List, ◌++◌, length, sum, codes, decimal}
+use Rattle.fsw_base.specs.declared.config.Scope.{Scope}
+use Rattle.fsw_base.specs.declared.config.Scope.TheVariants as scopes
+use Rattle.fsw_base.specs.Statuses.{sb_name}
+use Rattle.bus_words.specs.declared.calls.BusAnswer.{BusAnswer}
+use Rattle.bus_words.specs.declared.calls.BusAnswer.TheVariants.{Done, Number, Sent, Got, Sb}
+use Rattle.bus_words.specs.declared.history.Call.{Call}
+use Rattle.bus_words.specs.declared.history.Call.TheVariants.{Create, Subscribe, Transmit, Receive, End}
+use Rattle.bus_words.specs.declared.history.Entry.{Entry}
+use Rattle.run_report.specs.Texts.{hex_id, name_text, numbered}
+
+abbrev pub scope_text : Scope → List ℕ
+scope_text scopes.Global = codes "global"
+scope_text scopes.Local = codes "local"
+
+-- whether a send gives its message the next sequence count
+abbrev pub mode_text : Bool → List ℕ
+mode_text true = codes "inc"
+mode_text false = codes "keep"
+
+-- a call; of a message its size and the sum of its bytes
+abbrev pub call_text : Call → List ℕ
+call_text (Create depth name) = codes "create " ++ decimal depth ++ codes " " ++ name_text name
+call_text (Subscribe id pipe limit scope) =
+    codes "sub " ++ hex_id id ++ codes " " ++ decimal pipe ++ codes " " ++ decimal limit ++ codes " " ++ scope_text scope
+call_text (Transmit bytes inc) =
+    codes "send " ++ decimal (length bytes) ++ codes " " ++ decimal (sum bytes) ++ codes " " ++ mode_text inc
+call_text (Receive pipe) = codes "recv " ++ decimal pipe
+call_text End = codes "end"
+
+-- an answer: the numbers that it tells, or why the call was refused
+abbrev pub answer_text : BusAnswer → List ℕ
+answer_text Done = codes "CFE_SUCCESS"
+answer_text (Number number) = codes "CFE_SUCCESS " ++ decimal number
+answer_text (Sent number reached) = codes "CFE_SUCCESS " ++ decimal number ++ codes " " ++ decimal reached
+answer_text (Got number) = codes "CFE_SUCCESS " ++ decimal number
+answer_text (Sb status) = sb_name status
+
+-- the line of entry number n: its number, its application, its call and its answer
+abbrev pub entry_text : ℕ → Entry → List ℕ
+entry_text n e =
+    decimal n ++ codes " a" ++ decimal e.app ++ codes " " ++ call_text e.call ++ codes " -> " ++ answer_text e.answer ++ codes "\n"
+
+-- the lines of a history, whose entries are numbered from 1
+abbrev pub entries_text : List Entry → List ℕ
+entries_text entries = numbered entry_text 1 entries

@@ -1,0 +1,136 @@
+//! The lines on the calls of the software bus.
+ghost use Rattle.std.specs.Prelude.{◌≡◌, ℕ, sum};
+ghost use Rattle.bus_words.specs.declared.history.Call.TheVariants.{Subscribe};
+ghost use Rattle.bus_words.specs.Entries.{call_of, entry_of};
+ghost use Rattle.run_report.specs.Pieces.{Puts};
+ghost use Rattle.run_report.specs.BusText.{scope_text, mode_text, call_text, answer_text, entry_text, entries_text};
+
+use crate::pages::{Page, put};
+use crate::pieces::{put_hex_id, put_name, put_number};
+use bus_words::{BusAnswer, BusCall, BusEntry, BusJournal};
+use fsw_base::{Scope, Sink};
+
+/// Puts the lines of a journal, whose entries are numbered from 1.
+pub fn put_entries<K: Sink>(sink: &mut K, page: &mut Page, journal: &BusJournal)
+    ensures { Puts K.written K.faults sink.old sink.new page.old page.new (entries_text journal.now.entries) }
+{
+    for i in 0..journal.len() {
+        put_entry(sink, page, i + 1, &journal.get(i));
+    }
+}
+
+// Puts the line of one entry.
+fn put_entry<K: Sink>(sink: &mut K, page: &mut Page, number: u32, entry: &BusEntry<'_>)
+    ensures { Puts K.written K.faults sink.old sink.new page.old page.new (entry_text number (entry_of entry.now)) }
+{
+    put_number(sink, page, number);
+    put(sink, page, b" a");
+    put_number(sink, page, entry.app.get());
+    put(sink, page, b" ");
+    put_call(sink, page, &entry.call);
+    put(sink, page, b" -> ");
+    put_answer(sink, page, &entry.answer);
+    put(sink, page, b"\n");
+}
+
+// Puts a call.
+fn put_call<K: Sink>(sink: &mut K, page: &mut Page, call: &BusCall<'_>)
+    ensures { Puts K.written K.faults sink.old sink.new page.old page.new (call_text (call_of call.now)) }
+{
+    match call {
+        BusCall::Create { depth, name } => {
+            put(sink, page, b"create ");
+            put_number(sink, page, *depth);
+            put(sink, page, b" ");
+            put_name(sink, page, name);
+        }
+        BusCall::Subscribe {
+            id,
+            pipe,
+            limit,
+            scope,
+        } => put_subscribe(sink, page, *id, *pipe, *limit, *scope),
+        BusCall::Transmit { bytes, inc } => {
+            put(sink, page, b"send ");
+            put_number(sink, page, bytes.len());
+            put(sink, page, b" ");
+            put_number(sink, page, sum_of(bytes));
+            put(sink, page, b" ");
+            put_mode(sink, page, *inc);
+        }
+        BusCall::Receive { pipe } => {
+            put(sink, page, b"recv ");
+            put_number(sink, page, *pipe);
+        }
+        BusCall::End => put(sink, page, b"end"),
+    }
+}
+
+// Puts a subscribe.
+fn put_subscribe<K: Sink>(
+    sink: &mut K,
+    page: &mut Page,
+    id: u16,
+    pipe: u32,
+    limit: u32,
+    scope: Scope,
+)
+    ensures { Puts K.written K.faults sink.old sink.new page.old page.new (call_text (Subscribe id pipe limit scope)) }
+{
+    put(sink, page, b"sub ");
+    put_hex_id(sink, page, id);
+    put(sink, page, b" ");
+    put_number(sink, page, pipe);
+    put(sink, page, b" ");
+    put_number(sink, page, limit);
+    put(sink, page, b" ");
+    put_scope(sink, page, scope);
+}
+
+// Puts a subscription's scope.
+fn put_scope<K: Sink>(sink: &mut K, page: &mut Page, scope: Scope)
+    ensures { Puts K.written K.faults sink.old sink.new page.old page.new (scope_text scope) }
+{
+    match scope {
+        Scope::Global => put(sink, page, b"global"),
+        Scope::Local => put(sink, page, b"local"),
+    }
+}
+
+// Puts whether a send gives its message the next sequence count.
+fn put_mode<K: Sink>(sink: &mut K, page: &mut Page, inc: bool)
+    ensures { Puts K.written K.faults sink.old sink.new page.old page.new (mode_text inc) }
+{
+    if inc {
+        put(sink, page, b"inc");
+    } else {
+        put(sink, page, b"keep");
+    }
+}
+
+// The sum of all bytes; 128 bits hold that of any slice.
+fn sum_of(bytes: &[u8]) -> u128
+    ensures { result ≡ sum bytes.now }
+{
+    bytes.iter().map(|byte| u128::from(*byte)).sum()
+}
+
+// Puts an answer.
+fn put_answer<K: Sink>(sink: &mut K, page: &mut Page, answer: &BusAnswer)
+    ensures { Puts K.written K.faults sink.old sink.new page.old page.new (answer_text answer.now) }
+{
+    match answer {
+        BusAnswer::Done => put(sink, page, b"CFE_SUCCESS"),
+        BusAnswer::Number(number) | BusAnswer::Got(number) => {
+            put(sink, page, b"CFE_SUCCESS ");
+            put_number(sink, page, *number);
+        }
+        BusAnswer::Sent { number, reached } => {
+            put(sink, page, b"CFE_SUCCESS ");
+            put_number(sink, page, *number);
+            put(sink, page, b" ");
+            put_number(sink, page, *reached);
+        }
+        BusAnswer::Sb(status) => put(sink, page, status.name().as_bytes()),
+    }
+}

@@ -1,0 +1,71 @@
+//! The lines on what each application received.
+ghost use Rattle.std.specs.Prelude.{◌≡◌, ℕ, map};
+ghost use Rattle.run_report.specs.Pieces.{Puts};
+ghost use Rattle.run_report.specs.ReceiptText.{seen_text, receipt_text, application_text, receipts_text};
+
+use crate::pages::{Page, put};
+use crate::pieces::{put_hex_bytes, put_hex_id, put_number};
+use bus_words::{Receipt, ReceiptList};
+use fsw_base::Sink;
+
+/// Puts the receipts of the applications 1, 2, 3 and so on.
+pub fn put_receipts<K: Sink>(sink: &mut K, page: &mut Page, receipts: &[ReceiptList])
+    ensures { Puts K.written K.faults sink.old sink.new page.old page.new (receipts_text (map (λ list. list.receipts) receipts.now)) }
+{
+    for (i, list) in receipts.iter().enumerate() {
+        put_application(sink, page, i + 1, list);
+    }
+}
+
+// Puts the receipts of one application, in its own order.
+fn put_application<K: Sink>(sink: &mut K, page: &mut Page, app: usize, list: &ReceiptList)
+    ensures { Puts K.written K.faults sink.old sink.new page.old page.new (application_text app list.now.receipts) }
+{
+    for i in 0..list.len() {
+        put_receipt(sink, page, app, &list.get(i));
+    }
+}
+
+// Puts the line of one receipt.
+fn put_receipt<K: Sink>(sink: &mut K, page: &mut Page, app: usize, receipt: &Receipt)
+    ensures { Puts K.written K.faults sink.old sink.new page.old page.new (receipt_text app receipt.now) }
+{
+    put(sink, page, b"a");
+    put_number(sink, page, app);
+    put(sink, page, b" ");
+    put_seen(sink, page, receipt);
+    put(sink, page, b"\n");
+}
+
+// Puts what a receipt says.
+fn put_seen<K: Sink>(sink: &mut K, page: &mut Page, receipt: &Receipt)
+    ensures { Puts K.written K.faults sink.old sink.new page.old page.new (seen_text receipt.now) }
+{
+    match receipt {
+        Receipt::Nothing => put(sink, page, b"none"),
+        Receipt::Message {
+            pipe,
+            number,
+            id,
+            count,
+            size,
+            sum,
+            head,
+        } => {
+            put(sink, page, b"msg p");
+            put_number(sink, page, *pipe);
+            put(sink, page, b" n");
+            put_number(sink, page, *number);
+            put(sink, page, b" id=");
+            put_hex_id(sink, page, *id);
+            put(sink, page, b" seq=");
+            put_number(sink, page, *count);
+            put(sink, page, b" size=");
+            put_number(sink, page, *size);
+            put(sink, page, b" sum=");
+            put_number(sink, page, *sum);
+            put(sink, page, b" head=");
+            put_hex_bytes(sink, page, head.as_slice());
+        }
+    }
+}

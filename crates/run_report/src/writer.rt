@@ -1,0 +1,51 @@
+//! Writing a whole report.
+ghost use Rattle.std.specs.Prelude.{◌≡◌, ℕ, ◌≤◌, OnOk, OnErr};
+ghost use Rattle.fsw_base.specs.Outside.{Rose};
+ghost use Rattle.run_report.specs.Pieces.{Grew, CutShort, Puts};
+ghost use Rattle.run_report.specs.Report.{report_of};
+
+use crate::entries::put_entries;
+use crate::pages::{Page, finish, put};
+use crate::receipts::put_receipts;
+use bus_words::{BusJournal, ReceiptList};
+use fsw_base::{Sink, WriteFault};
+use sb_calls::BusCore;
+
+/// Writes the report of a bus, as [`write_journal`] does that of its journal.
+pub fn write_report<K: Sink>(
+    bus: &BusCore,
+    receipts: &[ReceiptList],
+    sink: &mut K,
+) -> Result<(), WriteFault>
+    ensures ok { OnOk result (Grew (K.written sink.old) (K.written sink.new) (report_of bus.now.log receipts.now)) }
+    ensures err { OnErr result (CutShort (K.written sink.old) (K.written sink.new) (report_of bus.now.log receipts.now)) }
+    ensures cause { OnErr result (Rose (K.faults sink.old) (K.faults sink.new)) }
+    ensures never_falls { K.faults sink.old ≤ K.faults sink.new }
+{
+    write_journal(bus.journal(), receipts, sink)
+}
+
+/// Writes the report of a journal and of the receipts of the applications 1, 2, 3 and so on.
+///
+/// The sink is given the text in pages of 4096 bytes, of which it may take less at a time. No memory
+/// is taken. `WriteFault` comes only where the sink's count of faults rose in this call (or stands at
+/// its last value); the sink then has a front of the text, and after the failed write nothing more is
+/// written.
+pub fn write_journal<K: Sink>(
+    journal: &BusJournal,
+    receipts: &[ReceiptList],
+    sink: &mut K,
+) -> Result<(), WriteFault>
+    ensures ok { OnOk result (Grew (K.written sink.old) (K.written sink.new) (report_of journal.now receipts.now)) }
+    ensures err { OnErr result (CutShort (K.written sink.old) (K.written sink.new) (report_of journal.now receipts.now)) }
+    ensures cause { OnErr result (Rose (K.faults sink.old) (K.faults sink.new)) }
+    ensures never_falls { K.faults sink.old ≤ K.faults sink.new }
+{
+    let mut page = Page::new();
+    put(sink, &mut page, b"fsw 1\nbus\n");
+    put_entries(sink, &mut page, journal);
+    put(sink, &mut page, b"receipts\n");
+    put_receipts(sink, &mut page, receipts);
+    put(sink, &mut page, b"end\n");
+    finish(sink, &mut page)
+}
