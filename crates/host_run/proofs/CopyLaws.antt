@@ -1,0 +1,59 @@
+-- Copying a history entry by entry.
+use Rattle.std.proofs.Common.{◌≡◌, ℕ, zero, suc, ◌+◌, ◌<◌, ◌&&◌, Bool, true, false, List, [], ◌∷◌, ◌++◌, take, drop, length, Some, slice_get, refl, ap, sym, ◌∙◌, arith, add-one}
+use Rattle.bus_words.specs.declared.history.Entry.{Entry}
+use Rattle.bus_words.specs.declared.journal.Allowance.{Allowance}
+use Rattle.bus_words.specs.Entries.{call_bytes}
+use Rattle.bus_words.specs.Log.{Log, charged, with_entry}
+use Rattle.host_run.specs.Copies.{has_room, fits, CopiesEntry}
+
+-- what is left of a list from one of its items on
+pub drop_get : {X : Type 0} (xs : List X) (i : ℕ) (x : X) → slice_get xs i ≡ Some x → drop i xs ≡ x ∷ drop (i + 1) xs
+drop_get xs i x is = rest xs i x is ∙ ap (λ n. x ∷ drop n xs) (sym (add-one i))
+  where
+    rest : {Y : Type 0} (ys : List Y) (k : ℕ) (y : Y) → slice_get ys k ≡ Some y → drop k ys ≡ y ∷ drop (suc k) ys
+    rest [] k y s = absurd (cc (s))
+    rest (z ∷ ys) zero y s = let same : z ≡ y = cc (s) in ap (λ w. w ∷ ys) same
+    rest (z ∷ ys) (suc k) y s = rest ys k y s
+
+-- one item more of a list
+pub take_get : {X : Type 0} (xs : List X) (i : ℕ) (x : X) → slice_get xs i ≡ Some x → take (i + 1) xs ≡ take i xs ++ x ∷ []
+take_get xs i x is = ap (λ n. take n xs) (add-one i) ∙ front xs i x is
+  where
+    front : {Y : Type 0} (ys : List Y) (k : ℕ) (y : Y) → slice_get ys k ≡ Some y → take (suc k) ys ≡ take k ys ++ y ∷ []
+    front [] k y s = absurd (cc (s))
+    front (z ∷ ys) zero y s = let same : z ≡ y = cc (s) in ap (λ w. w ∷ []) same
+    front (z ∷ ys) (suc k) y s = ap (λ l. z ∷ l) (front ys k y s)
+
+-- the entry at a place, and those behind it
+pub fits_step : (left : List Allowance) (history : List Entry) (i : ℕ) (e : Entry) → slice_get history i ≡ Some e →
+    fits left (drop i history) ≡ (has_room left e.app (call_bytes e.call) && fits (charged left e.app (call_bytes e.call)) (drop (i + 1) history))
+fits_step left history i e is = ap (fits left) (drop_get history i e is)
+
+-- what stands at a place
+pub place_of : {X : Type 0} (xs : List X) (i : ℕ) → i < length xs → (x : X) × (slice_get xs i ≡ Some x)
+place_of [] i h = absurd (omega arith)
+place_of (x ∷ xs) zero h = (x, refl)
+place_of (x ∷ xs) (suc i) h = let there : i < length xs = omega arith in place_of xs i there
+
+-- an entry that isn't within the budgets
+pub copy_stops : (old new : Log) (history : List Entry) (i : ℕ) (done : Bool) → i < length history → CopiesEntry old new history i done → done ≡ false →
+    fits old.left (drop i history) ≡ false
+copy_stops old new history i done there copies refused =
+    let place = place_of history i there in
+    let e : Entry = place.0 in
+    fits_step old.left history i e place.1
+    ∙ ap (λ b. b && fits (charged old.left e.app (call_bytes e.call)) (drop (i + 1) history)) (sym ((copies e place.1).0) ∙ refused)
+
+-- an entry more
+pub copy_goes : (old new : Log) (history : List Entry) (i : ℕ) (done : Bool) → i < length history → CopiesEntry old new history i done → done ≡ true →
+    old.entries ≡ take i history → (new.entries ≡ take (i + 1) history) × (fits new.left (drop (i + 1) history) ≡ fits old.left (drop i history))
+copy_goes old new history i done there copies added so_far =
+    let place = place_of history i there in
+    let e : Entry = place.0 in
+    let longer : new ≡ with_entry old e = (copies e place.1).1 added in
+    let rest = drop (i + 1) history in (
+      ap (λ (log : Log). log.entries) longer ∙ ap (λ (es : List Entry). es ++ e ∷ []) so_far ∙ sym (take_get history i e place.1),
+      ap (λ (log : Log). fits log.left rest) longer
+          ∙ sym (fits_step old.left history i e place.1
+          ∙ ap (λ b. b && fits (charged old.left e.app (call_bytes e.call)) rest) (sym ((copies e place.1).0) ∙ added)),
+    )

@@ -1,0 +1,9 @@
+use Rattle.std.proofs.Common.{◌≡◌, take, drop}
+use Rattle.host_run.specs.Copies.{fits}
+use Rattle.host_run.proofs.mem_audit.copy_entries.Given as goal
+
+abbrev pub invariant-loop-i : goal.invariant-loop-i
+invariant-loop-i l = record {
+  copied : l.target.entries ≡ take l.i l.journal.entries;
+  rest : fits l.target.left (drop l.i l.journal.entries) ≡ fits l.initial.target.left l.journal.entries;
+}

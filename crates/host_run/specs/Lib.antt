@@ -1,0 +1,13 @@
+pub mod Audit
+pub mod Copies
+pub mod Form
+pub mod FormView
+pub mod Input
+pub mod Received
+pub mod Rotation
+pub mod Script
+pub mod Serve
+pub mod Status
+pub mod Trace
+pub mod Turns
+pub mod Words

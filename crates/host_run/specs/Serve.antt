@@ -1,0 +1,138 @@
+-- What the program does: what it reads, what it writes and what it shows an audit, by how it ended.
+use Rattle.std.specs.Prelude.{◌≡◌, ◌⊎◌, ◌≤◌, ℕ, List, [], ◌∷◌, ◌++◌, length, codes, decimal, Option, Some, None}
+use Rattle.fsw_base.specs.Limits.{usual_limits}
+use Rattle.fsw_base.specs.Outside.{Rose}
+use Rattle.fsw_base.specs.ScriptFaults.{fault_name}
+use Rattle.fsw_base.specs.declared.script_faults.FaultKind.TheVariants.{NotYet}
+use Rattle.fsw_base.specs.declared.script_faults.ScriptFault.{ScriptFault}
+use Rattle.bus_words.specs.declared.history.Entry.{Entry}
+use Rattle.run_report.specs.Pieces.{Grew, CutShort}
+use Rattle.run_report.specs.Report.{report_text}
+use Rattle.host_run.specs.Audit.{IsShown}
+use Rattle.host_run.specs.Form.{first_form}
+use Rattle.host_run.specs.Input.{IsWhole, IsTooLarge, IsPartRead}
+use Rattle.host_run.specs.Received.{receipts_of}
+use Rattle.host_run.specs.Rotation.{rotation}
+use Rattle.host_run.specs.Script.{Script}
+use Rattle.host_run.specs.declared.reading.TheConstants.{MAX_INPUT}
+use Rattle.host_run.specs.declared.status.HostStatus.{HostStatus}
+use Rattle.host_run.specs.declared.status.HostStatus.TheVariants as status
+
+-- Texts. --
+
+-- the line that tells which words the program knows
+abbrev pub usage_text : List ℕ
+usage_text = codes "usage: lockstep\n"
+
+-- the line that tells a fault
+abbrev pub fault_text : ScriptFault → List ℕ
+fault_text fault = codes "script:" ++ decimal fault.line ++ codes ":" ++ fault_name fault.kind ++ codes "\n"
+
+-- the fault of an input that is no script of the first form
+abbrev pub not_yet : ScriptFault
+not_yet = record { line = 0; kind = NotYet }
+
+-- the report of a script of one application, run in rotation
+abbrev pub rotation_report : Script → List ℕ
+rotation_report script = report_text (rotation script) (receipts_of usual_limits 1 (rotation script) 1 ∷ [])
+
+-- A source: the input left, where it is told, and the count of its faults.
+pub record Fed : Type 0 where
+  pub left : Option (List ℕ)
+  pub faults : ℕ
+
+-- What the program made: the bytes written, where they are told, the count of the sink's faults, and the histories that
+-- an audit was shown, where it tells them.
+pub record Made : Type 0 where
+  pub written : Option (List ℕ)
+  pub faults : ℕ
+  pub shown : Option (List (List Entry))
+
+-- nothing was written or shown
+abbrev pub MakesNothing : Made → Made → Type 0
+MakesNothing old new = new ≡ old
+
+-- a text was written, and nothing shown
+pub record Tells (old new : Made) (text : List ℕ) : Type 0 where
+  pub written : Grew old.written new.written text
+  pub shown : new.shown ≡ old.shown
+
+-- a front of a text was written, the sink's count of faults rose, and nothing was shown
+pub record TellsFront (old new : Made) (text : List ℕ) : Type 0 where
+  pub front : CutShort old.written new.written text
+  pub cause : Rose old.faults new.faults
+  pub shown : new.shown ≡ old.shown
+
+-- the history of the script's rotation was shown, and its report written
+pub record Reports (old new : Made) (script : Script) : Type 0 where
+  pub written : Grew old.written new.written (rotation_report script)
+  pub shown : IsShown old.shown new.shown (rotation script)
+
+-- the history was shown, a front of the report written, and the sink's count of faults rose
+pub record ReportsFront (old new : Made) (script : Script) : Type 0 where
+  pub front : CutShort old.written new.written (rotation_report script)
+  pub cause : Rose old.faults new.faults
+  pub shown : IsShown old.shown new.shown (rotation script)
+
+-- what a wanted end, or a failing sink in its place, made of a text
+abbrev pub EndsTelling : HostStatus → HostStatus → Made → Made → List ℕ → Type 0
+EndsTelling wanted result old new text =
+    ((result ≡ wanted) × Tells old new text) ⊎ ((result ≡ status.WriteFault) × TellsFront old new text)
+
+-- what was made of a script, by how it ended
+abbrev pub EndsScript : HostStatus → Script → Made → Made → Type 0
+EndsScript status.Done script old new = Reports old new script
+EndsScript status.WriteFault script old new = ReportsFront old new script
+EndsScript status.NoMemory script old new = MakesNothing old new
+EndsScript status.Usage script old new = ⊥
+EndsScript (status.Script fault) script old new = ⊥
+EndsScript status.ReadFault script old new = ⊥
+
+-- what was made of an input that is no script of the first form, by how it ended
+abbrev pub EndsRefused : HostStatus → Made → Made → Type 0
+EndsRefused (status.Script fault) old new = (fault ≡ not_yet) × Tells old new (fault_text not_yet)
+EndsRefused status.WriteFault old new = TellsFront old new (fault_text not_yet)
+EndsRefused status.NoMemory old new = MakesNothing old new
+EndsRefused status.Done old new = ⊥
+EndsRefused status.Usage old new = ⊥
+EndsRefused status.ReadFault old new = ⊥
+
+-- what was made of an input, by what it is
+abbrev pub EndsInput : HostStatus → Option Script → Made → Made → Type 0
+EndsInput result (Some script) old new = EndsScript result script old new
+EndsInput result None old new = EndsRefused result old new
+
+-- On the word `lockstep` one of these happened.
+pub data Lockstep (result : HostStatus) (fed fed' : Fed) (old new : Made) : Type 0 where
+  -- the whole input was read, and made what it is worth
+  Read : (bytes : List ℕ) → IsWhole bytes fed.left fed'.left → EndsInput result (first_form bytes) old new → Lockstep result fed fed' old new
+  -- the input is longer than any script
+  TooLong : IsTooLarge fed.left fed'.left → EndsRefused result old new → Lockstep result fed fed' old new
+  -- the source failed
+  SourceFailed : result ≡ status.ReadFault → Rose fed.faults fed'.faults → IsPartRead fed.left fed'.left → MakesNothing old new → Lockstep result fed fed' old new
+  -- no memory for the input
+  NoRoom : result ≡ status.NoMemory → MakesNothing old new → Lockstep result fed fed' old new
+
+-- on other words nothing is read, and the usage line is written
+pub record OtherWords (result : HostStatus) (fed fed' : Fed) (old new : Made) : Type 0 where
+  pub unread : fed' ≡ fed
+  pub usage : EndsTelling status.Usage result old new usage_text
+
+-- Causes. --
+
+-- why it ended so: at a failure the count of faults rose, and other words alone are answered with the usage
+abbrev pub HasCauses : HostStatus → Fed → Fed → Made → Made → Type 0
+HasCauses status.Usage fed fed' old new = ⊥
+HasCauses status.ReadFault fed fed' old new = Rose fed.faults fed'.faults
+HasCauses status.WriteFault fed fed' old new = Rose old.faults new.faults
+HasCauses status.Done fed fed' old new = Unit {0}
+HasCauses (status.Script fault) fed fed' old new = Unit {0}
+HasCauses status.NoMemory fed fed' old new = Unit {0}
+
+-- where the input is told and is a script of the first form, no longer than a script may be, and neither count of faults
+-- rose, all was done or there was no memory
+abbrev pub Completes : HostStatus → Fed → Fed → Made → Made → Type 0
+Completes result fed fed' old new =
+    (input : List ℕ) (script : Script) → fed.left ≡ Some input → length input ≤ MAX_INPUT → first_form input ≡ Some script →
+    ¬ Rose fed.faults fed'.faults → ¬ Rose old.faults new.faults →
+    (result ≡ status.Done) ⊎ (result ≡ status.NoMemory)

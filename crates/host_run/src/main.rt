@@ -1,0 +1,59 @@
+//! The program: reads a script, runs its application on the software bus, and writes a report.
+#![tactic(auto)]
+
+mod audit;
+mod form;
+mod mem_audit;
+mod reading;
+mod runs;
+mod serve;
+#[cfg(test)]
+mod serve_tests;
+mod status;
+#[cfg(test)]
+mod tests;
+mod turns;
+mod words;
+
+use crate::audit::NoAudit;
+use crate::serve::serve;
+use crate::status::HostStatus;
+use crate::words::Words;
+use fsw_base::{OpenGate, StdSink, StdSource};
+use std::process::ExitCode;
+use std::{env, io};
+
+/// Where a word of the command line can't be had, for another cause than memory.
+const NO_WORDS: u8 = 9;
+
+fn main(rt: HostRuntime) -> ExitCode {
+    match words_of(&rt) {
+        Ok(words) => {
+            let mut source = StdSource::new(rt.stdin());
+            let mut sink = StdSink::new(rt.stdout());
+            let status = serve(
+                &rt,
+                rt.alloc(),
+                &words,
+                &mut source,
+                &mut sink,
+                &OpenGate,
+                &mut NoAudit,
+            );
+            ExitCode::from(status.exit_status())
+        }
+        Err(error) if error.kind() == io::ErrorKind::OutOfMemory => {
+            ExitCode::from(HostStatus::NoMemory.exit_status())
+        }
+        Err(_) => ExitCode::from(NO_WORDS),
+    }
+}
+
+// The words of the command line after the program's name.
+fn words_of(rt: &HostRuntime) -> io::Result<Words> {
+    let mut words = Words::new();
+    for word in env::args(rt)?.skip(1) {
+        words.add(word.as_str());
+    }
+    Ok(words)
+}

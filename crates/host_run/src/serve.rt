@@ -1,0 +1,156 @@
+//! The top call: all that the program does.
+ghost use Rattle.std.specs.Prelude.{◌≡◌, ◌⊎◌, true, false, List, Option};
+ghost use Rattle.bus_words.specs.declared.history.Entry.{Entry};
+ghost use Rattle.host_run.specs.Form.{first_form};
+ghost use Rattle.host_run.specs.FormView.{script_of, IsInForm};
+ghost use Rattle.host_run.specs.Serve.{Lockstep, OtherWords, HasCauses, Completes, EndsInput, EndsScript, EndsRefused, EndsTelling, usage_text};
+ghost use Rattle.host_run.specs.Words.{is_lockstep};
+
+use crate::audit::Audit;
+use crate::form::{FirstForm, first_form};
+use crate::reading::{Reading, read_all};
+use crate::runs::{Finished, run_form};
+use crate::status::HostStatus;
+use crate::words::Words;
+use fsw_base::{FaultKind, Gate, ScriptFault, Sink, Source, WriteFault};
+use run_report::{write_report, write_text};
+use std::alloc::Global;
+
+/// Does what the words say: on `lockstep` it reads a script from the source to its end, runs it in
+/// strict rotation, shows the bus to the audit, and writes the report to the sink.
+///
+/// - `Usage`, on all other words: nothing is read, and the usage line is written.
+/// - `Script`, where the input is no script of the first form, or longer than 1,048,576 bytes; at
+///   most one byte more than that is read. The fault line is written.
+/// - `ReadFault`, only where the source's count of faults rose: nothing is written.
+/// - `WriteFault`, only where the sink's count of faults rose: a front of the text due is written,
+///   and nothing after the failed write.
+/// - `NoMemory`, never on other words: nothing is written.
+pub fn serve<R, S: Source, K: Sink, G: Gate, A: Audit>(
+    _rt: &R,
+    alloc: Global,
+    words: &Words,
+    source: &mut S,
+    sink: &mut K,
+    _gate: &G,
+    audit: &mut A,
+) -> HostStatus
+    // What was read, written and shown, by how it ended.
+    ensures lockstep { is_lockstep words.now ≡ true → Lockstep result
+        (record { left = S.left source.old; faults = S.faults source.old }) (record { left = S.left source.new; faults = S.faults source.new })
+        (record { written = K.written sink.old; faults = K.faults sink.old; shown = A.shown audit.old })
+        (record { written = K.written sink.new; faults = K.faults sink.new; shown = A.shown audit.new }) }
+    ensures other_words { is_lockstep words.now ≡ false → OtherWords result
+        (record { left = S.left source.old; faults = S.faults source.old }) (record { left = S.left source.new; faults = S.faults source.new })
+        (record { written = K.written sink.old; faults = K.faults sink.old; shown = A.shown audit.old })
+        (record { written = K.written sink.new; faults = K.faults sink.new; shown = A.shown audit.new }) }
+
+    // Why it ended so.
+    ensures causes { is_lockstep words.now ≡ true → HasCauses result
+        (record { left = S.left source.old; faults = S.faults source.old }) (record { left = S.left source.new; faults = S.faults source.new })
+        (record { written = K.written sink.old; faults = K.faults sink.old; shown = A.shown audit.old })
+        (record { written = K.written sink.new; faults = K.faults sink.new; shown = A.shown audit.new }) }
+    ensures usage_or_fault { is_lockstep words.now ≡ false → (result ≡ HostStatus.Usage) ⊎ (result ≡ HostStatus.WriteFault) }
+    ensures complete { is_lockstep words.now ≡ true → Completes result
+        (record { left = S.left source.old; faults = S.faults source.old }) (record { left = S.left source.new; faults = S.faults source.new })
+        (record { written = K.written sink.old; faults = K.faults sink.old; shown = A.shown audit.old })
+        (record { written = K.written sink.new; faults = K.faults sink.new; shown = A.shown audit.new }) }
+{
+    serve_words(alloc, words, source, sink, audit)
+}
+
+// Does what the words say.
+fn serve_words<S: Source, K: Sink, A: Audit>(
+    alloc: Global,
+    words: &Words,
+    source: &mut S,
+    sink: &mut K,
+    audit: &mut A,
+) -> HostStatus
+    ensures lockstep { is_lockstep words.now ≡ true → Lockstep result
+        (record { left = S.left source.old; faults = S.faults source.old }) (record { left = S.left source.new; faults = S.faults source.new })
+        (record { written = K.written sink.old; faults = K.faults sink.old; shown = A.shown audit.old })
+        (record { written = K.written sink.new; faults = K.faults sink.new; shown = A.shown audit.new }) }
+    ensures other_words { is_lockstep words.now ≡ false → OtherWords result
+        (record { left = S.left source.old; faults = S.faults source.old }) (record { left = S.left source.new; faults = S.faults source.new })
+        (record { written = K.written sink.old; faults = K.faults sink.old; shown = A.shown audit.old })
+        (record { written = K.written sink.new; faults = K.faults sink.new; shown = A.shown audit.new }) }
+{
+    if !words.is_lockstep() {
+        return tell_usage(sink);
+    }
+    match read_all(alloc, source) {
+        Reading::Whole(text) => serve_text(alloc, &text, sink, audit),
+        Reading::TooLarge => refuse(sink),
+        Reading::Fault => HostStatus::ReadFault,
+        Reading::NoMemory => HostStatus::NoMemory,
+    }
+}
+
+// Runs the text, where it is a script of the first form.
+fn serve_text<K: Sink, A: Audit>(
+    alloc: Global,
+    text: &[u8],
+    sink: &mut K,
+    audit: &mut A,
+) -> HostStatus
+    ensures { EndsInput result (first_form text.now)
+        (record { written = K.written sink.old; faults = K.faults sink.old; shown = A.shown audit.old })
+        (record { written = K.written sink.new; faults = K.faults sink.new; shown = A.shown audit.new }) }
+{
+    match first_form(alloc, text) {
+        Ok(Some(form)) => serve_form(alloc, &form, sink, audit),
+        Ok(None) => refuse(sink),
+        Err(_) => HostStatus::NoMemory,
+    }
+}
+
+// Runs the script, shows its bus to the audit, and writes its report.
+fn serve_form<K: Sink, A: Audit>(
+    alloc: Global,
+    form: &FirstForm<'_>,
+    sink: &mut K,
+    audit: &mut A,
+) -> HostStatus
+    requires { IsInForm form.now }
+    ensures { EndsScript result (script_of form.now)
+        (record { written = K.written sink.old; faults = K.faults sink.old; shown = A.shown audit.old })
+        (record { written = K.written sink.new; faults = K.faults sink.new; shown = A.shown audit.new }) }
+{
+    let Ok(Finished { bus, receipts }) = run_form(alloc, form) else {
+        return HostStatus::NoMemory;
+    };
+    audit.closed(&bus);
+    match write_report(&bus, &[receipts], sink) {
+        Ok(()) => HostStatus::Done,
+        Err(WriteFault) => HostStatus::WriteFault,
+    }
+}
+
+// Writes that the input is no script that the program runs yet.
+fn refuse<K: Sink>(sink: &mut K) -> HostStatus
+    ensures { (shown : Option (List (List Entry))) → EndsRefused result
+        (record { written = K.written sink.old; faults = K.faults sink.old; shown = shown })
+        (record { written = K.written sink.new; faults = K.faults sink.new; shown = shown }) }
+{
+    let fault = ScriptFault {
+        line: 0,
+        kind: FaultKind::NotYet,
+    };
+    match write_text(sink, b"script:0:NotYet\n") {
+        Ok(()) => HostStatus::Script(fault),
+        Err(WriteFault) => HostStatus::WriteFault,
+    }
+}
+
+// Writes which words the program knows.
+fn tell_usage<K: Sink>(sink: &mut K) -> HostStatus
+    ensures { (shown : Option (List (List Entry))) → EndsTelling HostStatus.Usage result
+        (record { written = K.written sink.old; faults = K.faults sink.old; shown = shown })
+        (record { written = K.written sink.new; faults = K.faults sink.new; shown = shown }) usage_text }
+{
+    match write_text(sink, b"usage: lockstep\n") {
+        Ok(()) => HostStatus::Usage,
+        Err(WriteFault) => HostStatus::WriteFault,
+    }
+}

@@ -1,0 +1,218 @@
+//! The top call on whole scripts, and with a source and a sink that fail at each call in turn.
+
+use crate::audit::NoAudit;
+use crate::mem_audit::MemAudit;
+use crate::serve::serve;
+use crate::status::HostStatus;
+use crate::words::Words;
+use fsw_base::{Budget, FaultKind, MemSink, MemSource, OpenGate, ScriptFault};
+use std::alloc::{AllocError, Global};
+use std::process::Abort;
+use std::test::Fail;
+
+/// One message through one pipe.
+const SCRIPT: &[u8] = b"app A\ncreate p0 4 ALPHA\nsub 0x0801 p0\nsend 0x0801 8 16\nrecv p0\n";
+
+/// And what is printed for it.
+const REPORT: &[u8] = b"fsw 1\nbus\n\
+    1 a1 create 4 ALPHA -> CFE_SUCCESS 1\n\
+    2 a1 sub 0x0801 1 4 global -> CFE_SUCCESS\n\
+    3 a1 send 8 235 inc -> CFE_SUCCESS 1 1\n\
+    4 a1 recv 1 -> CFE_SUCCESS 1\n\
+    5 a1 end -> CFE_SUCCESS\n\
+    receipts\n\
+    a1 msg p1 n1 id=0x0801 seq=1 size=8 sum=236 head=0801c00100011011\n\
+    end\n";
+
+/// How many calls of a source or a sink are made to fail, one in each run.
+const CALLS: u32 = 40;
+
+// The words `lockstep`.
+fn lockstep() -> Words {
+    let mut words = Words::new();
+    words.add("lockstep");
+    words
+}
+
+// How a run over this input ends, and what it writes.
+fn run(rt: &HostRuntime, input: &[u8]) -> Result<(HostStatus, MemSink<'static>), AllocError> {
+    let mut source = MemSource::new(input, 1000, &[]);
+    let mut sink = MemSink::new(rt.alloc(), 10_000, 1000, &[])?;
+    let status = serve(
+        rt,
+        rt.alloc(),
+        &lockstep(),
+        &mut source,
+        &mut sink,
+        &OpenGate,
+        &mut NoAudit,
+    );
+    Ok((status, sink))
+}
+
+#[test]
+fn scripts_print_their_reports(rt: HostRuntime) -> Result<(), Fail> {
+    let not_yet = HostStatus::Script(ScriptFault {
+        line: 0,
+        kind: FaultKind::NotYet,
+    });
+    let cases: [(&[u8], HostStatus, &[u8]); 4] = [
+        (SCRIPT, HostStatus::Done, REPORT),
+        (
+            b"app A\ncreate p0 0 A\nsub 0x0801 p0\nrecv p0\n",
+            HostStatus::Done,
+            b"fsw 1\nbus\n\
+            1 a1 create 0 A -> CFE_SB_BAD_ARGUMENT\n\
+            2 a1 sub 0x0801 0 4 global -> CFE_SB_BAD_ARGUMENT\n\
+            3 a1 recv 0 -> CFE_SB_BAD_ARGUMENT\n\
+            4 a1 end -> CFE_SUCCESS\n\
+            receipts\nend\n",
+        ),
+        (
+            b"app A\ncreate p0 4 ALPHA\nsub 0x0801 p0\nsend 0x0801 8 16\nrecv p0\nrecv p0\n",
+            HostStatus::Done,
+            b"fsw 1\nbus\n\
+            1 a1 create 4 ALPHA -> CFE_SUCCESS 1\n\
+            2 a1 sub 0x0801 1 4 global -> CFE_SUCCESS\n\
+            3 a1 send 8 235 inc -> CFE_SUCCESS 1 1\n\
+            4 a1 recv 1 -> CFE_SUCCESS 1\n\
+            5 a1 recv 1 -> CFE_SB_NO_MESSAGE\n\
+            6 a1 end -> CFE_SUCCESS\n\
+            receipts\n\
+            a1 msg p1 n1 id=0x0801 seq=1 size=8 sum=236 head=0801c00100011011\n\
+            end\n",
+        ),
+        (b"", not_yet, b"script:0:NotYet\n"),
+    ];
+    for (input, status, output) in &cases {
+        let (ended, sink) = run(&rt, input)?;
+        assert_eq!(rt; ended, *status);
+        assert_eq!(rt; sink.written(), *output);
+    }
+    Ok(())
+}
+
+// Runs with a source that fails at one call: nothing is written, or the whole report where there is
+// no such call.
+fn fail_read<R: Abort>(
+    rt: &R,
+    alloc: Global,
+    piece: usize,
+    fails: &[u32],
+) -> Result<(), AllocError> {
+    let mut source = MemSource::new(SCRIPT, piece.max(1), fails);
+    let mut sink = MemSink::new(alloc, 10_000, 1000, &[])?;
+    let status = serve(
+        rt,
+        alloc,
+        &lockstep(),
+        &mut source,
+        &mut sink,
+        &OpenGate,
+        &mut NoAudit,
+    );
+    if status == HostStatus::ReadFault {
+        assert!(rt; sink.written().is_empty());
+    } else {
+        assert_eq!(rt; status, HostStatus::Done);
+        assert_eq!(rt; sink.written(), REPORT);
+    }
+    Ok(())
+}
+
+// Runs with a sink that fails at one call: a front of the report is written, or all of it where there
+// is no such call.
+fn fail_write<R: Abort>(
+    rt: &R,
+    alloc: Global,
+    piece: usize,
+    fails: &[u32],
+) -> Result<(), AllocError> {
+    let mut source = MemSource::new(SCRIPT, 1000, &[]);
+    let mut sink = MemSink::new(alloc, 10_000, piece.max(1), fails)?;
+    let status = serve(
+        rt,
+        alloc,
+        &lockstep(),
+        &mut source,
+        &mut sink,
+        &OpenGate,
+        &mut NoAudit,
+    );
+    if status == HostStatus::WriteFault {
+        assert!(rt; sink.written().len() < REPORT.len());
+        assert!(rt; REPORT.starts_with(sink.written()));
+    } else {
+        assert_eq!(rt; status, HostStatus::Done);
+        assert_eq!(rt; sink.written(), REPORT);
+    }
+    Ok(())
+}
+
+#[test]
+fn failures_in_mid_stream_leave_nothing_or_a_front(rt: HostRuntime) -> Result<(), Fail> {
+    for piece in [1, 7, 1000] {
+        for call in 1..=CALLS {
+            fail_read(&rt, rt.alloc(), piece, &[call])?;
+            fail_write(&rt, rt.alloc(), piece, &[call])?;
+        }
+    }
+    Ok(())
+}
+
+#[test]
+fn second_failing_call_ends_the_run(rt: HostRuntime) -> Result<(), Fail> {
+    let mut source = MemSource::new(SCRIPT, 4, &[2]);
+    let mut sink = MemSink::new(rt.alloc(), 10_000, 10, &[2])?;
+    let words = lockstep();
+    let failed = serve(
+        &rt,
+        rt.alloc(),
+        &words,
+        &mut source,
+        &mut sink,
+        &OpenGate,
+        &mut NoAudit,
+    );
+    assert_eq!(rt; failed.exit_status(), 4);
+    assert!(rt; sink.written().is_empty());
+    let mut whole = MemSource::new(SCRIPT, 4, &[]);
+    let cut = serve(
+        &rt,
+        rt.alloc(),
+        &words,
+        &mut whole,
+        &mut sink,
+        &OpenGate,
+        &mut NoAudit,
+    );
+    assert_eq!(rt; cut.exit_status(), 5);
+    assert_eq!(rt; sink.written(), b"fsw 1\nbus\n".as_slice());
+    Ok(())
+}
+
+#[test]
+fn audit_holds_the_entries_of_the_report(rt: HostRuntime) -> Result<(), Fail> {
+    let budgets = [Budget {
+        entries: 6,
+        bytes: 13,
+        buffers: 0,
+    }];
+    let mut source = MemSource::new(SCRIPT, 1000, &[]);
+    let mut sink = MemSink::new(rt.alloc(), 10_000, 1000, &[])?;
+    let mut audit = MemAudit::new(rt.alloc(), &budgets, 1)?;
+    let status = serve(
+        &rt,
+        rt.alloc(),
+        &lockstep(),
+        &mut source,
+        &mut sink,
+        &OpenGate,
+        &mut audit,
+    );
+    assert_eq!(rt; status, HostStatus::Done);
+    assert!(rt; audit.tells());
+    assert_eq!(rt; audit.pairs(), 1);
+    assert_eq!(rt; audit.bus(0).len(), 5);
+    Ok(())
+}

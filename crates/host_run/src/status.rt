@@ -1,0 +1,38 @@
+//! How a run of the program ended.
+ghost use Rattle.std.specs.Prelude.{◌≡◌};
+ghost use Rattle.host_run.specs.Status.{exit_status};
+
+use fsw_base::ScriptFault;
+
+/// How a run ended.
+#[derive(Clone, Copy, Debug, PartialEq, Eq)]
+pub enum HostStatus {
+    /// All that was asked for was done and written.
+    Done,
+    /// The words are none that the program knows; its usage was written.
+    Usage,
+    /// The input is no script that the program runs; the fault was written.
+    Script(ScriptFault),
+    /// The source failed before the input's end; nothing was written.
+    ReadFault,
+    /// The sink failed; what was written is a front of what was due.
+    WriteFault,
+    /// There was no memory; nothing was written, and no application ran.
+    NoMemory,
+}
+
+impl HostStatus {
+    /// The number with which the program ends.
+    pub fn exit_status(self) -> u8
+        ensures { result ≡ exit_status self }
+    {
+        match self {
+            HostStatus::Done => 0,
+            HostStatus::Usage => 2,
+            HostStatus::Script(_) => 3,
+            HostStatus::ReadFault => 4,
+            HostStatus::WriteFault => 5,
+            HostStatus::NoMemory => 6,
+        }
+    }
+}
