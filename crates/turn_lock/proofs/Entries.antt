@@ -1,0 +1,13 @@
+-- The entries of one application in a history.
+use Rattle.std.proofs.Common.{◌≡◌, ◌≢◌, ℕ, List, [], ◌++◌, ap, ◌∙◌, append-nil}
+use Rattle.std.specs.Prelude.{◌==◌}
+use Rattle.std.proofs.lemmas.List.Elements.{filter-append}
+use Rattle.turn_lock.specs.Views.{entries_of}
+
+module _ {E : Type 0} where
+  entries_of-append : (app : ℕ) (log more : List (ℕ × E)) → entries_of app (log ++ more) ≡ entries_of app log ++ entries_of app more
+  entries_of-append app log more = filter-append (λ e. e.0 == app) log more
+
+  -- entries of one application leave those of another as they were
+  pub entries_of-append_other : (other app : ℕ) (log more : List (ℕ × E)) → ((third : ℕ) → third ≢ app → entries_of third more ≡ []) → other ≢ app → entries_of other (log ++ more) ≡ entries_of other log
+  entries_of-append_other other app log more theirs apart = entries_of-append other log more ∙ (ap (λ l. entries_of other log ++ l) (theirs other apart) ∙ append-nil (entries_of other log))

@@ -1,0 +1,10 @@
+pub mod Counting
+pub mod Entries
+pub mod Stages
+pub mod ViewLists
+pub mod TakesTurns
+pub mod LeavesTurns
+pub mod Opens
+pub mod SplitsJoins
+pub mod Closes
+pub mod Callers

@@ -1,0 +1,4 @@
+use Rattle.turn_lock.proofs.tests.shared.Given as goal
+
+abbrev pub ghosts-add_in_two_threads : goal.ghosts-add_in_two_threads
+ghosts-add_in_two_threads g a = record { name = a.lock.now.name }

@@ -1,0 +1,51 @@
+//! A lock that gives its value to one application at a time, in the order in which they ask. The
+//! value has a history of entries, and each application a seat, which remembers in the proof what
+//! it has seen of the history and which entries it made.
+//!
+//! It promises that there is one history: whoever has a turn finds a history that extends all that
+//! its seat had seen and has of its application just the seat's own entries, in order, and the
+//! closed lock's history extends what every seat saw and has no others' entries.
+//!
+//! ```text
+//! let (lock, mut main) = TurnLock::new(alloc, value, 1)?;     // the one call that takes memory
+//! let mut seat = lock.split(&mut main, app);                  // a seat may go to another thread
+//! let mut turn = lock.enter(rt, &mut seat);                   // waits for the seat's turn
+//! if turn.value_mut().note(app.get(), 7) {                    // the value makes an entry,
+//!     turn.mark_entry();                                      // and its maker says so
+//!     lock.leave(&mut seat, turn);
+//! } else {
+//!     lock.leave(&mut seat, turn);
+//! }
+//! lock.join(&mut main, seat);
+//! let value = lock.close(main);
+//! ```
+//!
+//! # Implementation
+//!
+//! Three words, modulo 2^64, and a slot. A seat draws a ticket from the first word, and waits until
+//! the second, the ticket that is served, is its own; the third counts the entries of the history.
+//!
+//! ```text
+//! ticket word   drawn so far        draw: + 1, the seat has that ticket
+//! serving word  served now          look: the seat's own ticket, and the slot is out with it
+//!                                   pass: + 1, and the slot is home again
+//! count word    entries             publish: + 1, or + 0 in a turn without an entry
+//! slot          the value           take, after look; give, after publish and before pass
+//! ```
+#![tactic(auto)]
+
+mod board;
+mod historied;
+mod lock;
+mod rule;
+mod seat;
+#[cfg(test)]
+mod tests;
+mod turn;
+mod view;
+
+pub use historied::Historied;
+pub use lock::{MOST_SEATS, TurnLock};
+pub use seat::{LockName, Seat};
+pub use turn::Turn;
+pub use view::{Stage, View};

@@ -1,0 +1,161 @@
+//! The lock: a value that goes from seat to seat, in the order of the tickets.
+ghost use Rattle.std.specs.Prelude.{◌≡◌, ℕ, ◌≤◌, ◌<◌, ◌++◌, [], ◌∷◌, length, true, false, All, Contains, IfOk, Some};
+ghost use mathlib.Core.List.{IsPrefix};
+ghost use Rattle.turn_lock.specs.Views.{entries_of, main_view, seat_view, with_app};
+ghost use Rattle.turn_lock.specs.Seats.{view_of, entered_view, left_view, IsOut, IsMain, IsReady, AddsOne, KeepsLonger, AllJoined};
+
+use crate::board::Board;
+use crate::historied::Historied;
+use crate::seat::Seat;
+use crate::turn::Turn;
+use fsw_base::AppNo;
+use std::alloc::{AllocError, Global};
+use std::marker::{Brand, Model};
+use std::snapshot::Snapshot;
+use std::sync::Wait;
+
+/// The most seats that can be split off one lock, and so the most tickets that are out at a time.
+pub const MOST_SEATS: u32 = 16;
+
+/// A value that one seat at a time has, in the order in which they drew their tickets. It can be
+/// shared by threads where the value may move between them, and lives no longer than what the
+/// value borrows. It can't be dropped, only closed.
+///
+/// Contracts see which lock it is and how many seats can be split off.
+pub struct TurnLock<T: Historied> {
+    board: Board<T>,
+    seats: u32,
+}
+
+impl<T: Historied> Model for TurnLock<T> {
+    ghost use Rattle.std.specs.Prelude.{◌≤◌};
+    ghost use Rattle.turn_lock.specs.declared.lock.TheConstants.{MOST_SEATS};
+    ghost use Rattle.turn_lock.specs.Seats.{LockView};
+
+    ghost Value = { LockView };
+
+    ghost view = { λ l. record { name = l.board.table.shared.table_id; seats = l.seats } };
+
+    ghost invariant = { λ l. l.seats ≤ MOST_SEATS };
+}
+
+impl<T: Historied> TurnLock<T> {
+    /// A lock that holds this value, whose history is empty, and its main seat. At most `seats`
+    /// seats can be split off, 1 to [`MOST_SEATS`]. It is the one call that takes memory.
+    ///
+    /// `AllocError` where there is no memory; the value is dropped then.
+    pub fn new(
+        alloc: Global,
+        value: T,
+        seats: u32,
+    ) -> Result<(TurnLock<T>, Seat<T::Fixed, T::Event>), AllocError>
+    where
+        T: Drop,
+        requires empty { T.history value ≡ [] }
+        requires seats { (1 ≤ seats) × (seats ≤ MOST_SEATS) }
+        ensures seats { IfOk result (λ r. r.0.seats ≡ seats) }
+        ensures main { IfOk result (λ r. IsMain r.1 r.0.name) }
+        ensures view { IfOk result (λ r. view_of r.1 ≡ main_view (T.fixed value) []) }
+    {
+        let (board, place) = Board::new(alloc, value)?;
+        Ok((TurnLock { board, seats }, Seat::of(place)))
+    }
+
+    /// A seat for an application that has none yet. It has seen what the main seat has, and has
+    /// made no entry.
+    pub fn split(&self, main: &mut Seat<T::Fixed, T::Event>, app: AppNo) -> Seat<T::Fixed, T::Event>
+        requires main { IsMain main.old self.now.name }
+        requires room { length (view_of main.old).apps < self.now.seats }
+        requires new { ¬ (Contains (view_of main.old).apps app) }
+        ensures main { IsMain main.new self.now.name }
+        ensures apps { view_of main.new ≡ with_app (view_of main.old) app }
+        ensures seat { IsReady result self.now.name }
+        ensures view { view_of result ≡ seat_view (view_of main.old) app }
+    {
+        let mut place = main.take_place();
+        let new = self.board.split::<Brand>(&mut place, app.get());
+        *main = Seat::of(place);
+        Seat::of(new)
+    }
+
+    /// Waits until this seat's turn has come, and answers it with the value. The value's history
+    /// extends all that the seat had seen, and of the seat's application it has just the seat's
+    /// own entries, in order.
+    pub fn enter<R: Wait>(&self, rt: &R, seat: &mut Seat<T::Fixed, T::Event>) -> Turn<T>
+        requires seat { IsReady seat.old self.now.name }
+        ensures out { IsOut seat.new }
+        ensures lock { result.lock ≡ self.now.name }
+        ensures unmarked { result.marked ≡ false }
+        ensures opening { Some (T.fixed result.value) ≡ (view_of seat.old).fixed }
+        ensures extends { IsPrefix (view_of seat.old).seen (T.history result.value) }
+        ensures mine { entries_of (view_of seat.old).app (T.history result.value) ≡ (view_of seat.old).mine }
+        ensures view { result.view ≡ entered_view (view_of seat.old) (T.history result.value) }
+    {
+        let mut place = seat.take_place();
+        let ticket = self.board.draw(&mut place);
+        self.board.wait(rt, &mut place, ticket);
+        let value = self.board.take(&mut place);
+        Turn {
+            place,
+            value,
+            marked: false,
+        }
+    }
+
+    /// Ends the turn of this seat. The value has the fixed part that it had at entry, and its
+    /// history, which has one entry more of the seat's application where the turn is marked, and
+    /// is the one at entry where it isn't. The history is published before the value is given back.
+    pub fn leave(&self, seat: &mut Seat<T::Fixed, T::Event>, turn: Turn<T>)
+        requires out { IsOut seat.old }
+        requires lock { turn.lock ≡ self.now.name }
+        requires opening { Some (T.fixed turn.value) ≡ turn.view.fixed }
+        requires entry { turn.marked ≡ true → AddsOne turn.view (T.history turn.value) }
+        requires none { turn.marked ≡ false → T.history turn.value ≡ turn.view.seen }
+        ensures seat { IsReady seat.new self.now.name }
+        ensures view { view_of seat.new ≡ left_view turn.view (T.history turn.value) }
+    {
+        let Turn {
+            mut place,
+            value,
+            marked,
+        } = turn;
+        let told = Snapshot::of(&value);
+        self.board
+            .publish::<Brand>(&mut place, &told, u64::from(marked));
+        self.board.give(&mut place, value);
+        self.board.pass(&mut place);
+        *seat = Seat::of(place);
+    }
+
+    /// Takes a seat that ends into the main one, which keeps its entries and the longer of what
+    /// the two had seen; the shorter one begins it.
+    pub fn join(&self, main: &mut Seat<T::Fixed, T::Event>, seat: Seat<T::Fixed, T::Event>)
+        requires main { IsMain main.old self.now.name }
+        requires seat { IsReady seat self.now.name }
+        ensures main { IsMain main.new self.now.name }
+        ensures seen { KeepsLonger (view_of main.old).seen (view_of seat).seen (view_of main.new).seen }
+        ensures ended { (view_of main.new).ended ≡ (view_of main.old).ended ++ ((view_of seat).app, (view_of seat).mine) ∷ [] }
+        ensures apps { (view_of main.new).apps ≡ (view_of main.old).apps }
+        ensures opening { (view_of main.new).fixed ≡ (view_of main.old).fixed }
+    {
+        let mut place = main.take_place();
+        self.board.glue(&mut place, seat.into_place());
+        self.board.meet(&mut place);
+        *main = Seat::of(place);
+    }
+
+    /// Ends the lock, whose seats have all been joined, and answers its value. The value has the
+    /// fixed part of the opening. Its history extends all that the main seat has seen, has of each
+    /// application just the entries of its ended seat, in order, and has no others.
+    pub fn close(self, main: Seat<T::Fixed, T::Event>) -> T
+        requires main { IsMain main self.name }
+        requires joined { AllJoined (view_of main) }
+        ensures opening { Some (T.fixed result) ≡ (view_of main).fixed }
+        ensures extends { IsPrefix (view_of main).seen (T.history result) }
+        ensures ended { All (λ e. entries_of e.0 (T.history result) ≡ e.1) (view_of main).ended }
+        ensures others { (app : ℕ) → ¬ (Contains (view_of main).apps app) → entries_of app (T.history result) ≡ [] }
+    {
+        let TurnLock { board, seats: _ } = self;
+        board.close(main.into_place())
+    }
+}
