@@ -1,0 +1,6 @@
+pub mod Law
+pub mod Accounts
+pub mod Keeps
+pub mod Marks
+pub mod Sizes
+pub mod Totals

@@ -1,0 +1,23 @@
+use Rattle.std.proofs.Common.{◌∙◌, sym, refl}
+use Rattle.std.proofs.lemmas.Bool.{false≢true}
+use Rattle.es_pool.proofs.Law.{room_alike, draws_alike}
+use Rattle.es_pool.proofs.agreement.gets_alike.Goals as goal
+
+pub returns-in-Ok-get-clause-account : goal.returns-in-Ok-get-clause-account
+returns-in-Ok-get-clause-account g c = draws_alike _ _ _ _ _ _ _ c.requires c.in-Ok.ensures.drawn c.in-Ok-get.ensures.class c.in-Ok-get.ensures.drawn
+
+pub returns-in-Err-get-clause-alike : goal.returns-in-Err-get-clause-alike
+returns-in-Err-get-clause-alike g c =
+    c.in-Err-get.ensures.given.1 (sym (room_alike c.args.pool.now c.args.plain.now c.args.size c.requires) ∙ c.in-Ok.ensures.given.0 refl)
+
+pub returns-in-Err-get-clause-account : goal.returns-in-Err-get-clause-account
+returns-in-Err-get-clause-account g c =
+    absurd (false≢true (c.in-Err-get.ensures.given.1 (sym (room_alike c.args.pool.now c.args.plain.now c.args.size c.requires) ∙ c.in-Ok.ensures.given.0 refl)))
+
+pub returns-in-Ok-get-2-clause-alike : goal.returns-in-Ok-get-2-clause-alike
+returns-in-Ok-get-2-clause-alike g c =
+    c.in-Err.ensures.given.1 (room_alike c.args.pool.now c.args.plain.now c.args.size c.requires ∙ c.in-Ok-get-2.ensures.given.0 refl)
+
+pub returns-in-Ok-get-2-clause-account : goal.returns-in-Ok-get-2-clause-account
+returns-in-Ok-get-2-clause-account g c =
+    absurd (false≢true (c.in-Err.ensures.given.1 (room_alike c.args.pool.now c.args.plain.now c.args.size c.requires ∙ c.in-Ok-get-2.ensures.given.0 refl)))

@@ -1,0 +1,7 @@
+use Rattle.std.proofs.Common.{refl}
+use Rattle.es_pool.proofs.Law.{returns_alike, some_out}
+use Rattle.es_pool.proofs.agreement.puts_alike.Goals as goal
+
+pub returns-in-Some-clause-account : goal.returns-in-Some-clause-account
+returns-in-Some-clause-account g c =
+    returns_alike c.args.pool.now c.put.new.self c.args.plain.now c.put-in-Some.new.self c.args.block c.in-Some.class c.requires (c.in-Ok.ensures.ok.0 refl) c.in-Some.ensures.class c.in-Ok.ensures.given_back c.put-in-Some.ensures

@@ -1,0 +1,83 @@
+use Rattle.std.proofs.Common.{refl, ◌≡◌, ◌∙◌, ◌+◌, ◌-◌, ◌<◌, ◌≤◌, List, true, length, set, get_or, subst, sym, ap, arith}
+use Rattle.std.proofs.lemmas.List.{get_or_read}
+use Rattle.std.specs.Vec.{vec_capacity}
+use Rattle.bucket_list.specs.Lists.{Listed}
+use Rattle.es_pool.specs.Pool.{PoolState, fits_class, free_in, is_out}
+use Rattle.es_pool.specs.Fields.{state_of}
+use Rattle.es_pool.specs.declared.blocks.CutBlock.{CutBlock}
+use Rattle.es_pool.proofs.Keeps.{Cut, cut, kept_at}
+use Rattle.es_pool.proofs.pool.Pool.cut.Goals as goal
+
+pub add_node-block-requires : goal.add_node-block-requires
+add_node-block-requires c =
+    let s = c.self.inside in
+    let k = c.args.class in
+    let h : k < length s.sizes = omega (arith, c.requires.class, ap (λ v. length v.sizes) c.self.view_is) in
+    let none : free_in s.blocks.items k ≡ 0 = ap (λ v. free_in v.blocks k) c.self.view_is ∙ c.requires.none in
+    let fits : fits_class (state_of s) k 1 ≡ true = ap (λ v. fits_class v k 1) c.self.view_is ∙ c.requires.fits in
+    let done = cut (state_of s) s.rest s.in_use s.made.items s.free s.blocks.cap k (get_or s.made.items k 0) c.at-size.result 0 c.self.invariant h none fits c.at-size.ensures refl in
+    done.node
+
+pub push_reserved-requires : goal.push_reserved-requires
+push_reserved-requires c =
+    let s = c.self.inside in
+    let k = c.args.class in
+    let h : k < length s.sizes = omega (arith, c.requires.class, ap (λ v. length v.sizes) c.self.view_is) in
+    let none : free_in s.blocks.items k ≡ 0 = ap (λ v. free_in v.blocks k) c.self.view_is ∙ c.requires.none in
+    let fits : fits_class (state_of s) k 1 ≡ true = ap (λ v. fits_class v k 1) c.self.view_is ∙ c.requires.fits in
+    let done = cut (state_of s) s.rest s.in_use s.made.items s.free s.blocks.cap k (get_or s.made.items k 0) c.at-size.result 0 c.self.invariant h none fits c.at-size.ensures refl in
+    omega (arith, done.space, s.blocks.ok)
+
+pub overflow_add-index_mut : goal.overflow_add-index_mut
+overflow_add-index_mut c =
+    let s = c.self.inside in
+    let k = c.args.class in
+    let h : k < length s.sizes = omega (arith, c.requires.class, ap (λ v. length v.sizes) c.self.view_is) in
+    let none : free_in s.blocks.items k ≡ 0 = ap (λ v. free_in v.blocks k) c.self.view_is ∙ c.requires.none in
+    let fits : fits_class (state_of s) k 1 ≡ true = ap (λ v. fits_class v k 1) c.self.view_is ∙ c.requires.fits in
+    let count : c.index_mut.result.now ≡ get_or s.made.items k 0 = get_or_read s.made.items k c.index_mut.result.now (omega (arith, h, c.self.invariant.made_all)) c.index_mut.ensures.value 0 in
+    let done = cut (state_of s) s.rest s.in_use s.made.items s.free s.blocks.cap k c.index_mut.result.now c.at-size.result 0 c.self.invariant h none fits c.at-size.ensures count in
+    omega (arith, done.made_fits)
+
+pub overflow_sub-self : goal.overflow_sub-self
+overflow_sub-self c =
+    let s = c.self.inside in
+    let k = c.args.class in
+    let h : k < length s.sizes = omega (arith, c.requires.class, ap (λ v. length v.sizes) c.self.view_is) in
+    let none : free_in s.blocks.items k ≡ 0 = ap (λ v. free_in v.blocks k) c.self.view_is ∙ c.requires.none in
+    let fits : fits_class (state_of s) k 1 ≡ true = ap (λ v. fits_class v k 1) c.self.view_is ∙ c.requires.fits in
+    let done = cut (state_of s) s.rest s.in_use s.made.items s.free s.blocks.cap k (get_or s.made.items k 0) c.at-size.result 0 c.self.invariant h none fits c.at-size.ensures refl in
+    omega (arith, done.enough)
+
+pub overflow_add-self : goal.overflow_add-self
+overflow_add-self c =
+    let s = c.self.inside in
+    let k = c.args.class in
+    let h : k < length s.sizes = omega (arith, c.requires.class, ap (λ v. length v.sizes) c.self.view_is) in
+    let none : free_in s.blocks.items k ≡ 0 = ap (λ v. free_in v.blocks k) c.self.view_is ∙ c.requires.none in
+    let fits : fits_class (state_of s) k 1 ≡ true = ap (λ v. fits_class v k 1) c.self.view_is ∙ c.requires.fits in
+    let done = cut (state_of s) s.rest s.in_use s.made.items s.free s.blocks.cap k (get_or s.made.items k 0) c.at-size.result 0 c.self.invariant h none fits c.at-size.ensures refl in
+    omega (arith, done.enough)
+
+pub overflow_add-self-2 : goal.overflow_add-self-2
+overflow_add-self-2 c =
+    let s = c.self.inside in
+    let k = c.args.class in
+    let h : k < length s.sizes = omega (arith, c.requires.class, ap (λ v. length v.sizes) c.self.view_is) in
+    let none : free_in s.blocks.items k ≡ 0 = ap (λ v. free_in v.blocks k) c.self.view_is ∙ c.requires.none in
+    let fits : fits_class (state_of s) k 1 ≡ true = ap (λ v. fits_class v k 1) c.self.view_is ∙ c.requires.fits in
+    let done = cut (state_of s) s.rest s.in_use s.made.items s.free s.blocks.cap k (get_or s.made.items k 0) c.at-size.result 0 c.self.invariant h none fits c.at-size.ensures refl in
+    omega (arith, done.in_use_fits)
+
+pub invariant_of-self : goal.invariant_of-self
+invariant_of-self c =
+    let s = c.self.inside in
+    let k = c.args.class in
+    let h : k < length s.sizes = omega (arith, c.requires.class, ap (λ v. length v.sizes) c.self.view_is) in
+    let none : free_in s.blocks.items k ≡ 0 = ap (λ v. free_in v.blocks k) c.self.view_is ∙ c.requires.none in
+    let fits : fits_class (state_of s) k 1 ≡ true = ap (λ v. fits_class v k 1) c.self.view_is ∙ c.requires.fits in
+    let count : c.index_mut.result.now ≡ get_or s.made.items k 0 = get_or_read s.made.items k c.index_mut.result.now (omega (arith, h, c.self.invariant.made_all)) c.index_mut.ensures.value 0 in
+    let done = cut (state_of s) s.rest s.in_use s.made.items s.free s.blocks.cap k c.index_mut.result.now c.at-size.result c.saturating_add-self-inside.result c.self.invariant h none fits c.at-size.ensures count in
+    let to : List CutBlock → PoolState = λ blocks. record (state_of s) { blocks = blocks; requests = c.saturating_add-self-inside.result } in
+    kept_at _ (to c.push_reserved.new.self.items) (s.rest - (c.at-size.result + 16)) (s.in_use + c.at-size.result) (set s.made.items k (c.index_mut.result.now + 1)) _ c.add_node-block.new.self _ (vec_capacity c.push_reserved.new.self)
+    (ap to c.push_reserved.ensures.items) c.add_node-block.ensures.after c.push_reserved.ensures.capacity done.kept

@@ -1,0 +1,5 @@
+pub mod Account
+pub mod Fields
+pub mod Kept
+pub mod PlainFields
+pub mod Pool

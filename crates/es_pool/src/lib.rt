@@ -1,0 +1,31 @@
+//! Memory pools of the Executive Services, by account: which block serves a request, and what can still be drawn.
+//!
+//! A pool has block sizes. A request takes the smallest size that is large enough: a free block of that size where there
+//! is one, else one cut from the rest, which costs 16 bytes more than its size. A returned block is free in its own size
+//! (cFE Executive Services, memory pools). Every answer is that of an account on paper, no call but `new` takes memory,
+//! and a draw or a return takes at most 8 steps, however many blocks are out.
+//!
+//! ```
+//! /// Draws a block, gives it back and draws once more.
+//! fn drawn_twice<L: Ledger>(pool: &mut Pool, steps: &mut Steps<L>) -> Result<BlockNo, EsStatus>
+//!     ensures out { IfOk result (λ block. is_out pool.new block ≡ true) }
+//!     ensures cost { steps.new ≤ steps.old + 24 }
+//! {
+//!     let block = pool.get(64, steps)?;
+//!     pool.put(block, steps)?;
+//!     pool.get(64, steps)
+//! }
+//! ```
+#![tactic(auto)]
+
+mod agreement;
+mod blocks;
+mod plain;
+mod pool;
+#[cfg(test)]
+mod tests;
+
+pub use agreement::{PoolCall, agree, pool_and_plain};
+pub use blocks::{BlockNo, ClassStats, CutBlock, OVERHEAD};
+pub use plain::PlainPool;
+pub use pool::Pool;

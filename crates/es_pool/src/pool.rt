@@ -1,0 +1,257 @@
+//! The pool.
+ghost use Rattle.std.specs.Prelude.{◌≡◌, ℕ, ◌+◌, ◌<◌, ◌≤◌, ◌↔◌, [], ◌∷◌, ◌++◌, true, false, length, slice_index, slice_index_or, slice_set, IsTrue, IsSome, IfSome, IsOk, IfOk, IfErr, OnOk, OnErr};
+ghost use Rattle.es_pool.specs.Pool.{PoolState, fits, fits_class, DrawsFor, Draws, counted, made_in, free_in, in_use_by, rest_of, is_out, is_free, class_at, given_back};
+
+use crate::blocks::{BlockNo, ClassStats, CutBlock, OVERHEAD, zeros};
+use bucket_list::{Ledger, Lists, Steps};
+use fsw_base::{BlockSizes, EsStatus, PoolStats};
+use std::alloc::{AllocError, Global};
+use std::marker::Model;
+
+/// A memory pool, by account: it says which block serves a request, and holds no bytes itself.
+///
+/// Contracts see its bytes, its block sizes, the blocks cut so far in order of their numbers, each with its class and
+/// whether it is out, and the counts of blocks drawn and of puts refused. A class is a block size, by its place.
+#[derive(Drop)]
+pub struct Pool {
+    /// The block sizes.
+    sizes: BlockSizes,
+    /// The most bytes that the pool can be set to, for which there is room.
+    most: u32,
+    /// The pool's bytes.
+    bytes: u32,
+    /// The bytes never cut.
+    rest: u32,
+    /// The sizes of the blocks that are out, added up.
+    in_use: u32,
+    /// How many blocks were drawn; it stops at the largest number.
+    requests: u32,
+    /// How many puts were refused; it stops at the largest number.
+    errors: u32,
+    /// The blocks cut, by number. There is room for all that can be cut.
+    blocks: Vec<CutBlock>,
+    /// How many blocks of each class were cut.
+    made: Vec<u32>,
+    /// The free blocks of each class.
+    free: Lists,
+}
+
+impl Model for Pool {
+    ghost use Rattle.es_pool.specs.Pool.{PoolState};
+
+    ghost Value = { PoolState };
+
+    ghost use Rattle.es_pool.specs.Fields.{state_of, AreKept};
+
+    ghost view = { state_of };
+
+    ghost invariant = { AreKept };
+}
+
+impl Pool {
+    /// A pool of `bytes` bytes with these block sizes, of which nothing is cut. All its memory is taken here.
+    pub fn new(alloc: Global, bytes: u32, sizes: BlockSizes) -> Result<Pool, AllocError>
+        ensures { IfOk result (λ pool. pool ≡ record { bytes = bytes; most = bytes; sizes = sizes; blocks = []; requests = 0; errors = 0 }) }
+    {
+        let classes = sizes.count();
+        let room = bytes / (sizes.at(0) + OVERHEAD);
+        let blocks = Vec::with_capacity(alloc, room as usize)?;
+        let made = zeros(alloc, classes)?;
+        let free = Lists::new(alloc, room, classes)?;
+        Ok(Pool {
+            sizes,
+            most: bytes,
+            bytes,
+            rest: bytes,
+            in_use: 0,
+            requests: 0,
+            errors: 0,
+            blocks,
+            made,
+            free,
+        })
+    }
+
+    /// Sets the bytes of a pool of which nothing was cut, to at most what it was made with.
+    pub fn set_bytes(&mut self, bytes: u32)
+        requires uncut { self.old.blocks ≡ [] }
+        requires within { bytes ≤ self.old.most }
+        ensures { self.new ≡ record self.old { bytes = bytes } }
+    {
+        self.bytes = bytes;
+        self.rest = bytes;
+    }
+
+    /// Whether `count` blocks for `size` bytes can be drawn, one after another.
+    pub fn fits(&self, size: u32, count: u32) -> bool
+        ensures { result ≡ fits self.now size count }
+    {
+        match self.sizes.class_of(size) {
+            Some(class) => self.fits_class(class, count),
+            None => false,
+        }
+    }
+
+    /// Draws a block for `size` bytes: of the smallest block size that is large enough, a free one where there is one,
+    /// else one cut from the rest. A larger free block is never taken in its place. At most 8 steps.
+    ///
+    /// `ErrMemBlockSize` exactly where no block size is large enough, or no block is free and the rest is too small.
+    pub fn get<L: Ledger>(&mut self, size: u32, steps: &mut Steps<L>) -> Result<BlockNo, EsStatus>
+        ensures given { IsOk result ↔ IsTrue (fits self.old size 1) }
+        ensures only_error { IfErr result (λ e. e ≡ EsStatus.ErrMemBlockSize) }
+        ensures drawn { IfOk result (DrawsFor self.old self.new size) }
+        ensures was_not_out { IfOk result (λ block. is_out self.old block ≡ false) }
+        ensures is_out { IfOk result (λ block. is_out self.new block ≡ true) }
+        ensures unchanged { OnErr result (self.new ≡ self.old) }
+        ensures cost { steps.new ≤ steps.old + 8 }
+    {
+        match self.sizes.class_of(size) {
+            Some(class) => {
+                if !self.fits_class(class, 1) {
+                    return Err(EsStatus::ErrMemBlockSize);
+                }
+                if self.free.len(class) > 0 {
+                    Ok(self.reuse(class, steps))
+                } else {
+                    Ok(self.cut(class))
+                }
+            }
+            None => Err(EsStatus::ErrMemBlockSize),
+        }
+    }
+
+    /// Gives a block back: it is then free in its own size. At most 8 steps. A refused put is counted.
+    ///
+    /// `BufferNotInPool` exactly where the block was never cut, `PoolBlockInvalid` exactly where it is free now.
+    pub fn put<L: Ledger>(&mut self, block: BlockNo, steps: &mut Steps<L>) -> Result<(), EsStatus>
+        ensures ok { IsOk result ↔ IsTrue (is_out self.old block) }
+        ensures not_in_pool { (result ≡ Err EsStatus.BufferNotInPool) ↔ (length self.old.blocks ≤ block) }
+        ensures invalid { (result ≡ Err EsStatus.PoolBlockInvalid) ↔ IsTrue (is_free self.old block) }
+        ensures given_back { OnOk result (self.new ≡ given_back self.old block) }
+        ensures refused { OnErr result (self.new ≡ record self.old { errors = counted self.old.errors }) }
+        ensures cost { steps.new ≤ steps.old + 8 }
+    {
+        if self.blocks.len() <= block as usize {
+            self.count_error();
+            return Err(EsStatus::BufferNotInPool);
+        }
+        if !self.blocks[block as usize].out {
+            self.count_error();
+            return Err(EsStatus::PoolBlockInvalid);
+        }
+        self.take_back(block, steps);
+        Ok(())
+    }
+
+    /// Counts one refused put: for a caller that itself refuses one which the pool wouldn't.
+    pub fn count_error(&mut self)
+        ensures { self.new ≡ record self.old { errors = counted self.old.errors } }
+    {
+        self.errors = self.errors.saturating_add(1);
+    }
+
+    /// The pool's figures: its bytes, the blocks drawn, the puts refused and the bytes never cut.
+    pub fn stats(&self) -> PoolStats
+        ensures { result ≡ record { size = self.now.bytes; requests = self.now.requests; errors = self.now.errors; free = rest_of self.now } }
+    {
+        PoolStats {
+            size: self.bytes,
+            requests: self.requests,
+            errors: self.errors,
+            free: self.rest,
+        }
+    }
+
+    /// How many block sizes the pool has, 1 to 17.
+    pub fn classes(&self) -> u32
+        ensures { result ≡ length self.now.sizes }
+    {
+        self.sizes.count()
+    }
+
+    /// The figures of a block size, by its place.
+    pub fn class(&self, i: u32) -> ClassStats
+        requires { i < length self.now.sizes }
+        ensures { result ≡ record { size = slice_index self.now.sizes i; made = made_in self.now.blocks i; free = free_in self.now.blocks i } }
+    {
+        ClassStats {
+            size: self.sizes.at(i),
+            made: self.made[i as usize],
+            free: self.free.len(i),
+        }
+    }
+
+    /// The class of a block; None exactly where it was never cut.
+    pub fn class_of(&self, block: BlockNo) -> Option<u32>
+        ensures cut { IsSome result ↔ (block < length self.now.blocks) }
+        ensures class { IfSome result (λ class. class ≡ class_at self.now block) }
+    {
+        self.blocks.get(block as usize).map(|cut| cut.class)
+    }
+
+    /// The sizes of the blocks that are out, added up, in bytes.
+    pub fn bytes_in_use(&self) -> u32
+        ensures { result ≡ in_use_by self.now.sizes self.now.blocks }
+    {
+        self.in_use
+    }
+
+    // Whether `count` blocks of a class can be drawn.
+    fn fits_class(&self, class: u32, count: u32) -> bool
+        requires { class < length self.now.sizes }
+        ensures { result ≡ fits_class self.now class count }
+    {
+        let missing = count.saturating_sub(self.free.len(class));
+        let cost = self.sizes.at(class) + OVERHEAD;
+        u64::from(cost) * u64::from(missing) <= u64::from(self.rest)
+    }
+
+    // Draws a free block of a class.
+    fn reuse<L: Ledger>(&mut self, class: u32, steps: &mut Steps<L>) -> BlockNo
+        requires class { class < length self.old.sizes }
+        requires some { 0 < free_in self.old.blocks class }
+        ensures drawn { Draws self.old self.new class result }
+        ensures was_not_out { is_out self.old result ≡ false }
+        ensures cost { steps.new ≤ steps.old + 4 }
+    {
+        match self.free.pop(class, steps) {
+            Some(block) => {
+                self.blocks[block as usize] = CutBlock { class, out: true };
+                self.in_use += self.sizes.at(class);
+                self.requests = self.requests.saturating_add(1);
+                block
+            }
+            None => unreachable!(),
+        }
+    }
+
+    // Cuts a block of a class from the rest.
+    fn cut(&mut self, class: u32) -> BlockNo
+        requires class { class < length self.old.sizes }
+        requires none { free_in self.old.blocks class ≡ 0 }
+        requires fits { IsTrue (fits_class self.old class 1) }
+        ensures drawn { Draws self.old self.new class result }
+        ensures was_not_out { is_out self.old result ≡ false }
+    {
+        let size = self.sizes.at(class);
+        let block = self.free.add_node();
+        self.blocks.push_reserved(CutBlock { class, out: true });
+        self.made[class as usize] += 1;
+        self.rest -= size + OVERHEAD;
+        self.in_use += size;
+        self.requests = self.requests.saturating_add(1);
+        block
+    }
+
+    // Puts a block that is out to the free ones of its class.
+    fn take_back<L: Ledger>(&mut self, block: BlockNo, steps: &mut Steps<L>)
+        requires { IsTrue (is_out self.old block) }
+        ensures given_back { self.new ≡ given_back self.old block }
+        ensures cost { steps.new ≤ steps.old + 4 }
+    {
+        let class = self.blocks[block as usize].class;
+        self.blocks[block as usize] = CutBlock { class, out: false };
+        self.in_use -= self.sizes.at(class);
+        self.free.push(class, block, steps);
+    }
+}

@@ -1,0 +1,25 @@
+-- Which buffers each application holds, as a caller sees it.
+use Rattle.std.specs.Prelude.{◌≡◌, ◌==◌, ◌<◌, ◌-◌, ℕ, not, List, [], filter, slice_index_or}
+use Rattle.bucket_list.specs.Lists.{times, times_in}
+
+-- how many descriptors there are, and those that each application holds, the one held last first: application 1's list
+-- stands first
+pub record Held : Type 0 where
+  pub descs : ℕ
+  pub lists : List (List ℕ)
+
+-- the list of one application
+abbrev pub held_by : Held → ℕ → List ℕ
+held_by held app = slice_index_or held.lists (app - 1) []
+
+-- an application holds a descriptor
+abbrev pub IsHeldBy : Held → ℕ → ℕ → Type 0
+IsHeldBy held app desc = 0 < times_in (held_by held app) desc
+
+-- no application holds a descriptor
+abbrev pub IsLetGo : Held → ℕ → Type 0
+IsLetGo held desc = times held.lists desc ≡ 0
+
+-- a list without one descriptor
+abbrev pub without : ℕ → List ℕ → List ℕ
+without desc descs = filter (λ d. not (d == desc)) descs

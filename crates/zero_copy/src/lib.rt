@@ -1,0 +1,27 @@
+//! The buffers that each application holds: one list of descriptors per application, linked by index in both directions.
+//!
+//! The Software Bus keeps in them which buffers an application has allocated and not sent yet (cFE Software Bus, zero
+//! copy). A descriptor is in one list at most, letting go of one and taking the first need no search, no call but `new`
+//! takes memory, and a call takes at most 8 steps, however many buffers and applications there are.
+//!
+//! ```
+//! /// Two buffers are held, the older one is let go of, and the newer one comes first, in at most 28 steps.
+//! fn newer<L: Ledger>(held: &mut HeldLists, app: AppNo, steps: &mut Steps<L>) -> Option<u32>
+//!     requires app { app ≡ 1 }
+//!     requires lists { held.old ≡ record { descs = 2; lists = [] ∷ [] } }
+//!     ensures first { result ≡ Some 1 }
+//!     ensures cost { steps.new ≤ steps.old + 28 }
+//! {
+//!     held.hold(app, 0, steps);
+//!     held.hold(app, 1, steps);
+//!     held.let_go(app, 0, steps);
+//!     held.take_first(app, steps)
+//! }
+//! ```
+#![tactic(auto)]
+
+mod held;
+#[cfg(test)]
+mod tests;
+
+pub use held::HeldLists;
