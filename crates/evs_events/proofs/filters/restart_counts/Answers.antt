@@ -1,0 +1,7 @@
+use Rattle.evs_events.specs.Filters.{after_reset}
+use Rattle.evs_events.proofs.MapInPlace.{map_in_place_more}
+use Rattle.evs_events.proofs.filters.restart_counts.Goals as goal
+
+pub loop-filter-preserved : goal.loop-filter-preserved
+loop-filter-preserved c =
+    map_in_place_more (after_reset c.args.id) _ _ _ _ _ c.loop-filter-test.true c.loop-filter.auto.filter-items c.loop-filter.invariant c.reset.ensures

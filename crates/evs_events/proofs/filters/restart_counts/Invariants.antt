@@ -1,0 +1,7 @@
+use Rattle.std.proofs.Common.{◌≡◌, ◌++◌, take, drop}
+use Rattle.evs_events.specs.Filters.{restarted}
+use Rattle.evs_events.proofs.filters.restart_counts.Given as goal
+
+-- the filters seen are done, the others are as they were
+abbrev pub invariant-loop-filter : goal.invariant-loop-filter
+invariant-loop-filter l = l.filter-items ≡ restarted (take l.filter-index l.initial.filter-items) l.id ++ drop l.filter-index l.initial.filter-items

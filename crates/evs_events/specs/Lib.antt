@@ -1,0 +1,4 @@
+pub mod Desk
+pub mod Filters
+pub mod Log
+pub mod Views

@@ -1,0 +1,136 @@
+//! The log of the latest events (cFE Event Services, local event log).
+ghost use Rattle.std.specs.Prelude.{◌≡◌, ◌<◌, ◌≤◌, [], length, slice_get, Some, IfOk};
+ghost use Rattle.evs_events.specs.Log.{Log, empty_log, is_full, kept, mode_number};
+ghost use Rattle.evs_events.specs.Views.{line_shown};
+
+use crate::line::{LogLine, MAX_TEXT, StoredLine};
+use circular_buffer::HeapCircularBuffer;
+use std::alloc::{AllocError, Global};
+use std::marker::Model;
+
+/// How many lines the log has (cFE's CFE_PLATFORM_EVS_LOG_MAX).
+pub const LOG_LINES: usize = 20;
+
+/// What a full log drops for a new line.
+#[derive(Clone, Copy)]
+pub enum LogMode {
+    /// Its oldest line, mode 0 (cFE's CFE_EVS_LogMode_OVERWRITE).
+    Overwrite,
+    /// The new line, mode 1 (cFE's CFE_EVS_LogMode_DISCARD).
+    Discard,
+}
+
+impl LogMode {
+    /// The mode of this number, 0 or 1.
+    pub fn new(number: u8) -> LogMode
+        requires { number ≤ 1 }
+        ensures { mode_number result ≡ number }
+    {
+        if number == 0 {
+            LogMode::Overwrite
+        } else {
+            LogMode::Discard
+        }
+    }
+
+    /// The mode's number, 0 or 1.
+    pub fn number(self) -> u8
+        ensures number { result ≡ mode_number self }
+        ensures last { result ≤ 1 }
+    {
+        match self {
+            LogMode::Overwrite => 0,
+            LogMode::Discard => 1,
+        }
+    }
+}
+
+/// The latest events that passed, at most [`LOG_LINES`].
+#[derive(Drop)]
+pub struct EventLog {
+    // The oldest first.
+    lines: HeapCircularBuffer<StoredLine>,
+    mode: LogMode,
+}
+
+impl Model for EventLog {
+    ghost use Rattle.std.specs.Prelude.{◌≡◌};
+    ghost use Rattle.evs_events.specs.Log.{Log, mode_number};
+    ghost use Rattle.evs_events.specs.declared.log.TheConstants.{LOG_LINES};
+
+    ghost Value = { Log };
+
+    ghost view = { λ l. record { lines = l.lines.items; mode = mode_number l.mode } };
+
+    ghost invariant = { λ l. l.lines.capacity ≡ LOG_LINES };
+}
+
+impl EventLog {
+    /// A log without lines, in mode 1, with the memory for all its lines.
+    pub fn new(alloc: Global) -> Result<EventLog, AllocError>
+        ensures { IfOk result (λ log. log ≡ empty_log) }
+    {
+        let lines = HeapCircularBuffer::with_capacity(alloc, LOG_LINES)?;
+        Ok(EventLog {
+            lines,
+            mode: LogMode::Discard,
+        })
+    }
+
+    /// Takes the line last, and answers whether the log was full: then it drops its oldest line in
+    /// mode 0, and the new one in mode 1.
+    pub fn keep(&mut self, line: StoredLine) -> bool
+        ensures full { result ≡ is_full self.old }
+        ensures log { self.new ≡ kept self.old line }
+    {
+        let was_full = self.lines.len() == LOG_LINES;
+        match self.mode {
+            LogMode::Overwrite => {
+                let _ = self.lines.push_back(line);
+            }
+            LogMode::Discard => {
+                let _ = self.lines.try_push_back(line);
+            }
+        }
+        was_full
+    }
+
+    /// From now on a full log drops what this mode says; the lines stay.
+    pub fn set_mode(&mut self, mode: LogMode)
+        ensures { self.new ≡ record self.old { mode = mode_number mode } }
+    {
+        self.mode = mode;
+    }
+
+    /// Drops all lines.
+    pub fn clear(&mut self)
+        ensures { self.new ≡ record self.old { lines = [] } }
+    {
+        self.lines.clear();
+    }
+
+    /// The mode.
+    pub fn mode(&self) -> LogMode
+        ensures { mode_number result ≡ self.now.mode }
+    {
+        self.mode
+    }
+
+    /// How many lines there are, at most [`LOG_LINES`].
+    pub fn len(&self) -> u32
+        ensures len { result ≡ length self.now.lines }
+        ensures few { result ≤ LOG_LINES }
+    {
+        self.lines.len() as u32
+    }
+
+    /// The line at a place; places count from 0, the oldest line first.
+    pub fn at(&self, i: u32) -> LogLine<'_>
+        requires { i < length self.now.lines }
+        ensures line { slice_get self.now.lines i ≡ Some (line_shown result) }
+        ensures short { length result.text.now ≤ MAX_TEXT }
+    {
+        let line = self.lines.get(i as usize).unwrap();
+        line.show()
+    }
+}
