@@ -44,6 +44,7 @@ max_cost m x k = ap (λ n. n * k) greater ∙ spread m (x - m)
   where
     greater : max m x ≡ m + (x - m)
     greater = omega arith
+
     spread : (a b : ℕ) → (a + b) * k ≡ a * k + k * b
     spread a b = omega arith
 
@@ -59,15 +60,16 @@ balanced_new bytes requests errors sizes made out fit e_made e_out = record {
   made_all = ap length e_made ∙ length-replicate {A = ℕ} (length sizes) 0;
   out_all = ap length e_out ∙ length-replicate {A = ℕ} (length sizes) 0;
   most = λ class h. omega (arith, ap (λ xs. get_or xs class 0) e_out, get_or-replicate {A = ℕ} (length sizes) class 0 0 h);
-  paid = omega (arith, ap (λ xs. cost_of xs sizes) e_made, cost_none (length sizes) sizes)
+  paid = omega (arith, ap (λ xs. cost_of xs sizes) e_made, cost_none (length sizes) sizes);
 }
 
 -- a draw that there is room for
 pub record Drawn (account : Account) (class requests : ℕ) : Type 0 where
   pub balanced : IsBalanced (record account {
-      made = set account.made class (max (get_or account.made class 0) (get_or account.out class 0 + 1));
-      out = set account.out class (get_or account.out class 0 + 1);
-      requests = requests })
+    made = set account.made class (max (get_or account.made class 0) (get_or account.out class 0 + 1));
+    out = set account.out class (get_or account.out class 0 + 1);
+    requests = requests;
+  })
   pub few : get_or account.out class 0 + 1 ≤ account.bytes
 
 room_read : (cost k x bytes : ℕ) → leb (cost + k * x) bytes ≡ true → cost + k * x ≤ bytes
@@ -92,21 +94,29 @@ drawn account class requests b h room =
         made_all = length-set account.made class (max m (o + 1)) ∙ b.made_all;
         out_all = length-set account.out class (o + 1) ∙ b.out_all;
         most = λ i hi. most_after i hi (cases_eq i class);
-        paid = omega (arith, change, more, fits)
+        paid = omega (arith, change, more, fits);
       };
-      few = omega (arith, below, each, more, part, fits)
+      few = omega (arith, below, each, more, part, fits);
     }
   where
     most_after : (i : ℕ) → i < length account.sizes → (i ≡ class) ⊎ (i ≡ class → ⊥) → get_or (set account.out class (get_or account.out class 0 + 1)) i 0 ≤ get_or (set account.made class (max (get_or account.made class 0) (get_or account.out class 0 + 1))) i 0
     most_after i hi (inl e) =
         let m' = max (get_or account.made class 0) (get_or account.out class 0 + 1) in
         let o' = get_or account.out class 0 + 1 in
-        omega (arith, ap (λ j. get_or (set account.out class o') j 0) e, ap (λ j. get_or (set account.made class m') j 0) e,
-            get_or-set_same account.out class o' 0 (omega (arith, h, b.out_all)), get_or-set_same account.made class m' 0 (omega (arith, h, b.made_all)))
+        omega (
+          arith,
+          ap (λ j. get_or (set account.out class o') j 0) e,
+          ap (λ j. get_or (set account.made class m') j 0) e,
+          get_or-set_same account.out class o' 0 (omega (arith, h, b.out_all)),
+          get_or-set_same account.made class m' 0 (omega (arith, h, b.made_all)),
+        )
     most_after i hi (inr ne) =
-        omega (arith, b.most i hi,
-            get_or-set_other account.out class i (get_or account.out class 0 + 1) 0 ne,
-            get_or-set_other account.made class i (max (get_or account.made class 0) (get_or account.out class 0 + 1)) 0 ne)
+        omega (
+          arith,
+          b.most i hi,
+          get_or-set_other account.out class i (get_or account.out class 0 + 1) 0 ne,
+          get_or-set_other account.made class i (max (get_or account.made class 0) (get_or account.out class 0 + 1)) 0 ne,
+        )
 
 -- no more blocks are out than bytes, with much to spare
 pub out_few : (account : Account) (class : ℕ) → IsBalanced account → class < length account.sizes → get_or account.out class 0 * overhead ≤ account.bytes

@@ -25,9 +25,9 @@ cost_of (count ∷ made) (size ∷ sizes) = count * (size + overhead) + cost_of 
 abbrev pub has_room_for : Account → ℕ → ℕ → Bool
 has_room_for account class count =
     nat_le
-      (cost_of account.made account.sizes
-        + (slice_index account.sizes class + overhead) * (slice_index account.out class + count - slice_index account.made class))
-      account.bytes
+    (cost_of account.made account.sizes
+    + (slice_index account.sizes class + overhead) * (slice_index account.out class + count - slice_index account.made class))
+    account.bytes
 
 -- a block for a size fits: some block size is large enough, and one more of the smallest such size fits
 abbrev pub has_room_if : Account → Option ℕ → Bool
@@ -40,9 +40,10 @@ has_room account size = has_room_if account (class_of size account.sizes)
 -- one more block of a class is out; the greatest number that ever were is kept
 abbrev pub after_draw : Account → ℕ → Account
 after_draw account class = record account {
-    made = slice_set account.made class (max (slice_index account.made class) (slice_index account.out class + 1));
-    out = slice_set account.out class (slice_index account.out class + 1);
-    requests = counted account.requests }
+  made = slice_set account.made class (max (slice_index account.made class) (slice_index account.out class + 1));
+  out = slice_set account.out class (slice_index account.out class + 1);
+  requests = counted account.requests;
+}
 
 -- one block of a class fewer is out
 abbrev pub after_return : Account → ℕ → Account

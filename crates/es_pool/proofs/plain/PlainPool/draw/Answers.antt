@@ -24,9 +24,9 @@ invariant_of-self c =
     let was_out : c.index_mut.result.now ≡ get_or s.out.items k 0 = get_or_read s.out.items k c.index_mut.result.now in_out c.index_mut.ensures.value 0 in
     let was_made : c.index.result.now ≡ get_or s.made.items k 0 = get_or_read s.made.items k c.index.result.now in_made c.index.ensures 0 in
     let now_out : c.index-2.result.now ≡ get_or s.out.items k 0 + 1 =
-        get_or_read (set s.out.items k (c.index_mut.result.now + 1)) k c.index-2.result.now (omega (arith, in_out, length-set s.out.items k (c.index_mut.result.now + 1))) c.index-2.ensures 0
-        ∙ (get_or-set_same s.out.items k (c.index_mut.result.now + 1) 0 in_out ∙ ap (λ n. n + 1) was_out) in
+    get_or_read (set s.out.items k (c.index_mut.result.now + 1)) k c.index-2.result.now (omega (arith, in_out, length-set s.out.items k (c.index_mut.result.now + 1))) c.index-2.ensures 0
+    ∙ (get_or-set_same s.out.items k (c.index_mut.result.now + 1) 0 in_out ∙ ap (λ n. n + 1) was_out) in
     let top : c.max.result ≡ max (get_or s.made.items k 0) (get_or s.out.items k 0 + 1) = c.max.ensures ∙ (ap (λ n. max n c.index-2.result.now) was_made ∙ ap (λ n. max (get_or s.made.items k 0) n) now_out) in
     let to : ℕ → ℕ → Account = λ made out. record (account_of s) { made = set s.made.items k made; out = set s.out.items k (out + 1); requests = c.saturating_add-self-inside.result } in
     subst (λ made. IsBalanced (to made c.index_mut.result.now)) (sym top)
-        (subst (λ out. IsBalanced (to (max (get_or s.made.items k 0) (get_or s.out.items k 0 + 1)) out)) (sym was_out) done.balanced)
+    (subst (λ out. IsBalanced (to (max (get_or s.made.items k 0) (get_or s.out.items k 0 + 1)) out)) (sym was_out) done.balanced)

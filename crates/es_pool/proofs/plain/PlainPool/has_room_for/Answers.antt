@@ -23,9 +23,12 @@ overflow_mul-cost c =
     let k = c.args.class in
     let h : k < length s.sizes = omega (arith, c.requires, ap (λ v. length v.sizes) c.self.view_is) in
     let small = size_small s.sizes k c.self.invariant.sizes_fit h in
-    let one : c.saturating_sub-missing.result ≤ 1 = omega (arith, c.self.invariant.most k h,
-        get_or_read s.out.items k c.index.result.now (omega (arith, h, c.self.invariant.out_all)) c.index.ensures 0,
-        get_or_read s.made.items k c.index-2.result.now (omega (arith, h, c.self.invariant.made_all)) c.index-2.ensures 0) in
+    let one : c.saturating_sub-missing.result ≤ 1 = omega (
+      arith,
+      c.self.invariant.most k h,
+      get_or_read s.out.items k c.index.result.now (omega (arith, h, c.self.invariant.out_all)) c.index.ensures 0,
+      get_or_read s.made.items k c.index-2.result.now (omega (arith, h, c.self.invariant.made_all)) c.index-2.ensures 0,
+    ) in
     let once = at_most_once c.from.result c.from-2.result c.saturating_sub-missing.result c.from-2.ensures one in
     omega (arith, once, small)
 
@@ -38,8 +41,11 @@ overflow_add-result c =
     let k = c.args.class in
     let h : k < length s.sizes = omega (arith, c.requires, ap (λ v. length v.sizes) c.self.view_is) in
     let small = size_small s.sizes k c.self.invariant.sizes_fit h in
-    let one : c.saturating_sub-missing.result ≤ 1 = omega (arith, c.self.invariant.most k h,
-        get_or_read s.out.items k c.index.result.now (omega (arith, h, c.self.invariant.out_all)) c.index.ensures 0,
-        get_or_read s.made.items k c.index-2.result.now (omega (arith, h, c.self.invariant.made_all)) c.index-2.ensures 0) in
+    let one : c.saturating_sub-missing.result ≤ 1 = omega (
+      arith,
+      c.self.invariant.most k h,
+      get_or_read s.out.items k c.index.result.now (omega (arith, h, c.self.invariant.out_all)) c.index.ensures 0,
+      get_or_read s.made.items k c.index-2.result.now (omega (arith, h, c.self.invariant.made_all)) c.index-2.ensures 0,
+    ) in
     let once = at_most_once c.from.result c.from-2.result c.saturating_sub-missing.result c.from-2.ensures one in
     omega (arith, once, small)
