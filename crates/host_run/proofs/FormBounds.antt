@@ -1,5 +1,5 @@
 -- How many calls a script of the first form makes, and how many bytes they take.
-use Rattle.std.proofs.Common.{◌≡◌, ℕ, ◌+◌, ◌*◌, ◌^◌, ◌<◌, ◌≤◌, Bool, true, false, not, List, [], ◌∷◌, length, map, sum_by, count_by, All, cond, refl, ap, sym, ◌∙◌, arith}
+use Rattle.std.proofs.Common.{◌≡◌, ℕ, ◌+◌, ◌*◌, ◌≤◌, Bool, true, false, not, List, [], ◌∷◌, length, map, sum_by, count_by, All, cond, refl, ap, sym, ◌∙◌, arith}
 use Rattle.std.proofs.lemmas.List.{length-map}
 use Rattle.std.proofs.lemmas.List.Sums.{sum_by-cons, sum_by-le}
 use Rattle.fsw_base.proofs.Lists.{count_by-map}
@@ -8,8 +8,8 @@ use Rattle.host_run.specs.declared.form.Action.{Action}
 use Rattle.host_run.specs.declared.form.Action.TheVariants.{Send, Receive}
 use Rattle.host_run.specs.declared.form.FirstForm.{FirstForm}
 use Rattle.host_run.specs.Form.{is_send}
-use Rattle.host_run.specs.FormView.{line_of, IsAction, AreActions, IsInForm}
-use Rattle.host_run.specs.Script.{Line, CreatePipe, SubscribePipe}
+use Rattle.host_run.specs.FormView.{line_of, IsAction, AreActions}
+use Rattle.host_run.specs.Script.{CreatePipe, SubscribePipe}
 use Rattle.host_run.specs.Turns.{all_lines, lines_from, bytes_of, charge_of, receives, is_receive}
 
 -- each element passes a test or not

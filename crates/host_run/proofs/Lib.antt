@@ -2,6 +2,8 @@ pub mod CopyLaws
 pub mod Ends
 pub mod FormBounds
 pub mod FormLaws
+pub mod FormLengths
+pub mod Merged
 pub mod Opened
 pub mod ServeTexts
 pub mod Standings

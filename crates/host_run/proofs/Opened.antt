@@ -1,5 +1,5 @@
 -- A run that has not begun is under way with all its lines.
-use Rattle.std.proofs.Common.{◌≡◌, ℕ, suc, ◌+◌, ◌≤◌, true, List, [], ◌∷◌, length, map, sum_by, All, refl, ap, sym, subst, arith}
+use Rattle.std.proofs.Common.{◌≡◌, ℕ, suc, ◌+◌, true, List, [], ◌∷◌, length, sum_by, All, refl, ap, sym, subst, arith}
 use Rattle.std.specs.Cmp.Derive.{both_true}
 use Rattle.std.proofs.lemmas.Bool.{le-leb}
 use Rattle.std.proofs.lemmas.List.Elements.{All-cons, All-map}
@@ -14,7 +14,7 @@ use Rattle.host_run.specs.declared.form.Action.TheVariants.{Send, Receive}
 use Rattle.host_run.specs.declared.form.FirstForm.{FirstForm}
 use Rattle.host_run.specs.FormView.{line_of, script_of, IsAction, IsInForm}
 use Rattle.host_run.specs.Rotation.{enough, rotations}
-use Rattle.host_run.specs.Script.{Line, AppScript, CreatePipe, SubscribePipe}
+use Rattle.host_run.specs.Script.{AppScript, CreatePipe, SubscribePipe}
 use Rattle.host_run.specs.Trace.{first_registers}
 use Rattle.host_run.specs.Turns.{IsUnderWay, all_lines, lines_from, charge_of, is_small, running}
 

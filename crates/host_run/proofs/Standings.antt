@@ -8,8 +8,8 @@ use Rattle.ccsds_msg.specs.Message.{message_id}
 use Rattle.bus_words.specs.declared.history.Call.{Call}
 use Rattle.bus_words.specs.declared.history.Call.TheVariants.{Create, Subscribe, Transmit, Receive}
 use Rattle.bus_words.specs.declared.history.Entry.{Entry}
-use Rattle.bus_words.specs.Bus.{State, Sending, Subscription, route, is_subscribed, has_route}
-use Rattle.bus_words.specs.Machine.{step, cause, decided, refused_state, sent_along, subscribed, delivered}
+use Rattle.bus_words.specs.Bus.{State, Sending, Subscription, route, is_subscribed}
+use Rattle.bus_words.specs.Machine.{step, cause, decided, refused_state, sent_along}
 
 -- a refused receive changes the pipes alone
 standings-refused_receive : (s : State) (pipe : ℕ) (status : SbStatus) → (refused_state s (Receive pipe) status).standings ≡ s.standings

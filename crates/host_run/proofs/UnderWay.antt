@@ -1,5 +1,5 @@
 -- One turn of a run: what it leaves to do, and what its application tells of it.
-use Rattle.std.proofs.Common.{◌≡◌, ℕ, zero, suc, ◌+◌, ◌-◌, ◌<◌, ◌≤◌, Bool, true, false, List, [], ◌∷◌, ◌++◌, length, map, sum_by, get_or, slice_index_or, All, IsTrue, cond, if◌then◌else◌, ◌==◌, ◌&&◌, nat_le, refl, ap, sym, ◌∙◌, subst, arith, append_assoc, append-nil, length-append}
+use Rattle.std.proofs.Common.{◌≡◌, ℕ, suc, ◌+◌, ◌-◌, ◌<◌, ◌≤◌, Bool, true, false, List, [], ◌∷◌, ◌++◌, length, map, sum_by, get_or, slice_index_or, IsTrue, cond, ◌==◌, ◌&&◌, nat_le, refl, ap, sym, ◌∙◌, subst, arith, append_assoc, append-nil, length-append}
 use Rattle.std.specs.List.{range_with_len}
 use Rattle.std.proofs.lemmas.List.Elements.{All-head, All-tail}
 use Rattle.std.proofs.lemmas.Bool.{false≢true, leb-true, le-leb}
@@ -15,13 +15,13 @@ use Rattle.bus_words.specs.declared.history.Call.TheVariants.{End}
 use Rattle.bus_words.specs.declared.history.Entry.{Entry}
 use Rattle.bus_words.specs.declared.journal.Allowance.{Allowance}
 use Rattle.bus_words.specs.declared.receipts.Receipt.{Receipt}
-use Rattle.bus_words.specs.Bus.{State, Standing, Active, Ended, opening, standing_of}
+use Rattle.bus_words.specs.Bus.{State, Standing, Active, Ended, opening}
 use Rattle.bus_words.specs.Entries.{call_bytes}
 use Rattle.bus_words.specs.Log.{HasRoom, charged}
 use Rattle.bus_words.specs.Machine.{step, state_from, may_call}
-use Rattle.sb_calls.specs.Core.{Core, MayCall, Does, apps_of, state_of, is_within}
+use Rattle.sb_calls.specs.Core.{Core, MayCall, Does, state_of, is_within}
 use Rattle.host_run.specs.Received.{receipt_of, receipts_from}
-use Rattle.host_run.specs.Rotation.{SoFar, Running, after_call, answer_to, rotation, rotations}
+use Rattle.host_run.specs.Rotation.{SoFar, after_call, answer_to, rotation, rotations}
 use Rattle.host_run.specs.Script.{Script, Line, CreatePipe, SubscribePipe, SendMessage, ReceiveMessage, sent_message, fill_byte}
 use Rattle.host_run.specs.Trace.{call_of_line, registers_after}
 use Rattle.host_run.specs.declared.form.Action.{Action}
@@ -83,7 +83,7 @@ length-sent_message id size fill least =
     ∙ omega arith
 
 -- a conjunction's parts
-both : (a b : Bool) → (a && b) ≡ true → (a ≡ true) × (b ≡ true)
+pub both : (a b : Bool) → (a && b) ≡ true → (a ≡ true) × (b ≡ true)
 both true b holds = (refl, holds)
 both false b holds = absurd (false≢true holds)
 
@@ -108,13 +108,13 @@ within-line registers (SendMessage id size fill inc) small =
     le-leb (length message) 65542 (omega (arith, length-sent_message id size fill bounds.0, bounds.1))
 within-line registers (ReceiveMessage register) small = refl
 
-active-line : (registers : List ℕ) (line : Line) → IsTrue (may_call Active (call_of_line registers line))
+pub active-line : (registers : List ℕ) (line : Line) → IsTrue (may_call Active (call_of_line registers line))
 active-line registers (CreatePipe register depth name) = refl
 active-line registers (SubscribePipe id register limit scope) = refl
 active-line registers (SendMessage id size fill inc) = refl
 active-line registers (ReceiveMessage register) = refl
 
-standings-line : (limits : Limits) (history : List Entry) (s : State) (registers : List ℕ) (line : Line) →
+pub standings-line : (limits : Limits) (history : List Entry) (s : State) (registers : List ℕ) (line : Line) →
     ((step limits history s 1 (call_of_line registers line)).1).standings ≡ s.standings
 standings-line limits history s registers (CreatePipe register depth name) = standings-create limits history s 1 depth name
 standings-line limits history s registers (SubscribePipe id register limit scope) = standings-subscribe limits history s 1 id _ limit scope

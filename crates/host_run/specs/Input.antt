@@ -4,9 +4,12 @@ use Rattle.std.specs.Option.{option_map}
 use Rattle.fsw_base.specs.Outside.{Rose, IsCountOf}
 use Rattle.fsw_base.specs.declared.outside.ReadAnswer.{ReadAnswer}
 use Rattle.fsw_base.specs.declared.outside.ReadAnswer.TheVariants.{Got, End, Failed}
-use Rattle.host_run.specs.declared.reading.TheConstants.{MAX_INPUT}
 use Rattle.host_run.specs.declared.reading.Reading.{Reading}
 use Rattle.host_run.specs.declared.reading.Reading.TheVariants.{Whole, TooLarge, Fault, NoMemory}
+
+-- the most bytes that an input may have
+abbrev pub most_input : ℕ
+most_input = 1048576
 
 -- the input that these bytes begin and those left end, where they are told
 abbrev pub input_of : List ℕ → Option (List ℕ) → Option (List ℕ)
@@ -17,15 +20,15 @@ pub record IsWhole (bytes : List ℕ) (old new : Option (List ℕ)) : Type 0 whe
   pub read : old ≡ input_of bytes new
   pub nothing_left : IfSome new (λ left. left ≡ [])
   pub exactly : IfSome old (λ input. input ≡ bytes)
-  pub small : length bytes ≤ MAX_INPUT
+  pub small : length bytes ≤ most_input
 
 -- one byte more than an input may have was read, and no other
 abbrev pub IsTooLarge : Option (List ℕ) → Option (List ℕ) → Type 0
-IsTooLarge old new = (bytes : List ℕ) × (length bytes ≡ MAX_INPUT + 1) × (old ≡ input_of bytes new)
+IsTooLarge old new = (bytes : List ℕ) × (length bytes ≡ most_input + 1) × (old ≡ input_of bytes new)
 
--- a beginning of the input was read
+-- a beginning of the input was read, no more than an input may have
 abbrev pub IsPartRead : Option (List ℕ) → Option (List ℕ) → Type 0
-IsPartRead old new = (bytes : List ℕ) × (old ≡ input_of bytes new)
+IsPartRead old new = (bytes : List ℕ) × (length bytes ≤ most_input) × (old ≡ input_of bytes new)
 
 -- what was read, by what reading tells
 abbrev pub ReadsAll : Reading → Option (List ℕ) → Option (List ℕ) → Type 0

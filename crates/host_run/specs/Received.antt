@@ -1,5 +1,5 @@
 -- What an application tells of the messages that it received, in the order of its calls.
-use Rattle.std.specs.Prelude.{ℕ, ◌+◌, ◌==◌, List, [], ◌∷◌, ◌++◌, length, map, if◌then◌else◌}
+use Rattle.std.specs.Prelude.{ℕ, ◌==◌, List, [], ◌∷◌, ◌++◌, if◌then◌else◌}
 use Rattle.std.specs.Option.{option_to_list}
 use Rattle.fsw_base.specs.Limits.{Limits}
 use Rattle.bus_words.specs.declared.calls.BusAnswer.{BusAnswer}
@@ -11,7 +11,6 @@ use Rattle.bus_words.specs.declared.receipts.Receipt.{Receipt}
 use Rattle.bus_words.specs.Bus.{State, opening}
 use Rattle.bus_words.specs.Machine.{step}
 use Rattle.sb_calls.specs.Core.{receipt_in}
-use Rattle.host_run.specs.Script.{Script, AppScript}
 
 -- the receipt that a call makes, so answered, with the bus as it is afterwards: one where a receive got a message
 abbrev pub receipt_of : ℕ → State → Call → BusAnswer → List Receipt

@@ -1,5 +1,5 @@
 -- A script as data: applications with their lines. Registers are numbers of the application's own pipe registers.
-use Rattle.std.specs.Prelude.{ℕ, ◌+◌, ◌-◌, ◌%◌, Bool, List, ◌++◌, map}
+use Rattle.std.specs.Prelude.{ℕ, ◌+◌, ◌-◌, ◌%◌, Bool, List, [], ◌∷◌, ◌++◌, map}
 use Rattle.std.specs.List.{range_with_len}
 use Rattle.fsw_base.specs.Limits.{Limits}
 use Rattle.fsw_base.specs.declared.config.Scope.{Scope}
@@ -25,6 +25,10 @@ pub record AppScript : Type 0 where
 pub record Script : Type 0 where
   pub limits : Limits
   pub apps : List AppScript
+
+-- a script of one application
+abbrev pub alone : Limits → AppScript → Script
+alone limits app = record { limits = limits; apps = app ∷ [] }
 
 -- byte number i of a payload that begins with this fill
 abbrev pub fill_byte : ℕ → ℕ → ℕ

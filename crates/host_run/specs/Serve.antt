@@ -1,11 +1,12 @@
 -- What the program does: what it reads, what it writes and what it shows an audit, by how it ended.
-use Rattle.std.specs.Prelude.{◌≡◌, ◌⊎◌, ◌≤◌, ℕ, List, [], ◌∷◌, ◌++◌, length, codes, decimal, Option, Some, None}
-use Rattle.fsw_base.specs.Limits.{usual_limits}
+use Rattle.std.specs.Prelude.{◌≡◌, ◌⊎◌, ℕ, List, ◌++◌, length, map, codes, decimal, Option, Some, None}
+use Rattle.std.specs.List.{range_with_len}
 use Rattle.fsw_base.specs.Outside.{Rose}
 use Rattle.fsw_base.specs.ScriptFaults.{fault_name}
 use Rattle.fsw_base.specs.declared.script_faults.FaultKind.TheVariants.{NotYet}
 use Rattle.fsw_base.specs.declared.script_faults.ScriptFault.{ScriptFault}
 use Rattle.bus_words.specs.declared.history.Entry.{Entry}
+use Rattle.bus_words.specs.Machine.{IsLegal}
 use Rattle.run_report.specs.Pieces.{Grew, CutShort}
 use Rattle.run_report.specs.Report.{report_text}
 use Rattle.host_run.specs.Audit.{IsShown}
@@ -14,7 +15,7 @@ use Rattle.host_run.specs.Input.{IsWhole, IsTooLarge, IsPartRead}
 use Rattle.host_run.specs.Received.{receipts_of}
 use Rattle.host_run.specs.Rotation.{rotation}
 use Rattle.host_run.specs.Script.{Script}
-use Rattle.host_run.specs.declared.reading.TheConstants.{MAX_INPUT}
+use Rattle.host_run.specs.Trace.{Merges}
 use Rattle.host_run.specs.declared.status.HostStatus.{HostStatus}
 use Rattle.host_run.specs.declared.status.HostStatus.TheVariants as status
 
@@ -32,14 +33,23 @@ fault_text fault = codes "script:" ++ decimal fault.line ++ codes ":" ++ fault_n
 abbrev pub not_yet : ScriptFault
 not_yet = record { line = 0; kind = NotYet }
 
--- the report of a script of one application, run in rotation
+-- the report of a script's history, with what each of its applications tells of what it received
+abbrev pub report : Script → List Entry → List ℕ
+report script history =
+    report_text history (map (receipts_of script.limits (length script.apps) history) (range_with_len 1 (length script.apps)))
+
+-- the report of a script, run in rotation
 abbrev pub rotation_report : Script → List ℕ
-rotation_report script = report_text (rotation script) (receipts_of usual_limits 1 (rotation script) 1 ∷ [])
+rotation_report script = report script (rotation script)
 
 -- A source: the input left, where it is told, and the count of its faults.
 pub record Fed : Type 0 where
   pub left : Option (List ℕ)
   pub faults : ℕ
+
+-- a source as it is, by what its trait tells
+abbrev pub fed_by : {S : Type 0} → (S → Option (List ℕ)) → (S → ℕ) → S → Fed
+fed_by left faults source = record { left = left source; faults = faults source }
 
 -- What the program made: the bytes written, where they are told, the count of the sink's faults, and the histories that
 -- an audit was shown, where it tells them.
@@ -47,6 +57,10 @@ pub record Made : Type 0 where
   pub written : Option (List ℕ)
   pub faults : ℕ
   pub shown : Option (List (List Entry))
+
+-- a sink and an audit as they are, by what their traits tell
+abbrev pub made_by : {K A : Type 0} → (K → Option (List ℕ)) → (K → ℕ) → (A → Option (List (List Entry))) → K → A → Made
+made_by written faults shown sink audit = record { written = written sink; faults = faults sink; shown = shown audit }
 
 -- nothing was written or shown
 abbrev pub MakesNothing : Made → Made → Type 0
@@ -110,8 +124,8 @@ pub data Lockstep (result : HostStatus) (fed fed' : Fed) (old new : Made) : Type
   TooLong : IsTooLarge fed.left fed'.left → EndsRefused result old new → Lockstep result fed fed' old new
   -- the source failed
   SourceFailed : result ≡ status.ReadFault → Rose fed.faults fed'.faults → IsPartRead fed.left fed'.left → MakesNothing old new → Lockstep result fed fed' old new
-  -- no memory for the input
-  NoRoom : result ≡ status.NoMemory → MakesNothing old new → Lockstep result fed fed' old new
+  -- no memory for the input, of which nothing was read
+  NoRoom : result ≡ status.NoMemory → fed' ≡ fed → MakesNothing old new → Lockstep result fed fed' old new
 
 -- on other words nothing is read, and the usage line is written
 pub record OtherWords (result : HostStatus) (fed fed' : Fed) (old new : Made) : Type 0 where
@@ -129,10 +143,23 @@ HasCauses status.Done fed fed' old new = Unit {0}
 HasCauses (status.Script fault) fed fed' old new = Unit {0}
 HasCauses status.NoMemory fed fed' old new = Unit {0}
 
--- where the input is told and is a script of the first form, no longer than a script may be, and neither count of faults
--- rose, all was done or there was no memory
+-- where the input is told and is a script of the first form, and neither count of faults rose, all was done or there was
+-- no memory
 abbrev pub Completes : HostStatus → Fed → Fed → Made → Made → Type 0
 Completes result fed fed' old new =
-    (input : List ℕ) (script : Script) → fed.left ≡ Some input → length input ≤ MAX_INPUT → first_form input ≡ Some script →
+    (input : List ℕ) (script : Script) → fed.left ≡ Some input → first_form input ≡ Some script →
     ¬ Rose fed.faults fed'.faults → ¬ Rose old.faults new.faults →
     (result ≡ status.Done) ⊎ (result ≡ status.NoMemory)
+
+-- The headline, as far as it goes today: where all was done, the whole input was read and is a script, and there is a
+-- history that the bus can have, that merges the calls of the script's applications, each once and in order, that the
+-- audit was shown, and of which the report was written.
+abbrev pub Headline : HostStatus → Fed → Fed → Made → Made → Type 0
+Headline result fed fed' old new =
+    result ≡ status.Done → (bytes : List ℕ) × (script : Script) × (history : List Entry)
+    × IsWhole bytes fed.left fed'.left
+    × (first_form bytes ≡ Some script)
+    × IsLegal script.limits (length script.apps) history
+    × Merges script history
+    × IsShown old.shown new.shown history
+    × Grew old.written new.written (report script history)

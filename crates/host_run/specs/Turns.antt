@@ -1,9 +1,9 @@
 -- A run of the first form between two calls.
-use Rattle.std.specs.Prelude.{◌≡◌, ℕ, zero, suc, ◌+◌, ◌≤◌, nat_le, ◌&&◌, Bool, true, false, List, [], ◌∷◌, length, map, drop, sum_by, All, slice_set}
+use Rattle.std.specs.Prelude.{◌≡◌, ℕ, suc, ◌+◌, nat_le, ◌&&◌, Bool, true, false, List, [], ◌∷◌, length, map, drop, sum_by, All, slice_set}
 use Rattle.fsw_base.specs.Limits.{usual_limits}
-use Rattle.bus_words.specs.Bus.{State, Standing, Active}
+use Rattle.bus_words.specs.Bus.{Active}
 use Rattle.bus_words.specs.declared.receipts.Receipt.{Receipt}
-use Rattle.sb_calls.specs.Core.{Core, apps_of, state_of}
+use Rattle.sb_calls.specs.Core.{Core, state_of}
 use Rattle.fsw_base.specs.declared.config.Scope.TheVariants.{Global}
 use Rattle.host_run.specs.declared.form.Action.{Action}
 use Rattle.host_run.specs.declared.form.FirstForm.{FirstForm}

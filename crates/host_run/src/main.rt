@@ -3,6 +3,7 @@
 
 mod audit;
 mod form;
+mod laws;
 mod mem_audit;
 mod reading;
 mod runs;

@@ -3,7 +3,7 @@ ghost use Rattle.std.specs.Prelude.{◌≡◌, ◌⊎◌, true, false, List, Opt
 ghost use Rattle.bus_words.specs.declared.history.Entry.{Entry};
 ghost use Rattle.host_run.specs.Form.{first_form};
 ghost use Rattle.host_run.specs.FormView.{script_of, IsInForm};
-ghost use Rattle.host_run.specs.Serve.{Lockstep, OtherWords, HasCauses, Completes, EndsInput, EndsScript, EndsRefused, EndsTelling, usage_text};
+ghost use Rattle.host_run.specs.Serve.{Headline, Lockstep, OtherWords, HasCauses, Completes, fed_by, made_by, EndsInput, EndsScript, EndsRefused, EndsTelling, usage_text};
 ghost use Rattle.host_run.specs.Words.{is_lockstep};
 
 use crate::audit::Audit;
@@ -22,9 +22,10 @@ use std::alloc::Global;
 /// - `Usage`, on all other words: nothing is read, and the usage line is written.
 /// - `Script`, where the input is no script of the first form, or longer than 1,048,576 bytes; at
 ///   most one byte more than that is read. The fault line is written.
-/// - `ReadFault`, only where the source's count of faults rose: nothing is written.
-/// - `WriteFault`, only where the sink's count of faults rose: a front of the text due is written,
-///   and nothing after the failed write.
+/// - `ReadFault`, only where the source's count of faults rose, or stands at its last value: nothing is
+///   written.
+/// - `WriteFault`, only where the sink's count of faults rose, or stands at its last value: a front of
+///   the text due is written.
 /// - `NoMemory`, never on other words: nothing is written.
 pub fn serve<R, S: Source, K: Sink, G: Gate, A: Audit>(
     _rt: &R,
@@ -35,26 +36,30 @@ pub fn serve<R, S: Source, K: Sink, G: Gate, A: Audit>(
     _gate: &G,
     audit: &mut A,
 ) -> HostStatus
+    ensures headline { is_lockstep words.now ≡ true → Headline result
+        (fed_by S.left S.faults source.old) (fed_by S.left S.faults source.new)
+        (made_by K.written K.faults A.shown sink.old audit.old) (made_by K.written K.faults A.shown sink.new audit.new) }
+
     // What was read, written and shown, by how it ended.
     ensures lockstep { is_lockstep words.now ≡ true → Lockstep result
-        (record { left = S.left source.old; faults = S.faults source.old }) (record { left = S.left source.new; faults = S.faults source.new })
-        (record { written = K.written sink.old; faults = K.faults sink.old; shown = A.shown audit.old })
-        (record { written = K.written sink.new; faults = K.faults sink.new; shown = A.shown audit.new }) }
+        (fed_by S.left S.faults source.old) (fed_by S.left S.faults source.new)
+        (made_by K.written K.faults A.shown sink.old audit.old)
+        (made_by K.written K.faults A.shown sink.new audit.new) }
     ensures other_words { is_lockstep words.now ≡ false → OtherWords result
-        (record { left = S.left source.old; faults = S.faults source.old }) (record { left = S.left source.new; faults = S.faults source.new })
-        (record { written = K.written sink.old; faults = K.faults sink.old; shown = A.shown audit.old })
-        (record { written = K.written sink.new; faults = K.faults sink.new; shown = A.shown audit.new }) }
+        (fed_by S.left S.faults source.old) (fed_by S.left S.faults source.new)
+        (made_by K.written K.faults A.shown sink.old audit.old)
+        (made_by K.written K.faults A.shown sink.new audit.new) }
 
-    // Why it ended so.
+    // Why it ended so; these follow from the two above.
     ensures causes { is_lockstep words.now ≡ true → HasCauses result
-        (record { left = S.left source.old; faults = S.faults source.old }) (record { left = S.left source.new; faults = S.faults source.new })
-        (record { written = K.written sink.old; faults = K.faults sink.old; shown = A.shown audit.old })
-        (record { written = K.written sink.new; faults = K.faults sink.new; shown = A.shown audit.new }) }
+        (fed_by S.left S.faults source.old) (fed_by S.left S.faults source.new)
+        (made_by K.written K.faults A.shown sink.old audit.old)
+        (made_by K.written K.faults A.shown sink.new audit.new) }
     ensures usage_or_fault { is_lockstep words.now ≡ false → (result ≡ HostStatus.Usage) ⊎ (result ≡ HostStatus.WriteFault) }
     ensures complete { is_lockstep words.now ≡ true → Completes result
-        (record { left = S.left source.old; faults = S.faults source.old }) (record { left = S.left source.new; faults = S.faults source.new })
-        (record { written = K.written sink.old; faults = K.faults sink.old; shown = A.shown audit.old })
-        (record { written = K.written sink.new; faults = K.faults sink.new; shown = A.shown audit.new }) }
+        (fed_by S.left S.faults source.old) (fed_by S.left S.faults source.new)
+        (made_by K.written K.faults A.shown sink.old audit.old)
+        (made_by K.written K.faults A.shown sink.new audit.new) }
 {
     serve_words(alloc, words, source, sink, audit)
 }
@@ -68,13 +73,13 @@ fn serve_words<S: Source, K: Sink, A: Audit>(
     audit: &mut A,
 ) -> HostStatus
     ensures lockstep { is_lockstep words.now ≡ true → Lockstep result
-        (record { left = S.left source.old; faults = S.faults source.old }) (record { left = S.left source.new; faults = S.faults source.new })
-        (record { written = K.written sink.old; faults = K.faults sink.old; shown = A.shown audit.old })
-        (record { written = K.written sink.new; faults = K.faults sink.new; shown = A.shown audit.new }) }
+        (fed_by S.left S.faults source.old) (fed_by S.left S.faults source.new)
+        (made_by K.written K.faults A.shown sink.old audit.old)
+        (made_by K.written K.faults A.shown sink.new audit.new) }
     ensures other_words { is_lockstep words.now ≡ false → OtherWords result
-        (record { left = S.left source.old; faults = S.faults source.old }) (record { left = S.left source.new; faults = S.faults source.new })
-        (record { written = K.written sink.old; faults = K.faults sink.old; shown = A.shown audit.old })
-        (record { written = K.written sink.new; faults = K.faults sink.new; shown = A.shown audit.new }) }
+        (fed_by S.left S.faults source.old) (fed_by S.left S.faults source.new)
+        (made_by K.written K.faults A.shown sink.old audit.old)
+        (made_by K.written K.faults A.shown sink.new audit.new) }
 {
     if !words.is_lockstep() {
         return tell_usage(sink);
@@ -95,8 +100,8 @@ fn serve_text<K: Sink, A: Audit>(
     audit: &mut A,
 ) -> HostStatus
     ensures { EndsInput result (first_form text.now)
-        (record { written = K.written sink.old; faults = K.faults sink.old; shown = A.shown audit.old })
-        (record { written = K.written sink.new; faults = K.faults sink.new; shown = A.shown audit.new }) }
+        (made_by K.written K.faults A.shown sink.old audit.old)
+        (made_by K.written K.faults A.shown sink.new audit.new) }
 {
     match first_form(alloc, text) {
         Ok(Some(form)) => serve_form(alloc, &form, sink, audit),
@@ -114,8 +119,8 @@ fn serve_form<K: Sink, A: Audit>(
 ) -> HostStatus
     requires { IsInForm form.now }
     ensures { EndsScript result (script_of form.now)
-        (record { written = K.written sink.old; faults = K.faults sink.old; shown = A.shown audit.old })
-        (record { written = K.written sink.new; faults = K.faults sink.new; shown = A.shown audit.new }) }
+        (made_by K.written K.faults A.shown sink.old audit.old)
+        (made_by K.written K.faults A.shown sink.new audit.new) }
 {
     let Ok(Finished { bus, receipts }) = run_form(alloc, form) else {
         return HostStatus::NoMemory;

@@ -1,6 +1,6 @@
 use Rattle.std.proofs.Common.{arith, ap, sum_by}
 use Rattle.host_run.specs.Turns.{bytes_of}
-use Rattle.host_run.proofs.FormBounds.{length-actions, sum-bytes, sum-all_lines, length-all_lines}
+use Rattle.host_run.proofs.FormBounds.{length-actions, sum-bytes}
 use Rattle.host_run.proofs.runs.budget_of.Goals as goal
 
 pub overflow_cast-result : goal.overflow_cast-result

@@ -1,6 +1,5 @@
 use Rattle.std.proofs.Common.{refl, sym, subst}
 use Rattle.run_report.specs.Pieces.{Grew, CutShort}
-use Rattle.host_run.specs.Serve.{Tells, TellsFront}
 use Rattle.host_run.proofs.ServeTexts.{fault_text-not_yet}
 use Rattle.host_run.proofs.serve.refuse.Goals as goal
 

@@ -1,4 +1,4 @@
-use Rattle.host_run.proofs.Ends.{causes-lockstep, completes-lockstep, ends-other}
+use Rattle.host_run.proofs.Ends.{causes-lockstep, completes-lockstep, ends-other, headline-lockstep}
 use Rattle.host_run.proofs.serve.serve.Goals as goal
 
 pub returns-clause-causes : goal.returns-clause-causes
@@ -9,3 +9,6 @@ returns-clause-usage_or_fault g c = λ words. ends-other _ _ _ _ _ (c.serve_word
 
 pub returns-clause-complete : goal.returns-clause-complete
 returns-clause-complete g c = λ words. completes-lockstep _ _ _ _ _ (c.serve_words.ensures.lockstep words)
+
+pub returns-clause-headline : goal.returns-clause-headline
+returns-clause-headline g c = λ words. headline-lockstep _ _ _ _ _ (c.serve_words.ensures.lockstep words)

@@ -1,5 +1,4 @@
-use Rattle.std.proofs.Common.{◌≡◌, ℕ, ap, subst, ◌∙◌, append-nil, Ok, Err}
-use Rattle.bus_words.specs.declared.calls.BusAnswer.{BusAnswer}
+use Rattle.std.proofs.Common.{subst, ◌∙◌, append-nil}
 use Rattle.sb_calls.specs.Answers.{created}
 use Rattle.host_run.specs.FormView.{script_of}
 use Rattle.host_run.specs.Script.{CreatePipe}

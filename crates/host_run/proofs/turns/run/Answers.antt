@@ -1,4 +1,4 @@
-use Rattle.std.proofs.Common.{length, ap, sym, subst, ◌∙◌, arith}
+use Rattle.std.proofs.Common.{ap, sym, subst, ◌∙◌, arith}
 use Rattle.host_run.specs.FormView.{script_of}
 use Rattle.host_run.specs.Turns.{IsUnderWay, lines_from, with_first}
 use Rattle.host_run.proofs.UnderWay.{lines_from-end, told-end}

@@ -1,4 +1,4 @@
-use Rattle.std.proofs.Common.{◌≡◌, ℕ, ◌≤◌, count_by}
+use Rattle.std.proofs.Common.{◌≡◌, ◌≤◌, count_by}
 use Rattle.host_run.specs.FormView.{script_of}
 use Rattle.host_run.specs.Turns.{IsUnderWay, told_so_far, lines_from, with_first, is_receive}
 use Rattle.host_run.proofs.turns.run.Given as goal
