@@ -1,5 +1,5 @@
 -- The account of a pool follows its draws and returns, and there is room in one where there is room in the other.
-use Rattle.std.proofs.Common.{◌≡◌, ℕ, ◌+◌, ◌-◌, ◌*◌, ◌<◌, ◌≤◌, ◌&&◌, ◌⊎◌, inl, inr, zero, suc, max, Bool, true, false, not, cond, eqb, leb, Option, Some, None, List, [], ◌∷◌, ◌++◌, length, get_or, set, replicate, sum_by, refl, ap, sym, subst, ◌∙◌, arith}
+use Rattle.std.proofs.Common.{◌≡◌, ℕ, ◌+◌, ◌-◌, ◌*◌, ◌<◌, ◌≤◌, ◌&&◌, ◌⊎◌, inl, inr, zero, suc, max, Bool, true, false, not, cond, eqb, leb, Option, Some, None, List, [], ◌∷◌, ◌++◌, length, get_or, set, replicate, sum_by, MatchBool, refl, ap, sym, subst, ◌∙◌, arith}
 use Rattle.std.proofs.lemmas.Bool.{cases_eq}
 use Rattle.std.proofs.lemmas.Bool.Decides.{nat_tests}
 use Rattle.std.proofs.lemmas.List.{length-set, length-replicate, get_or-replicate, get_or_default, get_or-set_same, get_or-set_other, set-get_or}
@@ -8,6 +8,8 @@ use Rattle.std.proofs.lemmas.List.Sums.{sum_by-cons, sum_by_push, get_or-le-sum_
 use Rattle.fsw_base.specs.Blocks.{class_of}
 use Rattle.es_pool.specs.Pool.{PoolState, Draws, Reuses, Cuts, DrawsFor, DrawsIf, fits, fits_if, fits_class, made_in, out_in, free_in, used_by, overhead, counted, class_at, given_back, is_out}
 use Rattle.es_pool.specs.Account.{Account, IsAccountOf, cost_of, has_room, has_room_if, has_room_for, after_draw, after_return}
+use Rattle.es_pool.specs.Runs.{Leaves}
+use Rattle.es_pool.specs.declared.calls.PoolCall.TheVariants.{Get}
 use Rattle.es_pool.specs.declared.blocks.CutBlock.{CutBlock}
 use Rattle.es_pool.proofs.Totals.{block, made-split, sum-change}
 use Rattle.es_pool.proofs.Accounts.{cost-set}
@@ -254,3 +256,14 @@ account_new bytes sizes = record {
   requests = refl;
   errors = refl;
 }
+
+-- what each call leaves, from what its answer tells
+false_unless : (b : Bool) → (b ≡ true → false ≡ true) → b ≡ false
+false_unless true never = sym (never refl)
+false_unless false never = refl
+
+pub leaves_drawn : (old new : PoolState) (size number : ℕ) → fits old size 1 ≡ true → DrawsFor old new size number → Leaves old (Get size) new
+leaves_drawn old new size number e draws = subst (λ b. MatchBool b ((n : ℕ) × DrawsFor old new size n) (new ≡ old)) (sym e) (number, draws)
+
+pub leaves_unchanged : (old new : PoolState) (size : ℕ) → (fits old size 1 ≡ true → false ≡ true) → new ≡ old → Leaves old (Get size) new
+leaves_unchanged old new size never e = subst (λ b. MatchBool b ((n : ℕ) × DrawsFor old new size n) (new ≡ old)) (sym (false_unless (fits old size 1) never)) e

@@ -3,3 +3,4 @@ pub mod Fields
 pub mod Kept
 pub mod PlainFields
 pub mod Pool
+pub mod Runs

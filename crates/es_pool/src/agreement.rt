@@ -1,22 +1,15 @@
 //! The pool and the plain pool give the same answers, whatever the calls.
 ghost use Rattle.std.specs.Prelude.{◌≡◌, ◌+◌, ◌*◌, ◌≤◌, true, length, IfOk};
 ghost use Rattle.es_pool.specs.Account.{IsAccountOf};
+ghost use Rattle.es_pool.specs.Runs.{Leaves, LeadTo};
 
 use crate::blocks::BlockNo;
+use crate::calls::PoolCall;
 use crate::plain::PlainPool;
 use crate::pool::Pool;
 use bucket_list::{Ledger, Steps};
 use fsw_base::BlockSizes;
 use std::alloc::{AllocError, Global};
-
-/// A call of a pool's user.
-#[derive(Clone, Copy)]
-pub enum PoolCall {
-    /// A request for a block of this many bytes.
-    Get(u32),
-    /// The return of this block.
-    Put(BlockNo),
-}
 
 /// A pool and a plain pool of `bytes` bytes with these block sizes.
 pub fn pool_and_plain(
@@ -34,7 +27,8 @@ pub fn pool_and_plain(
 }
 
 /// Makes the calls on both pools, in order, and answers whether the two gave the same answer and then showed the same
-/// figures at each of them. They always do. At most 8 steps a call.
+/// figures at each of them. They always do: whatever the calls, the pool is led as its own contract says, and the plain
+/// pool's account is that of the pool. At most 8 steps a call.
 pub fn agree<L: Ledger>(
     pool: &mut Pool,
     plain: &mut PlainPool,
@@ -43,6 +37,7 @@ pub fn agree<L: Ledger>(
 ) -> bool
     requires { IsAccountOf pool.old plain.old }
     ensures alike { result ≡ true }
+    ensures run { LeadTo pool.old calls.now pool.new }
     ensures account { IsAccountOf pool.new plain.new }
     ensures cost { steps.new ≤ steps.old + 8 * length calls.now }
 {
@@ -63,6 +58,7 @@ fn is_alike<L: Ledger>(
 ) -> bool
     requires { IsAccountOf pool.old plain.old }
     ensures alike { result ≡ true }
+    ensures run { Leaves pool.old call pool.new }
     ensures account { IsAccountOf pool.new plain.new }
     ensures cost { steps.new ≤ steps.old + 8 }
 {
@@ -82,6 +78,7 @@ fn gets_alike<L: Ledger>(
 ) -> bool
     requires { IsAccountOf pool.old plain.old }
     ensures alike { result ≡ true }
+    ensures run { Leaves pool.old (PoolCall.Get size) pool.new }
     ensures account { IsAccountOf pool.new plain.new }
     ensures cost { steps.new ≤ steps.old + 8 }
 {
@@ -106,6 +103,7 @@ fn puts_alike<L: Ledger>(
 ) -> bool
     requires { IsAccountOf pool.old plain.old }
     ensures alike { result ≡ true }
+    ensures run { Leaves pool.old (PoolCall.Put block) pool.new }
     ensures account { IsAccountOf pool.new plain.new }
     ensures cost { steps.new ≤ steps.old + 8 }
 {

@@ -20,12 +20,14 @@
 
 mod agreement;
 mod blocks;
+mod calls;
 mod plain;
 mod pool;
 #[cfg(test)]
 mod tests;
 
-pub use agreement::{PoolCall, agree, pool_and_plain};
+pub use agreement::{agree, pool_and_plain};
 pub use blocks::{BlockNo, ClassStats, CutBlock, OVERHEAD};
+pub use calls::PoolCall;
 pub use plain::PlainPool;
 pub use pool::Pool;

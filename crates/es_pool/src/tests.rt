@@ -3,8 +3,9 @@ ghost use Rattle.std.specs.Prelude.{◌≡◌, ◌+◌, ◌<◌, ◌≤◌, true
 ghost use Rattle.es_pool.specs.Pool.{is_out};
 ghost use Rattle.es_pool.specs.Account.{IsAccountOf};
 
-use crate::agreement::{PoolCall, agree, pool_and_plain};
+use crate::agreement::{agree, pool_and_plain};
 use crate::blocks::BlockNo;
+use crate::calls::PoolCall;
 use crate::plain::PlainPool;
 use crate::pool::Pool;
 use bucket_list::{Blank, Ledger, Steps};
