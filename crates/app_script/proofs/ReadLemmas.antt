@@ -1,0 +1,32 @@
+-- Laws of reading line by line.
+use Rattle.std.proofs.Common.{◌≡◌, ℕ, ◌+◌, ◌≤◌, List, [], ◌∷◌, length, Result, Ok, Err, refl, sym, ap, ◌∙◌, arith}
+use Rattle.fsw_base.specs.declared.script_faults.FaultKind.{FaultKind}
+use Rattle.fsw_base.specs.declared.script_faults.ScriptFault.{ScriptFault}
+use Rattle.app_script.specs.declared.fail.LineFail.{LineFail}
+use Rattle.app_script.specs.declared.fail.LineFail.TheVariants.{Memory, Fault}
+use Rattle.app_script.specs.Text.{lines_of}
+use Rattle.app_script.specs.Readings.{Fails}
+use Rattle.app_script.specs.Whole.{located, FailsAs}
+use Rattle.app_script.specs.Grammar.{Progress, after_line, after_lines, at_line, ◌>=>◌}
+
+pub lines_more : (number : ℕ) (s t : Progress) (lines after : List (List ℕ)) (line : List ℕ) (total : Result Progress ScriptFault) → after_line number s line ≡ Ok t → lines ≡ line ∷ after
+    → after_lines number s lines ≡ total → after_lines (number + 1) t after ≡ total
+unfolding after_lines
+lines_more number s t lines after line total one cut so_far =
+    ap (λ r. at_line number r >=> λ u. after_lines (number + 1) u after) (sym one) ∙ ap (after_lines number s) (sym cut) ∙ so_far
+
+pub lines_fault : (number : ℕ) (s : Progress) (lines after : List (List ℕ)) (line : List ℕ) (failure : LineFail) (total : Result Progress ScriptFault) → Fails failure (after_line number s line) → lines ≡ line ∷ after
+    → after_lines number s lines ≡ total → FailsAs (located number failure) total
+unfolding after_lines
+lines_fault number s lines after line (Memory error) total one cut so_far = tt
+lines_fault number s lines after line (Fault kind) total one cut so_far =
+    sym so_far ∙ ap (after_lines number s) cut ∙ ap (λ r. at_line number r >=> λ u. after_lines (number + 1) u after) one
+
+no_lines : lines_of [] ≡ []
+unfolding lines_of
+no_lines = refl
+
+pub lines_end : (number : ℕ) (s : Progress) (rest : List ℕ) (total : Result Progress ScriptFault) → length rest ≡ 0 → after_lines number s (lines_of rest) ≡ total → total ≡ Ok s
+unfolding after_lines
+lines_end number s [] total none so_far = sym so_far ∙ ap (after_lines number s) no_lines
+lines_end number s (byte ∷ rest) total none so_far = absurd (omega arith)

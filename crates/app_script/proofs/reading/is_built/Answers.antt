@@ -1,0 +1,20 @@
+use Rattle.std.proofs.Common.{arith}
+use Rattle.app_script.proofs.LineLemmas.{built_default}
+use Rattle.app_script.proofs.reading.is_built.Goals as goal
+
+pub returns-in_default : goal.returns-in_default
+returns-in_default c = built_default c.args.line.now (record {
+  create = λ pipe depth name e. grind arith;
+  delete = λ pipe e. grind arith;
+  opts = λ pipe bits e. grind arith;
+  getopts = λ pipe e. grind arith;
+  find = λ pipe name e. grind arith;
+  pname = λ pipe e. grind arith;
+  sub = λ id pipe limit scope e. grind arith;
+  unsub = λ id pipe e. grind arith;
+  send = λ id size fill inc e. grind arith;
+  sendraw = λ bytes inc e. grind arith;
+  recv = λ pipe e. grind arith;
+  pend = λ pipe e. grind arith;
+  show = λ pipe e. grind arith;
+})

@@ -1,0 +1,15 @@
+use Rattle.std.proofs.Common.{◌≡◌, ◌+◌, ◌≤◌, length}
+use Rattle.app_script.specs.Text.{words_of}
+use Rattle.app_script.specs.Lists.{each}
+use Rattle.app_script.specs.Numbers.{number_of}
+use Rattle.app_script.proofs.ListLemmas.{with_front}
+use Rattle.app_script.proofs.settings.numbers.Given as goal
+
+abbrev pub invariant-loop-word : goal.invariant-loop-word
+invariant-loop-word l = record {
+  read : with_front l.numbers.items (each number_of (words_of l.rest)) ≡ each number_of (words_of l.initial.rest);
+  room : length l.numbers.items + length (words_of l.rest) ≤ 17;
+}
+
+abbrev pub decreases-loop-word : goal.decreases-loop-word
+decreases-loop-word l = length l.rest

@@ -1,0 +1,403 @@
+//! Reading a script line by line.
+ghost use Rattle.std.specs.Prelude.{◌≡◌, ◌+◌, ◌<◌, ◌≤◌, ◌++◌, ◌∷◌, [], length, IsTrue, IfOk};
+ghost use Rattle.std.specs.List.{list_any};
+ghost use Rattle.std.specs.Prelude.{◌==◌};
+ghost use Rattle.app_script.specs.Text.{is_same};
+ghost use Rattle.fsw_base.specs.Starts.{are_count_starts};
+ghost use Rattle.app_script.specs.Noted.{noted, is_built};
+ghost use Rattle.app_script.specs.Forms.{is_misplaced};
+
+use crate::app::App;
+use crate::bus_lines::bus_line;
+use crate::content::ByteText;
+use crate::event_lines::event_line;
+use crate::fail::LineFail;
+use crate::forms::{Form, form_of, is_misplaced};
+use crate::line::Line;
+use crate::memory_lines::memory_line;
+use crate::script::Script;
+use crate::settings::{
+    LimitName, app, is_among, is_built_limit, put_limit, seq, set, sizes, version,
+};
+use crate::table_lines::{show, table_line};
+use crate::text::{first_word, is_same, is_text};
+use arrayvec::ArrayVec;
+use fsw_base::{Config, CountStarts, FaultKind, MAX_APPS, MAX_STARTS};
+use std::alloc::{AllocError, Global};
+use std::marker::Model;
+use std::mem;
+
+// How many bytes a line may have.
+const MAX_LINE: usize = 1024;
+
+// How many call lines a script may have.
+const MAX_CALLS: u32 = 20000;
+
+// How many bytes the charges of a script may come to.
+const MAX_CHARGE: usize = 16_777_216;
+
+/// What was read of a script so far.
+#[derive(Drop)]
+pub(crate) struct Reading {
+    // A line that isn't skipped came before.
+    begun: bool,
+    // The limits, without the counts at which ids start; which of them were set; whether the block
+    // sizes were.
+    config: Config,
+    named: Vec<LimitName>,
+    sized: bool,
+    // The counts at which ids start.
+    starts: ArrayVec<(u16, u16), MAX_STARTS>,
+    // An application has begun; those before it, and the present one.
+    started: bool,
+    done: Vec<App>,
+    present: App,
+    // The call lines so far, and the sum of their charges.
+    calls: u32,
+    charged: u32,
+    // The first line that isn't built yet.
+    unbuilt: Option<u32>,
+}
+
+impl Model for Reading {
+    ghost use Rattle.app_script.specs.Grammar.{Progress};
+
+    ghost Value = { Progress };
+
+    ghost use Rattle.app_script.specs.ReadingParts.{progress_in, Keeps};
+
+    ghost view = { progress_in };
+
+    ghost invariant = { Keeps };
+}
+
+// Whether the program runs a line already.
+#[tactic(auto, unfolding(crate::specs::Noted::is_built))]
+fn is_built(line: &Line) -> bool
+    ensures { result ≡ is_built line.now }
+{
+    match line {
+        Line::Create { .. } => true,
+        Line::Delete { .. } => true,
+        Line::SetOpts { .. } => true,
+        Line::GetOpts { .. } => true,
+        Line::Find { .. } => true,
+        Line::PipeName { .. } => true,
+        Line::Subscribe { .. } => true,
+        Line::Unsubscribe { .. } => true,
+        Line::Send { .. } => true,
+        Line::SendRaw { .. } => true,
+        Line::Receive { .. } => true,
+        Line::Pend { .. } => true,
+        Line::ShowPipe { .. } => true,
+        _ => false,
+    }
+}
+
+// The first line that isn't built yet, where this one may be it.
+fn noted(built: bool, number: u32, unbuilt: Option<u32>) -> Option<u32>
+    ensures { result ≡ noted built number unbuilt }
+{
+    match unbuilt {
+        Some(first) => Some(first),
+        None => { if built { None } else { Some(number) } }
+    }
+}
+
+// Whether an id has a start already.
+fn has_start(starts: &[(u16, u16)], id: u16) -> bool
+    ensures { result ≡ list_any (λ other. other.0 == id) starts.now }
+{
+    starts.iter().any(|other| other.0 == id)
+}
+
+// The starts as the configuration has them.
+fn count_starts(starts: &[(u16, u16)]) -> CountStarts
+    requires { IsTrue (are_count_starts starts.now) }
+    ensures { result ≡ starts.now }
+{
+    match CountStarts::try_new(starts) {
+        Some(starts) => starts,
+        None => unreachable!(),
+    }
+}
+
+// Whether one of these applications has the name.
+fn are_named(apps: &[App], name: &[u8]) -> bool
+    ensures { result ≡ list_any (λ app. is_same app.name name.now) apps.now }
+{
+    apps.iter().any(|app| is_same(app.name(), name))
+}
+
+impl Reading {
+    ghost use Rattle.app_script.specs.Moves.{Moves};
+    ghost use Rattle.app_script.specs.Grammar.{opening, after_set, after_sizes, after_seq, apps_of, after_app, after_call, after_form, after_known, after_words, after_line};
+    ghost use Rattle.app_script.specs.Text.{words_of, behind_word};
+
+    // Nothing was read yet.
+    #[tactic(auto, unfolding(crate::specs::Accounts::account_of))]
+    pub(crate) fn new(alloc: Global, name: ByteText) -> Reading
+        requires { name ≡ [] }
+        ensures { result ≡ opening }
+    {
+        Reading {
+            begun: false,
+            config: Config::usual(),
+            named: Vec::new(alloc),
+            sized: false,
+            starts: ArrayVec::new(),
+            started: false,
+            done: Vec::new(alloc),
+            present: App::new(alloc, name),
+            calls: 0,
+            charged: 0,
+            unbuilt: None,
+        }
+    }
+
+    // set NAME VALUE
+    #[tactic(auto, unfolding(crate::specs::Grammar::after_set))]
+    fn set(&mut self, number: u32, rest: &[u8]) -> Result<(), LineFail>
+        ensures { Moves result self.new (after_set number self.old (words_of rest.now)) }
+    {
+        let (name, value) = set(rest)?;
+        if is_among(name, self.named.as_slice()) {
+            return Err(LineFail::Fault(FaultKind::Repeated));
+        }
+        self.named.push(name)?;
+        put_limit(&mut self.config, name, value);
+        self.unbuilt = noted(is_built_limit(name), number, self.unbuilt);
+        Ok(())
+    }
+
+    // sizes S1 S2 ..
+    #[tactic(auto, unfolding(crate::specs::Grammar::after_sizes))]
+    fn sizes(&mut self, number: u32, rest: &[u8]) -> Result<(), LineFail>
+        ensures { Moves result self.new (after_sizes number self.old (words_of rest.now)) }
+    {
+        let sizes = sizes(rest)?;
+        if self.sized {
+            return Err(LineFail::Fault(FaultKind::Repeated));
+        }
+        self.config.sizes = sizes;
+        self.sized = true;
+        self.unbuilt = noted(false, number, self.unbuilt);
+        Ok(())
+    }
+
+    // seq ID COUNT
+    #[tactic(auto, using(crate::proofs::ScriptLemmas::starts_push), unfolding(crate::specs::Grammar::after_seq))]
+    fn seq(&mut self, rest: &[u8]) -> Result<(), LineFail>
+        ensures { Moves result self.new (after_seq self.old (words_of rest.now)) }
+    {
+        let (id, count) = seq(rest)?;
+        if self.starts.len() >= MAX_STARTS {
+            return Err(LineFail::Fault(FaultKind::OutOfRange));
+        }
+        if has_start(self.starts.as_slice(), id) {
+            return Err(LineFail::Fault(FaultKind::Repeated));
+        }
+        self.starts.push((id, count));
+        Ok(())
+    }
+
+    // Whether an application so far has the name.
+    #[tactic(auto, using(crate::proofs::ScriptLemmas::list_any_push))]
+    fn has_app(&self, name: &[u8]) -> bool
+        ensures { result ≡ list_any (λ app. is_same app.name name.now) (apps_of self.now) }
+    {
+        are_named(self.done.as_slice(), name)
+            || (self.started && is_same(self.present.name(), name))
+    }
+
+    // How many applications there are so far.
+    fn app_count(&self) -> usize
+        ensures { result ≡ length (apps_of self.now) }
+    {
+        if self.started {
+            self.done.len() + 1
+        } else {
+            self.done.len()
+        }
+    }
+
+    // app NAME
+    #[tactic(auto, unfolding(crate::specs::Grammar::after_app))]
+    fn app(&mut self, alloc: Global, rest: &[u8]) -> Result<(), LineFail>
+        ensures { Moves result self.new (after_app self.old (words_of rest.now)) }
+    {
+        let name = app(rest)?;
+        if self.has_app(name) {
+            return Err(LineFail::Fault(FaultKind::Repeated));
+        }
+        if self.app_count() >= MAX_APPS as usize {
+            return Err(LineFail::Fault(FaultKind::TooManyApps));
+        }
+        let name = ByteText::new(alloc, name)?;
+        if !self.started {
+            self.present = App::new(alloc, name);
+            self.started = true;
+            return Ok(());
+        }
+        self.done.reserve(1)?;
+        let before = mem::replace(&mut self.present, App::new(alloc, name));
+        self.done.push_reserved(before);
+        Ok(())
+    }
+
+    // One call line more.
+    #[tactic(auto, using(crate::proofs::ScriptLemmas::account_of_push), unfolding(crate::specs::Grammar::after_call))]
+    fn call(&mut self, number: u32, line: Line) -> Result<(), LineFail>
+        ensures { Moves result self.new (after_call number self.old line) }
+    {
+        if self.calls >= MAX_CALLS {
+            return Err(LineFail::Fault(FaultKind::TooManyCalls));
+        }
+        let charge = self.present.charge(&line);
+        if charge > MAX_CHARGE - self.charged as usize {
+            return Err(LineFail::Fault(FaultKind::TooManyBytes));
+        }
+        let unbuilt = noted(is_built(&line), number, self.unbuilt);
+        self.present.push(line, charge as u32)?;
+        self.calls += 1;
+        self.charged += charge as u32;
+        self.unbuilt = unbuilt;
+        Ok(())
+    }
+
+    // A line of this form, from the line behind its first word.
+    #[tactic(auto, unfolding(crate::specs::Grammar::after_form))]
+    fn form(&mut self, alloc: Global, number: u32, form: Form, rest: &[u8]) -> Result<(), LineFail>
+        ensures { Moves result self.new (after_form number self.old form rest.now) }
+    {
+        match form {
+            Form::Script => {
+                let _ = version(rest)?;
+                Ok(())
+            }
+            Form::Set => self.set(number, rest),
+            Form::Sizes => self.sizes(number, rest),
+            Form::Seq => self.seq(rest),
+            Form::App => self.app(alloc, rest),
+            Form::Bus(first) => {
+                let line = bus_line(alloc, first, rest)?;
+                self.call(number, line)
+            }
+            Form::Memory(first) => {
+                let line = memory_line(alloc, first, rest)?;
+                self.call(number, line)
+            }
+            Form::Event(first) => {
+                let line = event_line(alloc, first, rest)?;
+                self.call(number, line)
+            }
+            Form::Table(first) => {
+                let line = table_line(alloc, first, rest)?;
+                self.call(number, line)
+            }
+            Form::Show => {
+                let line = show(rest)?;
+                self.call(number, line)
+            }
+        }
+    }
+
+    // Whether a line of this form stands where it may not.
+    fn is_misplaced(&self, form: Form) -> bool
+        ensures { result ≡ is_misplaced form self.now.begun self.now.started }
+    {
+        is_misplaced(form, self.begun, self.started)
+    }
+
+    // A line with this first word, if it is one.
+    #[tactic(auto, unfolding(crate::specs::Grammar::after_known))]
+    fn known(
+        &mut self,
+        alloc: Global,
+        number: u32,
+        form: Option<Form>,
+        rest: &[u8],
+    ) -> Result<(), LineFail>
+        ensures { Moves result self.new (after_known number self.old form rest.now) }
+    {
+        match form {
+            None => Err(LineFail::Fault(FaultKind::UnknownWord)),
+            Some(form) => {
+                if self.is_misplaced(form) {
+                    return Err(LineFail::Fault(FaultKind::Misplaced));
+                }
+                self.begun = true;
+                self.form(alloc, number, form, rest)
+            }
+        }
+    }
+
+    // A line's words; a line without one, or whose first begins with a hash sign, is skipped.
+    #[tactic(auto, unfolding(crate::specs::Grammar::after_words))]
+    fn words(&mut self, alloc: Global, number: u32, line: &[u8]) -> Result<(), LineFail>
+        ensures { Moves result self.new (after_words number self.old (words_of line.now) (behind_word line.now)) }
+    {
+        match first_word(line) {
+            None => Ok(()),
+            Some((first, rest)) => {
+                if first.starts_with(b"#") {
+                    return Ok(());
+                }
+                self.known(alloc, number, form_of(first), rest)
+            }
+        }
+    }
+
+    // The next line.
+    #[tactic(auto, unfolding(crate::specs::Grammar::after_line))]
+    pub(crate) fn line(&mut self, alloc: Global, number: u32, line: &[u8]) -> Result<(), LineFail>
+        ensures { Moves result self.new (after_line number self.old line.now) }
+    {
+        if line.len() > MAX_LINE {
+            return Err(LineFail::Fault(FaultKind::LineTooLong));
+        }
+        if !is_text(line) {
+            return Err(LineFail::Fault(FaultKind::BadByte));
+        }
+        self.words(alloc, number, line)
+    }
+
+    // Whether an application has begun.
+    pub(crate) fn has_started(&self) -> bool
+        ensures { result ≡ self.now.started }
+    {
+        self.started
+    }
+
+    // The first line that isn't built yet.
+    pub(crate) fn unbuilt(&self) -> Option<u32>
+        ensures { result ≡ self.now.unbuilt }
+    {
+        self.unbuilt
+    }
+
+    // The script that was read, where an application has begun.
+    pub(crate) fn into_script(self) -> Result<Script, AllocError>
+        requires { IsTrue self.started }
+        ensures { IfOk result (λ script. script ≡ record { limits = self.limits; apps = apps_of self }) }
+    {
+        let Reading {
+            begun: _,
+            config,
+            named: _,
+            sized: _,
+            starts,
+            started: _,
+            done,
+            present,
+            calls: _,
+            charged: _,
+            unbuilt: _,
+        } = self;
+        let mut config = config;
+        let mut apps = done;
+        config.starts = count_starts(starts.as_slice());
+        apps.push(present)?;
+        Ok(Script::new(config, apps))
+    }
+}

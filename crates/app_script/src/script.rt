@@ -1,0 +1,182 @@
+//! A script, and how it is read.
+ghost use Rattle.std.specs.Prelude.{◌≡◌, ◌-◌, ◌<◌, ◌≤◌, length, slice_get, Some, IfOk, IsTrue};
+ghost use Rattle.fsw_base.specs.Limits.{limits_of};
+ghost use Rattle.app_script.specs.Grammar.{after_lines, progress_of, grammar, built_script};
+ghost use Rattle.app_script.specs.Text.{lines_of};
+ghost use Rattle.app_script.specs.Whole.{located, GivesScript, MovesScript};
+
+use crate::app::App;
+use crate::content::ByteText;
+use crate::fail::{LineFail, ReadFail};
+use crate::line::Line;
+use crate::reading::Reading;
+use crate::text::first_line;
+use fsw_base::{AppNo, Budget, Config, FaultKind, ScriptFault};
+use std::alloc::Global;
+use std::marker::Model;
+
+// How many bytes a script may have.
+const MAX_SCRIPT: usize = 1_048_576;
+
+/// A script: the limits that it configures, and its applications with their call lines.
+#[derive(Drop)]
+pub struct Script {
+    config: Config,
+    apps: Vec<App>,
+}
+
+impl Model for Script {
+    ghost use Rattle.app_script.specs.Script.{ScriptText};
+
+    ghost Value = { ScriptText };
+
+    ghost use Rattle.app_script.specs.ScriptParts.{script_in, Counts};
+
+    ghost view = { script_in };
+
+    ghost invariant = { Counts };
+}
+
+impl Script {
+    ghost use Rattle.app_script.specs.Script.{app_at};
+    ghost use Rattle.app_script.specs.Accounts.{budget_of};
+
+    // The script of what was read.
+    pub(crate) fn new(config: Config, apps: Vec<App>) -> Script
+        requires some { 1 ≤ length apps.items }
+        requires few { length apps.items ≤ 16 }
+        ensures { result ≡ record { limits = limits_of config; apps = apps.items } }
+    {
+        Script { config, apps }
+    }
+
+    /// The limits that it configures.
+    pub fn config(&self) -> &Config
+        ensures { limits_of result.now ≡ self.now.limits }
+    {
+        &self.config
+    }
+
+    /// How many applications it has, 1 to 16.
+    pub fn apps(&self) -> u32
+        ensures count { result ≡ length self.now.apps }
+        ensures some { 1 ≤ result }
+        ensures few { result ≤ 16 }
+    {
+        self.apps.len() as u32
+    }
+
+    /// An application's name, 1 to 19 letters, digits or underscores.
+    pub fn name(&self, app: AppNo) -> &[u8]
+        requires { app ≤ length self.now.apps }
+        ensures { result.now ≡ (app_at self.now app).name }
+    {
+        let app = &self.apps[(app.get() - 1) as usize];
+        app.name()
+    }
+
+    /// What an application may add to a run: an entry for each of its call lines, one more for each that
+    /// may wait, and one for its end; the sum of its charges in bytes; its `alloc` lines.
+    pub fn budget(&self, app: AppNo) -> Budget
+        requires { app ≤ length self.now.apps }
+        ensures { result ≡ budget_of (app_at self.now app).lines }
+    {
+        let app = &self.apps[(app.get() - 1) as usize];
+        app.budget()
+    }
+
+    /// How many call lines an application has, at most 20000.
+    pub fn lines(&self, app: AppNo) -> u32
+        requires { app ≤ length self.now.apps }
+        ensures count { result ≡ length (app_at self.now app).lines }
+        ensures few { result ≤ 20000 }
+    {
+        let app = &self.apps[(app.get() - 1) as usize];
+        app.lines() as u32
+    }
+
+    /// An application's call line at a place, in the script's order; places count from 0.
+    pub fn line(&self, app: AppNo, i: u32) -> &Line
+        requires app { app ≤ length self.now.apps }
+        requires line { i < length (app_at self.now app).lines }
+        ensures { slice_get (app_at self.now app).lines i ≡ Some result.now }
+    {
+        let app = &self.apps[(app.get() - 1) as usize];
+        app.line(i as usize)
+    }
+}
+
+// A line's failure, with the line's number.
+fn located(number: u32, failure: LineFail) -> ReadFail
+    ensures { result ≡ located number failure }
+{
+    match failure {
+        LineFail::Memory(error) => ReadFail::Memory(error),
+        LineFail::Fault(kind) => ReadFail::Fault(ScriptFault { line: number, kind }),
+    }
+}
+
+// Reads line by line.
+fn read_lines(alloc: Global, reading: &mut Reading, bytes: &[u8]) -> Result<(), ReadFail>
+    requires { length bytes.now ≤ 1048576 }
+    ensures { MovesScript result reading.new (after_lines 1 reading.old (lines_of bytes.now)) }
+{
+    let mut rest = bytes;
+    let mut number = 1;
+    while !rest.is_empty() {
+        let (line, behind) = first_line(rest);
+        match reading.line(alloc, number, line) {
+            Ok(()) => {}
+            Err(failure) => return Err(located(number, failure)),
+        }
+        number += 1;
+        rest = behind;
+    }
+    Ok(())
+}
+
+// Reads all lines.
+#[tactic(auto, unfolding(crate::specs::Grammar::progress_of))]
+fn read_all(alloc: Global, bytes: &[u8]) -> Result<Reading, ReadFail>
+    ensures script { GivesScript result (progress_of bytes.now) }
+    ensures started { IfOk result (λ reading. IsTrue reading.started) }
+{
+    if bytes.len() > MAX_SCRIPT {
+        return Err(ReadFail::Fault(ScriptFault {
+            line: 0,
+            kind: FaultKind::TooLarge,
+        }));
+    }
+    let nobody = ByteText::new(alloc, &[])?;
+    let mut reading = Reading::new(alloc, nobody);
+    read_lines(alloc, &mut reading, bytes)?;
+    if reading.has_started() {
+        Ok(reading)
+    } else {
+        Err(ReadFail::Fault(ScriptFault {
+            line: 0,
+            kind: FaultKind::NoApp,
+        }))
+    }
+}
+
+/// Reads a script of at most 1,048,576 bytes.
+///
+/// The fault is that of the first faulty line, with the line's number from 1: the first in the order of
+/// [`FaultKind`]. `TooLarge` and `NoApp` are faults of the whole, with the number 0. `NotYet` comes only
+/// where the bytes are a script, at the first line that this program doesn't run yet.
+///
+/// One pass over the bytes, and memory in proportion to them.
+#[tactic(auto, unfolding(crate::specs::Grammar::grammar, crate::specs::Grammar::unbuilt_line, crate::specs::Grammar::built_script))]
+pub fn read_script(alloc: Global, bytes: &[u8]) -> Result<Script, ReadFail>
+    ensures { GivesScript result (built_script bytes.now) }
+{
+    let reading = read_all(alloc, bytes)?;
+    match reading.unbuilt() {
+        Some(line) => Err(ReadFail::Fault(ScriptFault {
+            line,
+            kind: FaultKind::NotYet,
+        })),
+        None => Ok(reading.into_script()?),
+    }
+}

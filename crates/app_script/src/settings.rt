@@ -1,0 +1,288 @@
+//! The lines that configure a run.
+ghost use Rattle.std.specs.Prelude.{◌≡◌, ◌≤◌, length, IfOk, IsTrue};
+ghost use Rattle.std.specs.List.{list_all};
+ghost use Rattle.fsw_base.specs.Limits.{limits_of};
+ghost use Rattle.app_script.specs.Readings.{Reads};
+ghost use Rattle.app_script.specs.Text.{words_of};
+ghost use Rattle.app_script.specs.Lists.{each};
+ghost use Rattle.app_script.specs.Numbers.{number_of};
+ghost use Rattle.app_script.specs.Settings.{limit_name, limit_number, least, greatest, with_limit, is_among, limit_named, set_of, some_words, sizes_within, sizes_of, seq_of, is_name_byte, is_app_name, app_of, script_of, is_built_limit};
+
+use crate::counts::{few, one, two};
+use crate::numbers::{number, within};
+use crate::text::{first_word, is_same};
+use arrayvec::ArrayVec;
+use fsw_base::{BlockSizes, Config, FaultKind, MAX_BLOCK_SIZES};
+
+/// The name of a limit.
+#[derive(Clone, Copy)]
+pub(crate) enum LimitName {
+    MsgIds,
+    Pipes,
+    Dests,
+    Depth,
+    MsgMax,
+    Pool,
+    AppPool,
+    Tables,
+    Handles,
+    TableMax,
+    TablePool,
+}
+
+impl LimitName {
+    // The name's place in the list of limits.
+    fn number(self) -> u8
+        ensures { result ≡ limit_number self }
+    {
+        match self {
+            LimitName::MsgIds => 0,
+            LimitName::Pipes => 1,
+            LimitName::Dests => 2,
+            LimitName::Depth => 3,
+            LimitName::MsgMax => 4,
+            LimitName::Pool => 5,
+            LimitName::AppPool => 6,
+            LimitName::Tables => 7,
+            LimitName::Handles => 8,
+            LimitName::TableMax => 9,
+            LimitName::TablePool => 10,
+        }
+    }
+
+    // The least value.
+    fn least(self) -> u32
+        ensures { result ≡ least self }
+    {
+        match self {
+            LimitName::MsgIds => 1,
+            LimitName::Pipes => 1,
+            LimitName::Dests => 1,
+            LimitName::Depth => 1,
+            LimitName::MsgMax => 7,
+            LimitName::Pool => 24,
+            LimitName::AppPool => 24,
+            LimitName::Tables => 1,
+            LimitName::Handles => 1,
+            LimitName::TableMax => 1,
+            LimitName::TablePool => 24,
+        }
+    }
+
+    // The greatest value.
+    fn greatest(self) -> u32
+        ensures { result ≡ greatest self }
+    {
+        match self {
+            LimitName::MsgIds => 1024,
+            LimitName::Pipes => 256,
+            LimitName::Dests => 64,
+            LimitName::Depth => 1024,
+            LimitName::MsgMax => 65542,
+            LimitName::Pool => 16_777_216,
+            LimitName::AppPool => 1_048_576,
+            LimitName::Tables => 256,
+            LimitName::Handles => 1024,
+            LimitName::TableMax => 65536,
+            LimitName::TablePool => 16_777_216,
+        }
+    }
+}
+
+// Whether this limit is among those set.
+pub(crate) fn is_among(name: LimitName, names: &[LimitName]) -> bool
+    ensures { result ≡ is_among name names.now }
+{
+    names.iter().any(|other| other.number() == name.number())
+}
+
+// The limit that a word names.
+#[tactic(auto, unfolding(crate::specs::Settings::limit_name))]
+fn limit_name(word: &[u8]) -> Option<LimitName>
+    ensures { result ≡ limit_name word.now }
+{
+    if is_same(word, b"msgids") {
+        Some(LimitName::MsgIds)
+    } else if is_same(word, b"pipes") {
+        Some(LimitName::Pipes)
+    } else if is_same(word, b"dests") {
+        Some(LimitName::Dests)
+    } else if is_same(word, b"depth") {
+        Some(LimitName::Depth)
+    } else if is_same(word, b"msgmax") {
+        Some(LimitName::MsgMax)
+    } else if is_same(word, b"pool") {
+        Some(LimitName::Pool)
+    } else if is_same(word, b"apppool") {
+        Some(LimitName::AppPool)
+    } else if is_same(word, b"tables") {
+        Some(LimitName::Tables)
+    } else if is_same(word, b"handles") {
+        Some(LimitName::Handles)
+    } else if is_same(word, b"tablemax") {
+        Some(LimitName::TableMax)
+    } else if is_same(word, b"tablepool") {
+        Some(LimitName::TablePool)
+    } else {
+        None
+    }
+}
+
+#[tactic(auto, unfolding(crate::specs::Settings::limit_named))]
+fn limit_named(word: &[u8]) -> Result<LimitName, FaultKind>
+    ensures { Reads (λ name. name) result (limit_named word.now) }
+{
+    match limit_name(word) {
+        Some(name) => Ok(name),
+        None => Err(FaultKind::BadWord),
+    }
+}
+
+// The limit and the value of a set line.
+#[tactic(auto, unfolding(crate::specs::Settings::set_of))]
+pub(crate) fn set(rest: &[u8]) -> Result<(LimitName, u32), FaultKind>
+    ensures line { Reads (λ x. x) result (set_of (words_of rest.now)) }
+    ensures range { IfOk result (λ x. (least x.0 ≤ x.1) × (x.1 ≤ greatest x.0)) }
+{
+    let (word, value) = two(rest)?;
+    let name = limit_named(word)?;
+    let value = number(value)?;
+    let value = within(name.least(), name.greatest(), value)?;
+    Ok((name, value))
+}
+
+// Gives a limit its value.
+pub(crate) fn put_limit(config: &mut Config, name: LimitName, value: u32)
+    requires low { least name ≤ value }
+    requires high { value ≤ greatest name }
+    ensures { limits_of config.new ≡ with_limit (limits_of config.old) name value }
+{
+    match name {
+        LimitName::MsgIds => config.msgids = value,
+        LimitName::Pipes => config.pipes = value,
+        LimitName::Dests => config.dests = value,
+        LimitName::Depth => config.depth = value,
+        LimitName::MsgMax => config.msgmax = value,
+        LimitName::Pool => config.pool = value,
+        LimitName::AppPool => config.apppool = value,
+        LimitName::Tables => config.tables = value,
+        LimitName::Handles => config.handles = value,
+        LimitName::TableMax => config.tablemax = value,
+        LimitName::TablePool => config.tablepool = value,
+    }
+}
+
+// One word at least.
+#[tactic(auto, unfolding(crate::specs::Settings::some_words))]
+fn some_words(rest: &[u8]) -> Result<(), FaultKind>
+    ensures { Reads (λ x. x) result (some_words (words_of rest.now)) }
+{
+    match first_word(rest) {
+        Some(_) => Ok(()),
+        None => Err(FaultKind::WrongCount),
+    }
+}
+
+// The numbers of a line, few enough.
+fn numbers(words: &[u8]) -> Result<ArrayVec<u32, MAX_BLOCK_SIZES>, FaultKind>
+    requires { length (words_of words.now) ≤ 17 }
+    ensures { Reads (λ numbers. numbers.items) result (each number_of (words_of words.now)) }
+{
+    let mut numbers = ArrayVec::new();
+    let mut rest = words;
+    while let Some((word, behind)) = first_word(rest) {
+        let n = number(word)?;
+        numbers.push(n);
+        rest = behind;
+    }
+    Ok(numbers)
+}
+
+// The numbers as block sizes, where they are such.
+#[tactic(auto, unfolding(crate::specs::Settings::sizes_within))]
+fn sizes_within(sizes: &[u32]) -> Result<BlockSizes, FaultKind>
+    ensures { Reads (λ sizes. sizes) result (sizes_within sizes.now) }
+{
+    match BlockSizes::try_new(sizes) {
+        Some(sizes) => Ok(sizes),
+        None => Err(FaultKind::OutOfRange),
+    }
+}
+
+// The block sizes of a sizes line.
+#[tactic(auto, unfolding(crate::specs::Settings::sizes_of))]
+pub(crate) fn sizes(rest: &[u8]) -> Result<BlockSizes, FaultKind>
+    ensures { Reads (λ sizes. sizes) result (sizes_of (words_of rest.now)) }
+{
+    some_words(rest)?;
+    few(17, rest)?;
+    let sizes = numbers(rest)?;
+    sizes_within(sizes.as_slice())
+}
+
+// The message id and the sequence count of a seq line.
+#[tactic(auto, unfolding(crate::specs::Settings::seq_of))]
+pub(crate) fn seq(rest: &[u8]) -> Result<(u16, u16), FaultKind>
+    ensures line { Reads (λ x. x) result (seq_of (words_of rest.now)) }
+    ensures range { IfOk result (λ x. (1 ≤ x.0) × (x.0 ≤ 8191) × (x.1 ≤ 16383)) }
+{
+    let (id, count) = two(rest)?;
+    let id = number(id)?;
+    let count = number(count)?;
+    let id = within(1, 8191, id)?;
+    let count = within(0, 16383, count)?;
+    Ok((id as u16, count as u16))
+}
+
+fn is_name_byte(byte: u8) -> bool
+    ensures { result ≡ is_name_byte byte }
+{
+    (48 <= byte && byte <= 57)
+        || (65 <= byte && byte <= 90)
+        || (97 <= byte && byte <= 122)
+        || byte == b'_'
+}
+
+fn are_name_bytes(word: &[u8]) -> bool
+    ensures { result ≡ list_all is_name_byte word.now }
+{
+    word.iter().all(|&byte| is_name_byte(byte))
+}
+
+// Whether an application may have this name.
+#[tactic(auto, unfolding(crate::specs::Settings::is_app_name))]
+fn is_app_name(word: &[u8]) -> bool
+    ensures { result ≡ is_app_name word.now }
+{
+    1 <= word.len() && word.len() <= 19 && are_name_bytes(word)
+}
+
+// The name of an app line.
+#[tactic(auto, unfolding(crate::specs::Settings::app_of))]
+pub(crate) fn app(rest: &[u8]) -> Result<&[u8], FaultKind>
+    ensures { Reads (λ word. word.now) result (app_of (words_of rest.now)) }
+{
+    let word = one(rest)?;
+    if is_app_name(word) {
+        Ok(word)
+    } else {
+        Err(FaultKind::BadWord)
+    }
+}
+
+// The version of a script line.
+#[tactic(auto, unfolding(crate::specs::Settings::script_of))]
+pub(crate) fn version(rest: &[u8]) -> Result<u32, FaultKind>
+    ensures { Reads (λ version. version) result (script_of (words_of rest.now)) }
+{
+    let word = one(rest)?;
+    let version = number(word)?;
+    within(1, 1, version)
+}
+
+// Whether the program runs with this limit already.
+pub(crate) fn is_built_limit(name: LimitName) -> bool
+    ensures { result ≡ is_built_limit name }
+{
+    name.number() <= 4
+}
