@@ -28,6 +28,9 @@ fn script_is_read(rt: HostRuntime) -> Result<(), Fail> {
 
 #[test]
 fn first_fault_is_told(rt: HostRuntime) -> Result<(), Fail> {
-    assert_eq!(rt; fault_line_of(rt.alloc(), b"app A\nrecv p64\nrecv\n"), Some(2));
+    assert_eq!(rt;
+        fault_line_of(rt.alloc(), b"app A\nrecv p64\nrecv\n"),
+        Some(2)
+    );
     Ok(())
 }
