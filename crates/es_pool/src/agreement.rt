@@ -1,5 +1,5 @@
 //! The pool and the plain pool give the same answers, whatever the calls.
-ghost use Rattle.std.specs.Prelude.{◌≡◌, ◌+◌, ◌*◌, ◌≤◌, true, length, IfOk};
+ghost use Rattle.std.specs.Prelude.{◌≡◌, ◌+◌, ◌*◌, ◌≤◌, [], true, length, IfOk};
 ghost use Rattle.es_pool.specs.Account.{IsAccountOf};
 ghost use Rattle.es_pool.specs.Runs.{Leaves, LeadTo};
 
@@ -11,15 +11,14 @@ use bucket_list::{Ledger, Steps};
 use fsw_base::BlockSizes;
 use std::alloc::{AllocError, Global};
 
-/// A pool and a plain pool of `bytes` bytes with these block sizes.
+/// A pool and a plain pool of `bytes` bytes with these block sizes, of which nothing is cut.
 pub fn pool_and_plain(
     alloc: Global,
     bytes: u32,
     sizes: &BlockSizes,
 ) -> Result<(Pool, PlainPool), AllocError>
     ensures account { IfOk result (λ both. IsAccountOf both.0 both.1) }
-    ensures bytes { IfOk result (λ both. both.0.bytes ≡ bytes) }
-    ensures sizes { IfOk result (λ both. both.0.sizes ≡ sizes.now) }
+    ensures uncut { IfOk result (λ both. both.0 ≡ record { bytes = bytes; most = bytes; sizes = sizes.now; blocks = []; requests = 0; errors = 0 }) }
 {
     let pool = Pool::new(alloc, bytes, sizes.again())?;
     let plain = PlainPool::new(alloc, bytes, sizes.again())?;

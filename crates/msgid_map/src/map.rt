@@ -1,0 +1,75 @@
+//! The map.
+ghost use Rattle.std.specs.Prelude.{◌≡◌, ℕ, ◌+◌, ◌-◌, ◌<◌, ◌≤◌, None, IfOk};
+ghost use Rattle.std.specs.FinMap as map;
+ghost use Rattle.msgid_map.specs.declared.map.TheConstants.{MAX_ID};
+ghost use Rattle.msgid_map.specs.Map.{IdRoutes};
+
+use std::alloc::{AllocError, Global};
+use std::marker::Model;
+
+/// The largest valid message id: packet version 0, type, secondary header flag and application process id
+/// (CCSDS 133.0-B, 4.1.3.2 and 4.1.3.3). The least is 1.
+pub const MAX_ID: u16 = 0x1fff;
+
+// How many places the table has: one for each id, and one for 0, which is none.
+const PLACES: usize = 0x2000;
+
+/// A route for each of some message ids. Contracts see the finite map from ids to routes, and how many ids more there is
+/// room for.
+#[derive(Drop)]
+pub struct IdMap {
+    /// At each id, its route. There are [`PLACES`] of them.
+    table: Vec<Option<u32>>,
+    /// How many ids more may be inserted.
+    room: u32,
+}
+
+impl Model for IdMap {
+    ghost use Rattle.std.specs.Prelude.{◌≡◌, length};
+    ghost use Rattle.msgid_map.specs.Map.{IdRoutes, routes_code};
+
+    ghost Value = { IdRoutes };
+
+    ghost coded = { routes_code };
+
+    ghost use Rattle.msgid_map.specs.Map.{routes_from};
+    ghost use Rattle.msgid_map.specs.declared.map.TheConstants.{PLACES};
+
+    ghost view = { λ m. record { routes = routes_from 0 m.table.items; room = m.room } };
+
+    ghost invariant = { λ m. length m.table.items ≡ PLACES };
+}
+
+impl IdMap {
+    /// No id has a route, and there is room for `room` ids. No later call takes memory.
+    pub fn new(alloc: Global, room: u32) -> Result<IdMap, AllocError>
+        ensures { IfOk result (λ made. made ≡ record { routes = map.empty; room = room }) }
+    {
+        let mut table = Vec::new(alloc);
+        table.resize(PLACES, None)?;
+        Ok(IdMap { table, room })
+    }
+
+    /// The route that was inserted for this id; None exactly where none was, so for each invalid id too.
+    pub fn get(&self, id: u16) -> Option<u32>
+        ensures { result ≡ map.get self.now.routes id }
+    {
+        match self.table.get(id as usize) {
+            Some(route) => *route,
+            None => None,
+        }
+    }
+
+    /// Gives an id its route. Routes of other ids stay.
+    pub fn insert(&mut self, id: u16, route: u32)
+        requires first { 1 ≤ id }
+        requires last { id ≤ MAX_ID }
+        requires fresh { map.get self.old.routes id ≡ None }
+        requires room { 0 < self.old.room }
+        ensures routes { self.new.routes ≡ map.insert self.old.routes id route }
+        ensures room { self.new.room ≡ self.old.room - 1 }
+    {
+        self.table[id as usize] = Some(route);
+        self.room -= 1;
+    }
+}

@@ -1,0 +1,4 @@
+pub mod Dests
+pub mod Numbered
+pub mod Rings
+pub mod Routing

@@ -1,0 +1,16 @@
+pub mod Chains
+pub mod Changes
+pub mod Ended
+pub mod First
+pub mod Found
+pub mod Kept
+pub mod Links
+pub mod Lists
+pub mod Live
+pub mod Numbers
+pub mod Opened
+pub mod Order
+pub mod Unused
+pub mod Upkeep
+pub mod Waiting
+pub mod Writes

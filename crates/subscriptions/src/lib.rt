@@ -1,0 +1,28 @@
+//! The subscriptions of a software bus: which message id goes to which pipe, and how many of its messages may wait there
+//! at once.
+//!
+//! Contracts see the live subscriptions as a list, in order of their numbers, which are never given again; each call
+//! answers and changes just what that list says, and none but `new` takes memory. By its code, no call but `any_of_pipe`
+//! looks at subscriptions of other ids.
+//!
+//! ```
+//! /// A subscription that lets one message wait admits a first one, and is over its limit once that one waits.
+//! fn second_verdict(subs: &mut Subs) -> Verdict
+//!     requires { subs.old ≡ record { room = 1; made = 0; live = [] } }
+//!     ensures { result ≡ Verdict.OverLimit }
+//! {
+//!     let sub = subs.add(0x0801, 7, 1, Scope::Global);
+//!     subs.queued(sub);
+//!     subs.admit(sub)
+//! }
+//! ```
+#![tactic(auto)]
+
+mod place;
+mod subs;
+#[cfg(test)]
+mod tests;
+mod words;
+
+pub use subs::Subs;
+pub use words::{SubNo, SubRow, Verdict};

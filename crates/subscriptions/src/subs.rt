@@ -1,0 +1,332 @@
+//! The subscriptions.
+//!
+//! ```text
+//!   newest, by message id      slots
+//!   0x0801 -----------------> [ number 4, id 0x0801 ] --older--> [ number 2, id 0x0801 ]
+//!   0x0802  none               [ free ]
+//! ```
+ghost use Rattle.std.specs.Prelude.{◌≡◌, ℕ, ◌==◌, ◌+◌, ◌-◌, ◌<◌, ◌≤◌, ◌^◌, ◌↔◌, false, Some, None, List, [], ◌∷◌, ◌++◌, length, map, replicate, slice_set, slice_index, slice_index_or, vec_capacity, MatchOption, option_map, IsSome, IsTrue, IfOk, IfSome};
+ghost use Rattle.std.specs.List.{list_any};
+ghost use Rattle.std.specs.Option.{ForSome};
+ghost use Rattle.subscriptions.specs.Subs.{Subscribed, Subscription, live_at, first_of, row_of, verdict_at, one_more, one_fewer, with_change, without, AreInOrder};
+ghost use Rattle.subscriptions.specs.Slots.{AreChained, number_at, id_at, older_at, held_at, closer_in, with_waiting, with_older};
+
+use crate::place::Place;
+use crate::words::{SubNo, SubRow, Verdict};
+use fsw_base::Scope;
+use std::alloc::{AllocError, Global};
+use std::marker::Model;
+
+/// How many message ids there are: valid ones are below it.
+const IDS: u32 = 0x2000;
+
+/// The live subscriptions. Contracts see how many may be live at once, how many were made so far, and those that are
+/// live, in order of number.
+#[derive(Drop)]
+pub struct Subs {
+    /// What each slot holds; None where it is free. Each subscription has a number of its own.
+    slots: Vec<Option<Place>>,
+    /// The free slots, each once, the next one to use last. It has room for all slots.
+    free: Vec<u32>,
+    /// At each message id, the slot of its newest live subscription; from there `older` leads through all of the id.
+    newest: Vec<Option<u32>>,
+    /// How many subscriptions were made, which is the newest one's number.
+    made: u32,
+}
+
+impl Model for Subs {
+    ghost use Rattle.std.specs.Prelude.{◌<◌, ◌≤◌, ◌^◌, length, vec_capacity};
+    ghost use Rattle.subscriptions.specs.Subs.{Subscribed};
+
+    ghost Value = { Subscribed };
+
+    ghost use Rattle.subscriptions.specs.Slots.{live_upto, AreKept};
+
+    ghost view = { λ s. record { room = length s.slots.items; made = s.made; live = live_upto s.slots.items s.made } };
+
+    ghost invariant = { λ s. AreKept s.slots.items s.free.items s.newest.items s.made × (length s.slots.items < 2 ^ 32) × (length s.slots.items ≤ vec_capacity s.free) };
+}
+
+impl Subs {
+    /// Room for `room` live subscriptions, none of which is made yet. No later call takes memory.
+    pub fn new(alloc: Global, room: u32) -> Result<Subs, AllocError>
+        ensures { IfOk result (λ subs. subs ≡ record { room = room; made = 0; live = [] }) }
+    {
+        let slots = free_slots(alloc, room)?;
+        let free = all_slots(alloc, room)?;
+        let newest = no_links(alloc, IDS)?;
+        Ok(Subs {
+            slots,
+            free,
+            newest,
+            made: 0,
+        })
+    }
+
+    /// Whether as many subscriptions are live as may be. Takes a constant time.
+    pub fn is_full(&self) -> bool
+        ensures { result ≡ (length self.now.live == self.now.room) }
+    {
+        self.free.is_empty()
+    }
+
+    /// The live subscriptions stand in order of number, and each in a slot below the room. Does nothing.
+    pub fn are_in_order(&self)
+        ensures { AreInOrder self.now }
+    {
+        let _ = &self.slots;
+    }
+
+    /// A new subscription of a message id, below 0x2000, to a pipe, of whose messages none waits. Whether the pair is
+    /// live already isn't asked. Takes a constant time.
+    pub fn add(&mut self, id: u16, pipe: u32, limit: u32, scope: Scope) -> SubNo
+        requires id { id < 0x2000 }
+        requires room { length self.old.live < self.old.room }
+        requires number { self.old.made + 1 < 2 ^ 32 }
+        ensures number { result.number ≡ self.old.made + 1 }
+        ensures slot { result.slot < self.old.room }
+        ensures free { list_any (λ s. s.slot == result.slot) self.old.live ≡ false }
+        ensures after { self.new ≡ record self.old {
+          made = result.number;
+          live = self.old.live ++ record { slot = result.slot; number = result.number; id = id; pipe = pipe; limit = limit; scope = scope; waiting = 0 } ∷ [];
+        } }
+    {
+        let slot = self.free.pop().unwrap();
+        self.made += 1;
+        let older = self.newest[id as usize];
+        self.newest[id as usize] = Some(slot);
+        self.slots[slot as usize] = Some(Place {
+            number: self.made,
+            id,
+            pipe,
+            limit,
+            scope,
+            waiting: 0,
+            older,
+        });
+        SubNo {
+            slot,
+            number: self.made,
+        }
+    }
+
+    /// Ends a live subscription. Its slot is used again, its number never. Looks at live subscriptions of its message id
+    /// alone.
+    pub fn remove(&mut self, sub: SubNo)
+        requires { IsSome (live_at self.old sub) }
+        ensures { self.new ≡ without self.old sub }
+    {
+        let place = held(&self.slots, sub).unwrap();
+        match newer(&self.slots, &self.newest, place.id, sub.slot) {
+            None => self.newest[place.id as usize] = place.older,
+            Some(slot) => set_older(&mut self.slots, slot, place.older),
+        }
+        self.slots[sub.slot as usize] = None;
+        self.free.push_reserved(sub.slot);
+    }
+
+    /// What a live subscription was made with. Takes a constant time.
+    pub fn at(&self, sub: SubNo) -> SubRow
+        requires { IsSome (live_at self.now sub) }
+        ensures { option_map row_of (live_at self.now sub) ≡ Some result }
+    {
+        let place = held(&self.slots, sub).unwrap();
+        SubRow {
+            id: place.id,
+            pipe: place.pipe,
+            limit: place.limit,
+            scope: place.scope,
+        }
+    }
+
+    /// The first live subscription of a message id to a pipe; None exactly where there is none. Looks at live
+    /// subscriptions of the id alone.
+    pub fn find(&self, id: u16, pipe: u32) -> Option<SubNo>
+        ensures { result ≡ first_of self.now id pipe }
+    {
+        let mut link = newest_of(&self.newest, id);
+        let mut found = None;
+        while let Some(slot) = link {
+            found = closer(&self.slots, slot, pipe, found);
+            link = older(&self.slots, slot);
+        }
+        found
+    }
+
+    /// What the limit of a subscription says of one message more; one that has ended has no limit. Takes a constant time.
+    pub fn admit(&self, sub: SubNo) -> Verdict
+        ensures { result ≡ verdict_at self.now sub }
+    {
+        match held(&self.slots, sub) {
+            Some(place) if place.limit <= place.waiting => Verdict::OverLimit,
+            _ => Verdict::Inside,
+        }
+    }
+
+    /// One more message of a subscription waits; no effect where it has ended. Takes a constant time.
+    pub fn queued(&mut self, sub: SubNo)
+        requires { ForSome (live_at self.old sub) (λ s. s.waiting + 1 < 2 ^ 32) }
+        ensures { self.new ≡ with_change self.old sub one_more }
+    {
+        if let Some(place) = held(&self.slots, sub) {
+            set_waiting(&mut self.slots, sub.slot, place.waiting + 1);
+        }
+    }
+
+    /// One message of a subscription, of which at least one waits, waits no longer; no effect where it has ended. Takes a
+    /// constant time.
+    pub fn unqueued(&mut self, sub: SubNo)
+        requires { ForSome (live_at self.old sub) (λ s. 1 ≤ s.waiting) }
+        ensures { self.new ≡ with_change self.old sub one_fewer }
+    {
+        if let Some(place) = held(&self.slots, sub) {
+            set_waiting(&mut self.slots, sub.slot, place.waiting - 1);
+        }
+    }
+
+    /// A live subscription of a pipe; None exactly where it has none. For the deletion of a pipe: it looks at every slot,
+    /// used or free.
+    pub fn any_of_pipe(&self, pipe: u32) -> Option<SubNo>
+        ensures some { IsSome result ↔ IsTrue (list_any (λ s. s.pipe == pipe) self.now.live) }
+        ensures own { IfSome result (λ sub. option_map (λ s. s.pipe) (live_at self.now sub) ≡ Some pipe) }
+    {
+        for slot in 0..self.slots.len() {
+            if let Some(place) = self.slots[slot] {
+                if place.pipe == pipe {
+                    return Some(SubNo {
+                        slot: slot as u32,
+                        number: place.number,
+                    });
+                }
+            }
+        }
+        None
+    }
+}
+
+// What a slot holds.
+fn in_slot(slots: &[Option<Place>], slot: u32) -> Option<Place>
+    ensures { result ≡ slice_index_or slots.now slot None }
+{
+    match slots.get(slot as usize) {
+        Some(place) => *place,
+        None => None,
+    }
+}
+
+// What the slot of a subscription holds, where the subscription is live.
+fn held(slots: &[Option<Place>], sub: SubNo) -> Option<Place>
+    ensures { result ≡ held_at slots.now sub.slot sub.number }
+{
+    match in_slot(slots, sub.slot) {
+        Some(place) if place.number == sub.number => Some(place),
+        _ => None,
+    }
+}
+
+// The slot of the newest subscription of an id.
+fn newest_of(newest: &[Option<u32>], id: u16) -> Option<u32>
+    ensures { result ≡ slice_index_or newest.now id None }
+{
+    match newest.get(id as usize) {
+        Some(link) => *link,
+        None => None,
+    }
+}
+
+// The slot of the next older subscription of the same id.
+fn older(slots: &[Option<Place>], slot: u32) -> Option<u32>
+    ensures { result ≡ older_at slots.now slot }
+{
+    match in_slot(slots, slot) {
+        Some(place) => place.older,
+        None => None,
+    }
+}
+
+// The subscription in a slot where it is the pipe's, else the one found so far.
+fn closer(slots: &[Option<Place>], slot: u32, pipe: u32, found: Option<SubNo>) -> Option<SubNo>
+    ensures { result ≡ closer_in (slice_index_or slots.now slot None) slot pipe found }
+{
+    match in_slot(slots, slot) {
+        Some(place) if place.pipe == pipe => Some(SubNo {
+            slot,
+            number: place.number,
+        }),
+        _ => found,
+    }
+}
+
+// The slot of the next newer subscription of the same id; None where this is the newest one.
+fn newer(slots: &[Option<Place>], newest: &[Option<u32>], id: u16, slot: u32) -> Option<u32>
+    requires chained { AreChained slots.now newest.now }
+    requires live { 0 < number_at slots.now slot }
+    requires id { id_at slots.now slot ≡ id }
+    ensures { MatchOption result (slice_index_or newest.now id None ≡ Some slot) (λ above. (0 < number_at slots.now above) × (older_at slots.now above ≡ Some slot)) }
+{
+    let mut above = None;
+    let mut link = newest_of(newest, id);
+    while let Some(at) = link {
+        if at == slot {
+            return above;
+        }
+        above = link;
+        link = older(slots, at);
+    }
+    above
+}
+
+// Sets how many messages of the subscription in a slot wait.
+fn set_waiting(slots: &mut Vec<Option<Place>>, slot: u32, waiting: u32)
+    requires { slot < length slots.old.items }
+    ensures items { slots.new.items ≡ slice_set slots.old.items slot (with_waiting waiting (slice_index_or slots.old.items slot None)) }
+{
+    if let Some(place) = in_slot(slots, slot) {
+        slots[slot as usize] = Some(Place { waiting, ..place });
+    }
+}
+
+// Sets what is older than the subscription in a slot.
+fn set_older(slots: &mut Vec<Option<Place>>, slot: u32, older: Option<u32>)
+    requires { slot < length slots.old.items }
+    ensures items { slots.new.items ≡ slice_set slots.old.items slot (with_older older (slice_index_or slots.old.items slot None)) }
+{
+    if let Some(place) = in_slot(slots, slot) {
+        slots[slot as usize] = Some(Place { older, ..place });
+    }
+}
+
+// So many free slots.
+fn free_slots(alloc: Global, room: u32) -> Result<Vec<Option<Place>>, AllocError>
+    ensures { IfOk result (λ slots. slots.items ≡ replicate room None) }
+{
+    let mut slots = Vec::with_capacity(alloc, room as usize)?;
+    for _slot in 0..room {
+        slots.push_reserved(None);
+    }
+    Ok(slots)
+}
+
+// The numbers of so many slots, the first one last.
+fn all_slots(alloc: Global, room: u32) -> Result<Vec<u32>, AllocError>
+    ensures all { IfOk result (λ free. length free.items ≡ room) }
+    ensures each { IfOk result (λ free. (i : ℕ) → i < room → slice_index free.items i + i + 1 ≡ room) }
+    ensures room { IfOk result (λ free. room ≤ vec_capacity free) }
+{
+    let mut free = Vec::with_capacity(alloc, room as usize)?;
+    for above in 0..room {
+        free.push_reserved(room - 1 - above);
+    }
+    Ok(free)
+}
+
+// So many links, none of which leads anywhere yet.
+fn no_links(alloc: Global, ids: u32) -> Result<Vec<Option<u32>>, AllocError>
+    ensures { IfOk result (λ newest. newest.items ≡ replicate ids None) }
+{
+    let mut newest = Vec::with_capacity(alloc, ids as usize)?;
+    for _id in 0..ids {
+        newest.push_reserved(None);
+    }
+    Ok(newest)
+}

@@ -1,0 +1,34 @@
+//! What calls take and answer.
+
+use fsw_base::Scope;
+
+/// What a subscription goes by.
+#[derive(Clone, Copy, Debug, PartialEq, Eq)]
+pub struct SubNo {
+    /// The slot that holds it while it is live.
+    pub slot: u32,
+    /// From 1, by order of making; never given again.
+    pub number: u32,
+}
+
+/// What a subscription was made with.
+#[derive(Clone, Copy, Debug, PartialEq, Eq)]
+pub struct SubRow {
+    /// The message id.
+    pub id: u16,
+    /// The number of the pipe.
+    pub pipe: u32,
+    /// How many of its messages may wait in the pipe at once.
+    pub limit: u32,
+    /// Kept, and of no effect here.
+    pub scope: Scope,
+}
+
+/// What a subscription's limit says of one message more.
+#[derive(Clone, Copy, Debug, PartialEq, Eq)]
+pub enum Verdict {
+    /// Fewer messages wait than the limit.
+    Inside,
+    /// At least as many messages wait as the limit says.
+    OverLimit,
+}
