@@ -1,12 +1,12 @@
 -- What holds of the lines that a match leaves over.
-use Rattle.std.proofs.Common.{◌≡◌, ℕ, Bool, true, false, List, refl}
+use Rattle.std.proofs.Common.{◌≡◌, ℕ, Bool, false, List, refl}
 use Rattle.fsw_base.specs.declared.config.Scope.{Scope}
 use Rattle.fsw_base.specs.declared.events.EventKind.{EventKind}
-use Rattle.app_script.specs.declared.line.Rule.{Rule}
-use Rattle.app_script.specs.declared.content.Content.{Content}
+use Rattle.script_lines.specs.declared.line.Rule.{Rule}
+use Rattle.script_words.specs.declared.content.Content.{Content}
 use Rattle.app_script.specs.declared.account.Account.{Account}
-use Rattle.app_script.specs.declared.line.Line.{Line}
-use Rattle.app_script.specs.declared.line.Line.TheVariants.{Create, Delete, SetOpts, GetOpts, Find, PipeName, Subscribe, Unsubscribe, Send, SendRaw, Receive, Pend, Allocate, TransmitBuffer, SendEvent, TableRegister, TableShare, Stage, Load, ShowPipe}
+use Rattle.script_lines.specs.declared.line.Line.{Line}
+use Rattle.script_lines.specs.declared.line.Line.TheVariants.{Create, Delete, SetOpts, GetOpts, Find, PipeName, Subscribe, Unsubscribe, Send, SendRaw, Receive, Pend, Allocate, TransmitBuffer, SendEvent, TableRegister, TableShare, Stage, Load, ShowPipe}
 use Rattle.app_script.specs.Accounts.{charge_of, waits_of, buffers_of, sizes_after}
 use Rattle.app_script.specs.Noted.{is_built}
 

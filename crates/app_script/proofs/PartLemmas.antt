@@ -1,22 +1,21 @@
 -- What an application and a reading keep when a line is added.
-use Rattle.std.proofs.Common.{◌≡◌, ℕ, ◌+◌, ◌<◌, ◌≤◌, Bool, true, false, cond, eqb, List, [], ◌∷◌, ◌++◌, length, Ok, Err, refl, sym, ap, ◌∙◌, arith}
+use Rattle.std.proofs.Common.{◌≡◌, ℕ, ◌+◌, ◌<◌, ◌≤◌, true, false, cond, eqb, List, [], ◌∷◌, ◌++◌, length, Ok, Err, refl, sym, ap, ◌∙◌, arith}
 use Rattle.std.specs.List.{list_any}
 use Rattle.std.proofs.lemmas.Bool.{lt-leb}
 use Rattle.fsw_base.specs.declared.script_faults.FaultKind.TheVariants.{Repeated}
 use Rattle.std.proofs.lemmas.List.{length-append}
-use Rattle.fsw_base.specs.Starts.{are_count_starts, is_start}
+use Rattle.fsw_base.specs.Starts.{are_count_starts}
 use Rattle.app_script.specs.declared.app.App.TheInside as app
 use Rattle.app_script.specs.declared.reading.Reading.TheInside as reading
 use Rattle.app_script.specs.declared.account.Account.{Account}
-use Rattle.app_script.specs.declared.line.Line.{Line}
-use Rattle.app_script.specs.declared.line.Line.TheVariants.{Pend, Allocate}
-use Rattle.app_script.specs.Accounts.{account_of, charge_of, counted, waits_of, buffers_of, no_calls}
-use Rattle.app_script.specs.Script.{Application}
+use Rattle.script_lines.specs.declared.line.Line.{Line}
+use Rattle.script_lines.specs.declared.line.Line.TheVariants.{Pend, Allocate}
+use Rattle.app_script.specs.Accounts.{account_of, charge_of, counted, waits_of, buffers_of}
 use Rattle.app_script.specs.AppParts.{Fits}
 use Rattle.app_script.specs.ReadingParts.{Keeps, progress_in}
 use Rattle.app_script.specs.Settings.{seq_of}
 use Rattle.app_script.specs.Grammar.{Progress, after_seq, apps_of}
-use Rattle.app_script.proofs.ScriptLemmas.{account_of_push, starts_push}
+use Rattle.app_script.proofs.ScriptLemmas.{account_of_push}
 
 waits_few : (line : Line) → waits_of line ≤ 1
 unfolding waits_of
@@ -54,18 +53,6 @@ keeps_call a b line charge keeps pushed costs calls few charged within starts do
       starts = ap are_count_starts starts ∙ keeps.starts;
       apps = omega (arith, ap length done, keeps.apps);
     }
-
--- a reading with one start more
-pub keeps_start : (a b : reading.Inside) (start : ℕ × ℕ) → Keeps a → b.starts.items ≡ a.starts.items ++ start ∷ [] → length a.starts.items < 16 → is_start start ≡ true → list_any (λ other. eqb other.0 start.0) a.starts.items ≡ false
-    → b.present ≡ a.present → b.calls ≡ a.calls → b.charged ≡ a.charged → b.done.items ≡ a.done.items → Keeps b
-keeps_start a b start keeps pushed few valid none present calls charged done = record {
-  calls = omega (arith, calls, keeps.calls);
-  charged = omega (arith, charged, keeps.charged);
-  lines = omega (arith, ap (λ (x : Application). length x.lines) present, calls, keeps.lines);
-  bytes = omega (arith, ap (λ (x : Application). (account_of x.lines).bytes) present, charged, keeps.bytes);
-  starts = ap are_count_starts pushed ∙ starts_push a.starts.items start keeps.starts few valid none;
-  apps = omega (arith, ap length done, keeps.apps);
-}
 
 nothing_taken : (account_of []).bytes ≡ 0
 unfolding account_of

@@ -1,11 +1,10 @@
 -- Laws of reading line by line.
-use Rattle.std.proofs.Common.{◌≡◌, ℕ, ◌+◌, ◌≤◌, List, [], ◌∷◌, length, Result, Ok, Err, refl, sym, ap, ◌∙◌, arith}
-use Rattle.fsw_base.specs.declared.script_faults.FaultKind.{FaultKind}
+use Rattle.std.proofs.Common.{◌≡◌, ℕ, ◌+◌, List, [], ◌∷◌, length, Result, Ok, refl, sym, ap, ◌∙◌, arith}
 use Rattle.fsw_base.specs.declared.script_faults.ScriptFault.{ScriptFault}
-use Rattle.app_script.specs.declared.fail.LineFail.{LineFail}
-use Rattle.app_script.specs.declared.fail.LineFail.TheVariants.{Memory, Fault}
-use Rattle.app_script.specs.Text.{lines_of}
-use Rattle.app_script.specs.Readings.{Fails}
+use Rattle.script_words.specs.declared.fail.LineFail.{LineFail}
+use Rattle.script_words.specs.declared.fail.LineFail.TheVariants.{Memory, Fault}
+use Rattle.script_words.specs.Text.{lines_of}
+use Rattle.script_words.specs.Readings.{Fails}
 use Rattle.app_script.specs.Whole.{located, FailsAs}
 use Rattle.app_script.specs.Grammar.{Progress, after_line, after_lines, at_line, ◌>=>◌}
 

@@ -1,10 +1,10 @@
 -- What an application's call lines take: their charges, and its budget.
-use Rattle.std.specs.Prelude.{ℕ, ◌+◌, List, [], ◌∷◌, length, fold, replicate, slice_index, slice_set}
+use Rattle.std.specs.Prelude.{ℕ, ◌+◌, List, length, fold, replicate, slice_index, slice_set}
 use Rattle.fsw_base.specs.declared.config.Budget.{Budget}
 use Rattle.app_script.specs.declared.account.Account.{Account}
-use Rattle.app_script.specs.declared.line.Line.{Line}
-use Rattle.app_script.specs.declared.line.Line.TheVariants.{Create, Delete, SetOpts, GetOpts, Find, PipeName, Subscribe, Unsubscribe, Send, SendRaw, Receive, Pend, Allocate, TransmitBuffer, Release, PoolCreate, PoolGet, PoolPut, PoolFigures, Register, SendEvent, ResetFilter, LogMode, ClearLog, Housekeeping, Figures, TableRegister, TableShare, TableUnregister, Stage, Validate, Update, Abort, Load, GetAddress, ReleaseAddress, Status, Form, Put, ShowPipe, ShowTable}
-use Rattle.app_script.specs.Content.{content_len}
+use Rattle.script_lines.specs.declared.line.Line.{Line}
+use Rattle.script_lines.specs.declared.line.Line.TheVariants.{Create, Find, Send, SendRaw, Pend, Allocate, TransmitBuffer, SendEvent, TableRegister, TableShare, Stage, Load}
+use Rattle.script_words.specs.Content.{content_len}
 
 -- before the first call line; no buffer was taken into any register
 abbrev pub no_calls : Account

@@ -1,26 +1,14 @@
 -- The forms of lines, by their first words.
-use Rattle.std.specs.Prelude.{ℕ, not, Bool, true, false, List, Option, Some, None, codes, if◌then◌else◌}
+use Rattle.std.specs.Prelude.{not, Bool, false, Option, Some, None, codes, if◌then◌else◌}
+use Rattle.script_words.specs.Text.{is_same}
+use Rattle.script_words.specs.Counts.{Word}
+use Rattle.script_lines.specs.CallLines.{call_word}
 use Rattle.app_script.specs.declared.forms.Form.{Form}
-use Rattle.app_script.specs.declared.forms.Form.TheVariants.{Script, Set, Sizes, Seq, App, Bus, Memory, Event, Table, Show}
-use Rattle.app_script.specs.Text.{is_same}
-use Rattle.app_script.specs.Counts.{Word}
-use Rattle.app_script.specs.BusLines.{bus_word}
-use Rattle.app_script.specs.MemoryLines.{memory_word}
-use Rattle.app_script.specs.EventLines.{event_word}
-use Rattle.app_script.specs.TableLines.{table_word}
+use Rattle.app_script.specs.declared.forms.Form.TheVariants.{Script, Set, Sizes, Seq, App, Call}
 
 -- what the first word of a line says of its form
-unfoldable pub table_form : Word → Option Form
-table_form word = elim (table_word word) [ Some first ↦ Some (Table first) | None ↦ (if is_same word (codes "show") then Some Show else None) ]
-
-unfoldable pub event_form : Word → Option Form
-event_form word = elim (event_word word) [ Some first ↦ Some (Event first) | None ↦ table_form word ]
-
-unfoldable pub memory_form : Word → Option Form
-memory_form word = elim (memory_word word) [ Some first ↦ Some (Memory first) | None ↦ event_form word ]
-
 unfoldable pub call_form : Word → Option Form
-call_form word = elim (bus_word word) [ Some first ↦ Some (Bus first) | None ↦ memory_form word ]
+call_form word = elim (call_word word) [ Some first ↦ Some (Call first) | None ↦ None ]
 
 unfoldable pub form_of : Word → Option Form
 form_of word =
@@ -38,8 +26,4 @@ is_misplaced Set begun started = started
 is_misplaced Sizes begun started = started
 is_misplaced Seq begun started = started
 is_misplaced App begun started = false
-is_misplaced (Bus first) begun started = not started
-is_misplaced (Memory first) begun started = not started
-is_misplaced (Event first) begun started = not started
-is_misplaced (Table first) begun started = not started
-is_misplaced Show begun started = not started
+is_misplaced (Call first) begun started = not started

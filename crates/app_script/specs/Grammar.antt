@@ -1,23 +1,20 @@
 -- What a script is, and what is wrong with one: its lines in order, each with the first fault of a line.
-use Rattle.std.specs.Prelude.{ℕ, ◌+◌, ◌==◌, ◌&&◌, ◌||◌, not, nat_le, nat_lt, Bool, true, false, List, [], ◌∷◌, ◌++◌, length, Option, Some, None, is_none, is_some, Result, Ok, Err, codes, if◌then◌else◌}
+use Rattle.std.specs.Prelude.{ℕ, ◌+◌, ◌==◌, nat_le, nat_lt, Bool, true, false, List, [], ◌∷◌, ◌++◌, length, Option, Some, None, Result, Ok, Err, codes, if◌then◌else◌}
 use Rattle.std.specs.List.{list_any, list_all, starts_with}
 use Rattle.fsw_base.specs.declared.script_faults.FaultKind.{FaultKind}
-use Rattle.fsw_base.specs.declared.script_faults.FaultKind.TheVariants.{LineTooLong, BadByte, UnknownWord, Misplaced, WrongCount, BadWord, OutOfRange, Repeated, TooManyApps, TooManyCalls, TooManyBytes, TooLarge, NoApp, NotYet}
+use Rattle.fsw_base.specs.declared.script_faults.FaultKind.TheVariants.{LineTooLong, BadByte, UnknownWord, Misplaced, OutOfRange, Repeated, TooManyApps, TooManyCalls, TooManyBytes, TooLarge, NoApp, NotYet}
 use Rattle.fsw_base.specs.declared.script_faults.ScriptFault.{ScriptFault}
 use Rattle.fsw_base.specs.Limits.{Limits, usual_limits}
-use Rattle.app_script.specs.declared.line.Line.{Line}
+use Rattle.script_lines.specs.declared.line.Line.{Line}
 use Rattle.app_script.specs.declared.settings.LimitName.{LimitName}
 use Rattle.app_script.specs.declared.forms.Form.{Form}
-use Rattle.app_script.specs.declared.forms.Form.TheVariants.{Script, Set, Sizes, Seq, App, Bus, Memory, Event, Table, Show}
-use Rattle.app_script.specs.Readings.{◌>>=◌}
-use Rattle.app_script.specs.Text.{lines_of, words_of, behind_word, is_text, is_same}
-use Rattle.app_script.specs.Counts.{Word}
+use Rattle.app_script.specs.declared.forms.Form.TheVariants.{Script, Set, Sizes, Seq, App, Call}
+use Rattle.script_words.specs.Readings.{◌>>=◌}
+use Rattle.script_words.specs.Text.{lines_of, words_of, behind_word, is_text, is_same}
+use Rattle.script_words.specs.Counts.{Word}
 use Rattle.app_script.specs.Forms.{form_of, is_misplaced}
 use Rattle.app_script.specs.Noted.{noted, is_built}
-use Rattle.app_script.specs.BusLines.{bus_line_of}
-use Rattle.app_script.specs.MemoryLines.{memory_line_of}
-use Rattle.app_script.specs.EventLines.{event_line_of}
-use Rattle.app_script.specs.TableLines.{table_line_of, show_of}
+use Rattle.script_lines.specs.CallLines.{call_line_of}
 use Rattle.app_script.specs.Settings.{with_limit, is_among, set_of, sizes_of, seq_of, app_of, script_of, is_built_limit}
 use Rattle.app_script.specs.Accounts.{charge_of, account_of}
 use Rattle.app_script.specs.Script.{Application, ScriptText}
@@ -113,11 +110,7 @@ after_form number s Set rest = after_set number s (words_of rest)
 after_form number s Sizes rest = after_sizes number s (words_of rest)
 after_form number s Seq rest = after_seq s (words_of rest)
 after_form number s App rest = after_app s (words_of rest)
-after_form number s (Bus first) rest = bus_line_of first (words_of rest) >>= after_call number s
-after_form number s (Memory first) rest = memory_line_of first (words_of rest) >>= after_call number s
-after_form number s (Event first) rest = event_line_of first rest >>= after_call number s
-after_form number s (Table first) rest = table_line_of first (words_of rest) >>= after_call number s
-after_form number s Show rest = show_of (words_of rest) >>= after_call number s
+after_form number s (Call first) rest = call_line_of first rest >>= after_call number s
 
 -- a line with this first word
 unfoldable pub after_known : ℕ → Progress → Option Form → List ℕ → Result Progress FaultKind

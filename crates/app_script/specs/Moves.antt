@@ -1,8 +1,8 @@
 -- Steps of reading that change what was read so far.
 use Rattle.std.specs.Prelude.{◌≡◌, Result, Ok, Err}
 use Rattle.fsw_base.specs.declared.script_faults.FaultKind.{FaultKind}
-use Rattle.app_script.specs.declared.fail.LineFail.{LineFail}
-use Rattle.app_script.specs.Readings.{Fails}
+use Rattle.script_words.specs.declared.fail.LineFail.{LineFail}
+use Rattle.script_words.specs.Readings.{Fails}
 
 -- what was read is this reading afterwards, unless memory ran out
 abbrev pub Moves : {Y : Type 0} → Result (Unit {0}) LineFail → Y → Result Y FaultKind → Type 0

@@ -1,7 +1,7 @@
 -- Which lines this program runs already.
 use Rattle.std.specs.Prelude.{ℕ, Bool, true, false, Option, Some, None}
-use Rattle.app_script.specs.declared.line.Line.{Line}
-use Rattle.app_script.specs.declared.line.Line.TheVariants as lines
+use Rattle.script_lines.specs.declared.line.Line.{Line}
+use Rattle.script_lines.specs.declared.line.Line.TheVariants as lines
 
 -- the first line that isn't built yet, where this one may be it
 abbrev pub noted : Bool → ℕ → Option ℕ → Option ℕ

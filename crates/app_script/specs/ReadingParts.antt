@@ -1,6 +1,5 @@
 -- What the fields of a reading stand for.
-use Rattle.std.specs.Prelude.{ℕ, ◌≤◌, Result, Ok, Err, ◌≡◌, IsTrue, length}
-use Rattle.fsw_base.specs.declared.script_faults.FaultKind.{FaultKind}
+use Rattle.std.specs.Prelude.{◌≤◌, IsTrue, length}
 use Rattle.fsw_base.specs.Limits.{limits_of}
 use Rattle.fsw_base.specs.Starts.{are_count_starts}
 use Rattle.app_script.specs.declared.reading.Reading.TheInside.{Inside}

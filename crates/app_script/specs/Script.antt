@@ -1,7 +1,7 @@
 -- A script, as its readers tell it.
 use Rattle.std.specs.Prelude.{ℕ, ◌-◌, List, [], slice_index_or}
 use Rattle.fsw_base.specs.Limits.{Limits}
-use Rattle.app_script.specs.declared.line.Line.{Line}
+use Rattle.script_lines.specs.declared.line.Line.{Line}
 
 -- an application: its name, and its call lines in order
 pub record Application : Type 0 where

@@ -1,17 +1,17 @@
 -- The lines that configure a run.
-use Rattle.std.specs.Prelude.{ℕ, ◌==◌, ◌||◌, ◌&&◌, nat_le, Bool, true, false, List, [], ◌∷◌, ◌++◌, length, Option, Some, None, Result, Ok, Err, codes, if◌then◌else◌}
+use Rattle.std.specs.Prelude.{ℕ, ◌==◌, ◌||◌, ◌&&◌, nat_le, Bool, List, [], ◌∷◌, length, Option, Some, None, Result, Ok, Err, codes, if◌then◌else◌}
 use Rattle.std.specs.List.{list_any, list_all}
 use Rattle.fsw_base.specs.declared.script_faults.FaultKind.{FaultKind}
-use Rattle.fsw_base.specs.declared.script_faults.FaultKind.TheVariants.{WrongCount, BadWord, OutOfRange, Repeated}
+use Rattle.fsw_base.specs.declared.script_faults.FaultKind.TheVariants.{WrongCount, BadWord, OutOfRange}
 use Rattle.fsw_base.specs.Limits.{Limits}
 use Rattle.fsw_base.specs.Blocks.{are_block_sizes}
 use Rattle.app_script.specs.declared.settings.LimitName.{LimitName}
 use Rattle.app_script.specs.declared.settings.LimitName.TheVariants.{MsgIds, Pipes, Dests, Depth, MsgMax, Pool, AppPool, Tables, Handles, TableMax, TablePool}
-use Rattle.app_script.specs.Readings.{◌>>=◌}
-use Rattle.app_script.specs.Text.{is_same}
-use Rattle.app_script.specs.Counts.{Word, one, two, few}
-use Rattle.app_script.specs.Lists.{each}
-use Rattle.app_script.specs.Numbers.{number_of, within, is_digit}
+use Rattle.script_words.specs.Readings.{◌>>=◌}
+use Rattle.script_words.specs.Text.{is_same}
+use Rattle.script_words.specs.Counts.{Word, one, two, few}
+use Rattle.script_words.specs.Lists.{each}
+use Rattle.script_words.specs.Numbers.{number_of, within, is_digit}
 
 -- the limits by the names that a set line has
 unfoldable pub limit_name : Word → Option LimitName

@@ -1,9 +1,8 @@
 -- Steps of reading a whole script.
 use Rattle.std.specs.Prelude.{◌≡◌, ℕ, Result, Ok, Err}
-use Rattle.fsw_base.specs.declared.script_faults.FaultKind.{FaultKind}
 use Rattle.fsw_base.specs.declared.script_faults.ScriptFault.{ScriptFault}
-use Rattle.app_script.specs.declared.fail.LineFail.{LineFail}
-use Rattle.app_script.specs.declared.fail.LineFail.TheVariants as of_line
+use Rattle.script_words.specs.declared.fail.LineFail.{LineFail}
+use Rattle.script_words.specs.declared.fail.LineFail.TheVariants as of_line
 use Rattle.app_script.specs.declared.fail.ReadFail.{ReadFail}
 use Rattle.app_script.specs.declared.fail.ReadFail.TheVariants.{Memory, Fault}
 

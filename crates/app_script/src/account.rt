@@ -1,11 +1,10 @@
 //! What an application's call lines take.
 ghost use Rattle.std.specs.Prelude.{◌≡◌, ◌+◌, ◌<◌, ◌^◌, ◌≤◌, length, slice_index, slice_set};
-ghost use Rattle.app_script.specs.Content.{content_len};
+ghost use Rattle.script_words.specs.Content.{content_len};
 ghost use Rattle.app_script.specs.Accounts.{waits_of, buffers_of, sizes_after};
 
-use crate::content::Content;
-use crate::line::Line;
 use fsw_base::Budget;
+use script_lines::{Content, Line};
 
 /// What call lines take: their number, those that wait, the sum of their charges, the buffers, and for
 /// each register of buffers the size that its latest `alloc` asked for.

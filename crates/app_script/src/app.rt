@@ -2,9 +2,8 @@
 ghost use Rattle.std.specs.Prelude.{◌≡◌, ◌+◌, ◌<◌, ◌≤◌, ◌++◌, ◌∷◌, [], length, OnOk, OnErr, Some, slice_get};
 
 use crate::account::Account;
-use crate::content::ByteText;
-use crate::line::Line;
 use fsw_base::Budget;
+use script_lines::{ByteText, Line};
 use std::alloc::{AllocError, Global};
 use std::marker::Model;
 

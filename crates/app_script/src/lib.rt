@@ -2,7 +2,8 @@
 //! A script is read whole before anything runs, and the first faulty line is told with what is wrong.
 //!
 //! It promises that a text is read exactly where it is a script whose lines are all built, and then as
-//! that script; else its first fault is told.
+//! that script, else its first fault is told; that a script is printed in exactly its one spelling; and
+//! that this spelling of a script whose parts are in their ranges reads back.
 //!
 //! ```text
 //! let script = read_script(alloc, b"app A\ncreate p0 4 TLM\nrecv p0\n")?;
@@ -10,31 +11,25 @@
 //! script.lines(app)                    // 2
 //! script.line(app, 1)                  // Line::Receive { pipe: 0 }
 //! script.budget(app).entries           // 3: one a call line, and one for the end
+//! print_script(&script, &mut sink)?;   // app A, create p0 4 TLM, recv p0, a line each
 //! ```
 #![tactic(auto)]
 
 mod account;
 mod app;
-mod bus_lines;
-mod content;
-mod counts;
-mod event_lines;
 mod fail;
 mod forms;
-mod line;
-mod memory_lines;
-mod numbers;
+mod laws;
+mod printing;
 mod reading;
 mod script;
 mod settings;
-mod table_lines;
-mod text;
-mod words;
 
-pub use content::{ByteText, Content};
 pub use fail::ReadFail;
-pub use line::{Line, MAX_RULES, Rule, RuleList};
+pub use laws::{last_messages_stay, printed_scripts_read_back, rotations_merge};
+pub use printing::print_script;
 pub use script::{Script, read_script};
+pub use script_lines::{BoxedRules, ByteText, Content, Line, MAX_RULES, Rule, RuleList};
 
 #[cfg(test)]
 mod tests;

@@ -2,27 +2,22 @@
 ghost use Rattle.std.specs.Prelude.{◌≡◌, ◌+◌, ◌<◌, ◌≤◌, ◌++◌, ◌∷◌, [], length, IsTrue, IfOk};
 ghost use Rattle.std.specs.List.{list_any};
 ghost use Rattle.std.specs.Prelude.{◌==◌};
-ghost use Rattle.app_script.specs.Text.{is_same};
+ghost use Rattle.script_words.specs.Text.{is_same};
 ghost use Rattle.fsw_base.specs.Starts.{are_count_starts};
 ghost use Rattle.app_script.specs.Noted.{noted, is_built};
 ghost use Rattle.app_script.specs.Forms.{is_misplaced};
 
 use crate::app::App;
-use crate::bus_lines::bus_line;
-use crate::content::ByteText;
-use crate::event_lines::event_line;
-use crate::fail::LineFail;
 use crate::forms::{Form, form_of, is_misplaced};
-use crate::line::Line;
-use crate::memory_lines::memory_line;
 use crate::script::Script;
 use crate::settings::{
     LimitName, app, is_among, is_built_limit, put_limit, seq, set, sizes, version,
 };
-use crate::table_lines::{show, table_line};
-use crate::text::{first_word, is_same, is_text};
 use arrayvec::ArrayVec;
 use fsw_base::{Config, CountStarts, FaultKind, MAX_APPS, MAX_STARTS};
+use script_lines::{Line, call_line};
+use script_words::text::{first_word, is_same, is_text};
+use script_words::{ByteText, LineFail};
 use std::alloc::{AllocError, Global};
 use std::marker::Model;
 use std::mem;
@@ -132,7 +127,7 @@ fn are_named(apps: &[App], name: &[u8]) -> bool
 impl Reading {
     ghost use Rattle.app_script.specs.Moves.{Moves};
     ghost use Rattle.app_script.specs.Grammar.{opening, after_set, after_sizes, after_seq, apps_of, after_app, after_call, after_form, after_known, after_words, after_line};
-    ghost use Rattle.app_script.specs.Text.{words_of, behind_word};
+    ghost use Rattle.script_words.specs.Text.{words_of, behind_word};
 
     // Nothing was read yet.
     #[tactic(auto, unfolding(crate::specs::Accounts::account_of))]
@@ -279,24 +274,8 @@ impl Reading {
             Form::Sizes => self.sizes(number, rest),
             Form::Seq => self.seq(rest),
             Form::App => self.app(alloc, rest),
-            Form::Bus(first) => {
-                let line = bus_line(alloc, first, rest)?;
-                self.call(number, line)
-            }
-            Form::Memory(first) => {
-                let line = memory_line(alloc, first, rest)?;
-                self.call(number, line)
-            }
-            Form::Event(first) => {
-                let line = event_line(alloc, first, rest)?;
-                self.call(number, line)
-            }
-            Form::Table(first) => {
-                let line = table_line(alloc, first, rest)?;
-                self.call(number, line)
-            }
-            Form::Show => {
-                let line = show(rest)?;
+            Form::Call(first) => {
+                let line = call_line(alloc, first, rest)?;
                 self.call(number, line)
             }
         }

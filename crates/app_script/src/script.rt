@@ -2,16 +2,16 @@
 ghost use Rattle.std.specs.Prelude.{◌≡◌, ◌-◌, ◌<◌, ◌≤◌, length, slice_get, Some, IfOk, IsTrue};
 ghost use Rattle.fsw_base.specs.Limits.{limits_of};
 ghost use Rattle.app_script.specs.Grammar.{after_lines, progress_of, grammar, built_script};
-ghost use Rattle.app_script.specs.Text.{lines_of};
+ghost use Rattle.script_words.specs.Text.{lines_of};
 ghost use Rattle.app_script.specs.Whole.{located, GivesScript, MovesScript};
 
 use crate::app::App;
-use crate::content::ByteText;
-use crate::fail::{LineFail, ReadFail};
-use crate::line::Line;
+use crate::fail::ReadFail;
 use crate::reading::Reading;
-use crate::text::first_line;
 use fsw_base::{AppNo, Budget, Config, FaultKind, ScriptFault};
+use script_lines::Line;
+use script_words::text::first_line;
+use script_words::{ByteText, LineFail};
 use std::alloc::Global;
 use std::marker::Model;
 
@@ -64,6 +64,13 @@ impl Script {
         ensures few { result ≤ 16 }
     {
         self.apps.len() as u32
+    }
+
+    // Its applications in order.
+    pub(crate) fn applications(&self) -> &[App]
+        ensures { result.now ≡ self.now.apps }
+    {
+        self.apps.as_slice()
     }
 
     /// An application's name, 1 to 19 letters, digits or underscores.

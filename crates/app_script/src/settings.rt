@@ -2,17 +2,17 @@
 ghost use Rattle.std.specs.Prelude.{◌≡◌, ◌≤◌, length, IfOk, IsTrue};
 ghost use Rattle.std.specs.List.{list_all};
 ghost use Rattle.fsw_base.specs.Limits.{limits_of};
-ghost use Rattle.app_script.specs.Readings.{Reads};
-ghost use Rattle.app_script.specs.Text.{words_of};
-ghost use Rattle.app_script.specs.Lists.{each};
-ghost use Rattle.app_script.specs.Numbers.{number_of};
+ghost use Rattle.script_words.specs.Readings.{Reads};
+ghost use Rattle.script_words.specs.Text.{words_of};
+ghost use Rattle.script_words.specs.Lists.{each};
+ghost use Rattle.script_words.specs.Numbers.{number_of};
 ghost use Rattle.app_script.specs.Settings.{limit_name, limit_number, least, greatest, with_limit, is_among, limit_named, set_of, some_words, sizes_within, sizes_of, seq_of, is_name_byte, is_app_name, app_of, script_of, is_built_limit};
 
-use crate::counts::{few, one, two};
-use crate::numbers::{number, within};
-use crate::text::{first_word, is_same};
 use arrayvec::ArrayVec;
 use fsw_base::{BlockSizes, Config, FaultKind, MAX_BLOCK_SIZES};
+use script_words::counts::{few, one, two};
+use script_words::numbers::{number, within};
+use script_words::text::{first_word, is_same};
 
 /// The name of a limit.
 #[derive(Clone, Copy)]

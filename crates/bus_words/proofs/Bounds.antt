@@ -1,19 +1,18 @@
 -- The bounds that the limits set hold after every history.
 use Rattle.std.proofs.Common.{◌≡◌, ℕ, ◌+◌, ◌<◌, ◌≤◌, ◌==◌, ◌&&◌, ◌||◌, not, Bool, true, false, cond, if◌then◌else◌, List, [], ◌∷◌, ◌++◌, length, filter, Option, None, refl, ap, ◌∙◌, subst, arith, length-append}
 use Rattle.std.specs.Prelude.{nat_le, nat_lt}
-use Rattle.std.specs.List.{AllByRecursion, list_any}
+use Rattle.std.specs.List.{AllByRecursion}
 use Rattle.std.proofs.lemmas.List.{length-map, length-drop, length_push}
 use Rattle.std.proofs.lemmas.List.Elements.{filter-append}
 use Rattle.std.proofs.lemmas.List.Sums.{length-filter, count_by-le-length}
 use Rattle.std.proofs.lemmas.Bool.Decides.{nat_tests}
-use Rattle.std.specs.Str.{bytes_eq}
 use Rattle.fsw_base.specs.declared.statuses.SbStatus.{SbStatus}
 use Rattle.fsw_base.specs.declared.statuses.SbStatus.TheVariants.{BadArgument, MaxPipesMet, PipeCrErr, MaxMsgsMet, MaxDestsMet}
 use Rattle.fsw_base.specs.Limits.{Limits}
 use Rattle.ccsds_msg.specs.Message.{is_valid_id}
 use Rattle.bus_words.specs.declared.history.Call.{Call}
 use Rattle.bus_words.specs.declared.history.Entry.{Entry}
-use Rattle.bus_words.specs.Bus.{Pipe, Subscription, State, Sending, Skip, OverLimit, Full, In, opening, owns, with_pipe, route, is_subscribed, has_route, ignores_own, waiting_of, is_in, item_for, offered, deliver, after_receive}
+use Rattle.bus_words.specs.Bus.{Pipe, Subscription, State, Sending, Skip, OverLimit, Full, In, opening, owns, with_pipe, with_bits, is_named, route, is_subscribed, has_route, ignores_own, waiting_of, is_in, item_for, offered, deliver, after_receive}
 use Rattle.bus_words.specs.Machine.{refused_if, create_cause, subscribe_cause, step, state_after}
 use Rattle.bus_words.proofs.Steps.{after_step, state_from-keeps}
 
@@ -102,6 +101,16 @@ PipeFits-after_receive limits pipe fits = record {
   queue = omega (arith, length-drop 1 pipe.queue);
 }
 
+-- and when its option bits are set
+pub PipeFits-with_bits : (limits : Limits) (bits : ℕ) (pipe : Pipe) → PipeFits limits pipe → PipeFits limits (with_bits bits pipe)
+PipeFits-with_bits limits bits pipe fits = record {
+  some = fits.some;
+  depth = fits.depth;
+  named = fits.named;
+  name = fits.name;
+  queue = fits.queue;
+}
+
 all-with_pipe : (P : Pipe → Type 0) (change : Pipe → Pipe) → ((pipe : Pipe) → P pipe → P (change pipe)) → (number : ℕ) (pipes : List Pipe) →
     AllByRecursion P pipes → AllByRecursion P (with_pipe change number pipes)
 all-with_pipe P change keeps number [] all = tt
@@ -141,13 +150,13 @@ pub record MayCreate (limits : Limits) (s : State) (depth : ℕ) (name : List �
   pub named : 1 ≤ length name
   pub short : length name ≤ 19
   pub room : length s.pipes < limits.pipes
-  pub new : list_any (λ pipe. bytes_eq pipe.name name) s.pipes ≡ false
+  pub new : is_named s.pipes name ≡ false
 
 pub create_cause-none : (limits : Limits) (s : State) (depth : ℕ) (name : List ℕ) → create_cause limits s depth name ≡ None → MayCreate limits s depth name
 create_cause-none limits s depth name none =
     let first = refused_if-none (depth == 0 || nat_lt limits.depth depth || length name == 0 || nat_lt 19 (length name)) BadArgument _ none in
     let second = refused_if-none (nat_le limits.pipes (length s.pipes)) MaxPipesMet _ first.1 in
-    let third = refused_if-none (list_any (λ pipe. bytes_eq pipe.name name) s.pipes) PipeCrErr None second.1 in
+    let third = refused_if-none (is_named s.pipes name) PipeCrErr None second.1 in
     let long = neither (depth == 0 || nat_lt limits.depth depth || length name == 0) (nat_lt 19 (length name)) first.0 in
     let empty = neither (depth == 0 || nat_lt limits.depth depth) (length name == 0) long.0 in
     let deep = neither (depth == 0) (nat_lt limits.depth depth) empty.0 in
@@ -231,6 +240,30 @@ IsWithin-step limits history s app call within =
         routes = within.routes;
       };
       receives = λ pipe. record {
+        pipes = omega (arith, length-with_pipe after_receive pipe s.pipes);
+        each = all-with_pipe (PipeFits limits) after_receive (PipeFits-after_receive limits) pipe s.pipes within.each;
+        routed = within.routed;
+        routes = within.routes;
+      };
+      deletes = λ pipe none. record {
+        pipes = omega (arith, length-filter (λ (p : Pipe). not (p.number == pipe)) s.pipes, count_by-le-length (λ (p : Pipe). not (p.number == pipe)) s.pipes);
+        each = by_filter (PipeFits limits) (λ p. not (p.number == pipe)) s.pipes within.each;
+        routed = within.routed;
+        routes = λ id. let fewer = length-filter_of_filter (λ (x : Subscription). not (x.pipe == pipe)) (λ (x : Subscription). x.id == id) s.subscriptions in omega (arith, within.routes id);
+      };
+      sets = λ pipe bits none. record {
+        pipes = omega (arith, length-with_pipe (with_bits bits) pipe s.pipes);
+        each = all-with_pipe (PipeFits limits) (with_bits bits) (PipeFits-with_bits limits bits) pipe s.pipes within.each;
+        routed = within.routed;
+        routes = within.routes;
+      };
+      unsubscribes = λ id pipe none. record {
+        pipes = within.pipes;
+        each = within.each;
+        routed = within.routed;
+        routes = λ other. let fewer = length-filter_of_filter (λ (x : Subscription). not (x.id == id && x.pipe == pipe)) (λ (x : Subscription). x.id == other) s.subscriptions in omega (arith, within.routes other);
+      };
+      stands = λ pipe standing. record {
         pipes = omega (arith, length-with_pipe after_receive pipe s.pipes);
         each = all-with_pipe (PipeFits limits) after_receive (PipeFits-after_receive limits) pipe s.pipes within.each;
         routed = within.routed;

@@ -4,7 +4,7 @@ use Rattle.std.proofs.lemmas.List.{take-append-le, drop-append-le, drop_at, take
 use Rattle.std.proofs.lemmas.List.Elements.{All-head, All-tail, All-push, All-weaker}
 use Rattle.std.proofs.lemmas.List.Sums.{sum_by-set}
 use Rattle.bus_words.specs.declared.history.Call.{Call}
-use Rattle.bus_words.specs.declared.history.Call.TheVariants.{Create, Subscribe, Transmit, Receive, End}
+use Rattle.bus_words.specs.declared.history.Call.TheVariants.{Create, Delete, SetOpts, GetOpts, Find, PipeName, Subscribe, Unsubscribe, Transmit, Receive, Pend, Look, End}
 use Rattle.bus_words.specs.declared.history.Entry.{Entry}
 use Rattle.bus_words.specs.declared.journal.Allowance.{Allowance}
 use Rattle.bus_words.specs.declared.journal.Span.{Span}
@@ -54,9 +54,17 @@ bytes_of-append bytes more span there =
 pub call_in-append : (bytes more : List ℕ) (call : RowCall) → call_end call ≤ length bytes →
     call_in (bytes ++ more) call ≡ call_in bytes call
 call_in-append bytes more (rows.Create depth name) there = ap (Create depth) (bytes_of-append bytes more name there)
+call_in-append bytes more (rows.Delete pipe) there = refl
+call_in-append bytes more (rows.SetOpts pipe bits) there = refl
+call_in-append bytes more (rows.GetOpts pipe) there = refl
+call_in-append bytes more (rows.Find name) there = ap Find (bytes_of-append bytes more name there)
+call_in-append bytes more (rows.PipeName pipe) there = refl
 call_in-append bytes more (rows.Subscribe id pipe limit scope) there = refl
+call_in-append bytes more (rows.Unsubscribe id pipe) there = refl
 call_in-append bytes more (rows.Transmit message inc) there = ap (λ b. Transmit b inc) (bytes_of-append bytes more message there)
 call_in-append bytes more (rows.Receive pipe) there = refl
+call_in-append bytes more (rows.Pend pipe) there = refl
+call_in-append bytes more (rows.Look pipe) there = refl
 call_in-append bytes more rows.End there = refl
 
 -- nor any entry
@@ -79,9 +87,17 @@ bytes_of-added bytes more =
 
 pub length-call_text : (call : Call) → length (call_text call) ≡ call_bytes call
 length-call_text (Create depth name) = refl
+length-call_text (Delete pipe) = refl
+length-call_text (SetOpts pipe bits) = refl
+length-call_text (GetOpts pipe) = refl
+length-call_text (Find name) = refl
+length-call_text (PipeName pipe) = refl
 length-call_text (Subscribe id pipe limit scope) = refl
+length-call_text (Unsubscribe id pipe) = refl
 length-call_text (Transmit bytes inc) = refl
 length-call_text (Receive pipe) = refl
+length-call_text (Pend pipe) = refl
+length-call_text (Look pipe) = refl
 length-call_text End = refl
 
 -- a stored call's bytes are added

@@ -1,4 +1,9 @@
+pub mod Alike
 pub mod Bounds
+pub mod Finds
+pub mod Isolation
 pub mod Journals
 pub mod Replay
+pub mod Solo
 pub mod Steps
+pub mod Ties

@@ -1,6 +1,6 @@
 -- What holds after every step of the bus, and so after every history: how many standings there are, and that live
 -- pipes and subscriptions stand in order of number, none above those that were made.
-use Rattle.std.proofs.Common.{◌≡◌, ℕ, ◌+◌, ◌-◌, ◌<◌, ◌≤◌, ◌==◌, not, Bool, true, false, cond, if◌then◌else◌, append-nil, append_assoc, List, [], ◌∷◌, ◌++◌, length, map, filter, Option, Some, None, refl, ap, sym, ◌∙◌, subst, arith}
+use Rattle.std.proofs.Common.{◌≡◌, ℕ, ◌+◌, ◌-◌, ◌<◌, ◌≤◌, ◌==◌, ◌&&◌, not, Bool, true, false, cond, if◌then◌else◌, append-nil, append_assoc, List, [], ◌∷◌, ◌++◌, length, map, filter, Option, Some, None, refl, ap, sym, ◌∙◌, subst, arith}
 use Rattle.std.proofs.lemmas.List.{length-set, length-replicate, length_push, map_push}
 use Rattle.ccsds_msg.specs.Message.{message_id}
 use Rattle.fsw_base.specs.declared.config.Scope.{Scope}
@@ -8,10 +8,10 @@ use Rattle.fsw_base.specs.declared.statuses.SbStatus.{SbStatus}
 use Rattle.fsw_base.specs.declared.statuses.SbStatus.TheVariants.{BadArgument, MaxPipesMet, PipeCrErr, MaxMsgsMet, MaxDestsMet, MsgTooBig, BufAlocErr, NoMessage, BufferInvalid}
 use Rattle.fsw_base.specs.Limits.{Limits}
 use Rattle.bus_words.specs.declared.history.Call.{Call}
-use Rattle.bus_words.specs.declared.history.Call.TheVariants.{Create, Subscribe, Transmit, Receive, End}
+use Rattle.bus_words.specs.declared.history.Call.TheVariants.{Create, Delete, SetOpts, GetOpts, Find, PipeName, Subscribe, Unsubscribe, Transmit, Receive, Pend, Look, End}
 use Rattle.bus_words.specs.declared.history.Entry.{Entry}
-use Rattle.bus_words.specs.Bus.{Pipe, Subscription, State, Ended, Sending, opening, with_pipe, route, is_subscribed, has_route, offered, deliver, is_in, verdict, item_for, after_receive, owns}
-use Rattle.bus_words.specs.Machine.{delivered, created, sent_along, received, ended, cause, create_cause, subscribe_cause, accept, refused_state, decided, step, state_from, state_after}
+use Rattle.bus_words.specs.Bus.{Pipe, Subscription, State, Standing, Active, Waiting, Ended, Sending, opening, with_pipe, with_bits, with_standing, is_empty, others_idle, route, is_subscribed, has_route, offered, deliver, is_in, verdict, item_for, after_receive, owns}
+use Rattle.bus_words.specs.Machine.{delivered, created, deleted, unsubscribed, sent_along, received, ended, cause, create_cause, subscribe_cause, unowned_cause, set_opts_cause, unsubscribe_cause, accept, refused_state, decided, step, state_from, state_after}
 
 -- Steps by cases. --
 
@@ -36,6 +36,10 @@ pub record Keeps (F : State → Type 0) (limits : Limits) (s : State) (app : ℕ
   pub sends : (sending : Sending) (id : ℕ) → sending.sender ≡ app → sending.number ≡ s.numbers_given + 1 →
       F (with_sent s sending (route s.subscriptions id))
   pub receives : (pipe : ℕ) → F (received s pipe)
+  pub deletes : (pipe : ℕ) → unowned_cause s app pipe ≡ None → F (deleted s pipe)
+  pub sets : (pipe bits : ℕ) → set_opts_cause s app pipe bits ≡ None → F (record s { pipes = with_pipe (with_bits bits) pipe s.pipes })
+  pub unsubscribes : (id pipe : ℕ) → unsubscribe_cause s app id pipe ≡ None → F (unsubscribed s id pipe)
+  pub stands : (pipe : ℕ) (standing : Standing) → F (with_standing (received s pipe) app standing)
   pub ends : F (ended s app)
 
 refused_receive : (F : State → Type 0) (s : State) (pipe : ℕ) (status : SbStatus) → F s → F (received s pipe) → F (refused_state s (Receive pipe) status)
@@ -51,9 +55,17 @@ refused_receive F s pipe BufferInvalid same receives = same
 
 after_refusal : (F : State → Type 0) (s : State) (call : Call) (status : SbStatus) → F s → ((pipe : ℕ) → F (received s pipe)) → F (refused_state s call status)
 after_refusal F s (Create depth name) status same receives = same
+after_refusal F s (Delete pipe) status same receives = same
+after_refusal F s (SetOpts pipe bits) status same receives = same
+after_refusal F s (GetOpts pipe) status same receives = same
+after_refusal F s (Find name) status same receives = same
+after_refusal F s (PipeName pipe) status same receives = same
 after_refusal F s (Subscribe id pipe limit scope) status same receives = same
+after_refusal F s (Unsubscribe id pipe) status same receives = same
 after_refusal F s (Transmit bytes inc) status same receives = same
 after_refusal F s (Receive pipe) status same receives = refused_receive F s pipe status same (receives pipe)
+after_refusal F s (Pend pipe) status same receives = same
+after_refusal F s (Look pipe) status same receives = same
 after_refusal F s End status same receives = same
 
 after_subscribe : (F : State → Type 0) (s next : State) (live : Bool) → F s → (live ≡ false → F next) → F (if live then s else next)
@@ -64,15 +76,31 @@ after_send : (F : State → Type 0) (s : State) (sending : Sending) (subs : List
 after_send F s sending [] same sends = same
 after_send F s sending (sub ∷ subs) same sends = sends
 
+after_choice : (F : State → Type 0) (test : Bool) (one other : State) → F one → F other → F (if test then one else other)
+after_choice F true one other first second = first
+after_choice F false one other first second = second
+
 after_accepted : (F : State → Type 0) (limits : Limits) (history : List Entry) (s : State) (app : ℕ) (call : Call) →
     cause limits s app call ≡ None → Keeps F limits s app → F ((accept limits history s app call).1)
 after_accepted F limits history s app (Create depth name) none keeps = keeps.creates depth name none
+after_accepted F limits history s app (Delete pipe) none keeps = keeps.deletes pipe none
+after_accepted F limits history s app (SetOpts pipe bits) none keeps = keeps.sets pipe bits none
+after_accepted F limits history s app (GetOpts pipe) none keeps = keeps.same
+after_accepted F limits history s app (Find name) none keeps = keeps.same
+after_accepted F limits history s app (PipeName pipe) none keeps = keeps.same
 after_accepted F limits history s app (Subscribe id pipe limit scope) none keeps =
     after_subscribe F s (with_subscription s id pipe limit scope) (is_subscribed s.subscriptions id pipe) keeps.same (keeps.subscribes id pipe limit scope none)
+after_accepted F limits history s app (Unsubscribe id pipe) none keeps = keeps.unsubscribes id pipe none
 after_accepted F limits history s app (Transmit bytes inc) none keeps =
     let sending : Sending = record { sender = app; number = s.numbers_given + 1; asked = length bytes; message = delivered limits history bytes inc } in
     after_send F s sending (route s.subscriptions (message_id bytes)) keeps.same (keeps.sends sending (message_id bytes) refl refl)
 after_accepted F limits history s app (Receive pipe) none keeps = keeps.receives pipe
+after_accepted F limits history s app (Pend pipe) none keeps =
+    after_choice F (is_empty s.pipes pipe && not (others_idle s app)) (with_standing (received s pipe) app (Waiting pipe)) (received s pipe)
+    (keeps.stands pipe (Waiting pipe)) (keeps.receives pipe)
+after_accepted F limits history s app (Look pipe) none keeps =
+    after_choice F (is_empty s.pipes pipe && not (others_idle s app)) s (with_standing (received s pipe) app Active)
+    keeps.same (keeps.stands pipe Active)
 after_accepted F limits history s app End none keeps = keeps.ends
 
 after_decided : (F : State → Type 0) (limits : Limits) (history : List Entry) (s : State) (app : ℕ) (call : Call) (why : Option SbStatus) →
@@ -105,6 +133,10 @@ length-standings-step limits history s app call =
       subscribes = λ id pipe limit scope none other. refl;
       sends = λ sending id who number. refl;
       receives = λ pipe. refl;
+      deletes = λ pipe none. refl;
+      sets = λ pipe bits none. refl;
+      unsubscribes = λ id pipe none. refl;
+      stands = λ pipe standing. length-set s.standings (app - 1) standing;
       ends = length-set s.standings (app - 1) Ended;
     })
 
@@ -197,6 +229,22 @@ AreNumbered-step limits history s app call numbered =
         pipes = subst (AreRising 0 s.pipes_created) (sym (pipe_numbers-with_pipe after_receive (λ p. refl) pipe s.pipes)) numbered.pipes;
         subscriptions = numbered.subscriptions;
       };
+      deletes = λ pipe none. record {
+        pipes = AreRising-filter (λ (p : Pipe). p.number) (λ p. not (p.number == pipe)) 0 s.pipes_created s.pipes numbered.pipes;
+        subscriptions = AreRising-filter (λ (x : Subscription). x.number) (λ x. not (x.pipe == pipe)) 0 s.subscriptions_made s.subscriptions numbered.subscriptions;
+      };
+      sets = λ pipe bits none. record {
+        pipes = subst (AreRising 0 s.pipes_created) (sym (pipe_numbers-with_pipe (with_bits bits) (λ p. refl) pipe s.pipes)) numbered.pipes;
+        subscriptions = numbered.subscriptions;
+      };
+      unsubscribes = λ id pipe none. record {
+        pipes = numbered.pipes;
+        subscriptions = AreRising-filter (λ (x : Subscription). x.number) (λ x. not (x.id == id && x.pipe == pipe)) 0 s.subscriptions_made s.subscriptions numbered.subscriptions;
+      };
+      stands = λ pipe standing. record {
+        pipes = subst (AreRising 0 s.pipes_created) (sym (pipe_numbers-with_pipe after_receive (λ p. refl) pipe s.pipes)) numbered.pipes;
+        subscriptions = numbered.subscriptions;
+      };
       ends = record {
         pipes = AreRising-filter (λ (p : Pipe). p.number) (λ p. not (p.owner == app)) 0 s.pipes_created s.pipes numbered.pipes;
         subscriptions = AreRising-filter (λ (x : Subscription). x.number) (λ x. not (owns s.pipes app x.pipe)) 0 s.subscriptions_made s.subscriptions numbered.subscriptions;
@@ -225,6 +273,10 @@ AtMostOneMore-step limits history s app call =
       subscribes = λ id pipe limit scope none other. record { pipes = omega arith; subscriptions = omega arith; numbers = omega arith };
       sends = λ sending id who number. record { pipes = omega arith; subscriptions = omega arith; numbers = omega (arith, number) };
       receives = λ pipe. record { pipes = omega arith; subscriptions = omega arith; numbers = omega arith };
+      deletes = λ pipe none. record { pipes = omega arith; subscriptions = omega arith; numbers = omega arith };
+      sets = λ pipe bits none. record { pipes = omega arith; subscriptions = omega arith; numbers = omega arith };
+      unsubscribes = λ id pipe none. record { pipes = omega arith; subscriptions = omega arith; numbers = omega arith };
+      stands = λ pipe standing. record { pipes = omega arith; subscriptions = omega arith; numbers = omega arith };
       ends = record { pipes = omega arith; subscriptions = omega arith; numbers = omega arith };
     })
 

@@ -1,8 +1,9 @@
 -- The state of the software bus (cFE Software Bus; packets by CCSDS 133.0-B, 4.1). Pipes keep copies of the
 -- messages sent to them; nothing here is shared.
-use Rattle.std.specs.Prelude.{ℕ, ◌+◌, ◌-◌, ◌%◌, ◌==◌, ◌&&◌, nat_le, Bool, true, false, List, [], ◌∷◌, ◌++◌, length, drop, map, filter, find, count_by, replicate, slice_index_or, Option, Some, None, if◌then◌else◌}
-use Rattle.std.specs.List.{list_any}
+use Rattle.std.specs.Prelude.{ℕ, ◌+◌, ◌-◌, ◌%◌, ◌==◌, ◌&&◌, nat_le, Bool, true, false, List, [], ◌∷◌, ◌++◌, length, drop, map, filter, find, count_by, replicate, slice_set, slice_index_or, Option, Some, None, if◌then◌else◌}
+use Rattle.std.specs.List.{list_any, list_all}
 use Rattle.std.specs.Option.{option_map_or}
+use Rattle.std.specs.Str.{bytes_eq}
 use Rattle.fsw_base.specs.declared.config.Scope.{Scope}
 
 -- A message that is queued for one subscription: its send number, the size first asked for, the subscription's number, its bytes.
@@ -78,6 +79,14 @@ is_live pipes number = list_any (λ pipe. pipe.number == number) pipes
 -- whether a pipe of this number is live and this application's
 abbrev pub owns : List Pipe → ℕ → ℕ → Bool
 owns pipes app number = list_any (λ pipe. pipe.number == number && pipe.owner == app) pipes
+
+-- the live pipe of this name
+abbrev pub pipe_named : List Pipe → List ℕ → Option Pipe
+pipe_named pipes name = find (λ pipe. bytes_eq pipe.name name) pipes
+
+-- whether a live pipe has this name
+abbrev pub is_named : List Pipe → List ℕ → Bool
+is_named pipes name = list_any (λ pipe. bytes_eq pipe.name name) pipes
 
 -- the pipes, with the one of this number changed
 abbrev pub with_pipe : (Pipe → Pipe) → ℕ → List Pipe → List Pipe
@@ -167,3 +176,31 @@ oldest (item ∷ items) = Some item
 -- the pipe after a receive: its last message is released, and the oldest that is queued, if any, takes its place
 abbrev pub after_receive : Pipe → Pipe
 after_receive pipe = record pipe { queue = drop 1 pipe.queue; last = oldest pipe.queue }
+
+-- the pipe with these option bits
+abbrev pub with_bits : ℕ → Pipe → Pipe
+with_bits bits pipe = record pipe { bits = bits }
+
+-- whether no message is queued on the pipe of this number
+abbrev pub is_empty : List Pipe → ℕ → Bool
+is_empty pipes number = option_map_or (λ pipe. length pipe.queue == 0) (pipe_at pipes number) true
+
+-- whether an application in this standing makes no further send by itself: it has ended, or waits on an empty pipe
+abbrev pub is_idle : List Pipe → Standing → Bool
+is_idle pipes Active = false
+is_idle pipes (Waiting pipe) = is_empty pipes pipe
+is_idle pipes Ended = true
+
+-- whether every application but this one has ended or waits on an empty pipe
+abbrev pub others_idle : State → ℕ → Bool
+others_idle s app = list_all (is_idle s.pipes) (slice_set s.standings (app - 1) Ended)
+
+-- the bus, with this application's standing changed
+abbrev pub with_standing : State → ℕ → Standing → State
+with_standing s app standing = record s { standings = slice_set s.standings (app - 1) standing }
+
+-- the pipe that an application in this standing waits on; 0, which no pipe has, where it doesn't wait
+abbrev pub waited_on : Standing → ℕ
+waited_on Active = 0
+waited_on (Waiting pipe) = pipe
+waited_on Ended = 0

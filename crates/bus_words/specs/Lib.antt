@@ -1,3 +1,4 @@
+pub mod Alone
 pub mod Bus
 pub mod Entries
 pub mod Log

@@ -1,7 +1,5 @@
 -- The bus as a machine: why a call is refused, what it answers and what it changes, and which histories are legal.
 use Rattle.std.specs.Prelude.{◌≡◌, ℕ, ◌+◌, ◌-◌, ◌%◌, ◌==◌, ◌&&◌, ◌||◌, not, nat_le, nat_lt, Bool, true, false, List, [], ◌∷◌, ◌++◌, length, filter, count_by, slice_set, Option, Some, None, is_some, IsTrue, if◌then◌else◌}
-use Rattle.std.specs.List.{list_any}
-use Rattle.std.specs.Str.{bytes_eq}
 use Rattle.std.specs.Option.{option_map_or}
 use Rattle.fsw_base.specs.declared.config.Scope.{Scope}
 use Rattle.fsw_base.specs.Limits.{Limits}
@@ -10,11 +8,11 @@ use Rattle.fsw_base.specs.declared.statuses.SbStatus.{SbStatus}
 use Rattle.fsw_base.specs.declared.statuses.SbStatus.TheVariants.{BadArgument, MaxPipesMet, PipeCrErr, MaxMsgsMet, MaxDestsMet, MsgTooBig, NoMessage}
 use Rattle.ccsds_msg.specs.Message.{fault, message_id, with_count, is_valid_id}
 use Rattle.bus_words.specs.declared.calls.BusAnswer.{BusAnswer}
-use Rattle.bus_words.specs.declared.calls.BusAnswer.TheVariants.{Done, Number, Sent, Got, Sb}
+use Rattle.bus_words.specs.declared.calls.BusAnswer.TheVariants.{Done, Number, Name, Sent, Got, TimeOut, Pending, Sb}
 use Rattle.bus_words.specs.declared.history.Call.{Call}
-use Rattle.bus_words.specs.declared.history.Call.TheVariants.{Create, Subscribe, Transmit, Receive, End}
+use Rattle.bus_words.specs.declared.history.Call.TheVariants.{Create, Delete, SetOpts, GetOpts, Find, PipeName, Subscribe, Unsubscribe, Transmit, Receive, Pend, Look, End}
 use Rattle.bus_words.specs.declared.history.Entry.{Entry}
-use Rattle.bus_words.specs.Bus.{Pipe, Subscription, State, Standing, Active, Waiting, Ended, Sending, opening, standing_of, pipe_at, owns, with_pipe, route, is_subscribed, has_route, deliver, reached, oldest, after_receive}
+use Rattle.bus_words.specs.Bus.{Pipe, Subscription, State, Standing, Active, Waiting, Ended, Sending, opening, standing_of, pipe_at, pipe_named, is_live, is_named, owns, with_pipe, with_bits, with_standing, route, is_subscribed, has_route, is_empty, others_idle, deliver, reached, oldest, after_receive}
 
 -- Sequence counts (CCSDS 133.0-B, 4.1.3.4.3). --
 
@@ -41,7 +39,21 @@ abbrev pub create_cause : Limits → State → ℕ → List ℕ → Option SbSta
 create_cause limits s depth name =
     refused_if (depth == 0 || nat_lt limits.depth depth || length name == 0 || nat_lt 19 (length name)) BadArgument
     (refused_if (nat_le limits.pipes (length s.pipes)) MaxPipesMet
-    (refused_if (list_any (λ pipe. bytes_eq pipe.name name) s.pipes) PipeCrErr None))
+    (refused_if (is_named s.pipes name) PipeCrErr None))
+
+-- where the pipe isn't a live one of the application's own
+abbrev pub unowned_cause : State → ℕ → ℕ → Option SbStatus
+unowned_cause s app pipe = refused_if (not (owns s.pipes app pipe)) BadArgument None
+
+abbrev pub set_opts_cause : State → ℕ → ℕ → ℕ → Option SbStatus
+set_opts_cause s app pipe bits = refused_if (not (owns s.pipes app pipe) || nat_lt 1 bits) BadArgument None
+
+-- where no pipe of this number is live
+abbrev pub dead_cause : State → ℕ → Option SbStatus
+dead_cause s pipe = refused_if (not (is_live s.pipes pipe)) BadArgument None
+
+abbrev pub find_cause : State → List ℕ → Option SbStatus
+find_cause s name = refused_if (not (is_named s.pipes name)) BadArgument None
 
 -- a duplicate is never refused
 abbrev pub subscribe_cause : Limits → State → ℕ → ℕ → ℕ → Option SbStatus
@@ -51,14 +63,13 @@ subscribe_cause limits s app id pipe =
     else refused_if (not (has_route s.routed id) && nat_le limits.msgids (length s.routed)) MaxMsgsMet
     (refused_if (nat_le limits.dests (length (route s.subscriptions id))) MaxDestsMet None))
 
+abbrev pub unsubscribe_cause : State → ℕ → ℕ → ℕ → Option SbStatus
+unsubscribe_cause s app id pipe = refused_if (not (is_valid_id id) || not (owns s.pipes app pipe)) BadArgument None
+
 abbrev pub transmit_cause : Limits → State → List ℕ → Option SbStatus
 transmit_cause limits s bytes =
     refused_if (is_some (fault bytes)) BadArgument
     (refused_if (nat_lt limits.msgmax (length bytes)) MsgTooBig None)
-
--- whether no message is queued on the pipe of this number
-abbrev pub is_empty : List Pipe → ℕ → Bool
-is_empty pipes number = option_map_or (λ pipe. length pipe.queue == 0) (pipe_at pipes number) true
 
 abbrev pub receive_cause : State → ℕ → ℕ → Option SbStatus
 receive_cause s app pipe =
@@ -68,9 +79,17 @@ receive_cause s app pipe =
 -- the first refusal whose condition holds
 abbrev pub cause : Limits → State → ℕ → Call → Option SbStatus
 cause limits s app (Create depth name) = create_cause limits s depth name
+cause limits s app (Delete pipe) = unowned_cause s app pipe
+cause limits s app (SetOpts pipe bits) = set_opts_cause s app pipe bits
+cause limits s app (GetOpts pipe) = dead_cause s pipe
+cause limits s app (Find name) = find_cause s name
+cause limits s app (PipeName pipe) = dead_cause s pipe
 cause limits s app (Subscribe id pipe limit scope) = subscribe_cause limits s app id pipe
+cause limits s app (Unsubscribe id pipe) = unsubscribe_cause s app id pipe
 cause limits s app (Transmit bytes inc) = transmit_cause limits s bytes
 cause limits s app (Receive pipe) = receive_cause s app pipe
+cause limits s app (Pend pipe) = unowned_cause s app pipe
+cause limits s app (Look pipe) = None
 cause limits s app End = None
 
 -- What a call that isn't refused answers and changes. --
@@ -84,6 +103,25 @@ created s app depth name = (
   },
 )
 
+-- the pipe and its subscriptions leave
+abbrev pub deleted : State → ℕ → State
+deleted s pipe = record s {
+  pipes = filter (λ other. not (other.number == pipe)) s.pipes;
+  subscriptions = filter (λ sub. not (sub.pipe == pipe)) s.subscriptions;
+}
+
+-- the option bits of the pipe
+abbrev pub bits_of : List Pipe → ℕ → ℕ
+bits_of pipes number = option_map_or (λ pipe. pipe.bits) (pipe_at pipes number) 0
+
+-- the number of the pipe of this name
+abbrev pub number_of : List Pipe → List ℕ → ℕ
+number_of pipes name = option_map_or (λ pipe. pipe.number) (pipe_named pipes name) 0
+
+-- the name of the pipe
+abbrev pub name_of : List Pipe → ℕ → List ℕ
+name_of pipes number = option_map_or (λ pipe. pipe.name) (pipe_at pipes number) []
+
 -- a live pair changes nothing
 abbrev pub subscribed : State → ℕ → ℕ → ℕ → Scope → BusAnswer × State
 subscribed s id pipe limit scope = (
@@ -95,6 +133,10 @@ subscribed s id pipe limit scope = (
         routed = (if has_route s.routed id then s.routed else s.routed ++ id ∷ []);
       })),
 )
+
+-- the live subscription of the pair leaves, if there is one
+abbrev pub unsubscribed : State → ℕ → ℕ → State
+unsubscribed s id pipe = record s { subscriptions = filter (λ sub. not (sub.id == id && sub.pipe == pipe)) s.subscriptions }
 
 -- without a live subscription of its id a message goes nowhere and takes no number
 abbrev pub sent_along : List Subscription → Sending → State → BusAnswer × State
@@ -117,6 +159,26 @@ oldest_number pipes number = option_map_or (λ pipe. option_map_or (λ item. ite
 abbrev pub received : State → ℕ → State
 received s pipe = record s { pipes = with_pipe after_receive pipe s.pipes }
 
+-- what a receive answers that may wait
+abbrev pub pended_answer : State → ℕ → ℕ → BusAnswer
+pended_answer s app pipe =
+    if not (is_empty s.pipes pipe) then Got (oldest_number s.pipes pipe)
+    else if others_idle s app then TimeOut
+    else Pending
+
+-- the bus after a receive that may wait: after the receive, and where neither a message nor a time-out came the
+-- application waits on the pipe
+abbrev pub pended : State → ℕ → ℕ → State
+pended s app pipe =
+    if is_empty s.pipes pipe && not (others_idle s app) then with_standing (received s pipe) app (Waiting pipe)
+    else received s pipe
+
+-- the bus after a look: as after a receive, with the application active again; as before where it still waits
+abbrev pub looked : State → ℕ → ℕ → State
+looked s app pipe =
+    if is_empty s.pipes pipe && not (others_idle s app) then s
+    else with_standing (received s pipe) app Active
+
 -- the application's pipes with their subscriptions leave
 abbrev pub ended : State → ℕ → State
 ended s app = record s {
@@ -127,9 +189,17 @@ ended s app = record s {
 
 abbrev pub accept : Limits → List Entry → State → ℕ → Call → BusAnswer × State
 accept limits history s app (Create depth name) = created s app depth name
+accept limits history s app (Delete pipe) = (Done, deleted s pipe)
+accept limits history s app (SetOpts pipe bits) = (Done, record s { pipes = with_pipe (with_bits bits) pipe s.pipes })
+accept limits history s app (GetOpts pipe) = (Number (bits_of s.pipes pipe), s)
+accept limits history s app (Find name) = (Number (number_of s.pipes name), s)
+accept limits history s app (PipeName pipe) = (Name (name_of s.pipes pipe), s)
 accept limits history s app (Subscribe id pipe limit scope) = subscribed s id pipe limit scope
+accept limits history s app (Unsubscribe id pipe) = (Done, unsubscribed s id pipe)
 accept limits history s app (Transmit bytes inc) = transmitted limits history s app bytes inc
 accept limits history s app (Receive pipe) = (Got (oldest_number s.pipes pipe), received s pipe)
+accept limits history s app (Pend pipe) = (pended_answer s app pipe, pended s app pipe)
+accept limits history s app (Look pipe) = (pended_answer s app pipe, looked s app pipe)
 accept limits history s app End = (Done, ended s app)
 
 -- A refused call changes nothing, but that a receive that finds no message has released the last one.
@@ -156,19 +226,29 @@ state_from limits history s (e ∷ es) = state_from limits (history ++ e ∷ [])
 abbrev pub state_after : Limits → ℕ → List Entry → State
 state_after limits apps history = state_from limits [] (opening apps) history
 
--- whether an application may make this call: while it is active; its end also while it waits
+-- whether an application may make this call: a look while it waits on that pipe, its end while it hasn't ended, every
+-- other call while it is active
 abbrev pub may_call : Standing → Call → Bool
+may_call Active (Look pipe) = false
 may_call Active call = true
+may_call (Waiting pipe) (Look other) = pipe == other
 may_call (Waiting pipe) End = true
 may_call (Waiting pipe) call = false
 may_call Ended call = false
 
--- each entry's application may make its call, and is answered what the machine answers
+-- whether a call so answered makes an entry: a look that finds the application still waiting makes none
+abbrev pub makes_entry : Call → BusAnswer → Bool
+makes_entry (Look pipe) Pending = false
+makes_entry call answer = true
+
+-- each entry's application may make its call, and is answered what the machine answers; no look stands there that found
+-- nothing
 abbrev pub LegalFrom : Limits → List Entry → State → List Entry → Type 0
 LegalFrom limits history s [] = Unit {0}
 LegalFrom limits history s (e ∷ es) =
     IsTrue (may_call (standing_of s e.app) e.call)
     × (e.answer ≡ (step limits history s e.app e.call).0)
+    × IsTrue (makes_entry e.call e.answer)
     × LegalFrom limits (history ++ e ∷ []) ((step limits history s e.app e.call).1) es
 
 -- a history that the bus can have

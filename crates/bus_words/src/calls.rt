@@ -1,6 +1,7 @@
 //! The calls of the software bus, their answers, and both together as an entry of the journal.
 ghost use Rattle.std.specs.Prelude.{◌≡◌};
 
+use crate::pipe_text::PipeText;
 use fsw_base::{AppNo, SbStatus, Scope};
 
 /// A call of the software bus by one application, with its bytes borrowed (cFE Software Bus).
@@ -11,12 +12,38 @@ pub enum BusCall<'a> {
         depth: u32,
         name: &'a [u8],
     },
+    /// Ends a pipe.
+    Delete {
+        pipe: u32,
+    },
+    /// Sets a pipe's option bits.
+    SetOpts {
+        pipe: u32,
+        bits: u8,
+    },
+    /// Asks for a pipe's option bits.
+    GetOpts {
+        pipe: u32,
+    },
+    /// Asks for the number of the pipe of this name.
+    Find {
+        name: &'a [u8],
+    },
+    /// Asks for a pipe's name.
+    PipeName {
+        pipe: u32,
+    },
     /// Has messages of this id queued on the pipe, up to `limit` of them at once.
     Subscribe {
         id: u16,
         pipe: u32,
         limit: u32,
         scope: Scope,
+    },
+    /// Has no more messages of this id queued on the pipe.
+    Unsubscribe {
+        id: u16,
+        pipe: u32,
     },
     /// Sends a message; `inc` gives it the id's next sequence count.
     Transmit {
@@ -25,6 +52,14 @@ pub enum BusCall<'a> {
     },
     /// Takes the pipe's oldest message.
     Receive {
+        pipe: u32,
+    },
+    /// Takes the pipe's oldest message, or waits for one.
+    Pend {
+        pipe: u32,
+    },
+    /// Looks again, while the application waits on the pipe.
+    Look {
         pipe: u32,
     },
     /// The application's last call.
@@ -36,12 +71,19 @@ pub enum BusCall<'a> {
 pub enum BusAnswer {
     /// Done, with nothing to tell.
     Done,
-    /// The number of the pipe that was made.
+    /// The number of the pipe that was made or found, or the option bits asked for.
     Number(u32),
+    /// The name asked for.
+    Name(PipeText),
     /// The number of the message sent and of the pipes that it reached; both 0 where nobody subscribes.
     Sent { number: u32, reached: u32 },
     /// The number of the message received.
     Got(u32),
+    /// No message is there, and none can come: every other application has ended or waits on an
+    /// empty pipe.
+    TimeOut,
+    /// No message is there yet; the application waits.
+    Pending,
     /// Refused.
     Sb(SbStatus),
 }
@@ -54,11 +96,14 @@ impl BusAnswer {
         match self {
             BusAnswer::Done => BusAnswer::Done,
             BusAnswer::Number(number) => BusAnswer::Number(*number),
+            BusAnswer::Name(name) => BusAnswer::Name(name.again()),
             BusAnswer::Sent { number, reached } => BusAnswer::Sent {
                 number: *number,
                 reached: *reached,
             },
             BusAnswer::Got(number) => BusAnswer::Got(*number),
+            BusAnswer::TimeOut => BusAnswer::TimeOut,
+            BusAnswer::Pending => BusAnswer::Pending,
             BusAnswer::Sb(status) => BusAnswer::Sb(*status),
         }
     }

@@ -12,12 +12,38 @@ pub enum Call {
         depth: u32,
         name: LinkedList<u8>,
     },
+    /// Ends a pipe.
+    Delete {
+        pipe: u32,
+    },
+    /// Sets a pipe's option bits.
+    SetOpts {
+        pipe: u32,
+        bits: u8,
+    },
+    /// Asks for a pipe's option bits.
+    GetOpts {
+        pipe: u32,
+    },
+    /// Finds a pipe by its name.
+    Find {
+        name: LinkedList<u8>,
+    },
+    /// Asks for a pipe's name.
+    PipeName {
+        pipe: u32,
+    },
     /// Subscribes a pipe to a message id.
     Subscribe {
         id: u16,
         pipe: u32,
         limit: u32,
         scope: Scope,
+    },
+    /// Ends a pipe's subscription to a message id.
+    Unsubscribe {
+        id: u16,
+        pipe: u32,
     },
     /// Sends a message.
     Transmit {
@@ -26,6 +52,14 @@ pub enum Call {
     },
     /// Receives on a pipe.
     Receive {
+        pipe: u32,
+    },
+    /// Receives on a pipe, or waits.
+    Pend {
+        pipe: u32,
+    },
+    /// Looks again, while waiting on a pipe.
+    Look {
         pipe: u32,
     },
     /// Ends the application.

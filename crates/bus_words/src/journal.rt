@@ -32,17 +32,43 @@ enum RowCall {
         depth: u32,
         name: Span,
     },
+    Delete {
+        pipe: u32,
+    },
+    SetOpts {
+        pipe: u32,
+        bits: u8,
+    },
+    GetOpts {
+        pipe: u32,
+    },
+    Find {
+        name: Span,
+    },
+    PipeName {
+        pipe: u32,
+    },
     Subscribe {
         id: u16,
         pipe: u32,
         limit: u32,
         scope: Scope,
     },
+    Unsubscribe {
+        id: u16,
+        pipe: u32,
+    },
     Transmit {
         bytes: Span,
         inc: bool,
     },
     Receive {
+        pipe: u32,
+    },
+    Pend {
+        pipe: u32,
+    },
+    Look {
         pipe: u32,
     },
     End,
@@ -169,6 +195,13 @@ fn call_at(bytes: &[u8], call: RowCall) -> BusCall<'_>
             depth,
             name: bytes_at(bytes, name),
         },
+        RowCall::Delete { pipe } => BusCall::Delete { pipe },
+        RowCall::SetOpts { pipe, bits } => BusCall::SetOpts { pipe, bits },
+        RowCall::GetOpts { pipe } => BusCall::GetOpts { pipe },
+        RowCall::Find { name } => BusCall::Find {
+            name: bytes_at(bytes, name),
+        },
+        RowCall::PipeName { pipe } => BusCall::PipeName { pipe },
         RowCall::Subscribe {
             id,
             pipe,
@@ -180,6 +213,7 @@ fn call_at(bytes: &[u8], call: RowCall) -> BusCall<'_>
             limit,
             scope,
         },
+        RowCall::Unsubscribe { id, pipe } => BusCall::Unsubscribe { id, pipe },
         RowCall::Transmit {
             bytes: message,
             inc,
@@ -188,6 +222,8 @@ fn call_at(bytes: &[u8], call: RowCall) -> BusCall<'_>
             inc,
         },
         RowCall::Receive { pipe } => BusCall::Receive { pipe },
+        RowCall::Pend { pipe } => BusCall::Pend { pipe },
+        RowCall::Look { pipe } => BusCall::Look { pipe },
         RowCall::End => BusCall::End,
     }
 }
@@ -212,6 +248,13 @@ fn stored(bytes: &mut Vec<u8>, call: BusCall<'_>) -> RowCall
             depth,
             name: put(bytes, name),
         },
+        BusCall::Delete { pipe } => RowCall::Delete { pipe },
+        BusCall::SetOpts { pipe, bits } => RowCall::SetOpts { pipe, bits },
+        BusCall::GetOpts { pipe } => RowCall::GetOpts { pipe },
+        BusCall::Find { name } => RowCall::Find {
+            name: put(bytes, name),
+        },
+        BusCall::PipeName { pipe } => RowCall::PipeName { pipe },
         BusCall::Subscribe {
             id,
             pipe,
@@ -223,6 +266,7 @@ fn stored(bytes: &mut Vec<u8>, call: BusCall<'_>) -> RowCall
             limit,
             scope,
         },
+        BusCall::Unsubscribe { id, pipe } => RowCall::Unsubscribe { id, pipe },
         BusCall::Transmit {
             bytes: message,
             inc,
@@ -231,6 +275,8 @@ fn stored(bytes: &mut Vec<u8>, call: BusCall<'_>) -> RowCall
             inc,
         },
         BusCall::Receive { pipe } => RowCall::Receive { pipe },
+        BusCall::Pend { pipe } => RowCall::Pend { pipe },
+        BusCall::Look { pipe } => RowCall::Look { pipe },
         BusCall::End => RowCall::End,
     }
 }

@@ -16,12 +16,14 @@ mod calls;
 mod history;
 mod journal;
 mod laws;
+mod pipe_text;
 mod receipts;
 
 pub use calls::{BusAnswer, BusCall, BusEntry};
 pub use history::{Call, Entry};
 pub use journal::{Allowance, BusJournal};
-pub use laws::histories_are_runs;
+pub use laws::{histories_are_runs, pipes_stand_alone};
+pub use pipe_text::{NAME_BYTES, PipeText};
 pub use receipts::{HEAD_BYTES, Head, Receipt, ReceiptList};
 
 #[cfg(test)]

@@ -3,7 +3,9 @@ ghost use Rattle.std.specs.Prelude.{◌≡◌, ◌<◌, ◌≤◌, ◌↔◌, Is
 ghost use Rattle.bus_words.specs.Entries.{call_of, call_bytes};
 ghost use Rattle.bus_words.specs.Log.{HasRoom};
 
-use crate::{Allowance, BusAnswer, BusCall, BusEntry, BusJournal, Head, Receipt, ReceiptList};
+use crate::{
+    Allowance, BusAnswer, BusCall, BusEntry, BusJournal, Head, PipeText, Receipt, ReceiptList,
+};
 use fsw_base::{AppNo, Budget, SbStatus, Scope};
 use std::alloc::{AllocError, Global};
 use std::test::Fail;
@@ -11,8 +13,8 @@ use std::test::Fail;
 #[test]
 fn journal_gives_back_each_kind_of_call(rt: HostRuntime) -> Result<(), Fail> {
     let budget = Budget {
-        entries: 6,
-        bytes: 20,
+        entries: 14,
+        bytes: 24,
         buffers: 0,
     };
     let mut journal = BusJournal::new(rt.alloc(), &[budget, budget])?;
@@ -49,6 +51,23 @@ fn journal_gives_back_each_kind_of_call(rt: HostRuntime) -> Result<(), Fail> {
             BusCall::Receive { pipe: 1 },
             BusAnswer::Sb(SbStatus::NoMessage),
         ),
+        (BusCall::SetOpts { pipe: 1, bits: 1 }, BusAnswer::Done),
+        (BusCall::GetOpts { pipe: 1 }, BusAnswer::Number(1)),
+        (BusCall::Find { name: b"TLM" }, BusAnswer::Number(1)),
+        (
+            BusCall::PipeName { pipe: 1 },
+            BusAnswer::Name(PipeText::try_new(b"TLM").expect(&rt, "a short name")),
+        ),
+        (
+            BusCall::Unsubscribe {
+                id: 0x0801,
+                pipe: 1,
+            },
+            BusAnswer::Done,
+        ),
+        (BusCall::Pend { pipe: 1 }, BusAnswer::Pending),
+        (BusCall::Look { pipe: 1 }, BusAnswer::TimeOut),
+        (BusCall::Delete { pipe: 1 }, BusAnswer::Done),
         (BusCall::End, BusAnswer::Done),
     ];
     for (call, answer) in &rows {
@@ -59,7 +78,7 @@ fn journal_gives_back_each_kind_of_call(rt: HostRuntime) -> Result<(), Fail> {
         };
         assert!(rt; keeps(rt.alloc(), &mut journal, &entry)?, "at {entry:?}");
     }
-    assert_eq!(rt; journal.len(), 6);
+    assert_eq!(rt; journal.len(), 14);
     Ok(())
 }
 
@@ -95,9 +114,18 @@ fn call_len(call: &BusCall<'_>) -> usize
     ensures { result ≡ call_bytes (call_of call.now) }
 {
     match call {
-        BusCall::Create { name, .. } => name.len(),
+        BusCall::Create { name, .. } | BusCall::Find { name } => name.len(),
         BusCall::Transmit { bytes, .. } => bytes.len(),
-        BusCall::Subscribe { .. } | BusCall::Receive { .. } | BusCall::End => 0,
+        BusCall::Delete { .. }
+        | BusCall::SetOpts { .. }
+        | BusCall::GetOpts { .. }
+        | BusCall::PipeName { .. }
+        | BusCall::Subscribe { .. }
+        | BusCall::Unsubscribe { .. }
+        | BusCall::Receive { .. }
+        | BusCall::Pend { .. }
+        | BusCall::Look { .. }
+        | BusCall::End => 0,
     }
 }
 

@@ -1,10 +1,3 @@
 pub mod CopyLaws
 pub mod Ends
-pub mod FormBounds
-pub mod FormLaws
-pub mod FormLengths
-pub mod Merged
-pub mod Opened
-pub mod ServeTexts
-pub mod Standings
-pub mod UnderWay
+pub mod Sizes

@@ -1,13 +1,6 @@
 pub mod Audit
 pub mod Copies
-pub mod Form
-pub mod FormView
 pub mod Input
-pub mod Received
-pub mod Rotation
-pub mod Script
 pub mod Serve
 pub mod Status
-pub mod Trace
-pub mod Turns
 pub mod Words

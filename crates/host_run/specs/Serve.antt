@@ -1,21 +1,21 @@
 -- What the program does: what it reads, what it writes and what it shows an audit, by how it ended.
-use Rattle.std.specs.Prelude.{◌≡◌, ◌⊎◌, ℕ, List, ◌++◌, length, map, codes, decimal, Option, Some, None}
+use Rattle.std.specs.Prelude.{◌≡◌, ◌⊎◌, ℕ, List, ◌++◌, length, map, codes, decimal, Option, Some, Result, Ok, Err}
 use Rattle.std.specs.List.{range_with_len}
 use Rattle.fsw_base.specs.Outside.{Rose}
 use Rattle.fsw_base.specs.ScriptFaults.{fault_name}
-use Rattle.fsw_base.specs.declared.script_faults.FaultKind.TheVariants.{NotYet}
+use Rattle.fsw_base.specs.declared.script_faults.FaultKind.TheVariants.{TooLarge}
 use Rattle.fsw_base.specs.declared.script_faults.ScriptFault.{ScriptFault}
 use Rattle.bus_words.specs.declared.history.Entry.{Entry}
 use Rattle.bus_words.specs.Machine.{IsLegal}
-use Rattle.run_report.specs.Pieces.{Grew, CutShort}
+use Rattle.text_page.specs.Pieces.{Grew, CutShort}
 use Rattle.run_report.specs.Report.{report_text}
+use Rattle.app_script.specs.Grammar.{built_script}
+use Rattle.app_script.specs.Rotation.{rotation}
+use Rattle.app_script.specs.Script.{ScriptText}
+use Rattle.app_script.specs.Told.{receipts_told}
+use Rattle.app_script.specs.Trace.{Merges}
 use Rattle.host_run.specs.Audit.{IsShown}
-use Rattle.host_run.specs.Form.{first_form}
 use Rattle.host_run.specs.Input.{IsWhole, IsTooLarge, IsPartRead}
-use Rattle.host_run.specs.Received.{receipts_of}
-use Rattle.host_run.specs.Rotation.{rotation}
-use Rattle.host_run.specs.Script.{Script}
-use Rattle.host_run.specs.Trace.{Merges}
 use Rattle.host_run.specs.declared.status.HostStatus.{HostStatus}
 use Rattle.host_run.specs.declared.status.HostStatus.TheVariants as status
 
@@ -29,17 +29,16 @@ usage_text = codes "usage: lockstep\n"
 abbrev pub fault_text : ScriptFault → List ℕ
 fault_text fault = codes "script:" ++ decimal fault.line ++ codes ":" ++ fault_name fault.kind ++ codes "\n"
 
--- the fault of an input that is no script of the first form
-abbrev pub not_yet : ScriptFault
-not_yet = record { line = 0; kind = NotYet }
+-- the fault of an input that is longer than any script
+abbrev pub too_large : ScriptFault
+too_large = record { line = 0; kind = TooLarge }
 
 -- the report of a script's history, with what each of its applications tells of what it received
-abbrev pub report : Script → List Entry → List ℕ
-report script history =
-    report_text history (map (receipts_of script.limits (length script.apps) history) (range_with_len 1 (length script.apps)))
+abbrev pub report : ScriptText → List Entry → List ℕ
+report script history = report_text history (map (receipts_told script history) (range_with_len 1 (length script.apps)))
 
 -- the report of a script, run in rotation
-abbrev pub rotation_report : Script → List ℕ
+abbrev pub rotation_report : ScriptText → List ℕ
 rotation_report script = report script (rotation script)
 
 -- A source: the input left, where it is told, and the count of its faults.
@@ -78,12 +77,12 @@ pub record TellsFront (old new : Made) (text : List ℕ) : Type 0 where
   pub shown : new.shown ≡ old.shown
 
 -- the history of the script's rotation was shown, and its report written
-pub record Reports (old new : Made) (script : Script) : Type 0 where
+pub record Reports (old new : Made) (script : ScriptText) : Type 0 where
   pub written : Grew old.written new.written (rotation_report script)
   pub shown : IsShown old.shown new.shown (rotation script)
 
 -- the history was shown, a front of the report written, and the sink's count of faults rose
-pub record ReportsFront (old new : Made) (script : Script) : Type 0 where
+pub record ReportsFront (old new : Made) (script : ScriptText) : Type 0 where
   pub front : CutShort old.written new.written (rotation_report script)
   pub cause : Rose old.faults new.faults
   pub shown : IsShown old.shown new.shown (rotation script)
@@ -94,7 +93,7 @@ EndsTelling wanted result old new text =
     ((result ≡ wanted) × Tells old new text) ⊎ ((result ≡ status.WriteFault) × TellsFront old new text)
 
 -- what was made of a script, by how it ended
-abbrev pub EndsScript : HostStatus → Script → Made → Made → Type 0
+abbrev pub EndsScript : HostStatus → ScriptText → Made → Made → Type 0
 EndsScript status.Done script old new = Reports old new script
 EndsScript status.WriteFault script old new = ReportsFront old new script
 EndsScript status.NoMemory script old new = MakesNothing old new
@@ -102,26 +101,26 @@ EndsScript status.Usage script old new = ⊥
 EndsScript (status.Script fault) script old new = ⊥
 EndsScript status.ReadFault script old new = ⊥
 
--- what was made of an input that is no script of the first form, by how it ended
-abbrev pub EndsRefused : HostStatus → Made → Made → Type 0
-EndsRefused (status.Script fault) old new = (fault ≡ not_yet) × Tells old new (fault_text not_yet)
-EndsRefused status.WriteFault old new = TellsFront old new (fault_text not_yet)
-EndsRefused status.NoMemory old new = MakesNothing old new
-EndsRefused status.Done old new = ⊥
-EndsRefused status.Usage old new = ⊥
-EndsRefused status.ReadFault old new = ⊥
+-- what was made of an input that is no script, or one that isn't run yet, by how it ended
+abbrev pub EndsRefused : HostStatus → ScriptFault → Made → Made → Type 0
+EndsRefused (status.Script told) fault old new = (told ≡ fault) × Tells old new (fault_text fault)
+EndsRefused status.WriteFault fault old new = TellsFront old new (fault_text fault)
+EndsRefused status.NoMemory fault old new = MakesNothing old new
+EndsRefused status.Done fault old new = ⊥
+EndsRefused status.Usage fault old new = ⊥
+EndsRefused status.ReadFault fault old new = ⊥
 
--- what was made of an input, by what it is
-abbrev pub EndsInput : HostStatus → Option Script → Made → Made → Type 0
-EndsInput result (Some script) old new = EndsScript result script old new
-EndsInput result None old new = EndsRefused result old new
+-- what was made of an input, by what it is: a script, or the first fault
+abbrev pub EndsInput : HostStatus → Result ScriptText ScriptFault → Made → Made → Type 0
+EndsInput result (Ok script) old new = EndsScript result script old new
+EndsInput result (Err fault) old new = EndsRefused result fault old new
 
 -- On the word `lockstep` one of these happened.
 pub data Lockstep (result : HostStatus) (fed fed' : Fed) (old new : Made) : Type 0 where
   -- the whole input was read, and made what it is worth
-  Read : (bytes : List ℕ) → IsWhole bytes fed.left fed'.left → EndsInput result (first_form bytes) old new → Lockstep result fed fed' old new
+  Read : (bytes : List ℕ) → IsWhole bytes fed.left fed'.left → EndsInput result (built_script bytes) old new → Lockstep result fed fed' old new
   -- the input is longer than any script
-  TooLong : IsTooLarge fed.left fed'.left → EndsRefused result old new → Lockstep result fed fed' old new
+  TooLong : IsTooLarge fed.left fed'.left → EndsRefused result too_large old new → Lockstep result fed fed' old new
   -- the source failed
   SourceFailed : result ≡ status.ReadFault → Rose fed.faults fed'.faults → IsPartRead fed.left fed'.left → MakesNothing old new → Lockstep result fed fed' old new
   -- no memory for the input, of which nothing was read
@@ -143,22 +142,22 @@ HasCauses status.Done fed fed' old new = Unit {0}
 HasCauses (status.Script fault) fed fed' old new = Unit {0}
 HasCauses status.NoMemory fed fed' old new = Unit {0}
 
--- where the input is told and is a script of the first form, and neither count of faults rose, all was done or there was
--- no memory
+-- where the input is told and is a script that the program runs, and neither count of faults rose, all was done or there
+-- was no memory
 abbrev pub Completes : HostStatus → Fed → Fed → Made → Made → Type 0
 Completes result fed fed' old new =
-    (input : List ℕ) (script : Script) → fed.left ≡ Some input → first_form input ≡ Some script →
+    (input : List ℕ) (script : ScriptText) → fed.left ≡ Some input → built_script input ≡ Ok script →
     ¬ Rose fed.faults fed'.faults → ¬ Rose old.faults new.faults →
     (result ≡ status.Done) ⊎ (result ≡ status.NoMemory)
 
 -- The headline, as far as it goes today: where all was done, the whole input was read and is a script, and there is a
--- history that the bus can have, that merges the calls of the script's applications, each once and in order, that the
--- audit was shown, and of which the report was written.
+-- history that the bus can have under the script's limits, that merges the calls of the script's applications, each once
+-- and in order, that the audit was shown, and of which the report was written.
 abbrev pub Headline : HostStatus → Fed → Fed → Made → Made → Type 0
 Headline result fed fed' old new =
-    result ≡ status.Done → (bytes : List ℕ) × (script : Script) × (history : List Entry)
+    result ≡ status.Done → (bytes : List ℕ) × (script : ScriptText) × (history : List Entry)
     × IsWhole bytes fed.left fed'.left
-    × (first_form bytes ≡ Some script)
+    × (built_script bytes ≡ Ok script)
     × IsLegal script.limits (length script.apps) history
     × Merges script history
     × IsShown old.shown new.shown history

@@ -1,19 +1,16 @@
-//! The program: reads a script, runs its application on the software bus, and writes a report.
+//! The program: reads a script, runs its applications on the software bus, and writes a report.
 #![tactic(auto)]
 
 mod audit;
-mod form;
-mod laws;
+mod fault_line;
 mod mem_audit;
 mod reading;
-mod runs;
 mod serve;
 #[cfg(test)]
 mod serve_tests;
 mod status;
 #[cfg(test)]
 mod tests;
-mod turns;
 mod words;
 
 use crate::audit::NoAudit;

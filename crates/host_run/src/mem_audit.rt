@@ -182,8 +182,17 @@ fn byte_count(call: BusCall<'_>) -> usize
     ensures { result ≡ call_bytes (call_of call.entry) }
 {
     match call {
-        BusCall::Create { name, .. } => name.len(),
+        BusCall::Create { name, .. } | BusCall::Find { name } => name.len(),
         BusCall::Transmit { bytes, .. } => bytes.len(),
-        BusCall::Subscribe { .. } | BusCall::Receive { .. } | BusCall::End => 0,
+        BusCall::Delete { .. }
+        | BusCall::SetOpts { .. }
+        | BusCall::GetOpts { .. }
+        | BusCall::PipeName { .. }
+        | BusCall::Subscribe { .. }
+        | BusCall::Unsubscribe { .. }
+        | BusCall::Receive { .. }
+        | BusCall::Pend { .. }
+        | BusCall::Look { .. }
+        | BusCall::End => 0,
     }
 }

@@ -50,45 +50,95 @@ fn run(rt: &HostRuntime, input: &[u8]) -> Result<(HostStatus, MemSink<'static>),
     Ok((status, sink))
 }
 
+/// Two applications, the second of which finds the pipe of the first.
+const ROTATION_OF_TWO: &[u8] = b"app A\ncreate p0 4 A\nsub 0x0801 p0\nrecv p0\nshow p0\n\
+    app B\nfind p0 A\nsend 0x0801 7 1\n";
+
+const ROTATION_REPORT: &[u8] = b"fsw 1\nbus\n\
+    1 a1 create 4 A -> CFE_SUCCESS 1\n\
+    2 a2 find A -> CFE_SUCCESS 1\n\
+    3 a1 sub 0x0801 1 4 global -> CFE_SUCCESS\n\
+    4 a2 send 7 202 inc -> CFE_SUCCESS 1 1\n\
+    5 a1 recv 1 -> CFE_SUCCESS 1\n\
+    6 a2 end -> CFE_SUCCESS\n\
+    7 a1 end -> CFE_SUCCESS\n\
+    receipts\n\
+    a1 msg p1 n1 id=0x0801 seq=1 size=7 sum=203 head=0801c001000001\n\
+    a1 msg p1 n1 id=0x0801 seq=1 size=7 sum=203 head=0801c001000001\n\
+    end\n";
+
+/// Two applications that wait, each on a pipe that nobody sends to.
+const PENDING_PAIR: &[u8] = b"app A\ncreate p0 1 A\npend p0\napp B\ncreate p0 1 B\npend p0\n";
+
+const PENDING_REPORT: &[u8] = b"fsw 1\nbus\n\
+    1 a1 create 1 A -> CFE_SUCCESS 1\n\
+    2 a2 create 1 B -> CFE_SUCCESS 2\n\
+    3 a1 pend 1 -> PENDING\n\
+    4 a2 pend 2 -> CFE_SB_TIME_OUT\n\
+    5 a2 end -> CFE_SUCCESS\n\
+    6 a1 look 1 -> CFE_SB_TIME_OUT\n\
+    7 a1 end -> CFE_SUCCESS\n\
+    receipts\n\
+    end\n";
+
+// The status of a script with this fault.
+fn fault(line: u32, kind: FaultKind) -> HostStatus {
+    HostStatus::Script(ScriptFault { line, kind })
+}
+
 #[test]
 fn scripts_print_their_reports(rt: HostRuntime) -> Result<(), Fail> {
-    let not_yet = HostStatus::Script(ScriptFault {
-        line: 0,
-        kind: FaultKind::NotYet,
-    });
-    let cases: [(&[u8], HostStatus, &[u8]); 4] = [
+    let cases: [(&[u8], HostStatus, &[u8]); 8] = [
         (SCRIPT, HostStatus::Done, REPORT),
+        (ROTATION_OF_TWO, HostStatus::Done, ROTATION_REPORT),
+        (PENDING_PAIR, HostStatus::Done, PENDING_REPORT),
+        (b"", fault(0, FaultKind::NoApp), b"script:0:NoApp\n"),
         (
-            b"app A\ncreate p0 0 A\nsub 0x0801 p0\nrecv p0\n",
-            HostStatus::Done,
-            b"fsw 1\nbus\n\
-            1 a1 create 0 A -> CFE_SB_BAD_ARGUMENT\n\
-            2 a1 sub 0x0801 0 4 global -> CFE_SB_BAD_ARGUMENT\n\
-            3 a1 recv 0 -> CFE_SB_BAD_ARGUMENT\n\
-            4 a1 end -> CFE_SUCCESS\n\
-            receipts\nend\n",
+            b"app A\nfly p0\n",
+            fault(2, FaultKind::UnknownWord),
+            b"script:2:UnknownWord\n",
         ),
         (
-            b"app A\ncreate p0 4 ALPHA\nsub 0x0801 p0\nsend 0x0801 8 16\nrecv p0\nrecv p0\n",
-            HostStatus::Done,
-            b"fsw 1\nbus\n\
-            1 a1 create 4 ALPHA -> CFE_SUCCESS 1\n\
-            2 a1 sub 0x0801 1 4 global -> CFE_SUCCESS\n\
-            3 a1 send 8 235 inc -> CFE_SUCCESS 1 1\n\
-            4 a1 recv 1 -> CFE_SUCCESS 1\n\
-            5 a1 recv 1 -> CFE_SB_NO_MESSAGE\n\
-            6 a1 end -> CFE_SUCCESS\n\
-            receipts\n\
-            a1 msg p1 n1 id=0x0801 seq=1 size=8 sum=236 head=0801c00100011011\n\
-            end\n",
+            b"recv p0\napp A\n",
+            fault(1, FaultKind::Misplaced),
+            b"script:1:Misplaced\n",
         ),
-        (b"", not_yet, b"script:0:NotYet\n"),
+        (
+            b"app A\nrecv x0\n",
+            fault(2, FaultKind::BadWord),
+            b"script:2:BadWord\n",
+        ),
+        (
+            b"app A\ntval t0\n",
+            fault(2, FaultKind::NotYet),
+            b"script:2:NotYet\n",
+        ),
     ];
     for (input, status, output) in &cases {
         let (ended, sink) = run(&rt, input)?;
         assert_eq!(rt; ended, *status);
         assert_eq!(rt; sink.written(), *output);
     }
+    Ok(())
+}
+
+#[test]
+fn other_words_are_told_the_usage(rt: HostRuntime) -> Result<(), Fail> {
+    let mut words = Words::new();
+    words.add("walk");
+    let mut source = MemSource::new(SCRIPT, 1000, &[]);
+    let mut sink = MemSink::new(rt.alloc(), 100, 1000, &[])?;
+    let status = serve(
+        &rt,
+        rt.alloc(),
+        &words,
+        &mut source,
+        &mut sink,
+        &OpenGate,
+        &mut NoAudit,
+    );
+    assert_eq!(rt; status.exit_status(), 2);
+    assert_eq!(rt; sink.written(), b"usage: lockstep\n".as_slice());
     Ok(())
 }
 

@@ -1,12 +1,13 @@
 -- The answers of a legal history are such as their calls can get.
-use Rattle.std.proofs.Common.{◌≡◌, ℕ, Bool, true, List, [], ◌∷◌, ◌++◌, Option, Some, None, All, IsTrue, refl, ap, ◌∙◌}
+use Rattle.std.proofs.Common.{◌≡◌, ℕ, not, Bool, true, false, if◌then◌else◌, List, [], ◌∷◌, ◌++◌, Option, Some, None, All, IsTrue, refl, ap, ◌∙◌}
 use Rattle.std.proofs.lemmas.List.Elements.{All-cons, All-nil}
 use Rattle.fsw_base.specs.Limits.{Limits}
 use Rattle.fsw_base.specs.declared.statuses.SbStatus.{SbStatus}
+use Rattle.bus_words.specs.declared.calls.BusAnswer.TheVariants.{Got, TimeOut, Pending, Sb}
 use Rattle.bus_words.specs.declared.history.Call.{Call}
-use Rattle.bus_words.specs.declared.history.Call.TheVariants.{Create, Subscribe, Transmit, Receive, End}
+use Rattle.bus_words.specs.declared.history.Call.TheVariants.{Create, Delete, SetOpts, GetOpts, Find, PipeName, Subscribe, Unsubscribe, Transmit, Receive, Pend, Look, End}
 use Rattle.bus_words.specs.declared.history.Entry.{Entry}
-use Rattle.bus_words.specs.Bus.{State, Sending, Subscription}
+use Rattle.bus_words.specs.Bus.{State, Sending, Subscription, is_empty, others_idle}
 use Rattle.bus_words.specs.Machine.{cause, decided, sent_along, step, LegalFrom}
 use Rattle.run_report.specs.ReadBack.{can_answer}
 
@@ -14,17 +15,48 @@ sent_answer : (bytes : List ℕ) (inc : Bool) (subs : List Subscription) (sendin
 sent_answer bytes inc [] sending s = refl
 sent_answer bytes inc (sub ∷ subs) sending s = refl
 
+-- any call may be refused
+refused_answer : (call : Call) (status : SbStatus) → can_answer call (Sb status) ≡ true
+refused_answer (Create depth name) status = refl
+refused_answer (Delete pipe) status = refl
+refused_answer (SetOpts pipe bits) status = refl
+refused_answer (GetOpts pipe) status = refl
+refused_answer (Find name) status = refl
+refused_answer (PipeName pipe) status = refl
+refused_answer (Subscribe id pipe limit scope) status = refl
+refused_answer (Unsubscribe id pipe) status = refl
+refused_answer (Transmit bytes inc) status = refl
+refused_answer (Receive pipe) status = refl
+refused_answer (Pend pipe) status = refl
+refused_answer (Look pipe) status = refl
+refused_answer End status = refl
+
+-- what a receive answers that may wait
+pended_can : (pipe number : ℕ) (there idle : Bool) → can_answer (Pend pipe) (if there then Got number else if idle then TimeOut else Pending) ≡ true
+pended_can pipe number true idle = refl
+pended_can pipe number false true = refl
+pended_can pipe number false false = refl
+
+looked_can : (pipe number : ℕ) (there idle : Bool) → can_answer (Look pipe) (if there then Got number else if idle then TimeOut else Pending) ≡ true
+looked_can pipe number true idle = refl
+looked_can pipe number false true = refl
+looked_can pipe number false false = refl
+
 -- a step's answer, whether refused or not
 decided_answer : (limits : Limits) (history : List Entry) (s : State) (app : ℕ) (call : Call) (why : Option SbStatus) → can_answer call (decided limits history s app call why).0 ≡ true
-decided_answer limits history s app (Create depth name) (Some status) = refl
-decided_answer limits history s app (Subscribe id pipe limit scope) (Some status) = refl
-decided_answer limits history s app (Transmit bytes inc) (Some status) = refl
-decided_answer limits history s app (Receive pipe) (Some status) = refl
-decided_answer limits history s app End (Some status) = refl
+decided_answer limits history s app call (Some status) = refused_answer call status
 decided_answer limits history s app (Create depth name) None = refl
+decided_answer limits history s app (Delete pipe) None = refl
+decided_answer limits history s app (SetOpts pipe bits) None = refl
+decided_answer limits history s app (GetOpts pipe) None = refl
+decided_answer limits history s app (Find name) None = refl
+decided_answer limits history s app (PipeName pipe) None = refl
 decided_answer limits history s app (Subscribe id pipe limit scope) None = refl
+decided_answer limits history s app (Unsubscribe id pipe) None = refl
 decided_answer limits history s app (Transmit bytes inc) None = sent_answer bytes inc _ _ s
 decided_answer limits history s app (Receive pipe) None = refl
+decided_answer limits history s app (Pend pipe) None = pended_can pipe _ (not (is_empty s.pipes pipe)) (others_idle s app)
+decided_answer limits history s app (Look pipe) None = looked_can pipe _ (not (is_empty s.pipes pipe)) (others_idle s app)
 decided_answer limits history s app End None = refl
 
 pub legal_answers : (limits : Limits) (history : List Entry) (s : State) (es : List Entry) → LegalFrom limits history s es → All (λ e. IsTrue (can_answer e.call e.answer)) es
@@ -32,4 +64,4 @@ legal_answers limits history s [] legal = All-nil (λ (e : Entry). IsTrue (can_a
 legal_answers limits history s (e ∷ es) legal =
     All-cons (λ (x : Entry). IsTrue (can_answer x.call x.answer)) e es
     (ap (can_answer e.call) legal.1 ∙ decided_answer limits history s e.app e.call (cause limits s e.app e.call))
-    (legal_answers limits (history ++ e ∷ []) ((step limits history s e.app e.call).1) es legal.2)
+    (legal_answers limits (history ++ e ∷ []) ((step limits history s e.app e.call).1) es legal.3)

@@ -1,5 +1,5 @@
 -- What the lines of a report tell.
-use Rattle.std.proofs.Common.{◌≡◌, ℕ, suc, ◌+◌, ◌*◌, ◌<◌, ◌^◌, ◌&&◌, nat_le, nat_lt, Bool, true, false, List, [], ◌∷◌, ◌++◌, length, get_or, sum, find, Option, Some, All, codes, decimal, refl, ap, sym, ◌∙◌, arith, append_assoc}
+use Rattle.std.proofs.Common.{◌≡◌, ℕ, suc, ◌+◌, ◌*◌, ◌<◌, ◌^◌, nat_lt, Bool, true, false, List, [], ◌∷◌, ◌++◌, length, get_or, sum, find, Option, Some, None, All, codes, decimal, refl, ap, sym, ◌∙◌, arith, append_assoc}
 use Rattle.std.specs.List.{list_all}
 use Rattle.std.specs.Str.{bytes_eq}
 use Rattle.std.proofs.lemmas.Bool.{leb-true}
@@ -12,13 +12,13 @@ use Rattle.fsw_base.specs.declared.statuses.SbStatus.{SbStatus}
 use Rattle.fsw_base.specs.declared.statuses.SbStatus.TheVariants.{BadArgument, MaxPipesMet, PipeCrErr, MaxMsgsMet, MaxDestsMet, MsgTooBig, BufAlocErr, NoMessage, BufferInvalid}
 use Rattle.fsw_base.specs.Statuses.{sb_name}
 use Rattle.bus_words.specs.declared.calls.BusAnswer.{BusAnswer}
-use Rattle.bus_words.specs.declared.calls.BusAnswer.TheVariants.{Done, Number, Sent, Got, Sb}
+use Rattle.bus_words.specs.declared.calls.BusAnswer.TheVariants.{Done, Number, Name, Sent, Got, TimeOut, Pending, Sb}
 use Rattle.bus_words.specs.declared.history.Call.{Call}
-use Rattle.bus_words.specs.declared.history.Call.TheVariants.{Create, Subscribe, Transmit, Receive, End}
+use Rattle.bus_words.specs.declared.history.Call.TheVariants.{Create, Delete, SetOpts, GetOpts, Find, PipeName, Subscribe, Unsubscribe, Transmit, Receive, Pend, Look, End}
 use Rattle.bus_words.specs.declared.history.Entry.{Entry}
-use Rattle.run_report.specs.Texts.{name_text, numbered}
+use Rattle.text_page.specs.Texts.{name_text, numbered}
 use Rattle.run_report.specs.BusText.{scope_text, mode_text, call_text, answer_text, entry_text}
-use Rattle.run_report.specs.ReadBack.{has_plain_name, can_answer, has_short_numbers, IsPlain, TellTheSame}
+use Rattle.run_report.specs.ReadBack.{is_visible, has_plain_name, can_answer, tells_plain_name, has_short_numbers, IsPlain, TellTheSame}
 use Rattle.run_report.proofs.Splitting.{above, above-append, above-from_within, and_first, and_second, split_once, split_twice, split_thrice, decimal_above, letter_not_decimal}
 
 -- Answers. --
@@ -35,14 +35,17 @@ name_above NoMessage = refl
 name_above BufferInvalid = refl
 
 -- an answer has no line end
-answer_above : (a : BusAnswer) → above 11 (answer_text a) ≡ true
-answer_above Done = refl
-answer_above (Number number) = decimal_above 11 number (omega arith)
-answer_above (Sent number reached) =
+answer_above : (a : BusAnswer) → tells_plain_name a ≡ true → above 11 (answer_text a) ≡ true
+answer_above Done plain = refl
+answer_above (Number number) plain = decimal_above 11 number (omega arith)
+answer_above (Name name) plain = above-from_within 33 126 11 (omega arith) name plain
+answer_above (Sent number reached) plain =
     above-append 11 (decimal number ++ 32 ∷ []) (decimal reached)
     (above-append 11 (decimal number) (32 ∷ []) (decimal_above 11 number (omega arith)) refl) (decimal_above 11 reached (omega arith))
-answer_above (Got number) = decimal_above 11 number (omega arith)
-answer_above (Sb status) = name_above status
+answer_above (Got number) plain = decimal_above 11 number (omega arith)
+answer_above TimeOut plain = refl
+answer_above Pending plain = refl
+answer_above (Sb status) plain = name_above status
 
 -- the refusal of a name
 all_refusals : List SbStatus
@@ -66,30 +69,56 @@ refusal_of-name BufferInvalid = refl
 same_name : (s t : SbStatus) → sb_name s ≡ sb_name t → s ≡ t
 same_name s t e = let both : Some s ≡ Some t = sym (refusal_of-name s) ∙ ap refusal_of e ∙ refusal_of-name t in cc both
 
--- no name of a refusal begins as CFE_SUCCESS does
-sixth : (s : SbStatus) → get_or (sb_name s) 5 0 ≡ 66
-sixth BadArgument = refl
-sixth MaxPipesMet = refl
-sixth PipeCrErr = refl
-sixth MaxMsgsMet = refl
-sixth MaxDestsMet = refl
-sixth MsgTooBig = refl
-sixth BufAlocErr = refl
-sixth NoMessage = refl
-sixth BufferInvalid = refl
+-- no refusal is a time-out
+not_time_out : (s : SbStatus) → sb_name s ≡ codes "CFE_SB_TIME_OUT" → ⊥
+unfolding refusal_of all_refusals
+not_time_out s e = let other : Some s ≡ None = sym (refusal_of-name s) ∙ ap refusal_of e in cc other
 
-not_success : (s : SbStatus) (rest : List ℕ) → sb_name s ≡ 67 ∷ 70 ∷ 69 ∷ 95 ∷ 83 ∷ 85 ∷ rest → ⊥
-not_success s rest e = let other : ◌≡◌ {A = ℕ} 66 85 = sym (sixth s) ∙ ap (λ l. get_or l 5 0) e in omega arith
+-- the sixth byte of a text, which tells an answer of a call that is done from a refusal, a time-out and a wait
+sixth_name : (s : SbStatus) → get_or (sb_name s) 5 0 ≡ 66
+sixth_name BadArgument = refl
+sixth_name MaxPipesMet = refl
+sixth_name PipeCrErr = refl
+sixth_name MaxMsgsMet = refl
+sixth_name MaxDestsMet = refl
+sixth_name MsgTooBig = refl
+sixth_name BufAlocErr = refl
+sixth_name NoMessage = refl
+sixth_name BufferInvalid = refl
+
+abbrev sixth_of : BusAnswer → ℕ
+sixth_of (Sb s) = 66
+sixth_of TimeOut = 66
+sixth_of Pending = 78
+sixth_of a = 85
+
+sixth : (a : BusAnswer) → get_or (answer_text a) 5 0 ≡ sixth_of a
+sixth Done = refl
+sixth (Number number) = refl
+sixth (Name name) = refl
+sixth (Sent number reached) = refl
+sixth (Got number) = refl
+sixth TimeOut = refl
+sixth Pending = refl
+sixth (Sb s) = sixth_name s
+
+same_sixth : (a b : BusAnswer) → answer_text a ≡ answer_text b → sixth_of a ≡ sixth_of b
+same_sixth a b e = sym (sixth a) ∙ ap (λ l. get_or l 5 0) e ∙ sixth b
 
 short : (n : ℕ) → nat_lt n (2 ^ 32) ≡ true → n < 2 ^ 64
 short n holds = let below : n < 2 ^ 32 = leb-true (suc n) (2 ^ 32) holds in omega arith
 
--- whether two answers are of one kind, or one is a refusal
+-- whether two answers tell the same things, or one of them tells nothing of a call that is done
 abbrev alike : BusAnswer → BusAnswer → Bool
 alike (Sb s) b = true
+alike TimeOut b = true
+alike Pending b = true
 alike a (Sb t) = true
+alike a TimeOut = true
+alike a Pending = true
 alike Done Done = true
 alike (Number m) (Number n) = true
+alike (Name name) (Name title) = true
 alike (Sent m r) (Sent n q) = true
 alike (Got m) (Got n) = true
 alike a b = false
@@ -97,6 +126,9 @@ alike a b = false
 -- answers of one kind that read the same are the same
 same_answer : (a b : BusAnswer) → alike a b ≡ true → has_short_numbers a ≡ true → has_short_numbers b ≡ true → answer_text a ≡ answer_text b → a ≡ b
 same_answer Done Done kind one other e = refl
+same_answer TimeOut TimeOut kind one other e = refl
+same_answer Pending Pending kind one other e = refl
+same_answer (Name name) (Name title) kind one other e = ap Name (cc e)
 same_answer (Number m) (Number n) kind one other e = ap Number (decimal_injective m n (short m one) (short n other) (cc e))
 same_answer (Got m) (Got n) kind one other e = ap Got (decimal_injective m n (short m one) (short n other) (cc e))
 same_answer (Sent m r) (Sent n q) kind one other e =
@@ -106,53 +138,96 @@ same_answer (Sent m r) (Sent n q) kind one other e =
     let reached = decimal_injective r q (short r (and_second (nat_lt m (2 ^ 32)) (nat_lt r (2 ^ 32)) one)) (short q (and_second (nat_lt n (2 ^ 32)) (nat_lt q (2 ^ 32)) other)) parts.1 in
     cc (numbers, reached)
 same_answer (Sb s) (Sb t) kind one other e = ap Sb (same_name s t e)
-same_answer (Sb s) b kind one other e = absurd (not_success s _ e)
-same_answer a (Sb t) kind one other e = absurd (not_success t _ (sym e))
+same_answer (Sb s) TimeOut kind one other e = absurd (not_time_out s e)
+same_answer TimeOut (Sb t) kind one other e = absurd (not_time_out t (sym e))
+same_answer (Sb s) b kind one other e = absurd (omega (arith, same_sixth (Sb s) b e))
+same_answer TimeOut b kind one other e = absurd (omega (arith, same_sixth TimeOut b e))
+same_answer Pending b kind one other e = absurd (omega (arith, same_sixth Pending b e))
+same_answer a (Sb t) kind one other e = absurd (omega (arith, same_sixth a (Sb t) e))
+same_answer a TimeOut kind one other e = absurd (omega (arith, same_sixth a TimeOut e))
+same_answer a Pending kind one other e = absurd (omega (arith, same_sixth a Pending e))
 same_answer a b kind one other e = absurd (cc kind)
 
 -- Calls: what is behind a call can be read off, and the kind of its answer. --
 
--- what two entries' calls tell where they read the same
-record Tells (a b : BusAnswer) (x y : List ℕ) : Type 0 where
-  kind : alike a b ≡ true
+-- what an answer of a call that is done tells
+data Telling : Type 0 where
+  NoMore : Telling
+  ANumber : Telling
+  AName : Telling
+  ASending : Telling
+  AMessage : Telling
+
+abbrev telling : Call → Telling
+telling (Create depth name) = ANumber
+telling (Delete pipe) = NoMore
+telling (SetOpts pipe bits) = NoMore
+telling (GetOpts pipe) = ANumber
+telling (Find name) = ANumber
+telling (PipeName pipe) = AName
+telling (Subscribe id pipe limit scope) = NoMore
+telling (Unsubscribe id pipe) = NoMore
+telling (Transmit bytes inc) = ASending
+telling (Receive pipe) = AMessage
+telling (Pend pipe) = AMessage
+telling (Look pipe) = AMessage
+telling End = NoMore
+
+-- whether an answer tells this, or is none of a call that is done
+abbrev tells : BusAnswer → Telling → Bool
+tells (Sb s) what = true
+tells TimeOut what = true
+tells Pending what = true
+tells Done NoMore = true
+tells (Number number) ANumber = true
+tells (Name name) AName = true
+tells (Sent number reached) ASending = true
+tells (Got number) AMessage = true
+tells a what = false
+
+can_tell : (c : Call) (a : BusAnswer) → can_answer c a ≡ true → tells a (telling c) ≡ true
+can_tell c (Sb s) can = refl
+can_tell c TimeOut can = refl
+can_tell c Pending can = refl
+can_tell (Create depth name) (Number number) can = refl
+can_tell (Delete pipe) Done can = refl
+can_tell (SetOpts pipe bits) Done can = refl
+can_tell (GetOpts pipe) (Number number) can = refl
+can_tell (Find name) (Number number) can = refl
+can_tell (PipeName pipe) (Name told) can = refl
+can_tell (Subscribe id pipe limit scope) Done can = refl
+can_tell (Unsubscribe id pipe) Done can = refl
+can_tell (Transmit bytes inc) (Sent number reached) can = refl
+can_tell (Receive pipe) (Got number) can = refl
+can_tell (Pend pipe) (Got number) can = refl
+can_tell (Look pipe) (Got number) can = refl
+can_tell End Done can = refl
+can_tell c a can = absurd (cc can)
+
+both_tell : (a b : BusAnswer) (what : Telling) → tells a what ≡ true → tells b what ≡ true → alike a b ≡ true
+both_tell (Sb s) b what one other = refl
+both_tell TimeOut b what one other = refl
+both_tell Pending b what one other = refl
+both_tell a (Sb t) what one other = refl
+both_tell a TimeOut what one other = refl
+both_tell a Pending what one other = refl
+both_tell Done Done what one other = refl
+both_tell (Number m) (Number n) what one other = refl
+both_tell (Name name) (Name title) what one other = refl
+both_tell (Sent m r) (Sent n q) what one other = refl
+both_tell (Got m) (Got n) what one other = refl
+both_tell a b NoMore one other = absurd (cc)
+both_tell a b ANumber one other = absurd (cc)
+both_tell a b AName one other = absurd (cc)
+both_tell a b ASending one other = absurd (cc)
+both_tell a b AMessage one other = absurd (cc)
+
+-- what two calls tell that read the same: the kind of their answers, and what is behind them
+record Tells (c d : Call) (x y : List ℕ) : Type 0 where
+  kind : telling c ≡ telling d
   rest : x ≡ y
 
-create_alike : (depth height : ℕ) (name title : List ℕ) (a b : BusAnswer) → can_answer (Create depth name) a ≡ true → can_answer (Create height title) b ≡ true → alike a b ≡ true
-create_alike depth height name title (Sb s) b one other = refl
-create_alike depth height name title (Number m) (Number n) one other = refl
-create_alike depth height name title (Number m) (Sb t) one other = refl
-create_alike depth height name title (Number m) b one other = absurd (cc other)
-create_alike depth height name title a b one other = absurd (cc one)
-
-subscribe_alike : (id key pipe tube limit bound : ℕ) (scope range : Scope) (a b : BusAnswer) → can_answer (Subscribe id pipe limit scope) a ≡ true → can_answer (Subscribe key tube bound range) b ≡ true → alike a b ≡ true
-subscribe_alike id key pipe tube limit bound scope range (Sb s) b one other = refl
-subscribe_alike id key pipe tube limit bound scope range Done Done one other = refl
-subscribe_alike id key pipe tube limit bound scope range Done (Sb t) one other = refl
-subscribe_alike id key pipe tube limit bound scope range Done b one other = absurd (cc other)
-subscribe_alike id key pipe tube limit bound scope range a b one other = absurd (cc one)
-
-transmit_alike : (bytes octets : List ℕ) (inc move : Bool) (a b : BusAnswer) → can_answer (Transmit bytes inc) a ≡ true → can_answer (Transmit octets move) b ≡ true → alike a b ≡ true
-transmit_alike bytes octets inc move (Sb s) b one other = refl
-transmit_alike bytes octets inc move (Sent m r) (Sent n q) one other = refl
-transmit_alike bytes octets inc move (Sent m r) (Sb t) one other = refl
-transmit_alike bytes octets inc move (Sent m r) b one other = absurd (cc other)
-transmit_alike bytes octets inc move a b one other = absurd (cc one)
-
-receive_alike : (pipe tube : ℕ) (a b : BusAnswer) → can_answer (Receive pipe) a ≡ true → can_answer (Receive tube) b ≡ true → alike a b ≡ true
-receive_alike pipe tube (Sb s) b one other = refl
-receive_alike pipe tube (Got m) (Got n) one other = refl
-receive_alike pipe tube (Got m) (Sb t) one other = refl
-receive_alike pipe tube (Got m) b one other = absurd (cc other)
-receive_alike pipe tube a b one other = absurd (cc one)
-
-end_alike : (a b : BusAnswer) → can_answer End a ≡ true → can_answer End b ≡ true → alike a b ≡ true
-end_alike (Sb s) b one other = refl
-end_alike Done Done one other = refl
-end_alike Done (Sb t) one other = refl
-end_alike Done b one other = absurd (cc other)
-end_alike a b one other = absurd (cc one)
-
-name_word : (name : List ℕ) → list_all (λ byte. nat_le 0x21 byte && nat_le byte 0x7e) name ≡ true → above 33 (name_text name) ≡ true
+name_word : (name : List ℕ) → list_all is_visible name ≡ true → above 33 (name_text name) ≡ true
 name_word [] plain = refl
 name_word (x ∷ xs) plain = above-from_within 33 126 33 (omega arith) (x ∷ xs) plain
 
@@ -167,32 +242,49 @@ mode_word false = refl
 word : (n : ℕ) → above 33 (decimal n) ≡ true
 word n = decimal_above 33 n (omega arith)
 
+-- a word, and a number, with a blank behind it
+behind_word : (u v x y : List ℕ) → above 33 u ≡ true → above 33 v ≡ true → u ++ 32 ∷ x ≡ v ++ 32 ∷ y → x ≡ y
+behind_word u v x y one other e = (split_once 33 32 u v x y (omega arith) one other e).1
+
+behind_number : (m n : ℕ) (x y : List ℕ) → decimal m ++ 32 ∷ x ≡ decimal n ++ 32 ∷ y → x ≡ y
+behind_number m n x y e = behind_word (decimal m) (decimal n) x y (word m) (word n) e
+
 -- the first two bytes of a text, as a number that tells the words for calls apart
 abbrev beginning : List ℕ → ℕ
-beginning text = get_or text 0 0 + 3 * get_or text 1 0
+beginning text = get_or text 0 0 + 5 * get_or text 1 0
 
-call_tells : (c d : Call) (a b : BusAnswer) (x y : List ℕ) → has_plain_name c ≡ true → has_plain_name d ≡ true → can_answer c a ≡ true → can_answer d b ≡ true →
-    call_text c ++ 32 ∷ x ≡ call_text d ++ 32 ∷ y → Tells a b x y
-call_tells (Create depth name) (Create height title) a b x y plain clear one other e = record {
-  kind = create_alike depth height name title a b one other;
+call_tells : (c d : Call) (x y : List ℕ) → has_plain_name c ≡ true → has_plain_name d ≡ true → call_text c ++ 32 ∷ x ≡ call_text d ++ 32 ∷ y → Tells c d x y
+call_tells (Create depth name) (Create height title) x y plain clear e = record {
+  kind = refl;
   rest = split_twice (decimal depth) (decimal height) (name_text name) (name_text title) x y (word depth) (word height) (name_word name plain) (name_word title clear) (cc e);
 }
-call_tells (Subscribe id pipe limit scope) (Subscribe key tube bound range) a b x y plain clear one other e = record {
-  kind = subscribe_alike id key pipe tube limit bound scope range a b one other;
+call_tells (Delete pipe) (Delete tube) x y plain clear e = record { kind = refl; rest = behind_number pipe tube x y (cc e) }
+call_tells (SetOpts pipe bits) (SetOpts tube flags) x y plain clear e = record {
+  kind = refl;
+  rest = split_twice (decimal pipe) (decimal tube) (decimal bits) (decimal flags) x y (word pipe) (word tube) (word bits) (word flags) (cc e);
+}
+call_tells (GetOpts pipe) (GetOpts tube) x y plain clear e = record { kind = refl; rest = behind_number pipe tube x y (cc e) }
+call_tells (Find name) (Find title) x y plain clear e = record {
+  kind = refl;
+  rest = behind_word (name_text name) (name_text title) x y (name_word name plain) (name_word title clear) (cc e);
+}
+call_tells (PipeName pipe) (PipeName tube) x y plain clear e = record { kind = refl; rest = behind_number pipe tube x y (cc e) }
+call_tells (Subscribe id pipe limit scope) (Subscribe key tube bound range) x y plain clear e = record {
+  kind = refl;
   rest = split_thrice (decimal pipe) (decimal tube) (decimal limit) (decimal bound) (scope_text scope) (scope_text range) x y
       (word pipe) (word tube) (word limit) (word bound) (scope_word scope) (scope_word range) (cc e);
 }
-call_tells (Transmit bytes inc) (Transmit octets move) a b x y plain clear one other e = record {
-  kind = transmit_alike bytes octets inc move a b one other;
+call_tells (Unsubscribe id pipe) (Unsubscribe key tube) x y plain clear e = record { kind = refl; rest = behind_number pipe tube x y (cc e) }
+call_tells (Transmit bytes inc) (Transmit octets move) x y plain clear e = record {
+  kind = refl;
   rest = split_thrice (decimal (length bytes)) (decimal (length octets)) (decimal (sum bytes)) (decimal (sum octets)) (mode_text inc) (mode_text move) x y
       (word (length bytes)) (word (length octets)) (word (sum bytes)) (word (sum octets)) (mode_word inc) (mode_word move) (cc e);
 }
-call_tells (Receive pipe) (Receive tube) a b x y plain clear one other e = record {
-  kind = receive_alike pipe tube a b one other;
-  rest = (split_once 33 32 (decimal pipe) (decimal tube) x y (omega arith) (word pipe) (word tube) (cc e)).1;
-}
-call_tells End End a b x y plain clear one other e = record { kind = end_alike a b one other; rest = cc e }
-call_tells c d a b x y plain clear one other e = absurd (omega (arith, ap beginning e))
+call_tells (Receive pipe) (Receive tube) x y plain clear e = record { kind = refl; rest = behind_number pipe tube x y (cc e) }
+call_tells (Pend pipe) (Pend tube) x y plain clear e = record { kind = refl; rest = behind_number pipe tube x y (cc e) }
+call_tells (Look pipe) (Look tube) x y plain clear e = record { kind = refl; rest = behind_number pipe tube x y (cc e) }
+call_tells End End x y plain clear e = record { kind = refl; rest = cc e }
+call_tells c d x y plain clear e = absurd (omega (arith, ap beginning e))
 
 -- Lines. --
 
@@ -216,12 +308,12 @@ line_tells n e f x y one other same =
     let behind = append_cancel_left (decimal n) _ _ text in
     let apps = split_once 33 32 (decimal e.app) (decimal f.app) (call_text e.call ++ 32 ∷ 45 ∷ 62 ∷ 32 ∷ (answer_text e.answer ++ 10 ∷ x)) (call_text f.call ++ 32 ∷ 45 ∷ 62 ∷ 32 ∷ (answer_text f.answer ++ 10 ∷ y))
     (omega arith) (word e.app) (word f.app) (cc behind) in
-    let calls = call_tells e.call f.call e.answer f.answer (45 ∷ 62 ∷ 32 ∷ (answer_text e.answer ++ 10 ∷ x)) (45 ∷ 62 ∷ 32 ∷ (answer_text f.answer ++ 10 ∷ y))
-    one.name other.name one.answer other.answer apps.1 in
-    let answers = split_once 11 10 (answer_text e.answer) (answer_text f.answer) x y (omega arith) (answer_above e.answer) (answer_above f.answer) (cc calls.rest) in
+    let calls = call_tells e.call f.call (45 ∷ 62 ∷ 32 ∷ (answer_text e.answer ++ 10 ∷ x)) (45 ∷ 62 ∷ 32 ∷ (answer_text f.answer ++ 10 ∷ y)) one.name other.name apps.1 in
+    let alike = both_tell e.answer f.answer (telling e.call) (can_tell e.call e.answer one.answer) (ap (tells f.answer) calls.kind ∙ can_tell f.call f.answer other.answer) in
+    let answers = split_once 11 10 (answer_text e.answer) (answer_text f.answer) x y (omega arith) (answer_above e.answer one.told) (answer_above f.answer other.told) (cc calls.rest) in
     record {
       app = decimal_injective e.app f.app (omega (arith, one.app)) (omega (arith, other.app)) apps.0;
-      answer = same_answer e.answer f.answer calls.kind one.numbers other.numbers answers.0;
+      answer = same_answer e.answer f.answer alike one.numbers other.numbers answers.0;
       rest = answers.1;
     }
 

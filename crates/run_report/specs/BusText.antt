@@ -4,11 +4,11 @@ use Rattle.fsw_base.specs.declared.config.Scope.{Scope}
 use Rattle.fsw_base.specs.declared.config.Scope.TheVariants as scopes
 use Rattle.fsw_base.specs.Statuses.{sb_name}
 use Rattle.bus_words.specs.declared.calls.BusAnswer.{BusAnswer}
-use Rattle.bus_words.specs.declared.calls.BusAnswer.TheVariants.{Done, Number, Sent, Got, Sb}
+use Rattle.bus_words.specs.declared.calls.BusAnswer.TheVariants.{Done, Number, Name, Sent, Got, TimeOut, Pending, Sb}
 use Rattle.bus_words.specs.declared.history.Call.{Call}
-use Rattle.bus_words.specs.declared.history.Call.TheVariants.{Create, Subscribe, Transmit, Receive, End}
+use Rattle.bus_words.specs.declared.history.Call.TheVariants.{Create, Delete, SetOpts, GetOpts, Find, PipeName, Subscribe, Unsubscribe, Transmit, Receive, Pend, Look, End}
 use Rattle.bus_words.specs.declared.history.Entry.{Entry}
-use Rattle.run_report.specs.Texts.{hex_id, name_text, numbered}
+use Rattle.text_page.specs.Texts.{hex_id, name_text, numbered}
 
 abbrev pub scope_text : Scope → List ℕ
 scope_text scopes.Global = codes "global"
@@ -22,19 +22,30 @@ mode_text false = codes "keep"
 -- a call; of a message its size and the sum of its bytes
 abbrev pub call_text : Call → List ℕ
 call_text (Create depth name) = codes "create " ++ decimal depth ++ codes " " ++ name_text name
+call_text (Delete pipe) = codes "delete " ++ decimal pipe
+call_text (SetOpts pipe bits) = codes "opts " ++ decimal pipe ++ codes " " ++ decimal bits
+call_text (GetOpts pipe) = codes "getopts " ++ decimal pipe
+call_text (Find name) = codes "find " ++ name_text name
+call_text (PipeName pipe) = codes "pname " ++ decimal pipe
 call_text (Subscribe id pipe limit scope) =
     codes "sub " ++ hex_id id ++ codes " " ++ decimal pipe ++ codes " " ++ decimal limit ++ codes " " ++ scope_text scope
+call_text (Unsubscribe id pipe) = codes "unsub " ++ hex_id id ++ codes " " ++ decimal pipe
 call_text (Transmit bytes inc) =
     codes "send " ++ decimal (length bytes) ++ codes " " ++ decimal (sum bytes) ++ codes " " ++ mode_text inc
 call_text (Receive pipe) = codes "recv " ++ decimal pipe
+call_text (Pend pipe) = codes "pend " ++ decimal pipe
+call_text (Look pipe) = codes "look " ++ decimal pipe
 call_text End = codes "end"
 
--- an answer: the numbers that it tells, or why the call was refused
+-- an answer: the numbers or the name that it tells, that no message came or none is there yet, or why the call was refused
 abbrev pub answer_text : BusAnswer → List ℕ
 answer_text Done = codes "CFE_SUCCESS"
 answer_text (Number number) = codes "CFE_SUCCESS " ++ decimal number
+answer_text (Name name) = codes "CFE_SUCCESS " ++ name
 answer_text (Sent number reached) = codes "CFE_SUCCESS " ++ decimal number ++ codes " " ++ decimal reached
 answer_text (Got number) = codes "CFE_SUCCESS " ++ decimal number
+answer_text TimeOut = codes "CFE_SB_TIME_OUT"
+answer_text Pending = codes "PENDING"
 answer_text (Sb status) = sb_name status
 
 -- the line of entry number n: its number, its application, its call and its answer

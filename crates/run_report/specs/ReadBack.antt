@@ -2,9 +2,9 @@
 use Rattle.std.specs.Prelude.{◌≡◌, ℕ, ◌^◌, ◌<◌, ◌&&◌, nat_le, nat_lt, Bool, true, false, List, map, IsTrue}
 use Rattle.std.specs.List.{list_all}
 use Rattle.bus_words.specs.declared.calls.BusAnswer.{BusAnswer}
-use Rattle.bus_words.specs.declared.calls.BusAnswer.TheVariants.{Done, Number, Sent, Got, Sb}
+use Rattle.bus_words.specs.declared.calls.BusAnswer.TheVariants.{Done, Number, Name, Sent, Got, TimeOut, Pending, Sb}
 use Rattle.bus_words.specs.declared.history.Call.{Call}
-use Rattle.bus_words.specs.declared.history.Call.TheVariants.{Create, Subscribe, Transmit, Receive, End}
+use Rattle.bus_words.specs.declared.history.Call.TheVariants.{Create, Delete, SetOpts, GetOpts, Find, PipeName, Subscribe, Unsubscribe, Transmit, Receive, Pend, Look, End}
 use Rattle.bus_words.specs.declared.history.Entry.{Entry}
 
 -- a printed byte that is no blank
@@ -14,20 +14,52 @@ is_visible byte = nat_le 0x21 byte && nat_le byte 0x7e
 -- whether a call's name is a word, or empty; only pipes are named
 abbrev pub has_plain_name : Call → Bool
 has_plain_name (Create depth name) = list_all is_visible name
+has_plain_name (Delete pipe) = true
+has_plain_name (SetOpts pipe bits) = true
+has_plain_name (GetOpts pipe) = true
+has_plain_name (Find name) = list_all is_visible name
+has_plain_name (PipeName pipe) = true
 has_plain_name (Subscribe id pipe limit scope) = true
+has_plain_name (Unsubscribe id pipe) = true
 has_plain_name (Transmit bytes inc) = true
 has_plain_name (Receive pipe) = true
+has_plain_name (Pend pipe) = true
+has_plain_name (Look pipe) = true
 has_plain_name End = true
 
--- whether a call can be answered so: refused, or with what it tells where it is done
+-- whether a call can be answered so: refused, or with what it tells where it is done; a receive that may wait also that no
+-- message came, or none is there yet
 abbrev pub can_answer : Call → BusAnswer → Bool
 can_answer call (Sb status) = true
 can_answer (Create depth name) (Number number) = true
+can_answer (Delete pipe) Done = true
+can_answer (SetOpts pipe bits) Done = true
+can_answer (GetOpts pipe) (Number number) = true
+can_answer (Find name) (Number number) = true
+can_answer (PipeName pipe) (Name name) = true
 can_answer (Subscribe id pipe limit scope) Done = true
+can_answer (Unsubscribe id pipe) Done = true
 can_answer (Transmit bytes inc) (Sent number reached) = true
 can_answer (Receive pipe) (Got number) = true
+can_answer (Pend pipe) (Got number) = true
+can_answer (Pend pipe) TimeOut = true
+can_answer (Pend pipe) Pending = true
+can_answer (Look pipe) (Got number) = true
+can_answer (Look pipe) TimeOut = true
+can_answer (Look pipe) Pending = true
 can_answer End Done = true
 can_answer call answer = false
+
+-- whether an answer's name is a word
+abbrev pub tells_plain_name : BusAnswer → Bool
+tells_plain_name (Name name) = list_all is_visible name
+tells_plain_name Done = true
+tells_plain_name (Number number) = true
+tells_plain_name (Sent number reached) = true
+tells_plain_name (Got number) = true
+tells_plain_name TimeOut = true
+tells_plain_name Pending = true
+tells_plain_name (Sb status) = true
 
 -- whether an answer's numbers have 32 bits
 abbrev pub has_short_numbers : BusAnswer → Bool
@@ -35,6 +67,9 @@ has_short_numbers (Number number) = nat_lt number (2 ^ 32)
 has_short_numbers (Sent number reached) = nat_lt number (2 ^ 32) && nat_lt reached (2 ^ 32)
 has_short_numbers (Got number) = nat_lt number (2 ^ 32)
 has_short_numbers Done = true
+has_short_numbers (Name name) = true
+has_short_numbers TimeOut = true
+has_short_numbers Pending = true
 has_short_numbers (Sb status) = true
 
 -- an entry as the applications of a script make them
@@ -42,6 +77,7 @@ pub record IsPlain (e : Entry) : Type 0 where
   pub app : e.app < 2 ^ 32
   pub name : IsTrue (has_plain_name e.call)
   pub answer : IsTrue (can_answer e.call e.answer)
+  pub told : IsTrue (tells_plain_name e.answer)
   pub numbers : IsTrue (has_short_numbers e.answer)
 
 -- as many entries, each of the same application and with the same answer

@@ -3,7 +3,7 @@ use Rattle.std.specs.Prelude.{ℕ, List, ◌++◌, codes, decimal}
 use Rattle.std.specs.List.{flat_map}
 use Rattle.bus_words.specs.declared.receipts.Receipt.{Receipt}
 use Rattle.bus_words.specs.declared.receipts.Receipt.TheVariants.{Nothing, Message}
-use Rattle.run_report.specs.Texts.{hex_id, hex_bytes, numbered}
+use Rattle.text_page.specs.Texts.{hex_id, hex_bytes, numbered}
 
 -- what a receipt says: the pipe, the send number, and the packet's id, sequence count, size, sum of bytes and first bytes
 abbrev pub seen_text : Receipt → List ℕ

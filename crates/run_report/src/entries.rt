@@ -1,14 +1,13 @@
 //! The lines on the calls of the software bus.
-ghost use Rattle.std.specs.Prelude.{◌≡◌, ℕ, sum};
-ghost use Rattle.bus_words.specs.declared.history.Call.TheVariants.{Subscribe};
+ghost use Rattle.std.specs.Prelude.{◌≡◌, ℕ, ◌++◌, sum, decimal};
+ghost use Rattle.bus_words.specs.declared.history.Call.TheVariants.{Create, SetOpts, Find, Subscribe, Unsubscribe, Transmit};
 ghost use Rattle.bus_words.specs.Entries.{call_of, entry_of};
-ghost use Rattle.run_report.specs.Pieces.{Puts};
+ghost use Rattle.text_page.specs.Pieces.{Puts};
 ghost use Rattle.run_report.specs.BusText.{scope_text, mode_text, call_text, answer_text, entry_text, entries_text};
 
-use crate::pages::{Page, put};
-use crate::pieces::{put_hex_id, put_name, put_number};
 use bus_words::{BusAnswer, BusCall, BusEntry, BusJournal};
 use fsw_base::{Scope, Sink};
+use text_page::{Page, put, put_hex_id, put_name, put_number};
 
 /// Puts the lines of a journal, whose entries are numbered from 1.
 pub fn put_entries<K: Sink>(sink: &mut K, page: &mut Page, journal: &BusJournal)
@@ -38,32 +37,59 @@ fn put_call<K: Sink>(sink: &mut K, page: &mut Page, call: &BusCall<'_>)
     ensures { Puts K.written K.faults sink.old sink.new page.old page.new (call_text (call_of call.now)) }
 {
     match call {
-        BusCall::Create { depth, name } => {
-            put(sink, page, b"create ");
-            put_number(sink, page, *depth);
-            put(sink, page, b" ");
-            put_name(sink, page, name);
-        }
+        BusCall::Create { depth, name } => put_create(sink, page, *depth, name),
+        BusCall::Delete { pipe } => put_numbered(sink, page, b"delete ", *pipe),
+        BusCall::SetOpts { pipe, bits } => put_set_opts(sink, page, *pipe, *bits),
+        BusCall::GetOpts { pipe } => put_numbered(sink, page, b"getopts ", *pipe),
+        BusCall::Find { name } => put_find(sink, page, name),
+        BusCall::PipeName { pipe } => put_numbered(sink, page, b"pname ", *pipe),
         BusCall::Subscribe {
             id,
             pipe,
             limit,
             scope,
         } => put_subscribe(sink, page, *id, *pipe, *limit, *scope),
-        BusCall::Transmit { bytes, inc } => {
-            put(sink, page, b"send ");
-            put_number(sink, page, bytes.len());
-            put(sink, page, b" ");
-            put_number(sink, page, sum_of(bytes));
-            put(sink, page, b" ");
-            put_mode(sink, page, *inc);
-        }
-        BusCall::Receive { pipe } => {
-            put(sink, page, b"recv ");
-            put_number(sink, page, *pipe);
-        }
+        BusCall::Unsubscribe { id, pipe } => put_unsubscribe(sink, page, *id, *pipe),
+        BusCall::Transmit { bytes, inc } => put_transmit(sink, page, bytes, *inc),
+        BusCall::Receive { pipe } => put_numbered(sink, page, b"recv ", *pipe),
+        BusCall::Pend { pipe } => put_numbered(sink, page, b"pend ", *pipe),
+        BusCall::Look { pipe } => put_numbered(sink, page, b"look ", *pipe),
         BusCall::End => put(sink, page, b"end"),
     }
+}
+
+// Puts a word, with the blank behind it, and a number.
+fn put_numbered<K: Sink>(sink: &mut K, page: &mut Page, word: &[u8], number: u32)
+    ensures { Puts K.written K.faults sink.old sink.new page.old page.new (word.now ++ decimal number) }
+{
+    put(sink, page, word);
+    put_number(sink, page, number);
+}
+
+// Puts a create.
+fn put_create<K: Sink>(sink: &mut K, page: &mut Page, depth: u32, name: &[u8])
+    ensures { Puts K.written K.faults sink.old sink.new page.old page.new (call_text (Create depth name.now)) }
+{
+    put_numbered(sink, page, b"create ", depth);
+    put(sink, page, b" ");
+    put_name(sink, page, name);
+}
+
+// Puts a call that sets a pipe's option bits.
+fn put_set_opts<K: Sink>(sink: &mut K, page: &mut Page, pipe: u32, bits: u8)
+    ensures { Puts K.written K.faults sink.old sink.new page.old page.new (call_text (SetOpts pipe bits)) }
+{
+    put_numbered(sink, page, b"opts ", pipe);
+    put(sink, page, b" ");
+    put_number(sink, page, bits);
+}
+
+// Puts a find.
+fn put_find<K: Sink>(sink: &mut K, page: &mut Page, name: &[u8])
+    ensures { Puts K.written K.faults sink.old sink.new page.old page.new (call_text (Find name.now)) }
+{
+    put(sink, page, b"find ");
+    put_name(sink, page, name);
 }
 
 // Puts a subscribe.
@@ -85,6 +111,28 @@ fn put_subscribe<K: Sink>(
     put_number(sink, page, limit);
     put(sink, page, b" ");
     put_scope(sink, page, scope);
+}
+
+// Puts an unsubscribe.
+fn put_unsubscribe<K: Sink>(sink: &mut K, page: &mut Page, id: u16, pipe: u32)
+    ensures { Puts K.written K.faults sink.old sink.new page.old page.new (call_text (Unsubscribe id pipe)) }
+{
+    put(sink, page, b"unsub ");
+    put_hex_id(sink, page, id);
+    put(sink, page, b" ");
+    put_number(sink, page, pipe);
+}
+
+// Puts a send: its message's size and the sum of its bytes.
+fn put_transmit<K: Sink>(sink: &mut K, page: &mut Page, bytes: &[u8], inc: bool)
+    ensures { Puts K.written K.faults sink.old sink.new page.old page.new (call_text (Transmit bytes.now inc)) }
+{
+    put(sink, page, b"send ");
+    put_number(sink, page, bytes.len());
+    put(sink, page, b" ");
+    put_number(sink, page, sum_of(bytes));
+    put(sink, page, b" ");
+    put_mode(sink, page, inc);
 }
 
 // Puts a subscription's scope.
@@ -122,15 +170,19 @@ fn put_answer<K: Sink>(sink: &mut K, page: &mut Page, answer: &BusAnswer)
     match answer {
         BusAnswer::Done => put(sink, page, b"CFE_SUCCESS"),
         BusAnswer::Number(number) | BusAnswer::Got(number) => {
+            put_numbered(sink, page, b"CFE_SUCCESS ", *number)
+        }
+        BusAnswer::Name(name) => {
             put(sink, page, b"CFE_SUCCESS ");
-            put_number(sink, page, *number);
+            put(sink, page, name.as_slice());
         }
         BusAnswer::Sent { number, reached } => {
-            put(sink, page, b"CFE_SUCCESS ");
-            put_number(sink, page, *number);
+            put_numbered(sink, page, b"CFE_SUCCESS ", *number);
             put(sink, page, b" ");
             put_number(sink, page, *reached);
         }
+        BusAnswer::TimeOut => put(sink, page, b"CFE_SB_TIME_OUT"),
+        BusAnswer::Pending => put(sink, page, b"PENDING"),
         BusAnswer::Sb(status) => put(sink, page, status.name().as_bytes()),
     }
 }

@@ -10,8 +10,9 @@ ghost use Rattle.run_report.specs.Report.{report_text};
 
 /// A report tells who made each call and what it was answered: two histories with the same lines,
 /// and so two with the same report, have as many entries, of the same applications and with the
-/// same answers. Names must be words of visible ASCII characters, or empty, numbers must have 32 bits,
-/// and each answer must be one that its call can get, as it is in every legal history.
+/// same answers. Names must be words of visible ASCII characters, that of a create or a find maybe
+/// empty, numbers must have 32 bits, and each answer must be one that its call can get, as it is in
+/// every legal history.
 pub fn reports_tell_applications_and_answers()
     ensures lines { (one other : List Entry) → All IsPlain one → All IsPlain other →
         entries_text one ≡ entries_text other → TellTheSame one other }

@@ -14,15 +14,11 @@
 
 mod entries;
 mod laws;
-mod pages;
-mod pieces;
 mod receipts;
 mod writer;
-mod writes;
 
 pub use laws::reports_tell_applications_and_answers;
 pub use writer::{write_journal, write_report};
-pub use writes::write_text;
 
 #[cfg(test)]
 mod tests;

@@ -1,12 +1,11 @@
 //! The lines on what each application received.
 ghost use Rattle.std.specs.Prelude.{◌≡◌, ℕ, map};
-ghost use Rattle.run_report.specs.Pieces.{Puts};
+ghost use Rattle.text_page.specs.Pieces.{Puts};
 ghost use Rattle.run_report.specs.ReceiptText.{seen_text, receipt_text, application_text, receipts_text};
 
-use crate::pages::{Page, put};
-use crate::pieces::{put_hex_bytes, put_hex_id, put_number};
 use bus_words::{Receipt, ReceiptList};
 use fsw_base::Sink;
+use text_page::{Page, put, put_hex_bytes, put_hex_id, put_number};
 
 /// Puts the receipts of the applications 1, 2, 3 and so on.
 pub fn put_receipts<K: Sink>(sink: &mut K, page: &mut Page, receipts: &[ReceiptList])

@@ -4,13 +4,16 @@ ghost use Rattle.bus_words.specs.Entries.{call_of, call_bytes};
 ghost use Rattle.bus_words.specs.Log.{HasRoom};
 
 use crate::write_journal;
-use bus_words::{Allowance, BusAnswer, BusCall, BusEntry, BusJournal, Head, Receipt, ReceiptList};
+use bus_words::{
+    Allowance, BusAnswer, BusCall, BusEntry, BusJournal, Head, PipeText, Receipt, ReceiptList,
+};
 use fsw_base::{AppNo, Budget, MemSink, SbStatus, Scope, WriteFault};
 use std::alloc::{AllocError, Global};
 use std::test::Fail;
 
-const PATH: [(BusCall<'static>, BusAnswer); 5] = [
+const PATH: [(u32, BusCall<'static>, BusAnswer); 5] = [
     (
+        1,
         BusCall::Create {
             depth: 4,
             name: b"ALPHA",
@@ -18,6 +21,7 @@ const PATH: [(BusCall<'static>, BusAnswer); 5] = [
         BusAnswer::Number(1),
     ),
     (
+        1,
         BusCall::Subscribe {
             id: 0x0801,
             pipe: 1,
@@ -27,6 +31,7 @@ const PATH: [(BusCall<'static>, BusAnswer); 5] = [
         BusAnswer::Done,
     ),
     (
+        1,
         BusCall::Transmit {
             bytes: &[8, 1, 192, 0, 0, 1, 16, 17],
             inc: true,
@@ -36,8 +41,8 @@ const PATH: [(BusCall<'static>, BusAnswer); 5] = [
             reached: 1,
         },
     ),
-    (BusCall::Receive { pipe: 1 }, BusAnswer::Got(1)),
-    (BusCall::End, BusAnswer::Done),
+    (1, BusCall::Receive { pipe: 1 }, BusAnswer::Got(1)),
+    (1, BusCall::End, BusAnswer::Done),
 ];
 
 const PATH_REPORT: &[u8] = b"fsw 1
@@ -52,8 +57,9 @@ a1 msg p1 n1 id=0x0801 seq=1 size=8 sum=236 head=0801c00100011011
 end
 ";
 
-const REFUSALS: [(BusCall<'static>, BusAnswer); 4] = [
+const REFUSALS: [(u32, BusCall<'static>, BusAnswer); 4] = [
     (
+        1,
         BusCall::Create {
             depth: 0,
             name: b"A",
@@ -61,6 +67,7 @@ const REFUSALS: [(BusCall<'static>, BusAnswer); 4] = [
         BusAnswer::Sb(SbStatus::BadArgument),
     ),
     (
+        1,
         BusCall::Subscribe {
             id: 0x0801,
             pipe: 0,
@@ -70,10 +77,11 @@ const REFUSALS: [(BusCall<'static>, BusAnswer); 4] = [
         BusAnswer::Sb(SbStatus::BadArgument),
     ),
     (
+        1,
         BusCall::Receive { pipe: 0 },
         BusAnswer::Sb(SbStatus::BadArgument),
     ),
-    (BusCall::End, BusAnswer::Done),
+    (1, BusCall::End, BusAnswer::Done),
 ];
 
 const REFUSALS_REPORT: &[u8] = b"fsw 1
@@ -83,6 +91,26 @@ bus
 3 a1 recv 0 -> CFE_SB_BAD_ARGUMENT
 4 a1 end -> CFE_SUCCESS
 receipts
+end
+";
+
+// Two applications, one of which waits in vain for a message.
+const PIPES_REPORT: &[u8] = b"fsw 1
+bus
+1 a1 create 4 ALPHA -> CFE_SUCCESS 1
+2 a2 find - -> CFE_SB_BAD_ARGUMENT
+3 a1 opts 1 1 -> CFE_SUCCESS
+4 a2 find ALPHA -> CFE_SUCCESS 1
+5 a1 pend 1 -> PENDING
+6 a2 pname 1 -> CFE_SUCCESS ALPHA
+7 a2 getopts 1 -> CFE_SUCCESS 1
+8 a2 end -> CFE_SUCCESS
+9 a1 look 1 -> CFE_SB_TIME_OUT
+10 a1 unsub 0x1abc 1 -> CFE_SUCCESS
+11 a1 delete 1 -> CFE_SUCCESS
+12 a1 end -> CFE_SUCCESS
+receipts
+a1 none
 end
 ";
 
@@ -126,21 +154,60 @@ fn failing_write_leaves_a_front(rt: HostRuntime) -> Result<(), Fail> {
     Ok(())
 }
 
-// The journal of application 1, with these calls and answers.
+#[test]
+fn calls_on_pipes_are_reported(rt: HostRuntime) -> Result<(), Fail> {
+    let name = PipeText::try_new(b"ALPHA").expect(&rt, "a short name");
+    let create = BusCall::Create {
+        depth: 4,
+        name: b"ALPHA",
+    };
+    let rows = [
+        (1, create, BusAnswer::Number(1)),
+        (
+            2,
+            BusCall::Find { name: b"" },
+            BusAnswer::Sb(SbStatus::BadArgument),
+        ),
+        (1, BusCall::SetOpts { pipe: 1, bits: 1 }, BusAnswer::Done),
+        (2, BusCall::Find { name: b"ALPHA" }, BusAnswer::Number(1)),
+        (1, BusCall::Pend { pipe: 1 }, BusAnswer::Pending),
+        (2, BusCall::PipeName { pipe: 1 }, BusAnswer::Name(name)),
+        (2, BusCall::GetOpts { pipe: 1 }, BusAnswer::Number(1)),
+        (2, BusCall::End, BusAnswer::Done),
+        (1, BusCall::Look { pipe: 1 }, BusAnswer::TimeOut),
+        (
+            1,
+            BusCall::Unsubscribe {
+                id: 0x1abc,
+                pipe: 1,
+            },
+            BusAnswer::Done,
+        ),
+        (1, BusCall::Delete { pipe: 1 }, BusAnswer::Done),
+        (1, BusCall::End, BusAnswer::Done),
+    ];
+    let mut receipts = ReceiptList::new(rt.alloc(), 1)?;
+    receipts.push(Receipt::Nothing);
+    let mut sink = MemSink::new(rt.alloc(), 1000, 1000, &[])?;
+    let journal = journal_of(rt.alloc(), &rows)?;
+    assert_eq!(rt; write_journal(&journal, &[receipts], &mut sink), Ok(()));
+    assert_eq!(rt; sink.written(), PIPES_REPORT);
+    Ok(())
+}
+
+// The journal with these calls and answers, each of the application of this number.
 fn journal_of(
     alloc: Global,
-    rows: &[(BusCall<'static>, BusAnswer)],
+    rows: &[(u32, BusCall<'static>, BusAnswer)],
 ) -> Result<BusJournal, AllocError> {
-    let mut journal = BusJournal::new(
-        alloc,
-        &[Budget {
-            entries: 5,
-            bytes: 20,
-            buffers: 0,
-        }],
-    )?;
-    for (call, answer) in rows {
-        if let Some(app) = AppNo::try_new(1) {
+    let budget = Budget {
+        entries: 8,
+        bytes: 20,
+        buffers: 0,
+    };
+    let mut journal = BusJournal::new(alloc, &[budget, budget])?;
+    for (number, call, answer) in rows {
+        if let Some(app) = AppNo::try_new(*number) {
             enter(
                 &mut journal,
                 &BusEntry {
@@ -177,8 +244,17 @@ fn call_len(call: &BusCall<'_>) -> usize
     ensures { result ≡ call_bytes (call_of call.now) }
 {
     match call {
-        BusCall::Create { name, .. } => name.len(),
+        BusCall::Create { name, .. } | BusCall::Find { name } => name.len(),
         BusCall::Transmit { bytes, .. } => bytes.len(),
-        BusCall::Subscribe { .. } | BusCall::Receive { .. } | BusCall::End => 0,
+        BusCall::Delete { .. }
+        | BusCall::SetOpts { .. }
+        | BusCall::GetOpts { .. }
+        | BusCall::PipeName { .. }
+        | BusCall::Subscribe { .. }
+        | BusCall::Unsubscribe { .. }
+        | BusCall::Receive { .. }
+        | BusCall::Pend { .. }
+        | BusCall::Look { .. }
+        | BusCall::End => 0,
     }
 }

@@ -1,15 +1,15 @@
 //! Writing a whole report.
 ghost use Rattle.std.specs.Prelude.{◌≡◌, ℕ, ◌≤◌, OnOk, OnErr};
 ghost use Rattle.fsw_base.specs.Outside.{Rose};
-ghost use Rattle.run_report.specs.Pieces.{Grew, CutShort, Puts};
+ghost use Rattle.text_page.specs.Pieces.{Grew, CutShort, Puts};
 ghost use Rattle.run_report.specs.Report.{report_of};
 
 use crate::entries::put_entries;
-use crate::pages::{Page, finish, put};
 use crate::receipts::put_receipts;
 use bus_words::{BusJournal, ReceiptList};
 use fsw_base::{Sink, WriteFault};
 use sb_calls::BusCore;
+use text_page::{Page, finish, put};
 
 /// Writes the report of a bus, as [`write_journal`] does that of its journal.
 pub fn write_report<K: Sink>(

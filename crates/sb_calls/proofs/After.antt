@@ -1,5 +1,5 @@
 -- What one more entry leaves: the fields stand for the bus that the step leaves, and the call does what the bus does.
-use Rattle.std.proofs.Common.{◌≡◌, add-zero, zero-add, ℕ, zero, suc, ◌+◌, ◌-◌, ◌<◌, ◌≤◌, Bool, true, false, ◌&&◌, cond, ltb, List, [], ◌∷◌, ◌++◌, length, map, get_or, set, Option, Some, None, IsTrue, refl, ap, sym, ◌∙◌, subst, arith}
+use Rattle.std.proofs.Common.{◌≡◌, add-zero, zero-add, ℕ, zero, suc, ◌+◌, ◌-◌, ◌<◌, ◌≤◌, true, false, ◌&&◌, cond, ltb, List, [], ◌∷◌, ◌++◌, length, map, get_or, Option, Some, None, IsTrue, refl, ap, sym, ◌∙◌, subst, arith}
 use Rattle.std.specs.List.{All, slice_get}
 use Rattle.std.proofs.lemmas.List.{length-set, length_push, get_or_past}
 use Rattle.std.proofs.lemmas.List.Sums.{sum_by-set, sum_by-append}
@@ -10,20 +10,20 @@ use Rattle.fsw_base.specs.declared.statuses.SbStatus.{SbStatus}
 use Rattle.bus_words.specs.declared.calls.BusAnswer.{BusAnswer}
 use Rattle.bus_words.specs.declared.calls.BusAnswer.TheVariants.{Sb}
 use Rattle.bus_words.specs.declared.history.Call.{Call}
-use Rattle.bus_words.specs.declared.history.Call.TheVariants.{Create, Subscribe, Transmit, Receive, End}
+use Rattle.bus_words.specs.declared.history.Call.TheVariants.{Create, Delete, SetOpts, GetOpts, Find, PipeName, Subscribe, Unsubscribe, Transmit, Receive, Pend, Look, End}
 use Rattle.bus_words.specs.declared.history.Entry.{Entry}
 use Rattle.bus_words.specs.declared.journal.Allowance.{Allowance}
-use Rattle.bus_words.specs.Bus.{State, standing_of}
+use Rattle.bus_words.specs.Bus.{State}
 use Rattle.bus_words.specs.Entries.{call_bytes}
 use Rattle.bus_words.specs.Log.{Log, HasRoom, allowance_of, charged, entries_left, with_entry}
-use Rattle.bus_words.specs.Machine.{IsLegal, may_call, state_after, step, decided, cause, refused_state, counts_for}
+use Rattle.bus_words.specs.Machine.{IsLegal, makes_entry, state_after, step, decided, cause, refused_state, counts_for}
 use Rattle.bus_words.specs.Runs.{Follows}
 use Rattle.bus_words.proofs.Replay.{goes_on}
 use Rattle.sb_calls.specs.declared.bus_core.BusCore.TheInside.{Inside}
 use Rattle.sb_calls.specs.declared.rows.SendRow.{SendRow}
 use Rattle.sb_calls.specs.Core.{Core, Does, IsLegalCore, MayCall, apps_of, state_of}
 use Rattle.sb_calls.specs.Inside.{core_of, means, Keeps, Stands}
-use Rattle.sb_calls.specs.Rows.{Kept, Row, is_transmit, is_send, bytes_of_entry, kept_of, kept_in, pipe_in, counted_sends}
+use Rattle.sb_calls.specs.Rows.{is_transmit, is_send, bytes_of_entry, kept_of, kept_in, pipe_in, counted_sends}
 
 -- A journal that has one entry more. --
 
@@ -128,6 +128,7 @@ pub record Called (a : Inside) (old : Core) (app : ℕ) (call : Call) : Type 0 w
 pub record Next (a b : Inside) (app : ℕ) (call : Call) (answer : BusAnswer) : Type 0 where
   pub limits : limits_of b.config ≡ limits_of a.config
   pub log : b.journal ≡ with_entry a.journal (record { app = app; call = call; answer = answer })
+  pub makes : IsTrue (makes_entry call answer)
   pub step : step (limits_of a.config) a.journal.entries (means a) app call ≡ (answer, means b)
 
 -- the call may be made of the core that the fields are
@@ -149,7 +150,7 @@ module _ (a b : Inside) (app : ℕ) (call : Call) (answer : BusAnswer) (stands :
   follows : Follows (limits_of a.config) (apps_of (core_of a)) a.journal.entries (record { app = app; call = call; answer = answer })
   follows =
       goes_on (limits_of a.config) (apps_of (core_of a)) a.journal.entries (record { app = app; call = call; answer = answer }) stands.legal may.standing
-      (sym (ap (λ (p : BusAnswer × State). p.0) step_here))
+      (sym (ap (λ (p : BusAnswer × State). p.0) step_here)) next.makes
 
   same_apps : apps_of (grown_core a app call answer) ≡ apps_of (core_of a)
   unfolding grown_core
@@ -235,7 +236,7 @@ step_by limits history s app call why is = ap (decided limits history s app call
 -- a call that makes no send, where the fields but the journal stand for what the step leaves already
 module _ (a changed : Inside) (journal : Log) (old : Core) (app : ℕ) (call : Call) (answer : BusAnswer) (called : Called a old app call)
     (limits : limits_of changed.config ≡ limits_of a.config) (log : changed.journal ≡ a.journal)
-    (keeps : Keeps changed) (silent : (id : ℕ) → counts_for id call answer ≡ false)
+    (keeps : Keeps changed) (silent : (id : ℕ) → counts_for id call answer ≡ false) (makes : IsTrue (makes_entry call answer))
     (made : step (limits_of a.config) a.journal.entries (means a) app call ≡ (answer, means changed))
     (pushed : journal ≡ with_entry a.journal (record { app = app; call = call; answer = answer })) where
   pushed_here : journal ≡ with_entry changed.journal (record { app = app; call = call; answer = answer })
@@ -248,6 +249,7 @@ module _ (a changed : Inside) (journal : Log) (old : Core) (app : ℕ) (call : C
   exit_next = record {
     limits = limits;
     log = pushed;
+    makes = makes;
     step = made ∙ ap (λ s. (answer, s)) (sym (entry_means changed journal (record { app = app; call = call; answer = answer }) keeps pushed_here));
   }
 
@@ -261,10 +263,33 @@ module _ (a changed : Inside) (journal : Log) (old : Core) (app : ℕ) (call : C
 
 refusal_silent : (id : ℕ) (call : Call) (status : SbStatus) → counts_for id call (Sb status) ≡ false
 refusal_silent id (Create depth name) status = refl
+refusal_silent id (Delete pipe) status = refl
+refusal_silent id (SetOpts pipe bits) status = refl
+refusal_silent id (GetOpts pipe) status = refl
+refusal_silent id (Find name) status = refl
+refusal_silent id (PipeName pipe) status = refl
 refusal_silent id (Subscribe i pipe limit scope) status = refl
+refusal_silent id (Unsubscribe i pipe) status = refl
 refusal_silent id (Transmit bytes inc) status = refl
 refusal_silent id (Receive pipe) status = refl
+refusal_silent id (Pend pipe) status = refl
+refusal_silent id (Look pipe) status = refl
 refusal_silent id End status = refl
+
+refusal_makes : (call : Call) (status : SbStatus) → IsTrue (makes_entry call (Sb status))
+refusal_makes (Create depth name) status = refl
+refusal_makes (Delete pipe) status = refl
+refusal_makes (SetOpts pipe bits) status = refl
+refusal_makes (GetOpts pipe) status = refl
+refusal_makes (Find name) status = refl
+refusal_makes (PipeName pipe) status = refl
+refusal_makes (Subscribe i pipe limit scope) status = refl
+refusal_makes (Unsubscribe i pipe) status = refl
+refusal_makes (Transmit bytes inc) status = refl
+refusal_makes (Receive pipe) status = refl
+refusal_makes (Pend pipe) status = refl
+refusal_makes (Look pipe) status = refl
+refusal_makes End status = refl
 
 -- a refused call that changes nothing leaves the fields so
 module _ (a : Inside) (journal : Log) (old : Core) (app : ℕ) (call : Call) (status : SbStatus) (called : Called a old app call)
@@ -274,6 +299,7 @@ module _ (a : Inside) (journal : Log) (old : Core) (app : ℕ) (call : Call) (st
   refused_next = record {
     limits = refl;
     log = pushed;
+    makes = refusal_makes call status;
     step =
         step_by (limits_of a.config) a.journal.entries (means a) app call (Some status) why
         ∙ ap (λ s. (Sb status, s)) (same ∙ sym (entry_means a journal (record { app = app; call = call; answer = Sb status }) called.stands.keeps pushed));

@@ -1,13 +1,13 @@
 -- Sequence counts: a message with its own count, and the counts of routes.
-use Rattle.std.proofs.Common.{◌≡◌, ℕ, suc, ◌+◌, ◌-◌, ◌*◌, ◌/◌, ◌%◌, ◌^◌, ◌<◌, ◌≤◌, Bool, true, false, ◌&&◌, ◌||◌, cond, add-zero, eqb, leb, List, [], ◌∷◌, ◌++◌, length, map, find, take, drop, slice_index, Option, Some, None, refl, ap, sym, ◌∙◌, subst, arith}
+use Rattle.std.proofs.Common.{◌≡◌, ℕ, ◌+◌, ◌*◌, ◌/◌, ◌%◌, ◌<◌, ◌≤◌, Bool, true, false, ◌&&◌, ◌||◌, cond, add-zero, eqb, List, [], ◌∷◌, ◌++◌, length, map, find, take, drop, slice_index, Option, Some, refl, ap, sym, ◌∙◌, arith}
 use Rattle.std.specs.List.{All, list_any}
 use Rattle.std.specs.Option.{option_map_or}
 use Rattle.std.proofs.lemmas.Bool.{eqb-true, eq-eqb}
 use Rattle.std.proofs.lemmas.List.Elements.{All-head, All-tail}
 use Rattle.fsw_base.proofs.Lists.{list_any-map}
 use Rattle.std.proofs.lemmas.Grind.{common_steps}
-use Rattle.byteorder.specs.Endian.{big_number, big_bytes}
-use Rattle.ccsds_msg.specs.Message.{with_count, message_count, message_flags, sequence_control}
+use Rattle.byteorder.specs.Endian.{big_bytes}
+use Rattle.ccsds_msg.specs.Message.{with_count, message_count, sequence_control}
 use Rattle.bus_words.specs.Bus.{Subscription, route}
 use Rattle.sb_calls.specs.declared.rows.RouteRow.{RouteRow}
 use Rattle.sb_calls.specs.Rows.{ids_of, counted_in, with_counted, counted_up}

@@ -1,5 +1,5 @@
 -- What the creation of a pipe leaves.
-use Rattle.std.proofs.Common.{◌≡◌, ℕ, ◌+◌, ◌-◌, ◌<◌, ◌≤◌, Bool, true, false, ◌||◌, eqb, leb, ltb, List, [], ◌∷◌, ◌++◌, length, map, Option, Some, None, option_to_list, refl, ap, sym, ◌∙◌, subst, arith, Vec, Global, vec_capacity}
+use Rattle.std.proofs.Common.{◌≡◌, ℕ, ◌+◌, ◌≤◌, Bool, true, false, ◌||◌, eqb, leb, ltb, List, [], ◌∷◌, ◌++◌, length, map, Option, Some, None, option_to_list, refl, ap, sym, ◌∙◌, subst, arith, Vec, Global, vec_capacity}
 use Rattle.std.specs.List.{All, list_any}
 use Rattle.std.specs.Str.{bytes_eq}
 use Rattle.std.specs.Option.{IfSome}
@@ -15,7 +15,7 @@ use Rattle.bus_words.specs.declared.history.Call.TheVariants.{Create}
 use Rattle.bus_words.specs.declared.history.Entry.{Entry}
 use Rattle.bus_words.specs.Bus.{State, Pipe}
 use Rattle.bus_words.specs.Log.{Log, with_entry}
-use Rattle.bus_words.specs.Machine.{cause, step, create_cause, refused_if}
+use Rattle.bus_words.specs.Machine.{cause, create_cause, refused_if}
 use Rattle.sb_calls.specs.declared.bus_core.BusCore.TheInside.{Inside}
 use Rattle.sb_calls.specs.declared.rows.ItemRow.{ItemRow}
 use Rattle.sb_calls.specs.Core.{Core, Does}
@@ -96,6 +96,7 @@ module _ (a : Inside) (pipes : Vec Row Global) (spare : Vec (Buffer ItemRow) Glo
       record {
         limits = refl;
         log = pushed;
+        makes = refl;
         step =
             step_by (limits_of a.config) a.journal.entries (means a) app (Create depth name) None why
             ∙ sym (ap (λ (ps : List Pipe). (Number (a.pipes_created + 1), record (means a) { pipes = ps; pipes_created = a.pipes_created + 1 }))

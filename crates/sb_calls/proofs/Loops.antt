@@ -1,5 +1,5 @@
 -- One turn of each loop over the core's lists.
-use Rattle.std.proofs.Common.{◌≡◌, ℕ, suc, ◌+◌, ◌<◌, ◌≤◌, Bool, true, false, cond, eqb, not, List, [], ◌∷◌, ◌++◌, length, get_or, take, drop, map, filter, refl, ap, sym, ◌∙◌, arith, append_assoc, zero-add, add-one}
+use Rattle.std.proofs.Common.{◌≡◌, ℕ, suc, ◌+◌, ◌<◌, Bool, true, false, cond, eqb, List, [], ◌∷◌, ◌++◌, length, get_or, take, drop, map, filter, refl, ap, sym, ◌∙◌, arith, append_assoc, zero-add, add-one}
 use Rattle.std.proofs.lemmas.List.{at_drop_more, take_at, drop_at, take_more, length-take-le, get_or_default}
 use Rattle.std.specs.List.{remove}
 use Rattle.bus_words.specs.Bus.{Subscription, route}

@@ -1,12 +1,11 @@
 -- What changes of the rows mean for the pipes that they stand for.
-use Rattle.std.proofs.Common.{◌≡◌, ℕ, suc, ◌+◌, ◌-◌, ◌<◌, ◌≤◌, ◌%◌, Bool, true, false, ◌&&◌, not, cond, eqb, leb, List, [], ◌∷◌, ◌++◌, length, map, filter, find, drop, get_or, count_by, Option, Some, None, is_none, refl, ap, sym, ◌∙◌, arith}
+use Rattle.std.proofs.Common.{◌≡◌, ℕ, suc, ◌+◌, Bool, true, false, ◌&&◌, not, cond, eqb, leb, List, [], ◌∷◌, ◌++◌, length, map, find, drop, Option, Some, None, is_none, refl, ap, sym, ◌∙◌, arith}
 use Rattle.std.specs.Option.{option_map, option_map_or, option_and_then}
-use Rattle.std.specs.List.{list_any}
 use Rattle.std.proofs.lemmas.Bool.Decides.{nat_tests}
 use Rattle.std.proofs.lemmas.List.{length-map, map_push}
 use Rattle.fsw_base.proofs.Lists.{find-map, list_any-map, count_by-map}
-use Rattle.bus_words.specs.Bus.{Item, Pipe, Subscription, Sending, Verdict, Skip, OverLimit, Full, In, verdict, is_in, item_for, offered, deliver, reached, taken_by, pipe_at, owns, with_pipe, oldest, after_receive}
-use Rattle.bus_words.specs.Machine.{is_empty, oldest_number}
+use Rattle.bus_words.specs.Bus.{Pipe, Subscription, Sending, Verdict, Skip, OverLimit, Full, In, verdict, is_in, item_for, offered, deliver, reached, taken_by, owns, with_pipe, oldest, after_receive, is_empty}
+use Rattle.bus_words.specs.Machine.{oldest_number}
 use Rattle.sb_calls.specs.declared.rows.ItemRow.{ItemRow}
 use Rattle.sb_calls.specs.Rows.{Kept, Row, item_in, pipe_in, with_row, first_item, oldest_item, after_take, owns_row, waiting_in, ignores_sender, takes, offered_row, row_takes, deliver_rows, reached_rows}
 

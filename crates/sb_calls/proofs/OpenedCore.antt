@@ -1,18 +1,17 @@
 -- A core that was just made stands for the bus before its first call.
-use Rattle.std.proofs.Common.{◌≡◌, ℕ, zero, suc, ◌+◌, ◌^◌, ◌<◌, ◌≤◌, List, [], ◌∷◌, length, map, replicate, sum_by, vec_capacity, All, refl, ap, sym, subst, ◌∙◌}
+use Rattle.std.proofs.Common.{◌≡◌, ℕ, zero, suc, ◌+◌, List, [], ◌∷◌, length, map, replicate, sum_by, All, refl, ap, sym, subst, ◌∙◌}
 use Rattle.std.proofs.lemmas.List.{length-map}
 use Rattle.std.proofs.lemmas.List.Elements.{All-nil}
 use Rattle.std.proofs.lemmas.List.Sums.{sum_by-cons}
-use Rattle.fsw_base.specs.Limits.{Limits, limits_of}
+use Rattle.fsw_base.specs.Limits.{limits_of}
 use Rattle.fsw_base.specs.declared.config.Budget.{Budget}
 use Rattle.bus_words.specs.declared.journal.Allowance.{Allowance}
-use Rattle.bus_words.specs.Bus.{State, Pipe, Subscription, Standing, Active}
+use Rattle.bus_words.specs.Bus.{Active}
 use Rattle.bus_words.specs.Log.{Log, allowances, entries_left}
-use Rattle.bus_words.specs.Machine.{LegalFrom}
 use Rattle.sb_calls.specs.declared.bus_core.BusCore.TheInside.{Inside}
 use Rattle.sb_calls.specs.declared.rows.Activity.TheVariants as activities
-use Rattle.sb_calls.specs.Core.{Core, IsLegalCore, state_of}
-use Rattle.sb_calls.specs.Inside.{core_of, means, Keeps, Stands}
+use Rattle.sb_calls.specs.Core.{IsLegalCore, state_of}
+use Rattle.sb_calls.specs.Inside.{Keeps, Stands}
 use Rattle.sb_calls.specs.Rows.{pipe_in, kept_in, ids_of, standing_in}
 
 -- what holds of each element of an empty list

@@ -1,5 +1,5 @@
 -- The receipt of a message with a new count, from its first bytes with that count and the bytes behind them.
-use Rattle.std.proofs.Common.{◌≡◌, ◌⊎◌, inl, inr, ℕ, zero, suc, ◌+◌, ◌-◌, ◌*◌, ◌<◌, ◌≤◌, ◌==◌, ◌&&◌, Bool, true, false, cond, Fits, w8, List, [], ◌∷◌, ◌++◌, length, take, drop, min, sum, slice_index, slice_index_or, slice_get, map, find, Option, Some, None, is_none, Bor, All, IfSome, option_map, refl, ap, sym, subst, ◌∙◌, arith}
+use Rattle.std.proofs.Common.{◌≡◌, ◌⊎◌, inl, inr, ℕ, zero, suc, ◌+◌, ◌-◌, ◌*◌, ◌<◌, ◌≤◌, ◌==◌, Bool, true, false, cond, Fits, w8, List, [], ◌∷◌, ◌++◌, length, take, drop, min, sum, slice_index, slice_index_or, slice_get, map, find, Option, Some, None, is_none, Bor, All, IfSome, option_map, refl, ap, sym, subst, ◌∙◌, arith}
 use Rattle.std.specs.Option.{option_and_then}
 use Rattle.std.specs.List.{position_or_len}
 use Rattle.std.proofs.lemmas.Bool.{false≢true}
@@ -22,11 +22,11 @@ use Rattle.bus_words.specs.declared.calls.BusEntry.{BusEntry}
 use Rattle.bus_words.specs.declared.history.Entry.{Entry}
 use Rattle.bus_words.specs.declared.receipts.Receipt.{Receipt}
 use Rattle.bus_words.specs.declared.receipts.Receipt.TheVariants.{Message}
-use Rattle.bus_words.specs.Receipts.{message_receipt}
+use Rattle.bus_words.specs.Receipts.{message_receipt, receipt_in}
 use Rattle.sb_calls.specs.declared.rows.ItemRow.{ItemRow}
 use Rattle.sb_calls.specs.declared.rows.SendRow.{SendRow}
 use Rattle.sb_calls.specs.declared.bus_core.BusCore.TheInside.{Inside}
-use Rattle.sb_calls.specs.Core.{Core, receipt_in, state_of}
+use Rattle.sb_calls.specs.Core.{Core, state_of}
 use Rattle.sb_calls.specs.Inside.{Stands, core_of}
 use Rattle.sb_calls.specs.Rows.{Kept, kept_at, kept_in, kept_of, bytes_sent, bytes_of_entry, Row, item_in, pipe_in, last_row_item, owns_row, IsItem, IsRow, is_send, is_transmit}
 use Rattle.sb_calls.proofs.Meaning.{owns-rows}
@@ -166,9 +166,17 @@ bytes_sent-IsMessage e bytes inc sends is =
 pub sends_by_transmit : (app : ℕ) (call : BusCall) (answer : BusAnswer) → is_transmit (Some (record { app = app; call = call_of call; answer = answer })) ≡ true →
     ((bytes : Bor (List ℕ)) (inc : Bool) → call ≡ calls.Transmit bytes inc → ⊥) → ⊥
 sends_by_transmit app (calls.Create depth name) answer sends other = false≢true sends
+sends_by_transmit app (calls.Delete pipe) answer sends other = false≢true sends
+sends_by_transmit app (calls.SetOpts pipe bits) answer sends other = false≢true sends
+sends_by_transmit app (calls.GetOpts pipe) answer sends other = false≢true sends
+sends_by_transmit app (calls.Find name) answer sends other = false≢true sends
+sends_by_transmit app (calls.PipeName pipe) answer sends other = false≢true sends
 sends_by_transmit app (calls.Subscribe id pipe limit scope) answer sends other = false≢true sends
+sends_by_transmit app (calls.Unsubscribe id pipe) answer sends other = false≢true sends
 sends_by_transmit app (calls.Transmit bytes inc) answer sends other = other bytes inc refl
 sends_by_transmit app (calls.Receive pipe) answer sends other = false≢true sends
+sends_by_transmit app (calls.Pend pipe) answer sends other = false≢true sends
+sends_by_transmit app (calls.Look pipe) answer sends other = false≢true sends
 sends_by_transmit app calls.End answer sends other = false≢true sends
 
 -- the last item names an accepted send

@@ -1,23 +1,22 @@
 -- What a receive leaves.
-use Rattle.std.proofs.Common.{◌≡◌, ℕ, ◌+◌, ◌≤◌, Bool, true, false, not, cond, eqb, List, [], ◌∷◌, length, map, Option, Some, None, is_none, refl, ap, sym, ◌∙◌, subst, arith, Vec, Global, vec_capacity}
+use Rattle.std.proofs.Common.{◌≡◌, ℕ, Bool, true, false, not, cond, eqb, List, [], ◌∷◌, length, map, Some, None, is_none, refl, ap, sym, ◌∙◌, subst, Vec, Global, vec_capacity}
 use Rattle.std.specs.List.{All}
 use Rattle.std.specs.Option.{IfSome, option_map_or}
-use Rattle.std.proofs.lemmas.List.{length-map}
 use Rattle.std.proofs.lemmas.List.Elements.{All-head, All-drop, All-map, All-weaker}
-use Rattle.fsw_base.specs.Limits.{Limits, limits_of}
-use Rattle.fsw_base.specs.declared.statuses.SbStatus.{SbStatus}
+use Rattle.fsw_base.specs.Limits.{limits_of}
 use Rattle.fsw_base.specs.declared.statuses.SbStatus.TheVariants.{BadArgument, NoMessage}
 use Rattle.bus_words.specs.declared.calls.BusAnswer.TheVariants.{Got, Sb}
 use Rattle.bus_words.specs.declared.history.Call.TheVariants.{Receive}
-use Rattle.bus_words.specs.Bus.{State, Pipe, owns, after_receive}
+use Rattle.bus_words.specs.Bus.{State, Pipe, owns, after_receive, is_empty}
 use Rattle.bus_words.specs.Log.{Log, with_entry}
-use Rattle.bus_words.specs.Machine.{cause, decided, step, receive_cause, refused_if, is_empty, oldest_number, received}
+use Rattle.bus_words.specs.Machine.{step, receive_cause, refused_if, received}
 use Rattle.sb_calls.specs.declared.bus_core.BusCore.TheInside.{Inside}
 use Rattle.sb_calls.specs.declared.rows.ItemRow.{ItemRow}
 use Rattle.sb_calls.specs.Core.{Core, Does}
 use Rattle.sb_calls.specs.Inside.{core_of, means, Keeps, Stands}
 use Rattle.sb_calls.specs.Rows.{Row, IsItem, IsRow, kept_in, pipe_in, with_row, first_item, oldest_item, after_take, owns_row}
-use Rattle.sb_calls.proofs.After.{Called, step_by, exit_stands, exit_does, refused_stands, refused_does}
+use Rattle.sb_calls.proofs.After.{Called, step_by, exit_stands, exit_does}
+use Rattle.sb_calls.proofs.Changes.{row_keeps}
 use Rattle.sb_calls.proofs.Meaning.{pipes_with_row, pipe_in-after_take, owns-rows, is_empty-rows, oldest_number-rows}
 
 -- Causes. --
@@ -33,7 +32,7 @@ receive_owned s app pipe empty own is =
 
 -- Rows. --
 
-IsRow-after_take : (depth sends : ℕ) (row : Row) → IsRow depth sends row → IsRow depth sends (after_take row)
+pub IsRow-after_take : (depth sends : ℕ) (row : Row) → IsRow depth sends row → IsRow depth sends (after_take row)
 IsRow-after_take depth sends row is = record {
   room = is.room;
   queue = All-drop (IsItem sends) 1 row.queue is.queue;
@@ -57,45 +56,14 @@ rows_kept depth sends change keeps number rows next is all =
     by_test row one true = keeps row one
     by_test row one false = one
 
--- The three exits. --
-
-module _ (a : Inside) (journal : Log) (old : Core) (app pipe : ℕ) (called : Called a old app (Receive pipe)) where
-  bad_why : owns_row a.pipes.items app pipe ≡ false → cause (limits_of a.config) (means a) app (Receive pipe) ≡ Some BadArgument
-  bad_why other = receive_bad (means a) app pipe (owns-rows (kept_in a.journal.entries a.sends.items) a.pipes.items app pipe ∙ other)
-
-  pub bad_stands : owns_row a.pipes.items app pipe ≡ false → journal ≡ with_entry a.journal (record { app = app; call = Receive pipe; answer = Sb BadArgument }) →
-      Stands (record a { journal = journal })
-  bad_stands other pushed = refused_stands a journal old app (Receive pipe) BadArgument called (bad_why other) refl pushed
-
-  pub bad_does : owns_row a.pipes.items app pipe ≡ false → journal ≡ with_entry a.journal (record { app = app; call = Receive pipe; answer = Sb BadArgument }) →
-      Does old (core_of (record a { journal = journal })) app (Receive pipe) (Sb BadArgument)
-  bad_does other pushed = refused_does a journal old app (Receive pipe) BadArgument called (bad_why other) refl pushed
+-- The exits. --
 
 module _ (a : Inside) (pipes : Vec Row Global) (journal : Log) (old : Core) (app pipe : ℕ) (called : Called a old app (Receive pipe))
     (own : owns_row a.pipes.items app pipe ≡ true)
     (rows : pipes.items ≡ with_row after_take pipe a.pipes.items) (capacity : vec_capacity pipes ≡ vec_capacity a.pipes) where
   taken_keeps : Keeps (record a { pipes = pipes })
   taken_keeps =
-      let keeps = called.stands.keeps in
-      record {
-        activities = keeps.activities;
-        queues = ap (λ n. n + length a.spare.items) (ap length rows ∙ length-map a.pipes.items (λ row. cond {A = Row} (eqb row.number pipe) (after_take row) row)) ∙ keeps.queues;
-        pipes_room = omega (arith, capacity, keeps.pipes_room);
-        spare_room = keeps.spare_room;
-        rows = rows_kept a.config.depth (length a.sends.items) after_take (IsRow-after_take a.config.depth (length a.sends.items)) pipe a.pipes.items pipes.items rows keeps.rows;
-        spare = keeps.spare;
-        sends = keeps.sends;
-        counts = keeps.counts;
-        ways = keeps.ways;
-        pipes_made = keeps.pipes_made;
-        subscriptions_made = keeps.subscriptions_made;
-        subscriptions_live = keeps.subscriptions_live;
-        sends_made = keeps.sends_made;
-        few = keeps.few;
-        subscriptions_room = keeps.subscriptions_room;
-        sends_room = keeps.sends_room;
-        routes_room = keeps.routes_room;
-      }
+      row_keeps a pipes after_take pipe called.stands.keeps (IsRow-after_take a.config.depth (length a.sends.items)) rows capacity
 
   taken_means : means (record a { pipes = pipes }) ≡ received (means a) pipe
   taken_means =
@@ -114,10 +82,10 @@ module _ (a : Inside) (pipes : Vec Row Global) (journal : Log) (old : Core) (app
         ∙ ap (λ s. (Sb NoMessage, s)) (sym taken_means)
 
     pub none_stands : Stands (record a { pipes = pipes; journal = journal })
-    none_stands = exit_stands a (record a { pipes = pipes }) journal old app (Receive pipe) (Sb NoMessage) called refl refl taken_keeps (λ id. refl) none_step pushed
+    none_stands = exit_stands a (record a { pipes = pipes }) journal old app (Receive pipe) (Sb NoMessage) called refl refl taken_keeps (λ id. refl) refl none_step pushed
 
     pub none_does : Does old (core_of (record a { pipes = pipes; journal = journal })) app (Receive pipe) (Sb NoMessage)
-    none_does = exit_does a (record a { pipes = pipes }) journal old app (Receive pipe) (Sb NoMessage) called refl refl taken_keeps (λ id. refl) none_step pushed
+    none_does = exit_does a (record a { pipes = pipes }) journal old app (Receive pipe) (Sb NoMessage) called refl refl taken_keeps (λ id. refl) refl none_step pushed
 
   module _ (item : ItemRow) (some : oldest_item a.pipes.items pipe ≡ Some item) (pushed : journal ≡ with_entry a.journal (record { app = app; call = Receive pipe; answer = Got item.number })) where
     some_step : step (limits_of a.config) a.journal.entries (means a) app (Receive pipe) ≡ (Got item.number, means (record a { pipes = pipes }))
@@ -129,7 +97,7 @@ module _ (a : Inside) (pipes : Vec Row Global) (journal : Log) (old : Core) (app
         ∙ ap (λ s. (Got item.number, s)) (sym taken_means)
 
     pub some_stands : Stands (record a { pipes = pipes; journal = journal })
-    some_stands = exit_stands a (record a { pipes = pipes }) journal old app (Receive pipe) (Got item.number) called refl refl taken_keeps (λ id. refl) some_step pushed
+    some_stands = exit_stands a (record a { pipes = pipes }) journal old app (Receive pipe) (Got item.number) called refl refl taken_keeps (λ id. refl) refl some_step pushed
 
     pub some_does : Does old (core_of (record a { pipes = pipes; journal = journal })) app (Receive pipe) (Got item.number)
-    some_does = exit_does a (record a { pipes = pipes }) journal old app (Receive pipe) (Got item.number) called refl refl taken_keeps (λ id. refl) some_step pushed
+    some_does = exit_does a (record a { pipes = pipes }) journal old app (Receive pipe) (Got item.number) called refl refl taken_keeps (λ id. refl) refl some_step pushed

@@ -1,5 +1,5 @@
 -- Causes by their tests, and causes at the core that callers see.
-use Rattle.std.proofs.Common.{◌≡◌, ℕ, ◌<◌, ◌≤◌, Bool, true, false, ◌&&◌, ◌||◌, not, cond, eqb, leb, ltb, List, length, map, Option, Some, None, refl, ap, sym, ◌∙◌, subst, arith}
+use Rattle.std.proofs.Common.{◌≡◌, ℕ, ◌<◌, ◌≤◌, Bool, true, false, ◌&&◌, ◌||◌, not, cond, eqb, leb, ltb, List, length, Option, None, ap, sym, ◌∙◌, subst, arith}
 use Rattle.std.specs.List.{list_any}
 use Rattle.std.specs.Str.{bytes_eq}
 use Rattle.std.proofs.lemmas.Bool.Decides.{nat_tests}
@@ -9,14 +9,20 @@ use Rattle.fsw_base.specs.Limits.{Limits, limits_of}
 use Rattle.fsw_base.specs.declared.statuses.SbStatus.{SbStatus}
 use Rattle.fsw_base.specs.declared.statuses.SbStatus.TheVariants.{BadArgument, MaxPipesMet, PipeCrErr, MaxMsgsMet, MaxDestsMet}
 use Rattle.ccsds_msg.specs.Message.{is_valid_id}
+use Rattle.bus_words.specs.declared.calls.BusAnswer.{BusAnswer}
+use Rattle.bus_words.specs.declared.history.Call.{Call}
 use Rattle.bus_words.specs.Bus.{State, owns, is_subscribed, has_route, route}
-use Rattle.bus_words.specs.Machine.{create_cause, subscribe_cause, refused_if}
+use Rattle.bus_words.specs.Machine.{create_cause, subscribe_cause, refused_if, refused_state, step}
 use Rattle.sb_calls.specs.declared.bus_core.BusCore.TheInside.{Inside}
 use Rattle.sb_calls.specs.declared.rows.RouteRow.{RouteRow}
 use Rattle.sb_calls.specs.Core.{Core, state_of}
 use Rattle.sb_calls.specs.Inside.{core_of, means, Stands}
-use Rattle.sb_calls.specs.Rows.{Kept, Row, kept_in, pipe_in, ids_of, owns_row}
+use Rattle.sb_calls.specs.Rows.{Row, kept_in, pipe_in, ids_of, owns_row}
 use Rattle.sb_calls.proofs.Meaning.{owns-rows}
+
+-- the bus that the fields stand for is the core's
+pub state_is : (a : Inside) (now : Core) → core_of a ≡ now → Stands a → means a ≡ state_of now
+state_is a now is stands = stands.state ∙ ap state_of is
 
 -- what is told of the fields is told of the core
 pub at_core : (a : Inside) (now : Core) → core_of a ≡ now → Stands a → (F : Limits → State → Option SbStatus) (why : Option SbStatus) →
@@ -31,6 +37,29 @@ pub from_core : (a : Inside) (now : Core) → core_of a ≡ now → Stands a →
 from_core a now is stands F why there =
     let P : Core → Type 0 = λ o. F o.limits (state_of o) ≡ why in
     ap (F (limits_of a.config)) stands.state ∙ subst P (sym is) there
+
+-- a step that changes nothing, of the core and of the fields
+pub step_from_core : (a : Inside) (now : Core) → core_of a ≡ now → Stands a → (app : ℕ) (call : Call) (answer : BusAnswer) →
+    step now.limits now.log.entries (state_of now) app call ≡ (answer, state_of now) → step (limits_of a.config) a.journal.entries (means a) app call ≡ (answer, means a)
+step_from_core a now is stands app call answer there =
+    let P : Core → Type 0 = λ o. step o.limits o.log.entries (state_of o) app call ≡ (answer, state_of o) in
+    let Q : State → Type 0 = λ s. step (limits_of a.config) a.journal.entries s app call ≡ (answer, s) in
+    subst Q (sym stands.state) (subst P (sym is) there)
+
+-- a refusal that changes nothing
+pub same_from_core : (a : Inside) (now : Core) → core_of a ≡ now → Stands a → (call : Call) (status : SbStatus) →
+    refused_state (state_of now) call status ≡ state_of now → refused_state (means a) call status ≡ means a
+same_from_core a now is stands call status there =
+    let P : State → Type 0 = λ s. refused_state s call status ≡ s in
+    subst P (sym (state_is a now is stands)) there
+
+-- whether a pipe is live and the application's
+pub owns_here : (a : Inside) (now : Core) → core_of a ≡ now → Stands a → (app pipe : ℕ) (rows : List Row) → rows ≡ a.pipes.items →
+    owns_row rows app pipe ≡ owns (state_of now).pipes app pipe
+owns_here a now is stands app pipe rows same =
+    ap (λ l. owns_row l app pipe) same
+    ∙ sym (owns-rows (kept_in a.journal.entries a.sends.items) a.pipes.items app pipe)
+    ∙ ap (λ (s : State). owns s.pipes app pipe) (state_is a now is stands)
 
 -- tests of numbers
 pub not_at_least : (m n : ℕ) → n < m → leb m n ≡ false

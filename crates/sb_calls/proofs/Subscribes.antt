@@ -1,5 +1,5 @@
 -- What a subscription leaves.
-use Rattle.std.proofs.Common.{◌≡◌, ℕ, ◌+◌, ◌<◌, ◌≤◌, Bool, true, false, ◌&&◌, ◌||◌, not, cond, eqb, leb, List, [], ◌∷◌, ◌++◌, length, map, find, Option, Some, None, refl, ap, sym, ◌∙◌, subst, arith, Vec, Global, vec_capacity}
+use Rattle.std.proofs.Common.{◌≡◌, ℕ, ◌+◌, ◌<◌, Bool, true, false, ◌&&◌, ◌||◌, not, cond, eqb, leb, List, [], ◌∷◌, ◌++◌, length, map, find, Option, Some, None, refl, ap, sym, ◌∙◌, subst, arith, Vec, Global, vec_capacity}
 use Rattle.std.specs.List.{All, list_any}
 use Rattle.std.specs.Option.{option_map_or, option_or}
 use Rattle.std.proofs.lemmas.Bool.Decides.{nat_tests}
@@ -11,20 +11,19 @@ use Rattle.fsw_base.specs.declared.config.Scope.{Scope}
 use Rattle.fsw_base.specs.declared.statuses.SbStatus.{SbStatus}
 use Rattle.fsw_base.specs.declared.statuses.SbStatus.TheVariants.{BadArgument, MaxMsgsMet, MaxDestsMet}
 use Rattle.ccsds_msg.specs.Message.{is_valid_id}
-use Rattle.bus_words.specs.declared.calls.BusAnswer.{BusAnswer}
 use Rattle.bus_words.specs.declared.calls.BusAnswer.TheVariants.{Done}
 use Rattle.bus_words.specs.declared.history.Call.TheVariants.{Subscribe}
 use Rattle.bus_words.specs.declared.history.Entry.{Entry}
-use Rattle.bus_words.specs.Bus.{State, Pipe, Subscription, owns, is_subscribed, has_route, route}
+use Rattle.bus_words.specs.Bus.{State, Subscription, owns, is_subscribed, has_route, route}
 use Rattle.bus_words.specs.Log.{Log, with_entry}
-use Rattle.bus_words.specs.Machine.{cause, step, subscribe_cause, subscribed, refused_if}
+use Rattle.bus_words.specs.Machine.{cause, step, subscribe_cause, refused_if}
 use Rattle.sb_calls.specs.declared.bus_core.BusCore.TheInside.{Inside}
 use Rattle.sb_calls.specs.declared.rows.RouteRow.{RouteRow}
 use Rattle.sb_calls.specs.Core.{Core, Does}
 use Rattle.sb_calls.specs.Inside.{core_of, means, Keeps, Stands}
-use Rattle.sb_calls.specs.Rows.{kept_in, pipe_in, ids_of, with_route, counted_in}
-use Rattle.sb_calls.proofs.After.{Called, Next, may_here, step_by, does_from, stands_after, grown, kept_grown, sends_grown, counts_stay, exit_stands, exit_does}
-use Rattle.sb_calls.proofs.Refusals.{has_route-rows, lacks_route}
+use Rattle.sb_calls.specs.Rows.{pipe_in, ids_of, with_route, counted_in}
+use Rattle.sb_calls.proofs.After.{Called, Next, may_here, step_by, does_from, stands_after, grown, kept_grown, sends_grown, counts_stay}
+use Rattle.sb_calls.proofs.Refusals.{has_route-rows}
 
 -- Routes. --
 
@@ -133,21 +132,12 @@ route_fits limits s app id pipe none fresh lacks =
         absurd (cc (wrong))
     by_bad false is false is_full = below is_full
 
--- a live pair: nothing changes. --
-
-module _ (a : Inside) (journal : Log) (old : Core) (app id pipe limit : ℕ) (scope : Scope) (called : Called a old app (Subscribe id pipe limit scope))
-    (why : cause (limits_of a.config) (means a) app (Subscribe id pipe limit scope) ≡ None) where
-  module _ (live : is_subscribed a.subscriptions.items id pipe ≡ true) (pushed : journal ≡ with_entry a.journal (record { app = app; call = Subscribe id pipe limit scope; answer = Done })) where
-    live_step : step (limits_of a.config) a.journal.entries (means a) app (Subscribe id pipe limit scope) ≡ (Done, means a)
-    live_step =
-        step_by (limits_of a.config) a.journal.entries (means a) app (Subscribe id pipe limit scope) None why
-        ∙ ap (λ b. (Done, cond {A = State} b (means a) (with_subscription (means a) id pipe limit scope))) live
-
-    pub live_stands : Stands (record a { journal = journal })
-    live_stands = exit_stands a a journal old app (Subscribe id pipe limit scope) Done called refl refl called.stands.keeps (λ i. refl) live_step pushed
-
-    pub live_does : Does old (core_of (record a { journal = journal })) app (Subscribe id pipe limit scope) Done
-    live_does = exit_does a a journal old app (Subscribe id pipe limit scope) Done called refl refl called.stands.keeps (λ i. refl) live_step pushed
+-- a live pair: nothing changes
+pub live_step : (limits : Limits) (history : List Entry) (s : State) (app id pipe limit : ℕ) (scope : Scope) → subscribe_cause limits s app id pipe ≡ None →
+    is_subscribed s.subscriptions id pipe ≡ true → step limits history s app (Subscribe id pipe limit scope) ≡ (Done, s)
+live_step limits history s app id pipe limit scope why live =
+    step_by limits history s app (Subscribe id pipe limit scope) None why
+    ∙ ap (λ b. (Done, cond {A = State} b s (with_subscription s id pipe limit scope))) live
 
 -- a new subscription. --
 
@@ -196,6 +186,7 @@ module _ (a : Inside) (subs : Vec Subscription Global) (routes : Vec RouteRow Gl
       record {
         limits = refl;
         log = pushed;
+        makes = refl;
         step =
             step_by (limits_of a.config) a.journal.entries (means a) app (Subscribe id pipe limit scope) None why
             ∙ ap (λ b. (Done, cond {A = State} b s (with_subscription s id pipe limit scope))) fresh

@@ -1,30 +1,29 @@
 -- What a send leaves.
-use Rattle.std.proofs.Common.{◌≡◌, ℕ, zero, suc, ◌+◌, ◌-◌, ◌<◌, ◌≤◌, Bool, true, false, ◌&&◌, not, cond, eqb, leb, ltb, List, [], ◌∷◌, ◌++◌, length, map, get_or, Option, Some, None, is_some, is_none, IsTrue, refl, ap, sym, ◌∙◌, subst, arith, Vec, Global, vec_capacity}
+use Rattle.std.proofs.Common.{◌≡◌, ℕ, zero, suc, ◌+◌, ◌-◌, ◌<◌, ◌≤◌, Bool, true, false, ◌&&◌, cond, eqb, leb, ltb, List, [], ◌∷◌, ◌++◌, length, map, Option, Some, None, is_some, is_none, refl, ap, sym, ◌∙◌, subst, arith, Vec, Global, vec_capacity}
 use Rattle.std.specs.List.{All, slice_get, list_any}
 use Rattle.std.specs.Option.{IfSome, option_map}
 use Rattle.std.proofs.lemmas.Bool.Decides.{nat_tests}
 use Rattle.std.proofs.lemmas.List.{length_push, length-map, map_push, get_or_push, get_or_append_left}
-use Rattle.std.proofs.lemmas.List.Elements.{All-head, All-tail, All-push, All-weaker}
+use Rattle.std.proofs.lemmas.List.Elements.{All-push, All-weaker}
 use Rattle.fsw_base.specs.Limits.{Limits, limits_of}
 use Rattle.fsw_base.specs.declared.statuses.SbStatus.{SbStatus}
 use Rattle.fsw_base.specs.declared.statuses.SbStatus.TheVariants.{BadArgument, MsgTooBig}
 use Rattle.ccsds_msg.specs.declared.packet.MsgFault.{MsgFault}
-use Rattle.ccsds_msg.specs.Message.{fault, message_id, with_count, IsMessage}
-use Rattle.bus_words.specs.declared.calls.BusAnswer.{BusAnswer}
+use Rattle.ccsds_msg.specs.Message.{fault, message_id, with_count}
 use Rattle.bus_words.specs.declared.calls.BusAnswer.TheVariants.{Sent}
 use Rattle.bus_words.specs.declared.history.Call.TheVariants.{Transmit}
 use Rattle.bus_words.specs.declared.history.Entry.{Entry}
 use Rattle.bus_words.specs.Bus.{Item, State, Pipe, Subscription, Sending, route, deliver, reached}
 use Rattle.bus_words.specs.Log.{Log, with_entry}
-use Rattle.bus_words.specs.Machine.{cause, step, transmit_cause, sent_along, delivered, refused_if}
+use Rattle.bus_words.specs.Machine.{cause, step, counts_for, transmit_cause, sent_along, delivered, refused_if}
 use Rattle.sb_calls.specs.declared.bus_core.BusCore.TheInside.{Inside}
 use Rattle.sb_calls.specs.declared.rows.ItemRow.{ItemRow}
 use Rattle.sb_calls.specs.declared.rows.RouteRow.{RouteRow}
 use Rattle.sb_calls.specs.declared.rows.SendRow.{SendRow}
-use Rattle.sb_calls.specs.Core.{Core, Does, MayCall}
+use Rattle.sb_calls.specs.Core.{Core, Does}
 use Rattle.sb_calls.specs.Inside.{core_of, means, Keeps, Stands}
 use Rattle.sb_calls.specs.Rows.{Kept, Row, IsItem, IsRow, is_send, is_transmit, bytes_of_entry, kept_of, kept_in, kept_at, item_in, pipe_in, takes, with_row, offered_row, deliver_rows, reached_rows, counted_up, counted_in, counted_sends, ids_of}
-use Rattle.sb_calls.proofs.After.{Called, Next, may_here, step_by, does_from, stands_after, grown, kept_grown, sends_grown, counts_move, exit_stands, exit_does, map_agrees}
+use Rattle.sb_calls.proofs.After.{Called, Next, may_here, step_by, does_from, stands_after, grown, kept_grown, sends_grown, counts_move, map_agrees}
 use Rattle.sb_calls.proofs.Counts.{counted_in-counted_up, ids_of-counted_up, has_route-counted_up, way_of}
 use Rattle.sb_calls.proofs.Meaning.{IsSending, deliver-rows, reached-rows}
 use Rattle.sb_calls.proofs.Receives.{rows_kept}
@@ -125,24 +124,20 @@ some_of (sub ∷ subs) some = record { first = sub; more = subs; is = refl }
 
 -- The exits. --
 
-module _ (a : Inside) (journal : Log) (old : Core) (app : ℕ) (bytes : List ℕ) (inc : Bool) (called : Called a old app (Transmit bytes inc))
-    (why : cause (limits_of a.config) (means a) app (Transmit bytes inc) ≡ None) where
-  module _ (nobody : route a.subscriptions.items (message_id bytes) ≡ []) (pushed : journal ≡ with_entry a.journal (record { app = app; call = Transmit bytes inc; answer = Sent 0 0 })) where
-    nobody_step : step (limits_of a.config) a.journal.entries (means a) app (Transmit bytes inc) ≡ (Sent 0 0, means a)
-    nobody_step =
-        let sending : Sending = record { sender = app; number = length a.sends.items + 1; asked = length bytes; message = delivered (limits_of a.config) a.journal.entries bytes inc } in
-        step_by (limits_of a.config) a.journal.entries (means a) app (Transmit bytes inc) None why
-        ∙ ap (λ subs. sent_along subs sending (means a)) nobody
+-- a send that nobody waits for
+pub nobody_step : (limits : Limits) (history : List Entry) (s : State) (app : ℕ) (bytes : List ℕ) (inc : Bool) → transmit_cause limits s bytes ≡ None →
+    route s.subscriptions (message_id bytes) ≡ [] → step limits history s app (Transmit bytes inc) ≡ (Sent 0 0, s)
+nobody_step limits history s app bytes inc why nobody =
+    let sending : Sending = record { sender = app; number = s.numbers_given + 1; asked = length bytes; message = delivered limits history bytes inc } in
+    step_by limits history s app (Transmit bytes inc) None why
+    ∙ ap (λ subs. sent_along subs sending s) nobody
 
-    silent : (id : ℕ) (b : Bool) → (b && leb 1 0) ≡ false
-    silent id true = refl
-    silent id false = refl
-
-    pub nobody_stands : Stands (record a { journal = journal })
-    nobody_stands = exit_stands a a journal old app (Transmit bytes inc) (Sent 0 0) called refl refl called.stands.keeps (λ id. silent id (inc && eqb (message_id bytes) id)) nobody_step pushed
-
-    pub nobody_does : Does old (core_of (record a { journal = journal })) app (Transmit bytes inc) (Sent 0 0)
-    nobody_does = exit_does a a journal old app (Transmit bytes inc) (Sent 0 0) called refl refl called.stands.keeps (λ id. silent id (inc && eqb (message_id bytes) id)) nobody_step pushed
+pub nobody_uncounted : (bytes : List ℕ) (inc : Bool) (id : ℕ) → counts_for id (Transmit bytes inc) (Sent 0 0) ≡ false
+nobody_uncounted bytes inc id = silent (inc && eqb (message_id bytes) id)
+  where
+    silent : (b : Bool) → (b && leb 1 0) ≡ false
+    silent true = refl
+    silent false = refl
 
 module _ (a : Inside) (pipes : Vec Row Global) (routes : Vec RouteRow Global) (sends : Vec SendRow Global) (journal : Log) (old : Core) (app : ℕ) (bytes : List ℕ) (inc : Bool)
     (called : Called a old app (Transmit bytes inc)) (why : cause (limits_of a.config) (means a) app (Transmit bytes inc) ≡ None)
@@ -252,6 +247,7 @@ module _ (a : Inside) (pipes : Vec Row Global) (routes : Vec RouteRow Global) (s
       record {
         limits = refl;
         log = pushed;
+        makes = refl;
         step =
             step_by (limits_of a.config) a.journal.entries (means a) app (Transmit bytes inc) None why
             ∙ along subs first more sending s someone

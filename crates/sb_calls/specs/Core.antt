@@ -1,15 +1,16 @@
 -- The bus core as its callers see it: its limits and its journal. What the bus is follows from them.
-use Rattle.std.specs.Prelude.{◌≡◌, ℕ, ◌≤◌, nat_le, Bool, true, List, length, IsTrue, Option, None, option_and_then, if◌then◌else◌}
+use Rattle.std.specs.Prelude.{◌≡◌, ℕ, ◌≤◌, nat_le, Bool, true, length, IsTrue, Option, None, option_and_then, if◌then◌else◌}
 use Rattle.std.specs.Option.{option_map}
 use Rattle.fsw_base.specs.Limits.{Limits}
 use Rattle.bus_words.specs.declared.calls.BusAnswer.{BusAnswer}
 use Rattle.bus_words.specs.declared.history.Call.{Call}
-use Rattle.bus_words.specs.declared.history.Call.TheVariants.{Create, Subscribe, Transmit, Receive, End}
-use Rattle.bus_words.specs.declared.receipts.Receipt.{Receipt}
+use Rattle.bus_words.specs.declared.history.Call.TheVariants.{Create, Delete, SetOpts, GetOpts, Find, PipeName, Subscribe, Unsubscribe, Transmit, Receive, Pend, Look, End}
 use Rattle.bus_words.specs.Bus.{State, standing_of, owns, pipe_at}
 use Rattle.bus_words.specs.Entries.{call_bytes}
 use Rattle.bus_words.specs.Log.{Log, HasRoom, with_entry}
-use Rattle.bus_words.specs.Receipts.{message_receipt}
+use Rattle.sb_calls.specs.declared.pending.Pended.{Pended}
+use Rattle.sb_calls.specs.declared.pending.Pended.TheVariants.{Pending}
+use Rattle.sb_calls.specs.Answers.{waited}
 use Rattle.bus_words.specs.Machine.{IsLegal, may_call, state_after, step}
 
 pub record Core : Type 0 where
@@ -31,9 +32,17 @@ IsLegalCore core = IsLegal core.limits (apps_of core) core.log.entries
 -- a name of at most 64 bytes, a message of at most 65542
 abbrev pub is_within : Call → Bool
 is_within (Create depth name) = nat_le (length name) 64
+is_within (Delete pipe) = true
+is_within (SetOpts pipe bits) = true
+is_within (GetOpts pipe) = true
+is_within (Find name) = nat_le (length name) 64
+is_within (PipeName pipe) = true
 is_within (Subscribe id pipe limit scope) = true
+is_within (Unsubscribe id pipe) = true
 is_within (Transmit bytes inc) = nat_le (length bytes) 65542
 is_within (Receive pipe) = true
+is_within (Pend pipe) = true
+is_within (Look pipe) = true
 is_within End = true
 
 -- the application may make this call now
@@ -50,9 +59,8 @@ pub record Does (old new : Core) (app : ℕ) (call : Call) (answer : BusAnswer) 
   pub state : state_of new ≡ (step old.limits old.log.entries (state_of old) app call).1
   pub legal : IsLegalCore new
 
--- the receipt of the last message of an application's pipe, where the pipe is live and has one
-abbrev pub receipt_in : State → ℕ → ℕ → Option Receipt
-receipt_in s app pipe =
-    if owns s.pipes app pipe
-    then option_and_then (λ found. option_map (λ item. message_receipt pipe item.number item.message) found.last) (pipe_at s.pipes pipe)
-    else None
+-- a look does what the bus does; where it finds the application still waiting, nothing changes
+abbrev pub Looks : Core → Core → ℕ → ℕ → Pended → Type 0
+Looks old new app pipe Pending =
+    (new ≡ old) × ((step old.limits old.log.entries (state_of old) app (Look pipe)).0 ≡ waited Pending)
+Looks old new app pipe answer = Does old new app (Look pipe) (waited answer)

@@ -4,7 +4,6 @@ use Rattle.std.specs.List.{list_any}
 use Rattle.fsw_base.specs.Limits.{limits_of}
 use Rattle.bus_words.specs.Bus.{State}
 use Rattle.bus_words.specs.Log.{entries_left}
-use Rattle.bus_words.specs.declared.history.Entry.{Entry}
 use Rattle.sb_calls.specs.declared.bus_core.BusCore.TheInside.{Inside}
 use Rattle.sb_calls.specs.Core.{Core, IsLegalCore, state_of}
 use Rattle.sb_calls.specs.Rows.{IsRow, IsSpare, kept_in, pipe_in, ids_of, standing_in, is_send, counted_in, counted_sends}

@@ -1,18 +1,21 @@
 -- How the core keeps messages, pipes and routes. An accepted send is the place of its entry in the journal and the
 -- sequence count of its message; what waits on a pipe names such a send by its number.
-use Rattle.std.specs.Prelude.{◌≡◌, ℕ, ◌≤◌, All, IfSome, ◌+◌, ◌-◌, ◌%◌, ◌==◌, ◌&&◌, ◌||◌, not, nat_le, nat_lt, Bool, true, false, List, [], ◌∷◌, ◌++◌, length, drop, map, filter, find, count_by, slice_get, slice_index_or, Option, Some, None, is_none, if◌then◌else◌}
+use Rattle.std.specs.Prelude.{◌≡◌, ℕ, ◌≤◌, All, IfSome, ◌+◌, ◌-◌, ◌%◌, ◌==◌, ◌&&◌, not, nat_le, nat_lt, Bool, true, false, List, [], ◌∷◌, ◌++◌, length, drop, map, find, count_by, slice_get, slice_index_or, Option, Some, None, is_none, if◌then◌else◌}
 use Rattle.std.specs.List.{list_any}
 use Rattle.std.specs.Option.{option_map, option_map_or, option_and_then}
 use Rattle.circular_buffer.specs.Buffer.{Buffer, buffer}
 use Rattle.ccsds_msg.specs.Message.{fault, with_count}
-use Rattle.bus_words.specs.declared.calls.BusAnswer.{BusAnswer}
 use Rattle.bus_words.specs.declared.history.Call.{Call}
-use Rattle.bus_words.specs.declared.history.Call.TheVariants.{Create, Subscribe, Transmit, Receive, End}
+use Rattle.bus_words.specs.declared.history.Call.TheVariants.{Transmit}
 use Rattle.bus_words.specs.declared.history.Entry.{Entry}
-use Rattle.bus_words.specs.Bus.{Item, Pipe, Subscription, Standing, Active, Ended}
+use Rattle.bus_words.specs.Bus.{Item, Pipe, Subscription, Standing, Active, Waiting, Ended}
 use Rattle.bus_words.specs.Machine.{counts_for}
+use Rattle.sb_calls.specs.declared.pipes.Leaving.{Leaving}
+use Rattle.sb_calls.specs.declared.pipes.Leaving.TheVariants as leavings
 use Rattle.sb_calls.specs.declared.rows.Activity.{Activity}
 use Rattle.sb_calls.specs.declared.rows.Activity.TheVariants as activities
+use Rattle.sb_calls.specs.declared.pending.Pended.{Pended}
+use Rattle.sb_calls.specs.declared.pending.Pended.TheVariants as waits
 use Rattle.sb_calls.specs.declared.rows.ItemRow.{ItemRow}
 use Rattle.sb_calls.specs.declared.rows.RouteRow.{RouteRow}
 use Rattle.sb_calls.specs.declared.rows.SendRow.{SendRow}
@@ -27,10 +30,7 @@ pub record Kept : Type 0 where
 -- the bytes that a call sends
 abbrev pub bytes_sent : Call → List ℕ
 bytes_sent (Transmit bytes inc) = bytes
-bytes_sent (Create depth name) = []
-bytes_sent (Subscribe id pipe limit scope) = []
-bytes_sent (Receive pipe) = []
-bytes_sent End = []
+bytes_sent call = []
 
 -- the bytes that an entry sends
 abbrev pub bytes_of_entry : Option Entry → List ℕ
@@ -57,10 +57,7 @@ is_transmit (Some e) = sends_message e.call
   where
     sends_message : Call → Bool
     sends_message (Transmit bytes inc) = is_none (fault bytes)
-    sends_message (Create depth name) = false
-    sends_message (Subscribe id pipe limit scope) = false
-    sends_message (Receive pipe) = false
-    sends_message End = false
+    sends_message call = false
 
 -- whether the row names an entry of the journal that sends a message, and its count has 14 bits
 abbrev pub is_send : List Entry → SendRow → Bool
@@ -121,6 +118,15 @@ last_row_item rows app number =
 -- the row after a receive
 abbrev pub after_take : Row → Row
 after_take row = record row { queue = drop 1 row.queue; last = first_item row.queue }
+
+-- the row with these option bits
+abbrev pub row_with_bits : ℕ → Row → Row
+row_with_bits bits row = record row { bits = bits }
+
+-- whether the row is of a pipe that leaves
+abbrev pub leaves : Leaving → Row → Bool
+leaves (leavings.Pipe number) row = row.number == number
+leaves (leavings.Owner app) row = row.owner == app
 
 -- how many items of a subscription wait
 abbrev pub waiting_in : Row → ℕ → ℕ
@@ -206,4 +212,17 @@ with_route routes id =
 
 abbrev pub standing_in : Activity → Standing
 standing_in activities.Active = Active
+standing_in (activities.Waiting pipe) = Waiting pipe
 standing_in activities.Ended = Ended
+
+-- whether the application makes no further send by itself: it has ended, or waits on an empty pipe
+abbrev pub idle_in : List Row → Activity → Bool
+idle_in rows activities.Active = false
+idle_in rows (activities.Waiting pipe) = is_none (oldest_item rows pipe)
+idle_in rows activities.Ended = true
+
+-- whether the application is to wait
+abbrev pub is_pending : Pended → Bool
+is_pending (waits.Got number) = false
+is_pending waits.TimeOut = false
+is_pending waits.Pending = true

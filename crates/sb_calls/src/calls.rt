@@ -52,11 +52,7 @@ impl BusCore {
     {
         let call = BusCall::Create { depth, name };
         if let Some(status) = self.create_cause(depth, name) {
-            self.journal.push(&BusEntry {
-                app,
-                call,
-                answer: BusAnswer::Sb(status),
-            });
+            self.refuse(app, call, status);
             return Err(status);
         }
         let queue = self.spare.pop().unwrap();
@@ -98,19 +94,11 @@ impl BusCore {
             scope,
         };
         if let Some(status) = self.subscribe_cause(app, id, pipe) {
-            self.journal.push(&BusEntry {
-                app,
-                call,
-                answer: BusAnswer::Sb(status),
-            });
+            self.refuse(app, call, status);
             return Err(status);
         }
         if subscriptions::is_subscribed(&self.subscriptions, id, pipe) {
-            self.journal.push(&BusEntry {
-                app,
-                call,
-                answer: BusAnswer::Done,
-            });
+            self.tell(app, call, BusAnswer::Done);
             return Ok(());
         }
         self.subscriptions_made += 1;
@@ -122,6 +110,30 @@ impl BusCore {
             scope,
         ));
         routes::add(&mut self.routes, id);
+        self.journal.push(&BusEntry {
+            app,
+            call,
+            answer: BusAnswer::Done,
+        });
+        Ok(())
+    }
+
+    /// Has no more messages of this id queued on the caller's pipe. Those that wait
+    /// stay. Where the pipe isn't subscribed to the id, this changes nothing.
+    ///
+    /// # Errors
+    /// `BadArgument` for an id that isn't 1 to 0x1FFF, and for a pipe that isn't live or isn't the
+    /// caller's.
+    pub fn unsubscribe(&mut self, app: AppNo, id: u16, pipe: u32) -> Result<(), SbStatus>
+        requires may { MayCall self.old app (Call.Unsubscribe id pipe) }
+        ensures { Does self.old self.new app (Call.Unsubscribe id pipe) (done result) }
+    {
+        let call = BusCall::Unsubscribe { id, pipe };
+        if let Some(status) = self.unsubscribe_cause(app, id, pipe) {
+            self.refuse(app, call, status);
+            return Err(status);
+        }
+        subscriptions::remove(&mut self.subscriptions, id, pipe);
         self.journal.push(&BusEntry {
             app,
             call,
@@ -143,23 +155,16 @@ impl BusCore {
     {
         let call = BusCall::Transmit { bytes, inc };
         if let Some(status) = self.transmit_cause(bytes) {
-            self.journal.push(&BusEntry {
-                app,
-                call,
-                answer: BusAnswer::Sb(status),
-            });
+            self.refuse(app, call, status);
             return Err(status);
         }
         let id = id_of(bytes);
         if subscriptions::route_length(&self.subscriptions, id) == 0 {
-            self.journal.push(&BusEntry {
-                app,
-                call,
-                answer: BusAnswer::Sent {
-                    number: 0,
-                    reached: 0,
-                },
-            });
+            let nobody = BusAnswer::Sent {
+                number: 0,
+                reached: 0,
+            };
+            self.tell(app, call, nobody);
             return Ok(Sent {
                 number: 0,
                 reached: 0,
@@ -191,11 +196,7 @@ impl BusCore {
     {
         let call = BusCall::Receive { pipe };
         if !pipes::owns(&self.pipes, app, pipe) {
-            self.journal.push(&BusEntry {
-                app,
-                call,
-                answer: BusAnswer::Sb(SbStatus::BadArgument),
-            });
+            self.refuse(app, call, SbStatus::BadArgument);
             return Err(SbStatus::BadArgument);
         }
         let oldest = pipes::oldest(&self.pipes, pipe);

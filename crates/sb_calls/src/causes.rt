@@ -1,18 +1,19 @@
 //! Why a call is refused: the first cause that applies, in the order of the guides.
-ghost use Rattle.std.specs.Prelude.{◌≡◌, ◌==◌, ◌||◌, ◌&&◌, not, nat_lt, nat_le, length, is_some, ◌≤◌};
+ghost use Rattle.std.specs.Prelude.{◌≡◌, None, ◌==◌, ◌||◌, ◌&&◌, not, nat_lt, nat_le, length, is_some, ◌≤◌};
 ghost use Rattle.ccsds_msg.specs.Message.{fault, is_valid_id};
 ghost use Rattle.std.specs.List.{list_any};
 ghost use Rattle.bus_words.specs.Bus.{route};
-ghost use Rattle.bus_words.specs.Machine.{create_cause, subscribe_cause, transmit_cause};
+ghost use Rattle.bus_words.specs.Machine.{refused_if, create_cause, subscribe_cause, unsubscribe_cause, unowned_cause, set_opts_cause, transmit_cause};
 ghost use Rattle.sb_calls.specs.Core.{state_of};
 ghost use Rattle.sb_calls.specs.Rows.{owns_row};
 
 use crate::bus_core::BusCore;
-use crate::pipe_row::{MAX_NAME, PipeRow};
+use crate::pipe_row::PipeRow;
 use crate::pipes::{is_name_taken, owns};
 use crate::routes::has_route;
 use crate::rows::{RouteRow, SubscriptionRow};
 use crate::subscriptions::{is_subscribed, route_length};
+use bus_words::NAME_BYTES;
 use ccsds_msg::read_header;
 use fsw_base::{AppNo, SbStatus};
 
@@ -52,6 +53,27 @@ impl BusCore {
         None
     }
 
+    /// Why the pipe's subscription to the id can't be ended.
+    pub(crate) fn unsubscribe_cause(&self, app: AppNo, id: u16, pipe: u32) -> Option<SbStatus>
+        ensures { result ≡ unsubscribe_cause (state_of self.now) app id pipe }
+    {
+        bad_argument_if(is_bad_subscription(&self.pipes, app, id, pipe))
+    }
+
+    /// Why the pipe isn't the application's to end or to receive on.
+    pub(crate) fn unowned_cause(&self, app: AppNo, pipe: u32) -> Option<SbStatus>
+        ensures { result ≡ unowned_cause (state_of self.now) app pipe }
+    {
+        bad_argument_if(!owns(&self.pipes, app, pipe))
+    }
+
+    /// Why the pipe's option bits can't be set to these.
+    pub(crate) fn set_opts_cause(&self, app: AppNo, pipe: u32, bits: u8) -> Option<SbStatus>
+        ensures { result ≡ set_opts_cause (state_of self.now) app pipe bits }
+    {
+        bad_argument_if(is_bad_option(&self.pipes, app, pipe, bits))
+    }
+
     /// Why the bytes can't be sent.
     pub(crate) fn transmit_cause(&self, bytes: &[u8]) -> Option<SbStatus>
         requires { length bytes.now ≤ 65542 }
@@ -67,11 +89,28 @@ impl BusCore {
     }
 }
 
+// The one refusal where the test is true.
+fn bad_argument_if(test: bool) -> Option<SbStatus>
+    ensures { result ≡ refused_if test SbStatus.BadArgument None }
+{
+    if test {
+        return Some(SbStatus::BadArgument);
+    }
+    None
+}
+
 // Whether the depth or the name is out of its range.
 fn is_bad_pipe(depth: u32, greatest: u32, name: &[u8]) -> bool
     ensures { result ≡ (depth == 0 || nat_lt greatest depth || length name.now == 0 || nat_lt 19 (length name.now)) }
 {
-    depth == 0 || depth > greatest || name.is_empty() || name.len() > MAX_NAME
+    depth == 0 || depth > greatest || name.is_empty() || name.len() > NAME_BYTES
+}
+
+// Whether the pipe isn't the application's, or a bit is no option.
+fn is_bad_option(pipes: &[PipeRow], app: AppNo, pipe: u32, bits: u8) -> bool
+    ensures { result ≡ (not (owns_row pipes.now app pipe) || nat_lt 1 bits) }
+{
+    !owns(pipes, app, pipe) || bits > 1
 }
 
 // Whether the id is out of its range, or the pipe isn't the application's.

@@ -2,7 +2,8 @@
 ghost use Rattle.std.specs.Prelude.{◌≡◌, ◌≤◌, ◌<◌, ◌*◌, length, sum};
 ghost use Rattle.ccsds_msg.specs.Message.{with_count, IsMessage};
 ghost use Rattle.bus_words.specs.Receipts.{message_receipt};
-ghost use Rattle.sb_calls.specs.Core.{receipt_in, state_of};
+ghost use Rattle.bus_words.specs.Receipts.{receipt_in};
+ghost use Rattle.sb_calls.specs.Core.{state_of};
 ghost use Rattle.sb_calls.specs.Rows.{last_row_item};
 
 use crate::bus_core::BusCore;

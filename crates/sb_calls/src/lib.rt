@@ -16,8 +16,12 @@
 mod bus_core;
 mod calls;
 mod causes;
+mod entries;
 mod last_receipts;
+mod lookups;
 mod opening;
+mod pending;
+mod pipe_calls;
 mod pipe_row;
 mod pipes;
 mod routes;
@@ -26,6 +30,7 @@ mod subscriptions;
 
 pub use bus_core::BusCore;
 pub use calls::Sent;
+pub use pending::Pended;
 
 #[cfg(test)]
 mod tests;

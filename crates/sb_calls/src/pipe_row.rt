@@ -2,17 +2,13 @@
 ghost use Rattle.std.specs.Prelude.{◌≡◌, ◌==◌, ◌&&◌, ◌≤◌, [], length, None, option_map};
 ghost use Rattle.std.specs.Str.{bytes_eq};
 ghost use Rattle.circular_buffer.specs.Buffer.{buffer};
-ghost use Rattle.sb_calls.specs.Rows.{first_item, after_take, waiting_in, ignores_sender, takes, offered_row};
-ghost use Rattle.sb_calls.specs.declared.pipe_row.TheConstants.{MAX_NAME};
+ghost use Rattle.sb_calls.specs.Rows.{first_item, after_take, row_with_bits, waiting_in, ignores_sender, takes, offered_row};
 
 use crate::rows::{ItemRow, SubscriptionRow};
-use arrayvec::ArrayVec;
+use bus_words::PipeText;
 use circular_buffer::HeapCircularBuffer;
 use fsw_base::AppNo;
 use std::marker::Model;
-
-/// How many bytes a pipe's name has at most.
-pub(crate) const MAX_NAME: usize = 19;
 
 /// A live pipe (cFE Software Bus, pipes).
 #[derive(Drop)]
@@ -20,12 +16,12 @@ pub(crate) struct PipeRow {
     // From 1, by order of creation; never used again.
     number: u32,
     // 1 to 19 bytes.
-    name: ArrayVec<u8, MAX_NAME>,
+    name: PipeText,
     // Who created it.
     owner: AppNo,
     // How many messages may wait; the queue has room for them.
     depth: u32,
-    // Option bits: with 0x01 the owner's own messages are not for it.
+    // Option bits: 0, or 0x01 where the owner's own messages are not for it.
     bits: u8,
     // What waits, oldest first.
     queue: HeapCircularBuffer<ItemRow>,
@@ -41,7 +37,7 @@ impl Model for PipeRow {
 
     ghost view = { λ p. record {
       number = p.number;
-      name = p.name.items;
+      name = p.name;
       owner = p.owner;
       depth = p.depth;
       bits = p.bits;
@@ -62,7 +58,8 @@ impl PipeRow {
         depth: u32,
         queue: HeapCircularBuffer<ItemRow>,
     ) -> PipeRow
-        requires name { length name.now ≤ MAX_NAME }
+        requires named { 1 ≤ length name.now }
+        requires short { length name.now ≤ 19 }
         requires empty { queue.items ≡ [] }
         requires room { depth ≤ queue.capacity }
         ensures { result ≡ record {
@@ -76,11 +73,9 @@ impl PipeRow {
           room = queue.capacity;
         } }
     {
-        let mut kept = ArrayVec::new();
-        let _ = kept.try_extend_from_slice(name);
         PipeRow {
             number,
-            name: kept,
+            name: PipeText::try_new(name).unwrap(),
             owner,
             depth,
             bits: 0,
@@ -115,6 +110,27 @@ impl PipeRow {
         ensures { result ≡ bytes_eq self.now.name name.now }
     {
         self.name.as_slice() == name
+    }
+
+    /// Its name.
+    pub(crate) fn name(&self) -> PipeText
+        ensures { result ≡ self.now.name }
+    {
+        self.name.again()
+    }
+
+    /// Its option bits.
+    pub(crate) fn bits(&self) -> u8
+        ensures { result ≡ self.now.bits }
+    {
+        self.bits
+    }
+
+    /// Sets its option bits.
+    pub(crate) fn set_bits(&mut self, bits: u8)
+        ensures { self.new ≡ row_with_bits bits self.old }
+    {
+        self.bits = bits;
     }
 
     /// What waits longest.

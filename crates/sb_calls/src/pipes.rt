@@ -1,12 +1,13 @@
 //! The live pipes, by rising number.
-ghost use Rattle.std.specs.Prelude.{◌≡◌, ◌+◌, ◌==◌, ◌<◌, ◌≤◌, ◌^◌, not, ◌++◌, length, map, filter, find, option_copied, vec_len, vec_capacity, if◌then◌else◌};
+ghost use Rattle.std.specs.Prelude.{◌≡◌, ◌+◌, ◌==◌, ◌<◌, ◌≤◌, ◌^◌, not, ◌++◌, length, map, filter, find, option_copied, option_map, vec_len, vec_capacity, if◌then◌else◌};
 ghost use Rattle.std.specs.List.{list_any};
 ghost use Rattle.std.specs.Str.{bytes_eq};
 ghost use Rattle.bus_words.specs.Bus.{route};
-ghost use Rattle.sb_calls.specs.Rows.{owns_row, oldest_item, with_row, after_take, row_takes, offered_row, deliver_rows, reached_rows, empty_queue};
+ghost use Rattle.sb_calls.specs.Rows.{owns_row, oldest_item, with_row, after_take, row_with_bits, leaves, row_takes, offered_row, deliver_rows, reached_rows, empty_queue};
 
 use crate::pipe_row::PipeRow;
 use crate::rows::{ItemRow, SubscriptionRow};
+use bus_words::PipeText;
 use circular_buffer::HeapCircularBuffer;
 use fsw_base::AppNo;
 
@@ -29,6 +30,30 @@ pub(crate) fn pipe_of(pipes: &[PipeRow], number: u32) -> Option<&PipeRow>
     ensures { option_copied result ≡ find (λ row. row.number == number) pipes.now }
 {
     pipes.iter().find(|row| row.number() == number)
+}
+
+/// The number of the pipe of this name.
+pub(crate) fn number_of(pipes: &[PipeRow], name: &[u8]) -> Option<u32>
+    ensures { result ≡ option_map (λ row. row.number) (find (λ row. bytes_eq row.name name.now) pipes.now) }
+{
+    let row = pipes.iter().find(|row| row.is_named(name))?;
+    Some(row.number())
+}
+
+/// The option bits of the pipe of this number.
+pub(crate) fn bits_of(pipes: &[PipeRow], number: u32) -> Option<u8>
+    ensures { result ≡ option_map (λ row. row.bits) (find (λ row. row.number == number) pipes.now) }
+{
+    let row = pipe_of(pipes, number)?;
+    Some(row.bits())
+}
+
+/// The name of the pipe of this number.
+pub(crate) fn name_of(pipes: &[PipeRow], number: u32) -> Option<PipeText>
+    ensures { result ≡ option_map (λ row. row.name) (find (λ row. row.number == number) pipes.now) }
+{
+    let row = pipe_of(pipes, number)?;
+    Some(row.name())
 }
 
 /// What waits longest on the pipe of this number.
@@ -57,6 +82,25 @@ fn take_one(row: &mut PipeRow, number: u32)
 {
     if row.number() == number {
         row.take();
+    }
+}
+
+/// Sets the option bits of the pipe of this number.
+pub(crate) fn set_bits(pipes: &mut Vec<PipeRow>, number: u32, bits: u8)
+    ensures rows { pipes.new.items ≡ with_row (row_with_bits bits) number pipes.old.items }
+    ensures capacity { vec_capacity pipes.new ≡ vec_capacity pipes.old }
+{
+    for row in pipes.iter_mut() {
+        set_bits_one(row, number, bits);
+    }
+}
+
+// Sets the option bits where the pipe has this number.
+fn set_bits_one(row: &mut PipeRow, number: u32, bits: u8)
+    ensures { row.new ≡ (if row.old.number == number then row_with_bits bits row.old else row.old) }
+{
+    if row.number() == number {
+        row.set_bits(bits);
     }
 }
 
@@ -134,6 +178,21 @@ fn offer_one(row: &mut PipeRow, sub: &SubscriptionRow, sender: AppNo, number: u3
     }
 }
 
+/// Ends the pipe of this number; its queue, empty, is for a pipe to come.
+pub(crate) fn delete(
+    pipes: &mut Vec<PipeRow>,
+    spare: &mut Vec<HeapCircularBuffer<ItemRow>>,
+    number: u32,
+)
+    requires { vec_len pipes.old + vec_len spare.old ≤ vec_capacity spare.old }
+    ensures rows { pipes.new.items ≡ filter (λ row. not (row.number == number)) pipes.old.items }
+    ensures queues { spare.new.items ≡ spare.old.items ++ map empty_queue (filter (λ row. row.number == number) pipes.old.items) }
+    ensures capacity { vec_capacity pipes.new ≡ vec_capacity pipes.old }
+    ensures spare_capacity { vec_capacity spare.new ≡ vec_capacity spare.old }
+{
+    remove(pipes, spare, &Leaving::Pipe(number));
+}
+
 /// Ends the application's pipes; their queues, empty, are for pipes to come.
 pub(crate) fn release(
     pipes: &mut Vec<PipeRow>,
@@ -146,13 +205,43 @@ pub(crate) fn release(
     ensures capacity { vec_capacity pipes.new ≡ vec_capacity pipes.old }
     ensures spare_capacity { vec_capacity spare.new ≡ vec_capacity spare.old }
 {
+    remove(pipes, spare, &Leaving::Owner(app));
+}
+
+/// Which pipes leave.
+#[derive(Clone, Copy)]
+pub(crate) enum Leaving {
+    /// The one of this number.
+    Pipe(u32),
+    /// This application's.
+    Owner(AppNo),
+}
+
+// Ends the pipes that leave; their queues, empty, are for pipes to come.
+fn remove(pipes: &mut Vec<PipeRow>, spare: &mut Vec<HeapCircularBuffer<ItemRow>>, leaving: &Leaving)
+    requires { vec_len pipes.old + vec_len spare.old ≤ vec_capacity spare.old }
+    ensures rows { pipes.new.items ≡ filter (λ row. not (leaves leaving.now row)) pipes.old.items }
+    ensures queues { spare.new.items ≡ spare.old.items ++ map empty_queue (filter (leaves leaving.now) pipes.old.items) }
+    ensures capacity { vec_capacity pipes.new ≡ vec_capacity pipes.old }
+    ensures spare_capacity { vec_capacity spare.new ≡ vec_capacity spare.old }
+{
     let mut at = 0;
     while at < pipes.len() {
-        if pipes[at].is_owned_by(app) {
+        if is_leaving(&pipes[at], leaving) {
             let row = pipes.remove(at);
             spare.push_reserved(row.into_queue());
         } else {
             at += 1;
         }
+    }
+}
+
+// Whether the pipe leaves.
+fn is_leaving(row: &PipeRow, leaving: &Leaving) -> bool
+    ensures { result ≡ leaves leaving.now row.now }
+{
+    match *leaving {
+        Leaving::Pipe(number) => row.number() == number,
+        Leaving::Owner(app) => row.is_owned_by(app),
     }
 }

@@ -31,6 +31,8 @@ pub(crate) struct RouteRow {
 pub(crate) enum Activity {
     /// It makes calls.
     Active,
+    /// It waits for a message on this pipe of its own.
+    Waiting(u32),
     /// It has made its last call.
     Ended,
 }

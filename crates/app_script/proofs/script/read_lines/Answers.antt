@@ -1,7 +1,7 @@
 use Rattle.std.proofs.Common.{◌≡◌, length, sym, subst, arith}
 use Rattle.std.proofs.lemmas.Bool.Decides.{nat_tests}
 use Rattle.app_script.specs.declared.fail.ReadFail.{ReadFail}
-use Rattle.app_script.specs.Text.{lines_of}
+use Rattle.script_words.specs.Text.{lines_of}
 use Rattle.app_script.specs.Grammar.{after_lines}
 use Rattle.app_script.specs.Whole.{FailsAs}
 use Rattle.app_script.proofs.ReadLemmas.{lines_more, lines_fault, lines_end}

@@ -1,5 +1,5 @@
 use Rattle.std.proofs.Common.{◌≡◌, ◌+◌, ◌≤◌, length}
-use Rattle.app_script.specs.Text.{lines_of}
+use Rattle.script_words.specs.Text.{lines_of}
 use Rattle.app_script.specs.Grammar.{after_lines}
 use Rattle.app_script.proofs.script.read_lines.Given as goal
 

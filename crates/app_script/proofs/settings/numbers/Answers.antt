@@ -1,10 +1,10 @@
 use Rattle.std.proofs.Common.{◌≡◌, ◌∷◌, [], ap, arith, length, rules}
 use Rattle.std.proofs.lemmas.Result.{err_from_is_err_and}
 use Rattle.std.proofs.lemmas.List.{length-append}
-use Rattle.app_script.specs.Text.{words_of}
-use Rattle.app_script.specs.Lists.{each}
-use Rattle.app_script.specs.Numbers.{number_of}
-use Rattle.app_script.proofs.ListLemmas.{each_more, each_fault, each_end}
+use Rattle.script_words.specs.Text.{words_of}
+use Rattle.script_words.specs.Lists.{each}
+use Rattle.script_words.specs.Numbers.{number_of}
+use Rattle.script_words.proofs.ListLemmas.{each_more, each_fault, each_end}
 use Rattle.app_script.proofs.settings.numbers.Goals as goal
 
 pub returns-in_err-n : goal.returns-in_err-n

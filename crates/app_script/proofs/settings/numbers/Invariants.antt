@@ -1,8 +1,8 @@
 use Rattle.std.proofs.Common.{◌≡◌, ◌+◌, ◌≤◌, length}
-use Rattle.app_script.specs.Text.{words_of}
-use Rattle.app_script.specs.Lists.{each}
-use Rattle.app_script.specs.Numbers.{number_of}
-use Rattle.app_script.proofs.ListLemmas.{with_front}
+use Rattle.script_words.specs.Text.{words_of}
+use Rattle.script_words.specs.Lists.{each}
+use Rattle.script_words.specs.Numbers.{number_of}
+use Rattle.script_words.proofs.ListLemmas.{with_front}
 use Rattle.app_script.proofs.settings.numbers.Given as goal
 
 abbrev pub invariant-loop-word : goal.invariant-loop-word

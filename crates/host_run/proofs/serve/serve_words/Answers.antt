@@ -1,5 +1,5 @@
 use Rattle.std.proofs.Common.{refl, subst}
-use Rattle.host_run.specs.Form.{first_form}
+use Rattle.app_script.specs.Grammar.{built_script}
 use Rattle.host_run.specs.Serve.{EndsInput, Made, Read}
 use Rattle.host_run.proofs.serve.serve_words.Goals as goal
 
@@ -23,4 +23,4 @@ returns-in-Whole-clause-lockstep g c = λ words.
       shown = g.A.Audit.shown c.serve_text.new.audit;
     } in
     Read c.in-Whole.text.items c.in-Whole.ensures.bytes
-    (subst (λ bytes. EndsInput c.serve_text.result (first_form bytes) old new) c.deref.ensures.value c.serve_text.ensures)
+    (subst (λ bytes. EndsInput c.serve_text.result (built_script bytes) old new) c.deref.ensures.value c.serve_text.ensures)

@@ -1,5 +1,5 @@
 use Rattle.std.proofs.Common.{take}
-use Rattle.run_report.specs.Pieces.{Puts}
+use Rattle.text_page.specs.Pieces.{Puts}
 use Rattle.run_report.specs.BusText.{entries_text}
 use Rattle.run_report.proofs.entries.put_entries.Given as goal
 

@@ -1,5 +1,5 @@
 use Rattle.std.proofs.Common.{take}
-use Rattle.run_report.specs.Pieces.{Puts}
+use Rattle.text_page.specs.Pieces.{Puts}
 use Rattle.run_report.specs.ReceiptText.{application_text}
 use Rattle.run_report.proofs.receipts.put_application.Given as goal
 

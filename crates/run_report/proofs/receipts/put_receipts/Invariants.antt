@@ -1,5 +1,5 @@
 use Rattle.std.proofs.Common.{take, map}
-use Rattle.run_report.specs.Pieces.{Puts}
+use Rattle.text_page.specs.Pieces.{Puts}
 use Rattle.run_report.specs.ReceiptText.{receipts_text}
 use Rattle.run_report.proofs.receipts.put_receipts.Given as goal
 

@@ -1,8 +1,8 @@
-use Rattle.std.proofs.Common.{◌≡◌, sum, map, ap, ◌∙◌, arith, rules, tests}
+use Rattle.std.proofs.Common.{◌≡◌, sum, ap, ◌∙◌, arith, rules, tests}
 use Rattle.std.proofs.lemmas.Iterator.{YieldsList-from_slice, YieldsList-from_map}
 use Rattle.std.proofs.lemmas.Iterator.Consumers.{YieldsList-at, sum_from_yields_List}
 use Rattle.std.proofs.lemmas.List.{map-id}
-use Rattle.sb_calls.proofs.Receipts.{sum-bytes, receipt_of-with_count}
+use Rattle.sb_calls.proofs.Receipts.{sum-bytes}
 use Rattle.sb_calls.proofs.last_receipts.sum_of.Goals as goal
 
 pub returns-clause-most : goal.returns-clause-most

@@ -1,5 +1,5 @@
 use Rattle.std.proofs.Common.{List, [], ◌∷◌, ◌++◌, length, ap, ◌∙◌, arith}
-use Rattle.app_script.specs.declared.line.Line.{Line}
+use Rattle.script_lines.specs.declared.line.Line.{Line}
 use Rattle.app_script.specs.Script.{Application}
 use Rattle.app_script.proofs.PartLemmas.{fits_push}
 use Rattle.app_script.proofs.app.App.push.Goals as goal

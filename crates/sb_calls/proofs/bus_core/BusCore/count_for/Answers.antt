@@ -1,4 +1,4 @@
-use Rattle.std.proofs.Common.{◌≡◌, List, ℕ, cond, ap, sym, ◌∙◌, arith}
+use Rattle.std.proofs.Common.{List, ℕ, cond, ap, sym, ◌∙◌, arith}
 use Rattle.ccsds_msg.specs.Message.{message_id, with_count}
 use Rattle.bus_words.specs.Machine.{next_count}
 use Rattle.sb_calls.proofs.Counts.{with_count-own}

@@ -1,4 +1,4 @@
-use Rattle.std.proofs.Common.{◌≡◌, ◌<◌, Bool, true, false, List, length, Some, None, ap, sym, ◌∙◌, arith}
+use Rattle.std.proofs.Common.{◌<◌, true, false, List, length, Some, None, ap, sym, ◌∙◌, arith}
 use Rattle.std.specs.List.{list_any}
 use Rattle.std.specs.Str.{bytes_eq}
 use Rattle.fsw_base.specs.Limits.{limits_of}

@@ -1,27 +1,11 @@
-use Rattle.std.proofs.Common.{◌≡◌, ◌≤◌, [], ◌∷◌, ◌++◌, None, Some, refl, ap, sym, ◌∙◌, arith}
+use Rattle.std.proofs.Common.{[], ◌∷◌, ◌++◌, None, ap, sym, ◌∙◌, arith}
 use Rattle.fsw_base.specs.Limits.{limits_of}
-use Rattle.bus_words.specs.declared.history.Call.TheVariants.{Create}
 use Rattle.bus_words.specs.Machine.{create_cause}
 use Rattle.sb_calls.specs.Inside.{means}
 use Rattle.sb_calls.specs.Rows.{Row}
-use Rattle.sb_calls.proofs.After.{refused_stands, refused_does}
 use Rattle.sb_calls.proofs.Refusals.{from_core}
 use Rattle.sb_calls.proofs.Creates.{depth_within, popped, created_stands, created_does}
 use Rattle.sb_calls.proofs.bus_core.BusCore.create_pipe.Goals as goal
-
-pub invariant_of-self : goal.invariant_of-self
-invariant_of-self c =
-    let a = c.self.inside in
-    let why = from_core a c.args.self.now c.self.view_is c.self.invariant (λ limits s. create_cause limits s c.args.depth c.args.name.now) (Some c.in-Some.status) (sym c.create_cause.ensures ∙ c.in-Some.is) in
-    refused_stands a c.push.new.self c.args.self.now c.args.app (Create c.args.depth c.args.name.now) c.in-Some.status
-    (record { is = c.self.view_is; stands = c.self.invariant; may = c.requires.may }) why refl c.push.ensures
-
-pub returns-in-Some : goal.returns-in-Some
-returns-in-Some c =
-    let a = c.self.inside in
-    let why = from_core a c.args.self.now c.self.view_is c.self.invariant (λ limits s. create_cause limits s c.args.depth c.args.name.now) (Some c.in-Some.status) (sym c.create_cause.ensures ∙ c.in-Some.is) in
-    refused_does a c.push.new.self c.args.self.now c.args.app (Create c.args.depth c.args.name.now) c.in-Some.status
-    (record { is = c.self.view_is; stands = c.self.invariant; may = c.requires.may }) why refl c.push.ensures
 
 pub new-requires-clause-empty : goal.new-requires-clause-empty
 new-requires-clause-empty c =
@@ -36,18 +20,18 @@ new-requires-clause-room c =
     let room = (popped a.config.depth a.spare.items c.pop.new.self.items c.pop.result c.unwrap-queue.result c.pop.ensures.items c.unwrap-queue.ensures c.self.invariant.keeps.spare).1.room in
     omega (arith, within, room)
 
-pub invariant_of-self-2 : goal.invariant_of-self-2
-invariant_of-self-2 c =
+pub invariant_of-self : goal.invariant_of-self
+invariant_of-self c =
     let a = c.self.inside in
     let why = from_core a c.args.self.now c.self.view_is c.self.invariant (λ limits s. create_cause limits s c.args.depth c.args.name.now) None (sym c.create_cause.ensures ∙ c.in_default.is) in
-    created_stands a c.push_reserved.new.self c.pop.new.self c.push-2.new.self c.args.self.now c.args.app c.args.depth c.args.name.now
+    created_stands a c.push_reserved.new.self c.pop.new.self c.push.new.self c.args.self.now c.args.app c.args.depth c.args.name.now
     (record { is = c.self.view_is; stands = c.self.invariant; may = c.requires.may }) c.pop.result c.unwrap-queue.result why
-    c.pop.ensures.items c.unwrap-queue.ensures c.pop.ensures.capacity (c.push_reserved.ensures.items ∙ ap (λ (r : Row). a.pipes.items ++ r ∷ []) c.new.ensures) c.push_reserved.ensures.capacity c.push-2.ensures
+    c.pop.ensures.items c.unwrap-queue.ensures c.pop.ensures.capacity (c.push_reserved.ensures.items ∙ ap (λ (r : Row). a.pipes.items ++ r ∷ []) c.new.ensures) c.push_reserved.ensures.capacity c.push.ensures
 
 pub returns : goal.returns
 returns c =
     let a = c.self.inside in
     let why = from_core a c.args.self.now c.self.view_is c.self.invariant (λ limits s. create_cause limits s c.args.depth c.args.name.now) None (sym c.create_cause.ensures ∙ c.in_default.is) in
-    created_does a c.push_reserved.new.self c.pop.new.self c.push-2.new.self c.args.self.now c.args.app c.args.depth c.args.name.now
+    created_does a c.push_reserved.new.self c.pop.new.self c.push.new.self c.args.self.now c.args.app c.args.depth c.args.name.now
     (record { is = c.self.view_is; stands = c.self.invariant; may = c.requires.may }) c.pop.result c.unwrap-queue.result why
-    c.pop.ensures.items c.unwrap-queue.ensures c.pop.ensures.capacity (c.push_reserved.ensures.items ∙ ap (λ (r : Row). a.pipes.items ++ r ∷ []) c.new.ensures) c.push_reserved.ensures.capacity c.push-2.ensures
+    c.pop.ensures.items c.unwrap-queue.ensures c.pop.ensures.capacity (c.push_reserved.ensures.items ∙ ap (λ (r : Row). a.pipes.items ++ r ∷ []) c.new.ensures) c.push_reserved.ensures.capacity c.push.ensures

@@ -1,9 +1,8 @@
-use Rattle.std.proofs.Common.{◌≡◌, ℕ, eqb, true, [], length, All, refl, ap, sym, subst, ◌∙◌, arith}
+use Rattle.std.proofs.Common.{◌≡◌, eqb, true, length, All, refl, ap, sym, subst, ◌∙◌, arith}
 use Rattle.std.proofs.lemmas.List.{length-replicate}
 use Rattle.std.specs.List.{list_any}
 use Rattle.fsw_base.specs.Limits.{Limits}
 use Rattle.bus_words.specs.Log.{Log, entries_left}
-use Rattle.sb_calls.specs.Inside.{Keeps}
 use Rattle.sb_calls.specs.Rows.{IsRow, IsSpare, is_send, counted_in, counted_sends}
 use Rattle.sb_calls.proofs.OpenedCore.{All-empty, length-allowances, entries_left-allowances, stands_opening}
 use Rattle.sb_calls.proofs.bus_core.BusCore.new.Goals as goal

@@ -1,4 +1,4 @@
-use Rattle.std.proofs.Common.{◌≡◌, ◌&&◌, ◌||◌, not, leb, eqb, Bool, true, false, List, length, Some, None, refl, ap, sym, ◌∙◌}
+use Rattle.std.proofs.Common.{◌&&◌, ◌||◌, not, leb, eqb, true, false, List, length, Some, None, refl, ap, sym, ◌∙◌}
 use Rattle.std.specs.List.{list_any}
 use Rattle.fsw_base.specs.Limits.{limits_of}
 use Rattle.fsw_base.specs.declared.statuses.SbStatus.TheVariants.{BadArgument, MaxMsgsMet, MaxDestsMet}

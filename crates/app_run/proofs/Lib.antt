@@ -1,0 +1,5 @@
+pub mod Settling
+pub mod TurnLaws
+pub mod ToldLaws
+pub mod RoundLaws
+pub mod OpenLaws

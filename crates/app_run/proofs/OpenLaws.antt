@@ -1,0 +1,343 @@
+-- Before the first rotation and after the last one.
+use Rattle.std.proofs.Common.{◌≡◌, ℕ, zero, suc, ◌+◌, ◌-◌, ◌*◌, ◌<◌, ◌≤◌, Bool, true, false, cond, List, [], ◌∷◌, ◌++◌, length, map, fold, sum_by, replicate, slice_index_or, refl, ap, sym, ◌∙◌, subst, append-nil, add-one, ne_eqb, arith}
+use Rattle.std.specs.List.{All, range_with_len}
+use Rattle.std.proofs.lemmas.List.{length-map}
+use Rattle.std.proofs.lemmas.List.Elements.{All-nil, All-cons, All-head, All-tail}
+use Rattle.std.proofs.lemmas.List.FromFn.{length-range_with_len}
+use Rattle.std.proofs.lemmas.List.Sums.{sum_by-cons}
+use Rattle.fsw_base.specs.declared.config.Budget.{Budget}
+use Rattle.fsw_base.specs.Limits.{Limits}
+use Rattle.bus_words.specs.declared.history.Entry.{Entry}
+use Rattle.bus_words.specs.declared.journal.Allowance.{Allowance}
+use Rattle.bus_words.specs.declared.receipts.Receipt.{Receipt}
+use Rattle.bus_words.specs.Bus.{State, Standing, Active, Ended, opening, standing_of}
+use Rattle.bus_words.specs.Log.{AreBudgets, allowances, allowance_of}
+use Rattle.sb_calls.specs.Core.{Core, apps_of, state_of}
+use Rattle.script_lines.specs.declared.line.Line.{Line}
+use Rattle.script_lines.specs.declared.line.Line.TheVariants.{Create, Find, Send, SendRaw, Pend, Allocate}
+use Rattle.app_script.specs.declared.account.Account.{Account}
+use Rattle.app_script.specs.Accounts.{no_calls, charge_of, waits_of, buffers_of, counted, account_of, budget_of}
+use Rattle.app_script.specs.Ranges.{IsInRange}
+use Rattle.app_script.specs.Rotation.{Running, SoFar, rotated, rotations, starting, enough, before_all, rotation}
+use Rattle.app_script.specs.Script.{Application, ScriptText, app_at}
+use Rattle.app_script.specs.Told.{receipts_told, seen_from, told}
+use Rattle.app_script.specs.Trace.{first_registers}
+use Rattle.app_script.proofs.Merged.{rotation-ends}
+use Rattle.app_run.specs.Lines.{line_bytes, entries_due, bytes_due}
+use Rattle.app_run.specs.Rounds.{all_beginning, all_going, AreNumbered, AllStand, AllTold, HasTold, Rotates, RotatesTimes, told_on}
+use Rattle.app_run.specs.Runners.{Progress, beginning, standing_for}
+use Rattle.app_run.specs.Turns.{so_far, Stands}
+
+-- Rotations one after another. --
+
+pub times-none : (before : Core) (first : List Progress) → AllStand before first → RotatesTimes 0 before first before first
+times-none before first stand = record { stand = stand; turns = refl; told = λ script told. told; count = refl; limits = refl; apps = refl }
+
+rotations-more : (n : ℕ) (limits : Limits) (now : SoFar × List Running) →
+    rotations (suc n) limits now ≡ rotated limits (rotations n limits now).0 (rotations n limits now).1
+rotations-more zero limits now = refl
+rotations-more (suc n) limits now = rotations-more n limits (rotated limits now.0 now.1)
+
+pub times-more : (n : ℕ) (before : Core) (first : List Progress) (mid : Core) (some : List Progress) (after : Core) (all : List Progress) →
+    RotatesTimes n before first mid some → Rotates mid some after all → RotatesTimes (n + 1) before first after all
+times-more n before first mid some after all t r = record {
+  stand = r.stand;
+  turns = r.turns
+      ∙ ap (λ l. rotated l (so_far mid) (all_going some)) t.limits
+      ∙ ap (λ (x : SoFar × List Running). rotated before.limits x.0 x.1) t.turns
+      ∙ sym (rotations-more n before.limits (so_far before, all_going first))
+      ∙ ap (λ k. rotations k before.limits (so_far before, all_going first)) (sym (add-one n));
+  told = λ script told. r.told script (t.told script told);
+  count = r.count ∙ t.count;
+  limits = r.limits ∙ t.limits;
+  apps = r.apps ∙ t.apps;
+}
+
+-- Budgets. --
+
+-- what a line takes is at least what its call brings
+charged-enough : (account : Account) (line : Line) → line_bytes line ≤ charge_of account line
+unfolding line_bytes charge_of
+charged-enough account (Create pipe depth name) = omega arith
+charged-enough account (Find pipe name) = omega arith
+charged-enough account (Send id size fill inc) = omega arith
+charged-enough account (SendRaw bytes inc) = omega arith
+charged-enough account line = omega arith
+
+calls-in : (account : Account) (lines : List Line) → (fold counted account lines).calls ≡ account.calls + length lines
+calls-in account [] = omega arith
+calls-in account (line ∷ lines) = omega (arith, calls-in (counted account line) lines)
+
+waits-in : (account : Account) (lines : List Line) → (fold counted account lines).waits ≡ account.waits + sum_by waits_of lines
+waits-in account [] = omega arith
+waits-in account (line ∷ lines) = omega (arith, waits-in (counted account line) lines, sum_by-cons waits_of line lines)
+
+bytes-in : (account : Account) (lines : List Line) → account.bytes + sum_by line_bytes lines ≤ (fold counted account lines).bytes
+bytes-in account [] = omega arith
+bytes-in account (line ∷ lines) =
+    omega (arith, bytes-in (counted account line) lines, sum_by-cons line_bytes line lines, charged-enough account line)
+
+pub budget-entries : (lines : List Line) → (budget_of lines).entries ≡ entries_due lines
+unfolding budget_of account_of
+budget-entries lines = omega (arith, calls-in no_calls lines, waits-in no_calls lines)
+
+pub budget-bytes : (lines : List Line) → bytes_due lines ≤ (budget_of lines).bytes
+unfolding budget_of account_of
+budget-bytes lines = omega (arith, bytes-in no_calls lines)
+
+-- The bus as it opens. --
+
+-- each application's budget
+abbrev pub budgets_for : ScriptText → List Budget
+budgets_for script = map (λ a. budget_of a.lines) script.apps
+
+-- the bus before the first call
+abbrev pub opened : ScriptText → Core
+opened script = record { limits = script.limits; log = record { entries = []; left = allowances (budgets_for script) } }
+
+pub apps-opened : (script : ScriptText) → apps_of (opened script) ≡ length script.apps
+apps-opened script =
+    length-map (budgets_for script) (λ (budget : Budget). record { entries = budget.entries; bytes = budget.bytes })
+    ∙ length-map script.apps (λ (a : Application). budget_of a.lines)
+
+active-at : (n i : ℕ) → i < n → slice_index_or (replicate n Active) i Ended ≡ Active
+active-at zero i below = absurd (omega (arith, below))
+active-at (suc n) zero below = refl
+active-at (suc n) (suc i) below = active-at n i (omega (arith, below))
+
+active-opening : (n k : ℕ) → 1 ≤ k → k ≤ n → standing_of (opening n) k ≡ Active
+active-opening n k first last =
+    ap (λ b. cond {A = Standing} b Ended (slice_index_or (replicate n Active) (k - 1) Ended)) (ne_eqb k 0 (λ is. omega (arith, is, first)))
+    ∙ active-at n (k - 1) (omega (arith, first, last))
+
+map-at : {X Y : Type 0} (f : X → Y) (xs : List X) (i : ℕ) (d : X) (e : Y) → i < length xs → slice_index_or (map f xs) i e ≡ f (slice_index_or xs i d)
+map-at f [] i d e within = absurd (omega (arith, within))
+map-at f (x ∷ xs) zero d e within = refl
+map-at f (x ∷ xs) (suc i) d e within = map-at f xs i d e (omega (arith, within))
+
+allowance-opened : (script : ScriptText) (k : ℕ) → 1 ≤ k → k ≤ length script.apps →
+    allowance_of (opened script).log.left k
+    ≡ record { entries = (budget_of (app_at script k).lines).entries; bytes = (budget_of (app_at script k).lines).bytes }
+allowance-opened script k first last =
+    map-at (λ (budget : Budget). record { entries = budget.entries; bytes = budget.bytes }) (budgets_for script) (k - 1)
+    (budget_of (app_at script k).lines) (record { entries = 0; bytes = 0 })
+    (omega (arith, first, last, length-map script.apps (λ (a : Application). budget_of a.lines)))
+    ∙ ap (λ (budget : Budget). record { entries = budget.entries; bytes = budget.bytes })
+    (map-at (λ (a : Application). budget_of a.lines) script.apps (k - 1) (record { name = []; lines = [] }) (budget_of (app_at script k).lines) (omega (arith, first, last)))
+
+stands-opened : (script : ScriptText) (k : ℕ) → 1 ≤ k → k ≤ length script.apps → Stands (beginning script k) (opened script)
+stands-opened script k first last =
+    let allowed = allowance-opened script k first last in
+    let lines = (app_at script k).lines in
+    record {
+      known = omega (arith, last, apps-opened script);
+      standing = active-opening (apps_of (opened script)) k first (omega (arith, last, apps-opened script));
+      entries = subst (λ (a : Allowance). entries_due lines + 0 ≤ a.entries) (sym allowed) (omega (arith, budget-entries lines));
+      bytes = subst (λ (a : Allowance). bytes_due lines ≤ a.bytes) (sym allowed) (budget-bytes lines);
+    }
+
+told-opened : (script : ScriptText) (k : ℕ) → 1 ≤ k → k ≤ length script.apps → HasTold script (opened script) (beginning script k)
+told-opened script k first last = λ entries.
+    let lines = (app_at script k).lines in
+    let n = apps_of (opened script) in
+    let apps : length script.apps ≡ n = sym (apps-opened script) in
+    ap (λ m. told k first_registers (opening m) lines (seen_from script.limits [] (opening m) k entries)) apps
+    ∙ ap (λ st. told_on st k first_registers (opening n) lines (seen_from script.limits [] (opening n) k entries))
+    (sym (active-opening n k first (omega (arith, last, apps-opened script))))
+
+-- what holds of each number holds of each application
+each-beginning : (P : Progress → Type 0) (script : ScriptText) (a n : ℕ) → ((k : ℕ) → a ≤ k → k < a + n → P (beginning script k)) →
+    All P (map (beginning script) (range_with_len a n))
+each-beginning P script a zero each = All-nil P
+each-beginning P script a (suc n) each =
+    All-cons P (beginning script a) (map (beginning script) (range_with_len (a + 1) n)) (each a (omega arith) (omega arith))
+    (each-beginning P script (a + 1) n (λ k from to. each k (omega (arith, from)) (omega (arith, to))))
+
+numbered-beginning : (script : ScriptText) (a n : ℕ) → AreNumbered a (map (beginning script) (range_with_len a n))
+numbered-beginning script a zero = tt
+numbered-beginning script a (suc n) = (refl, numbered-beginning script (a + 1) n)
+
+pub all-stand : (script : ScriptText) → AllStand (opened script) (all_beginning script)
+all-stand script = record {
+  numbered = numbered-beginning script 1 (length script.apps);
+  each = each-beginning (λ p. Stands p (opened script)) script 1 (length script.apps) (λ k from to. stands-opened script k from (omega (arith, to)));
+}
+
+pub all-told : (script : ScriptText) → AllTold script (opened script) (all_beginning script)
+all-told script = record {
+  limits = refl;
+  apps = apps-opened script;
+  each = each-beginning (λ p. HasTold script (opened script) p) script 1 (length script.apps) (λ k from to. told-opened script k from (omega (arith, to)));
+}
+
+-- the applications before the first rotation, as the definitions have them
+starting-from : (script : ScriptText) (a : ℕ) (apps : List Application) → 1 ≤ a →
+    ((i : ℕ) → i < length apps → app_at script (a + i) ≡ slice_index_or apps i (record { name = []; lines = [] })) →
+    all_going (map (beginning script) (range_with_len a (length apps))) ≡ starting a apps
+starting-from script a [] first same = refl
+starting-from script a (x ∷ apps) first same =
+    ap (λ (y : Application). record { app = a; lines = y.lines; registers = first_registers } ∷ all_going (map (beginning script) (range_with_len (a + 1) (length apps))))
+    (ap (λ k. app_at script k) (omega arith) ∙ same 0 (omega arith))
+    ∙ ap (λ rest. record { app = a; lines = x.lines; registers = first_registers } ∷ rest)
+    (starting-from script (a + 1) apps (omega arith) (λ i below. ap (λ k. app_at script k) (omega arith) ∙ same (suc i) (omega (arith, below))))
+
+abbrev the_so_far : List Entry → State → SoFar
+the_so_far history s = record { history = history; state = s }
+
+pub all-starting : (script : ScriptText) → (so_far (opened script), all_going (all_beginning script)) ≡ before_all script
+all-starting script =
+    ap (λ rs. (so_far (opened script), rs))
+    (starting-from script 1 script.apps (omega arith) (λ i below. ap (λ k. slice_index_or script.apps k (record { name = []; lines = [] })) (omega arith)))
+    ∙ ap (λ n. (the_so_far [] (opening n), starting 1 script.apps)) (apps-opened script)
+
+-- After the last rotation. --
+
+ended-none : (b : Bool) (running : Running) (rest : List Running) → cond {A = List Running} b [] (running ∷ []) ++ rest ≡ [] → (b ≡ true) × (rest ≡ [])
+ended-none true running rest none = (refl, none)
+ended-none false running rest none = absurd cc
+
+pub all-ended : (all : List Progress) → all_going all ≡ [] → All (λ p. p.ended ≡ true) all
+all-ended [] none = All-nil (λ (p : Progress). p.ended ≡ true)
+all-ended (p ∷ ps) none =
+    let parts = ended-none p.ended p.running (all_going ps) none in
+    All-cons (λ (p : Progress). p.ended ≡ true) p ps parts.0 (all-ended ps parts.1)
+
+told-ended : (script : ScriptText) (core : Core) (p : Progress) → Stands p core → HasTold script core p → p.ended ≡ true →
+    p.receipts ≡ receipts_told script core.log.entries p.running.app
+told-ended script core p stands told ended =
+    let standing : standing_of (state_of core) p.running.app ≡ Ended =
+    stands.standing ∙ ap (λ b. cond {A = Standing} b Ended (standing_for p.waits_on)) ended in
+    sym (append-nil p.receipts)
+    ∙ ap (λ st. p.receipts ++ told_on st p.running.app p.running.registers (state_of core) p.running.lines
+    (seen_from core.limits core.log.entries (state_of core) p.running.app [])) (sym standing)
+    ∙ sym (told [])
+    ∙ ap (λ h. receipts_told script h p.running.app) (append-nil core.log.entries)
+
+all-receipts : (f : ℕ → List Receipt) (a : ℕ) (all : List Progress) → AreNumbered a all → All (λ p. p.receipts ≡ f p.running.app) all →
+    map (λ (p : Progress). p.receipts) all ≡ map f (range_with_len a (length all))
+all-receipts f a [] numbered each = refl
+all-receipts f a (p ∷ ps) numbered each =
+    ap (λ r. r ∷ map (λ (p : Progress). p.receipts) ps) (All-head (λ (p : Progress). p.receipts ≡ f p.running.app) p ps each ∙ ap f numbered.0)
+    ∙ ap (λ rest. f a ∷ rest) (all-receipts f (a + 1) ps numbered.1 (All-tail (λ (p : Progress). p.receipts ≡ f p.running.app) p ps each))
+
+each-ended : (script : ScriptText) (core : Core) (all : List Progress) → All (λ p. Stands p core) all → All (λ p. HasTold script core p) all → All (λ p. p.ended ≡ true) all →
+    All (λ p. p.receipts ≡ receipts_told script core.log.entries p.running.app) all
+each-ended script core [] stands told ended = All-nil (λ (p : Progress). p.receipts ≡ receipts_told script core.log.entries p.running.app)
+each-ended script core (p ∷ ps) stands told ended =
+    All-cons (λ (p : Progress). p.receipts ≡ receipts_told script core.log.entries p.running.app) p ps
+    (told-ended script core p (All-head (λ p. Stands p core) p ps stands) (All-head (λ p. HasTold script core p) p ps told) (All-head (λ (p : Progress). p.ended ≡ true) p ps ended))
+    (each-ended script core ps (All-tail (λ p. Stands p core) p ps stands) (All-tail (λ p. HasTold script core p) p ps told) (All-tail (λ (p : Progress). p.ended ≡ true) p ps ended))
+
+-- what a whole run leaves
+pub record Finishes (script : ScriptText) (core : Core) (all : List Progress) : Type 0 where
+  pub ended : All (λ p. p.ended ≡ true) all
+  pub history : core.log.entries ≡ rotation script
+  pub limits : core.limits ≡ script.limits
+  pub apps : apps_of core ≡ length script.apps
+  pub receipts : map (λ (p : Progress). p.receipts) all ≡ map (receipts_told script (rotation script)) (range_with_len 1 (length script.apps))
+
+pub finishes : (script : ScriptText) (n : ℕ) (core : Core) (all : List Progress) → n ≡ enough script → RotatesTimes n (opened script) (all_beginning script) core all →
+    Finishes script core all
+finishes script n core all is t =
+    let turns : (so_far core, all_going all) ≡ rotations (enough script) script.limits (before_all script) =
+    t.turns ∙ ap (λ k. rotations k script.limits (so_far (opened script), all_going (all_beginning script))) is
+    ∙ ap (λ x. rotations (enough script) script.limits x) (all-starting script) in
+    let ended = all-ended all (ap (λ (x : SoFar × List Running). x.1) turns ∙ rotation-ends script) in
+    let history : core.log.entries ≡ rotation script = ap (λ (x : SoFar × List Running). x.0.history) turns in
+    let told = t.told script (all-told script) in
+    let count : length all ≡ length script.apps = t.count ∙ length-map (range_with_len 1 (length script.apps)) (beginning script)
+    ∙ length-range_with_len 1 (length script.apps) in
+    record {
+      ended = ended;
+      history = history;
+      limits = told.limits;
+      apps = told.apps;
+      receipts = all-receipts (receipts_told script core.log.entries) 1 all t.stand.numbered (each-ended script core all t.stand.each told.each ended)
+          ∙ ap (λ h. map (receipts_told script h) (range_with_len 1 (length all))) history
+          ∙ ap (λ m. map (receipts_told script (rotation script)) (range_with_len 1 m)) count;
+    }
+
+-- The budgets of a script in range. --
+
+sum-map : {X Y : Type 0} (f : Y → ℕ) (g : X → Y) (xs : List X) → sum_by f (map g xs) ≡ sum_by (λ x. f (g x)) xs
+sum-map f g [] = refl
+sum-map f g (x ∷ xs) =
+    sum_by-cons f (g x) (map g xs) ∙ ap (λ n. f (g x) + n) (sum-map f g xs) ∙ sym (sum_by-cons (λ y. f (g y)) x xs)
+
+one-wait : (line : Line) → waits_of line ≤ 1
+unfolding waits_of
+one-wait (Pend pipe) = omega arith
+one-wait line = omega arith
+
+one-buffer : (line : Line) → buffers_of line ≤ 1
+unfolding buffers_of
+one-buffer (Allocate buf size) = omega arith
+one-buffer line = omega arith
+
+few-waits : (lines : List Line) → sum_by waits_of lines ≤ length lines
+few-waits [] = omega arith
+few-waits (line ∷ lines) = omega (arith, sum_by-cons waits_of line lines, one-wait line, few-waits lines)
+
+buffers-in : (account : Account) (lines : List Line) → (fold counted account lines).buffers ≤ account.buffers + length lines
+buffers-in account [] = omega arith
+buffers-in account (line ∷ lines) = omega (arith, buffers-in (counted account line) lines, one-buffer line)
+
+budget-buffers : (lines : List Line) → (budget_of lines).buffers ≤ length lines
+unfolding budget_of account_of
+budget-buffers lines = omega (arith, buffers-in no_calls lines)
+
+few-entries : (apps : List Application) →
+    sum_by (λ a. (budget_of a.lines).entries) apps ≤ 2 * sum_by (λ a. length a.lines) apps + length apps
+few-entries [] = omega arith
+few-entries (a ∷ apps) =
+    omega (
+      arith,
+      sum_by-cons (λ (a : Application). (budget_of a.lines).entries) a apps,
+      sum_by-cons (λ (a : Application). length a.lines) a apps,
+      few-entries apps,
+      few-waits a.lines,
+      budget-entries a.lines,
+    )
+
+few-buffers : (apps : List Application) → sum_by (λ a. (budget_of a.lines).buffers) apps ≤ sum_by (λ a. length a.lines) apps
+few-buffers [] = omega arith
+few-buffers (a ∷ apps) =
+    omega (
+      arith,
+      sum_by-cons (λ (a : Application). (budget_of a.lines).buffers) a apps,
+      sum_by-cons (λ (a : Application). length a.lines) a apps,
+      few-buffers apps,
+      budget-buffers a.lines,
+    )
+
+pub are-budgets : (script : ScriptText) → IsInRange script → 1 ≤ length script.apps → length script.apps ≤ 16 → AreBudgets (budgets_for script)
+are-budgets script range some few =
+    let budget = λ (a : Application). budget_of a.lines in
+    record {
+      some = omega (arith, some, length-map script.apps budget);
+      few = omega (arith, few, length-map script.apps budget);
+      entries = omega (arith, sum-map (λ (b : Budget). b.entries) budget script.apps, few-entries script.apps, range.calls, few);
+      bytes = omega (arith, sum-map (λ (b : Budget). b.bytes) budget script.apps, range.bytes);
+      buffers = omega (arith, sum-map (λ (b : Budget). b.buffers) budget script.apps, few-buffers script.apps, range.calls);
+    }
+
+abbrev core_with : Limits → List Budget → Core
+core_with limits budgets = record { limits = limits; log = record { entries = []; left = allowances budgets } }
+
+-- the bus that was opened with these limits and budgets
+pub opened-is : (script : ScriptText) (bus : Core) (limits : Limits) (budgets given : List Budget) →
+    bus ≡ record { limits = limits; log = record { entries = []; left = allowances given } } → limits ≡ script.limits → given ≡ budgets → budgets ≡ budgets_for script →
+    bus ≡ opened script
+opened-is script bus limits budgets given is same deref found =
+    is
+    ∙ ap (λ l. core_with l given) same
+    ∙ ap (λ bs. core_with script.limits bs) (deref ∙ found)
+
+pub finishes-from : (script : ScriptText) (n : ℕ) (bus core : Core) (first all : List Progress) → bus ≡ opened script → first ≡ all_beginning script → n ≡ enough script →
+    RotatesTimes n bus first core all → Finishes script core all
+finishes-from script n bus core first all is begun times t =
+    finishes script n core all times (subst (λ f. RotatesTimes n (opened script) f core all) begun (subst (λ b. RotatesTimes n b first core all) is t))
+
+pub stands-from : (script : ScriptText) (bus : Core) (first : List Progress) → bus ≡ opened script → first ≡ all_beginning script → AllStand bus first
+stands-from script bus first is begun =
+    subst (λ f. AllStand bus f) (sym begun) (subst (λ b. AllStand b (all_beginning script)) (sym is) (all-stand script))

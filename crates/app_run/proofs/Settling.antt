@@ -1,0 +1,171 @@
+-- What the call of a line leaves of its application's standing: it waits exactly where a receive that may wait was told so.
+use Rattle.std.proofs.Common.{◌≡◌, ℕ, zero, suc, ◌-◌, ◌==◌, ◌&&◌, not, Bool, true, false, cond, List, [], ◌∷◌, slice_index_or, slice_set, slice_index, Option, Some, None, refl, ap, sym, ◌∙◌}
+use Rattle.std.specs.Option.{is_some}
+use Rattle.ccsds_msg.specs.Message.{message_id}
+use Rattle.fsw_base.specs.Limits.{Limits}
+use Rattle.fsw_base.specs.declared.statuses.SbStatus.{SbStatus}
+use Rattle.fsw_base.specs.declared.statuses.SbStatus.TheVariants.{BadArgument, MaxPipesMet, PipeCrErr, MaxMsgsMet, MaxDestsMet, MsgTooBig, BufAlocErr, NoMessage, BufferInvalid}
+use Rattle.bus_words.specs.declared.calls.BusAnswer.{BusAnswer}
+use Rattle.bus_words.specs.declared.calls.BusAnswer.TheVariants.{Pending, Got, TimeOut}
+use Rattle.bus_words.specs.declared.history.Call.{Call}
+use Rattle.bus_words.specs.declared.history.Call.TheVariants as calls
+use Rattle.bus_words.specs.declared.history.Entry.{Entry}
+use Rattle.bus_words.specs.Bus.{State, Standing, Active, Waiting, Ended, Sending, Subscription, standing_of, with_standing, is_empty, others_idle, is_subscribed, route}
+use Rattle.bus_words.specs.Machine.{step, cause, decided, refused_state, sent_along, received}
+use Rattle.script_lines.specs.declared.line.Line.{Line}
+use Rattle.script_lines.specs.declared.line.Line.TheVariants.{Create, Delete, SetOpts, GetOpts, Find, PipeName, Subscribe, Unsubscribe, Send, SendRaw, Receive, Pend}
+use Rattle.app_script.specs.Trace.{call_of}
+use Rattle.app_run.specs.Lines.{pipe_waited_for}
+use Rattle.app_run.specs.Runners.{standing_for}
+
+-- whether the application was told to wait
+abbrev pub is_pending : BusAnswer → Bool
+is_pending Pending = true
+is_pending answer = false
+
+-- what an answer and the bus after it say of the application's standing
+pub record Settles (app : ℕ) (answer : BusAnswer) (after : State) (waits : Option ℕ) : Type 0 where
+  pub standing : standing_of after app ≡ standing_for waits
+  pub pending : is_pending answer ≡ is_some waits
+
+abbrev pub SettlesLine : Limits → List Entry → State → ℕ → List ℕ → Line → Option Call → Type 0
+SettlesLine limits history s app pipes line None = Unit {0}
+SettlesLine limits history s app pipes line (Some call) =
+    Settles app (step limits history s app call).0 (step limits history s app call).1 (pipe_waited_for pipes line (step limits history s app call).0)
+
+-- the same standings
+kept : (s t : State) (app : ℕ) (standing : Standing) → t.standings ≡ s.standings → standing_of s app ≡ standing → standing_of t app ≡ standing
+kept s t app standing same is =
+    ap (λ ss. cond {A = Standing} (app == 0) Ended (slice_index_or ss (app - 1) Ended)) same ∙ is
+
+-- a standing that is set
+set_at : (xs : List Standing) (i : ℕ) (old new : Standing) → slice_index_or xs i Ended ≡ old → (old ≡ Ended → ⊥) → slice_index_or (slice_set xs i new) i Ended ≡ new
+set_at [] i old new is live = absurd (live (sym is))
+set_at (x ∷ xs) zero old new is live = refl
+set_at (x ∷ xs) (suc i) old new is live = set_at xs i old new is live
+
+set_if : (b : Bool) (xs : List Standing) (i : ℕ) (old new : Standing) → cond {A = Standing} b Ended (slice_index_or xs i Ended) ≡ old → (old ≡ Ended → ⊥) →
+    cond {A = Standing} b Ended (slice_index_or (slice_set xs i new) i Ended) ≡ new
+set_if true xs i old new is live = absurd (live (sym is))
+set_if false xs i old new is live = set_at xs i old new is live
+
+pub standing-set : (s t : State) (app : ℕ) (old new : Standing) → t.standings ≡ s.standings → standing_of s app ≡ old → (old ≡ Ended → ⊥) →
+    standing_of (with_standing t app new) app ≡ new
+standing-set s t app old new same is live =
+    ap (λ ss. cond {A = Standing} (app == 0) Ended (slice_index_or (slice_set ss (app - 1) new) (app - 1) Ended)) same
+    ∙ set_if (app == 0) s.standings (app - 1) old new is live
+
+not_ended : Active ≡ Ended → ⊥
+not_ended h = cc h
+
+waiting_not_ended : (pipe : ℕ) → Waiting pipe ≡ Ended → ⊥
+waiting_not_ended pipe h = cc h
+
+-- a step that is decided either way
+settles-decided : (limits : Limits) (history : List Entry) (s : State) (app : ℕ) (call : Call) (why : Option SbStatus) →
+    ((status : SbStatus) → (refused_state s call status).standings ≡ s.standings) →
+    ((decided limits history s app call None).1).standings ≡ s.standings → is_pending (decided limits history s app call None).0 ≡ false →
+    standing_of s app ≡ Active →
+    Settles app (decided limits history s app call why).0 (decided limits history s app call why).1 None
+settles-decided limits history s app call (Some status) refused accepted told active = record {
+  standing = kept s (refused_state s call status) app Active (refused status) active;
+  pending = refl;
+}
+settles-decided limits history s app call None refused accepted told active = record {
+  standing = kept s (decided limits history s app call None).1 app Active accepted active;
+  pending = told;
+}
+
+refused-receive : (s : State) (pipe : ℕ) (status : SbStatus) → (refused_state s (calls.Receive pipe) status).standings ≡ s.standings
+refused-receive s pipe BadArgument = refl
+refused-receive s pipe MaxPipesMet = refl
+refused-receive s pipe PipeCrErr = refl
+refused-receive s pipe MaxMsgsMet = refl
+refused-receive s pipe MaxDestsMet = refl
+refused-receive s pipe MsgTooBig = refl
+refused-receive s pipe BufAlocErr = refl
+refused-receive s pipe NoMessage = refl
+refused-receive s pipe BufferInvalid = refl
+
+either : (b : Bool) (s t : State) → t.standings ≡ s.standings → (cond {A = State} b s t).standings ≡ s.standings
+either true s t same = refl
+either false s t same = same
+
+along : (subs : List Subscription) (sending : Sending) (s : State) → ((sent_along subs sending s).1).standings ≡ s.standings
+along [] sending s = refl
+along (sub ∷ subs) sending s = refl
+
+along-told : (subs : List Subscription) (sending : Sending) (s : State) → is_pending (sent_along subs sending s).0 ≡ false
+along-told [] sending s = refl
+along-told (sub ∷ subs) sending s = refl
+
+settles-transmit : (limits : Limits) (history : List Entry) (s : State) (app : ℕ) (bytes : List ℕ) (inc : Bool) → standing_of s app ≡ Active →
+    Settles app (step limits history s app (calls.Transmit bytes inc)).0 (step limits history s app (calls.Transmit bytes inc)).1 None
+settles-transmit limits history s app bytes inc active =
+    settles-decided limits history s app (calls.Transmit bytes inc) (cause limits s app (calls.Transmit bytes inc)) (λ status. refl)
+    (along (route s.subscriptions (message_id bytes)) _ s) (along-told (route s.subscriptions (message_id bytes)) _ s) active
+
+-- a receive that may wait
+settles-pended : (e o : Bool) (n : ℕ) (s t : State) (app r : ℕ) (pipes : List ℕ) → t.standings ≡ s.standings → standing_of s app ≡ Active →
+    let answer : BusAnswer = cond {A = BusAnswer} (not e) (Got n) (cond {A = BusAnswer} o TimeOut Pending) in
+    Settles app answer (cond {A = State} (e && not o) (with_standing t app (Waiting (slice_index pipes r))) t) (pipe_waited_for pipes (Pend r) answer)
+unfolding pipe_waited_for
+settles-pended false o n s t app r pipes same active = record { standing = kept s t app Active same active; pending = refl }
+settles-pended true true n s t app r pipes same active = record { standing = kept s t app Active same active; pending = refl }
+settles-pended true false n s t app r pipes same active = record {
+  standing = standing-set s t app Active (Waiting (slice_index pipes r)) same active not_ended;
+  pending = refl;
+}
+
+settles-pend : (limits : Limits) (history : List Entry) (s : State) (app r : ℕ) (pipes : List ℕ) (why : Option SbStatus) → standing_of s app ≡ Active →
+    Settles app (decided limits history s app (calls.Pend (slice_index pipes r)) why).0 (decided limits history s app (calls.Pend (slice_index pipes r)) why).1
+    (pipe_waited_for pipes (Pend r) (decided limits history s app (calls.Pend (slice_index pipes r)) why).0)
+unfolding pipe_waited_for
+settles-pend limits history s app r pipes (Some status) active = record { standing = active; pending = refl }
+settles-pend limits history s app r pipes None active =
+    let pipe = slice_index pipes r in
+    settles-pended (is_empty s.pipes pipe) (others_idle s app) _ s (received s pipe) app r pipes refl active
+
+-- the call of an active application's line
+pub settles-line : (limits : Limits) (history : List Entry) (s : State) (app : ℕ) (pipes : List ℕ) (line : Line) → standing_of s app ≡ Active →
+    SettlesLine limits history s app pipes line (call_of pipes line)
+unfolding call_of pipe_waited_for
+settles-line limits history s app pipes (Create pipe depth name) active =
+    settles-decided limits history s app (calls.Create depth name) (cause limits s app (calls.Create depth name)) (λ status. refl) refl refl active
+settles-line limits history s app pipes (Delete pipe) active =
+    settles-decided limits history s app (calls.Delete _) (cause limits s app (calls.Delete (slice_index pipes pipe))) (λ status. refl) refl refl active
+settles-line limits history s app pipes (SetOpts pipe bits) active =
+    settles-decided limits history s app (calls.SetOpts _ bits) (cause limits s app (calls.SetOpts (slice_index pipes pipe) bits)) (λ status. refl) refl refl active
+settles-line limits history s app pipes (GetOpts pipe) active =
+    settles-decided limits history s app (calls.GetOpts _) (cause limits s app (calls.GetOpts (slice_index pipes pipe))) (λ status. refl) refl refl active
+settles-line limits history s app pipes (Find pipe name) active =
+    settles-decided limits history s app (calls.Find name) (cause limits s app (calls.Find name)) (λ status. refl) refl refl active
+settles-line limits history s app pipes (PipeName pipe) active =
+    settles-decided limits history s app (calls.PipeName _) (cause limits s app (calls.PipeName (slice_index pipes pipe))) (λ status. refl) refl refl active
+settles-line limits history s app pipes (Subscribe id pipe limit scope) active =
+    let at = slice_index pipes pipe in
+    settles-decided limits history s app (calls.Subscribe id at limit scope) (cause limits s app (calls.Subscribe id at limit scope)) (λ status. refl)
+    (either (is_subscribed s.subscriptions id at) s _ refl) refl active
+settles-line limits history s app pipes (Unsubscribe id pipe) active =
+    settles-decided limits history s app (calls.Unsubscribe id _) (cause limits s app (calls.Unsubscribe id (slice_index pipes pipe))) (λ status. refl) refl refl active
+settles-line limits history s app pipes (Send id size fill inc) active = settles-transmit limits history s app _ inc active
+settles-line limits history s app pipes (SendRaw bytes inc) active = settles-transmit limits history s app bytes inc active
+settles-line limits history s app pipes (Receive pipe) active =
+    let at = slice_index pipes pipe in
+    settles-decided limits history s app (calls.Receive at) (cause limits s app (calls.Receive at)) (refused-receive s at) refl refl active
+settles-line limits history s app pipes (Pend pipe) active =
+    settles-pend limits history s app pipe pipes (cause limits s app (calls.Pend (slice_index pipes pipe))) active
+settles-line limits history s app pipes line active = tt
+
+-- a look that finds a message, or that none can come
+looked-active : (e o : Bool) (n : ℕ) (s t : State) (app : ℕ) (standing : Standing) → t.standings ≡ s.standings → standing_of s app ≡ standing → (standing ≡ Ended → ⊥) →
+    is_pending (cond {A = BusAnswer} (not e) (Got n) (cond {A = BusAnswer} o TimeOut Pending)) ≡ false →
+    standing_of (cond {A = State} (e && not o) s (with_standing t app Active)) app ≡ Active
+looked-active false o n s t app standing same is live told = standing-set s t app standing Active same is live
+looked-active true true n s t app standing same is live told = standing-set s t app standing Active same is live
+looked-active true false n s t app standing same is live told = absurd cc
+
+pub settles-look : (limits : Limits) (history : List Entry) (s : State) (app pipe : ℕ) → standing_of s app ≡ Waiting pipe →
+    is_pending (step limits history s app (calls.Look pipe)).0 ≡ false → standing_of ((step limits history s app (calls.Look pipe)).1) app ≡ Active
+settles-look limits history s app pipe waits told =
+    looked-active (is_empty s.pipes pipe) (others_idle s app) _ s (received s pipe) app (Waiting pipe) refl waits (waiting_not_ended pipe) told

@@ -1,0 +1,452 @@
+-- What one turn leaves.
+use Rattle.std.proofs.Common.{◌≡◌, ℕ, zero, suc, ◌+◌, ◌-◌, ◌≤◌, Bool, true, false, cond, List, [], ◌∷◌, ◌++◌, length, map, drop, Option, Some, None, refl, ap, sym, ◌∙◌, subst, inl, inr, arith, append-nil}
+use Rattle.std.specs.Option.{is_some, option_to_list}
+use Rattle.std.specs.List.{range_with_len}
+use Rattle.std.proofs.lemmas.List.{get_or-set_same, length-set, length-append}
+use Rattle.std.proofs.lemmas.List.FromFn.{length-map-range_with_len}
+use Rattle.std.proofs.lemmas.List.Sums.{sum_by-cons}
+use Rattle.std.specs.List.{slice_get, All}
+use Rattle.std.proofs.lemmas.Option.{slice_get_within, get_or_from_slice_get}
+use Rattle.std.proofs.lemmas.List.Elements.{All-get_or}
+use Rattle.bus_words.specs.Receipts.{receipt_in}
+use Rattle.bus_words.specs.Bus.{waited_on}
+use Rattle.sb_calls.specs.declared.pending.Pended.TheVariants as waits
+use Rattle.app_run.specs.Callers.{AnswersLook, pipe_waited_on}
+use Rattle.app_run.specs.Lines.{IsRun, most_receipts}
+use Rattle.app_run.specs.Received.{got_of}
+use Rattle.app_run.specs.Turns.{MayTurn}
+use Rattle.std.proofs.lemmas.Bool.{le-leb}
+use Rattle.ccsds_msg.specs.Message.{header_bytes}
+use Rattle.ccsds_msg.proofs.MessageLemmas.{length-header_bytes}
+use Rattle.fsw_base.specs.Limits.{Limits}
+use Rattle.bus_words.specs.declared.calls.BusAnswer.{BusAnswer}
+use Rattle.bus_words.specs.declared.calls.BusAnswer.TheVariants.{Pending, Got, TimeOut}
+use Rattle.bus_words.specs.declared.history.Call.{Call}
+use Rattle.bus_words.specs.declared.history.Call.TheVariants as calls
+use Rattle.bus_words.specs.declared.history.Entry.{Entry}
+use Rattle.bus_words.specs.declared.journal.Allowance.{Allowance}
+use Rattle.bus_words.specs.declared.receipts.Receipt.{Receipt}
+use Rattle.bus_words.specs.Bus.{State, Standing, Active, Waiting, Ended, standing_of}
+use Rattle.bus_words.specs.Entries.{call_bytes}
+use Rattle.bus_words.specs.Log.{allowance_of, charged}
+use Rattle.bus_words.specs.Machine.{may_call}
+use Rattle.sb_calls.specs.Core.{Core, Does, MayCall, apps_of, state_of, is_within}
+use Rattle.script_lines.specs.declared.line.Line.{Line}
+use Rattle.script_lines.specs.declared.line.Line.TheVariants.{Create, Delete, SetOpts, GetOpts, Find, PipeName, Subscribe, Unsubscribe, Send, SendRaw, Receive, Pend}
+use Rattle.app_script.specs.Accounts.{waits_of}
+use Rattle.app_script.specs.Messages.{fill_byte, sent_message}
+use Rattle.app_script.specs.Ranges.{IsLineInRange}
+use Rattle.app_script.specs.Rotation.{Running, SoFar, after_call, after_look, answer_to, turn, turn_in, active_turn, line_turn}
+use Rattle.app_script.specs.Told.{got_in, shown}
+use Rattle.app_script.specs.Trace.{call_of, registers_after}
+use Rattle.app_run.specs.Callers.{Caller}
+use Rattle.app_run.specs.Lines.{MayRun, pipe_waited_for, line_bytes, entries_due, bytes_due}
+use Rattle.app_run.specs.Runners.{Progress, standing_for}
+use Rattle.app_run.specs.Turns.{so_far, Stands, TakesTurn, tells, tells_in, line_tells, active_tells}
+use Rattle.app_run.proofs.Settling.{SettlesLine, is_pending, settles-line, settles-look}
+
+-- The bus after a call. --
+
+abbrev so : List Entry → State → SoFar
+so history s = record { history = history; state = s }
+
+-- the call's answer, spelled as the machine's
+pub does-exact : (before after : Core) (app : ℕ) (call : Call) (answer : BusAnswer) → Does before after app call answer →
+    Does before after app call (answer_to before.limits (so_far before) app call)
+does-exact before after app call answer does = subst (λ a. Does before after app call a) does.as_machine does
+
+pub so_far-does : (before after : Core) (app : ℕ) (call : Call) → Does before after app call (answer_to before.limits (so_far before) app call) →
+    so_far after ≡ after_call before.limits (so_far before) app call
+so_far-does before after app call does =
+    ap (λ (core : Core). so core.log.entries (state_of after)) does.entry
+    ∙ ap (λ s. so (before.log.entries ++ record { app = app; call = call; answer = answer_to before.limits (so_far before) app call } ∷ []) s) does.state
+
+-- who isn't ended has a number
+pub first-known : (s : State) (app : ℕ) (standing : Standing) → standing_of s app ≡ standing → (standing ≡ Ended → ⊥) → 1 ≤ app
+first-known s zero standing is live = absurd (live (sym is))
+first-known s (suc app) standing is live = omega arith
+
+left-own : (left : List Allowance) (app bytes : ℕ) → 1 ≤ app → app ≤ length left →
+    allowance_of (charged left app bytes) app ≡ record { entries = (allowance_of left app).entries - 1; bytes = (allowance_of left app).bytes - bytes }
+left-own left app bytes first known = get_or-set_same left (app - 1) _ _ (omega arith)
+
+-- what an application may still add after its own call
+pub own-left : (before after : Core) (app : ℕ) (call : Call) (answer : BusAnswer) → 1 ≤ app → app ≤ apps_of before → Does before after app call answer →
+    allowance_of after.log.left app
+    ≡ record { entries = (allowance_of before.log.left app).entries - 1; bytes = (allowance_of before.log.left app).bytes - call_bytes call }
+own-left before after app call answer first known does =
+    ap (λ (core : Core). allowance_of core.log.left app) does.entry ∙ left-own before.log.left app (call_bytes call) first known
+
+pub apps-does : (before after : Core) (app : ℕ) (call : Call) (answer : BusAnswer) → Does before after app call answer → apps_of after ≡ apps_of before
+apps-does before after app call answer does =
+    ap (λ (core : Core). length core.log.left) does.entry ∙ length-set before.log.left (app - 1) _
+
+active_lives : Active ≡ Ended → ⊥
+active_lives h = cc h
+
+waiting_lives : (pipe : ℕ) → Waiting pipe ≡ Ended → ⊥
+waiting_lives pipe h = cc h
+
+-- Standings as progress has them. --
+
+pub standing-going : (progress : Progress) (core : Core) → Stands progress core → progress.ended ≡ false →
+    standing_of (state_of core) progress.running.app ≡ standing_for progress.waits_on
+standing-going progress core stands goes =
+    stands.standing ∙ ap (λ b. cond {A = Standing} b Ended (standing_for progress.waits_on)) goes
+
+entries-going : (progress : Progress) (core : Core) → Stands progress core → progress.ended ≡ false →
+    entries_due progress.running.lines + cond (is_some progress.waits_on) 1 0 ≤ (allowance_of core.log.left progress.running.app).entries
+entries-going progress core stands goes =
+    subst (λ b. cond b 0 (entries_due progress.running.lines + cond (is_some progress.waits_on) 1 0) ≤ (allowance_of core.log.left progress.running.app).entries)
+    goes stands.entries
+
+-- Looks. --
+
+-- the progress after a look that was answered
+abbrev pub looked_on : Progress → List Receipt → Progress
+looked_on old receipts = record { running = old.running; waits_on = None; ended = false; receipts = receipts }
+
+-- a look's turn
+turn-look : (limits : Limits) (sofar : SoFar) (running : Running) (pipe : ℕ) → standing_of sofar.state running.app ≡ Waiting pipe →
+    turn limits sofar running ≡ (after_look limits sofar running.app pipe (answer_to limits sofar running.app (calls.Look pipe)), running ∷ [])
+turn-look limits sofar running pipe waits = ap (λ s. turn_in limits sofar running s) waits
+
+looked-after : (limits : Limits) (sofar : SoFar) (app pipe : ℕ) (answer : BusAnswer) → is_pending answer ≡ false →
+    after_look limits sofar app pipe answer ≡ after_call limits sofar app (calls.Look pipe)
+looked-after limits sofar app pipe Pending told = absurd cc
+looked-after limits sofar app pipe answer told = refl
+
+look-exact : (old : Progress) (before after : Core) (pipe : ℕ) → Stands old before → old.ended ≡ false → old.waits_on ≡ Some pipe →
+    Does before after old.running.app (calls.Look pipe) (answer_to before.limits (so_far before) old.running.app (calls.Look pipe)) →
+    is_pending (answer_to before.limits (so_far before) old.running.app (calls.Look pipe)) ≡ false →
+    TakesTurn old
+    (looked_on old (old.receipts ++ got_in old.running.app (state_of after) (calls.Look pipe) (answer_to before.limits (so_far before) old.running.app (calls.Look pipe))))
+    before after
+look-exact old before after pipe stands goes waits does told =
+    let app = old.running.app in
+    let limits = before.limits in
+    let answer = answer_to limits (so_far before) app (calls.Look pipe) in
+    let standing : standing_of (state_of before) app ≡ Waiting pipe = standing-going old before stands goes ∙ ap standing_for waits in
+    let first = first-known (state_of before) app (Waiting pipe) standing (waiting_lives pipe) in
+    let left = own-left before after app (calls.Look pipe) answer first stands.known does in
+    let turned = turn-look limits (so_far before) old.running pipe standing in
+    let due : entries_due old.running.lines + 1 ≤ (allowance_of before.log.left app).entries =
+    subst (λ w. entries_due old.running.lines + cond (is_some w) 1 0 ≤ (allowance_of before.log.left app).entries) waits (entries-going old before stands goes) in
+    record {
+      bus = so_far-does before after app (calls.Look pipe) does
+          ∙ sym (looked-after limits (so_far before) app pipe answer told)
+          ∙ sym (ap (λ (t : SoFar × List Running). t.0) turned);
+      goes_on = sym (ap (λ (t : SoFar × List Running). t.1) turned);
+      receipts = ap (λ s. old.receipts ++ got_in app s (calls.Look pipe) answer)
+          (does.state ∙ sym (ap (λ (b : SoFar). b.state) (looked-after limits (so_far before) app pipe answer told)))
+          ∙ sym (ap (λ s. old.receipts ++ tells_in limits (so_far before) old.running s) standing);
+      same_app = refl;
+      stands = record {
+        known = subst (λ n. app ≤ n) (sym (apps-does before after app (calls.Look pipe) answer does)) stands.known;
+        standing = ap (λ s. standing_of s app) does.state ∙ settles-look limits before.log.entries (state_of before) app pipe standing told;
+        entries = subst (λ (a : Allowance). entries_due old.running.lines + 0 ≤ a.entries) (sym left) (omega (arith, due));
+        bytes = subst (λ (a : Allowance). bytes_due old.running.lines ≤ a.bytes) (sym left) (omega (arith, stands.bytes));
+      };
+      moved = inr (calls.Look pipe, answer, does);
+    }
+
+pub takes-look : (old new : Progress) (before after : Core) (pipe : ℕ) (answer : BusAnswer) → Stands old before → old.ended ≡ false → old.waits_on ≡ Some pipe →
+    Does before after old.running.app (calls.Look pipe) answer → is_pending answer ≡ false →
+    new ≡ looked_on old (old.receipts ++ got_in old.running.app (state_of after) (calls.Look pipe) answer) → TakesTurn old new before after
+takes-look old new before after pipe answer stands goes waits does told is =
+    subst (λ n. TakesTurn old n before after)
+    (sym (is ∙ ap (λ a. looked_on old (old.receipts ++ got_in old.running.app (state_of after) (calls.Look pipe) a)) does.as_machine))
+    (look-exact old before after pipe stands goes waits (does-exact before after old.running.app (calls.Look pipe) answer does)
+    (subst (λ a. is_pending a ≡ false) does.as_machine told))
+
+-- Lines. --
+
+pub length-sent_message : (id size fill : ℕ) → 7 ≤ size → length (sent_message id size fill) ≡ size
+length-sent_message id size fill least =
+    length-append (header_bytes id 0 size) (map (fill_byte fill) (range_with_len 0 (size - 6)))
+    ∙ ap (λ n. n + length (map (fill_byte fill) (range_with_len 0 (size - 6)))) (length-header_bytes id 0 size)
+    ∙ ap (λ n. 6 + n) (length-map-range_with_len (fill_byte fill) 0 (size - 6))
+    ∙ omega arith
+
+-- what a line's call brings, and that an active application may make it
+pub record Allowed (line : Line) (call : Call) : Type 0 where
+  pub bytes : call_bytes call ≡ line_bytes line
+  pub within : is_within call ≡ true
+  pub active : may_call Active call ≡ true
+
+abbrev pub AllowedLine : Line → Option Call → Type 0
+AllowedLine line None = Unit {0}
+AllowedLine line (Some call) = Allowed line call
+
+pub allowed-line : (pipes : List ℕ) (line : Line) → IsLineInRange line → AllowedLine line (call_of pipes line)
+unfolding call_of line_bytes IsLineInRange
+allowed-line pipes (Create pipe depth name) range = record { bytes = refl; within = le-leb (length name) 64 range; active = refl }
+allowed-line pipes (Delete pipe) range = record { bytes = refl; within = refl; active = refl }
+allowed-line pipes (SetOpts pipe bits) range = record { bytes = refl; within = refl; active = refl }
+allowed-line pipes (GetOpts pipe) range = record { bytes = refl; within = refl; active = refl }
+allowed-line pipes (Find pipe name) range = record { bytes = refl; within = le-leb (length name) 64 range; active = refl }
+allowed-line pipes (PipeName pipe) range = record { bytes = refl; within = refl; active = refl }
+allowed-line pipes (Subscribe id pipe limit scope) range = record { bytes = refl; within = refl; active = refl }
+allowed-line pipes (Unsubscribe id pipe) range = record { bytes = refl; within = refl; active = refl }
+allowed-line pipes (Send id size fill inc) range = record {
+  bytes = length-sent_message id size fill range.0;
+  within = le-leb (length (sent_message id size fill)) 65542 (omega (arith, length-sent_message id size fill range.0, range.1));
+  active = refl;
+}
+allowed-line pipes (SendRaw bytes inc) range = record { bytes = refl; within = le-leb (length bytes) 65542 range; active = refl }
+allowed-line pipes (Receive pipe) range = record { bytes = refl; within = refl; active = refl }
+allowed-line pipes (Pend pipe) range = record { bytes = refl; within = refl; active = refl }
+allowed-line pipes line range = tt
+
+-- the application may run its next line
+pub may-run : (progress : Progress) (caller : Caller) (line : Line) (lines : List Line) (o : Option Call) → Stands progress caller.core → caller.app ≡ progress.running.app →
+    progress.ended ≡ false → progress.waits_on ≡ None → progress.running.lines ≡ line ∷ lines → AllowedLine line o → MayRun caller o
+may-run progress caller line lines None stands own goes active next allowed = tt
+may-run progress caller line lines (Some call) stands own goes active next allowed =
+    let app = progress.running.app in
+    let core = caller.core in
+    let due = subst (λ ls. entries_due ls + cond (is_some progress.waits_on) 1 0 ≤ (allowance_of core.log.left app).entries) next (entries-going progress core stands goes) in
+    let bytes = subst (λ ls. bytes_due ls ≤ (allowance_of core.log.left app).bytes) next stands.bytes in
+    subst (λ a. MayCall core a call) (sym own) (record {
+      known = stands.known;
+      standing = ap (λ s. may_call s call) (standing-going progress core stands goes ∙ ap standing_for active) ∙ allowed.active;
+      room = record {
+        known = stands.known;
+        one_entry = omega (arith, due);
+        its_bytes = omega (arith, bytes, allowed.bytes, sum_by-cons line_bytes line lines);
+      };
+      within = allowed.within;
+    })
+
+-- a progress of these parts
+abbrev the_progress : Running → Option ℕ → Bool → List Receipt → Progress
+the_progress running waits_on ended receipts = record { running = running; waits_on = waits_on; ended = ended; receipts = receipts }
+
+-- the progress behind a line that was so answered
+abbrev pub behind_line : Progress → Line → List Line → BusAnswer → List Receipt → Progress
+behind_line old line lines answer receipts = record {
+  running = record { app = old.running.app; lines = lines; registers = registers_after old.running.registers line answer };
+  waits_on = pipe_waited_for old.running.registers line answer;
+  ended = false;
+  receipts = receipts;
+}
+
+-- the progress behind a line that no service sees
+abbrev pub behind_local : Progress → List Line → List Receipt → Progress
+behind_local old lines receipts = record {
+  running = record { app = old.running.app; lines = lines; registers = old.running.registers };
+  waits_on = None;
+  ended = false;
+  receipts = receipts;
+}
+
+turn-line : (limits : Limits) (sofar : SoFar) (running : Running) (line : Line) (lines : List Line) (o : Option Call) →
+    standing_of sofar.state running.app ≡ Active → running.lines ≡ line ∷ lines → call_of running.registers line ≡ o →
+    turn limits sofar running ≡ line_turn limits sofar running line lines o
+turn-line limits sofar running line lines o active next call =
+    ap (λ s. turn_in limits sofar running s) active ∙ ap (λ ls. active_turn limits sofar running ls) next ∙ ap (λ c. line_turn limits sofar running line lines c) call
+
+tells-line : (limits : Limits) (sofar : SoFar) (running : Running) (line : Line) (lines : List Line) (o : Option Call) →
+    standing_of sofar.state running.app ≡ Active → running.lines ≡ line ∷ lines → call_of running.registers line ≡ o →
+    tells limits sofar running ≡ line_tells limits sofar running line o
+tells-line limits sofar running line lines o active next call =
+    ap (λ s. tells_in limits sofar running s) active ∙ ap (λ ls. active_tells limits sofar running ls) next ∙ ap (λ c. line_tells limits sofar running line c) call
+
+-- a line can wait for one answer more where it waits
+waits-few : (pipes : List ℕ) (line : Line) (answer : BusAnswer) → cond (is_some (pipe_waited_for pipes line answer)) 1 0 ≤ waits_of line
+unfolding pipe_waited_for waits_of
+waits-few pipes (Pend pipe) Pending = omega arith
+waits-few pipes (Pend pipe) answer = omega arith
+waits-few pipes line answer = omega arith
+
+line-exact : (old : Progress) (before after : Core) (line : Line) (lines : List Line) (call : Call) → Stands old before → old.ended ≡ false → old.waits_on ≡ None →
+    old.running.lines ≡ line ∷ lines → call_of old.running.registers line ≡ Some call → Allowed line call →
+    Does before after old.running.app call (answer_to before.limits (so_far before) old.running.app call) →
+    TakesTurn old
+    (behind_line old line lines (answer_to before.limits (so_far before) old.running.app call)
+    (old.receipts ++ got_in old.running.app (state_of after) call (answer_to before.limits (so_far before) old.running.app call)))
+    before after
+line-exact old before after line lines call stands goes active next calls allowed does =
+    let app = old.running.app in
+    let limits = before.limits in
+    let answer = answer_to limits (so_far before) app call in
+    let waits_on = pipe_waited_for old.running.registers line answer in
+    let standing : standing_of (state_of before) app ≡ Active = standing-going old before stands goes ∙ ap standing_for active in
+    let first = first-known (state_of before) app Active standing active_lives in
+    let left = own-left before after app call answer first stands.known does in
+    let turned = turn-line limits (so_far before) old.running line lines (Some call) standing next calls in
+    let due = subst (λ ls. entries_due ls + cond (is_some old.waits_on) 1 0 ≤ (allowance_of before.log.left app).entries) next (entries-going old before stands goes) in
+    let bytes = subst (λ ls. bytes_due ls ≤ (allowance_of before.log.left app).bytes) next stands.bytes in
+    let few = waits-few old.running.registers line answer in
+    let settled : SettlesLine limits before.log.entries (state_of before) app old.running.registers line (Some call) =
+    subst (λ o. SettlesLine limits before.log.entries (state_of before) app old.running.registers line o) calls
+    (settles-line limits before.log.entries (state_of before) app old.running.registers line standing) in
+    record {
+      bus = so_far-does before after app call does ∙ sym (ap (λ (t : SoFar × List Running). t.0) turned);
+      goes_on = sym (ap (λ (t : SoFar × List Running). t.1) turned);
+      receipts = ap (λ s. old.receipts ++ got_in app s call answer) does.state
+          ∙ sym (ap (λ t. old.receipts ++ t) (tells-line limits (so_far before) old.running line lines (Some call) standing next calls));
+      same_app = refl;
+      stands = record {
+        known = subst (λ n. app ≤ n) (sym (apps-does before after app call answer does)) stands.known;
+        standing = ap (λ s. standing_of s app) does.state ∙ settled.standing;
+        entries = subst (λ (a : Allowance). entries_due lines + cond (is_some waits_on) 1 0 ≤ a.entries) (sym left)
+            (omega (arith, due, few, sum_by-cons waits_of line lines));
+        bytes = subst (λ (a : Allowance). bytes_due lines ≤ a.bytes) (sym left) (omega (arith, bytes, allowed.bytes, sum_by-cons line_bytes line lines));
+      };
+      moved = inr (call, answer, does);
+    }
+
+-- a line whose call was answered
+pub takes-line : (old new : Progress) (before after : Core) (line : Line) (lines : List Line) (call : Call) (answer : BusAnswer) → Stands old before → old.ended ≡ false → old.waits_on ≡ None →
+    old.running.lines ≡ line ∷ lines → call_of old.running.registers line ≡ Some call → Allowed line call →
+    Does before after old.running.app call answer →
+    new ≡ behind_line old line lines answer (old.receipts ++ got_in old.running.app (state_of after) call answer) → TakesTurn old new before after
+takes-line old new before after line lines call answer stands goes active next calls allowed does is =
+    subst (λ n. TakesTurn old n before after)
+    (sym (is ∙ ap (λ a. behind_line old line lines a (old.receipts ++ got_in old.running.app (state_of after) call a)) does.as_machine))
+    (line-exact old before after line lines call stands goes active next calls allowed (does-exact before after old.running.app call answer does))
+
+-- a line that no service sees
+pub takes-local : (old new : Progress) (core : Core) (line : Line) (lines : List Line) → Stands old core → old.ended ≡ false → old.waits_on ≡ None →
+    old.running.lines ≡ line ∷ lines → call_of old.running.registers line ≡ None →
+    new ≡ behind_local old lines (old.receipts ++ shown old.running.app (state_of core) old.running.registers line) → TakesTurn old new core core
+takes-local old new core line lines stands goes active next none is =
+    let app = old.running.app in
+    let limits = core.limits in
+    let standing : standing_of (state_of core) app ≡ Active = standing-going old core stands goes ∙ ap standing_for active in
+    let turned = turn-line limits (so_far core) old.running line lines None standing next none in
+    let due = subst (λ ls. entries_due ls + cond (is_some old.waits_on) 1 0 ≤ (allowance_of core.log.left app).entries) next (entries-going old core stands goes) in
+    let bytes = subst (λ ls. bytes_due ls ≤ (allowance_of core.log.left app).bytes) next stands.bytes in
+    subst (λ n. TakesTurn old n core core) (sym is) (record {
+      bus = sym (ap (λ (t : SoFar × List Running). t.0) turned);
+      goes_on = sym (ap (λ (t : SoFar × List Running). t.1) turned);
+      receipts = sym (ap (λ t. old.receipts ++ t) (tells-line limits (so_far core) old.running line lines None standing next none));
+      same_app = refl;
+      stands = record {
+        known = stands.known;
+        standing = standing;
+        entries = omega (arith, due, sum_by-cons waits_of line lines);
+        bytes = omega (arith, bytes, sum_by-cons line_bytes line lines);
+      };
+      moved = inl refl;
+    })
+
+-- What the code did, as the progress has it. --
+
+-- the look's call is the application's, on the pipe that it waits on
+looks-own : (old : Progress) (before : Caller) (after : Core) (pipe : ℕ) (answer : BusAnswer) → MayTurn old before → old.waits_on ≡ Some pipe →
+    Does before.core after before.app (calls.Look (pipe_waited_on before)) answer → Does before.core after old.running.app (calls.Look pipe) answer
+looks-own old before after pipe answer may waits does =
+    let pipe-is : pipe_waited_on before ≡ pipe =
+    ap (λ app. waited_on (standing_of (state_of before.core) app)) may.own
+    ∙ ap waited_on (standing-going old before.core may.stands may.goes_on ∙ ap standing_for waits) in
+    subst (λ app. Does before.core after app (calls.Look pipe) answer) may.own
+    (subst (λ p. Does before.core after before.app (calls.Look p) answer) pipe-is does)
+
+progress-looked : (p old : Progress) (r told : List Receipt) → p ≡ old → old.ended ≡ false → r ≡ told →
+    record { running = p.running; waits_on = None; ended = p.ended; receipts = r } ≡ looked_on old told
+progress-looked p old r told is goes same =
+    ap (λ (q : Progress). the_progress q.running None q.ended r) is
+    ∙ ap (λ e. the_progress old.running None e r) goes
+    ∙ ap (λ x. looked_on old x) same
+
+progress-behind : (p old : Progress) (line : Line) (lines : List Line) (answer : BusAnswer) (registers : List ℕ) (waits_on : Option ℕ) (r told : List Receipt) → p ≡ old → old.ended ≡ false →
+    registers ≡ registers_after p.running.registers line answer → waits_on ≡ pipe_waited_for p.running.registers line answer → r ≡ told →
+    the_progress (record { app = p.running.app; lines = lines; registers = registers }) waits_on p.ended r ≡ behind_line old line lines answer told
+progress-behind p old line lines answer registers waits_on r told is goes noted waiting same =
+    ap (λ x. the_progress (record { app = p.running.app; lines = lines; registers = x }) waits_on p.ended r) noted
+    ∙ ap (λ x. the_progress (record { app = p.running.app; lines = lines; registers = registers_after p.running.registers line answer }) x p.ended r) waiting
+    ∙ ap (λ (q : Progress). the_progress (record { app = q.running.app; lines = lines; registers = registers_after q.running.registers line answer })
+    (pipe_waited_for q.running.registers line answer) q.ended r) is
+    ∙ ap (λ e. the_progress (record { app = old.running.app; lines = lines; registers = registers_after old.running.registers line answer })
+    (pipe_waited_for old.running.registers line answer) e r) goes
+    ∙ ap (λ x. behind_line old line lines answer x) same
+
+progress-local : (p old : Progress) (lines : List Line) (r told : List Receipt) → p ≡ old → old.ended ≡ false → old.waits_on ≡ None → r ≡ told →
+    the_progress (record { app = p.running.app; lines = lines; registers = p.running.registers }) p.waits_on p.ended r ≡ behind_local old lines told
+progress-local p old lines r told is goes active same =
+    ap (λ (q : Progress). the_progress (record { app = q.running.app; lines = lines; registers = q.running.registers }) q.waits_on q.ended r) is
+    ∙ ap (λ e. the_progress (record { app = old.running.app; lines = lines; registers = old.running.registers }) old.waits_on e r) goes
+    ∙ ap (λ w. the_progress (record { app = old.running.app; lines = lines; registers = old.running.registers }) w false r) active
+    ∙ ap (λ x. behind_local old lines x) same
+
+-- a look that found a message
+pub looked-got : (p old : Progress) (before mid after : Caller) (pipe n : ℕ) (r : List Receipt) → p ≡ old → MayTurn old before → old.waits_on ≡ Some pipe →
+    AnswersLook before mid (pipe_waited_on before) (waits.Got n) → after ≡ mid →
+    r ≡ p.receipts ++ option_to_list (receipt_in (state_of mid.core) mid.app pipe) →
+    TakesTurn old (record { running = p.running; waits_on = None; ended = p.ended; receipts = r }) before.core after.core
+looked-got p old before mid after pipe n r is may waits answered same got =
+    subst (λ caller. TakesTurn old (record { running = p.running; waits_on = None; ended = p.ended; receipts = r }) before.core caller.core) (sym same)
+    (takes-look old (record { running = p.running; waits_on = None; ended = p.ended; receipts = r }) before.core mid.core pipe (Got n) may.stands may.goes_on waits
+    (looks-own old before mid.core pipe (Got n) may waits answered.does) refl
+    (progress-looked p old r _ is may.goes_on
+    (got
+    ∙ ap (λ (q : Progress). q.receipts ++ option_to_list (receipt_in (state_of mid.core) mid.app pipe)) is
+    ∙ ap (λ app. old.receipts ++ option_to_list (receipt_in (state_of mid.core) app pipe)) (answered.same_app ∙ may.own))))
+
+-- a look to which no message can come any more
+pub looked-time_out : (p old : Progress) (before after : Caller) (pipe : ℕ) → p ≡ old → MayTurn old before → old.waits_on ≡ Some pipe →
+    AnswersLook before after (pipe_waited_on before) waits.TimeOut →
+    TakesTurn old (record { running = p.running; waits_on = None; ended = p.ended; receipts = p.receipts }) before.core after.core
+looked-time_out p old before after pipe is may waits answered =
+    takes-look old (record { running = p.running; waits_on = None; ended = p.ended; receipts = p.receipts }) before.core after.core pipe TimeOut may.stands may.goes_on waits
+    (looks-own old before after.core pipe TimeOut may waits answered.does) refl
+    (progress-looked p old p.receipts _ is may.goes_on (ap (λ (q : Progress). q.receipts) is ∙ sym (append-nil old.receipts)))
+
+-- the next line
+pub drop-next : {X : Type 0} (xs : List X) (i : ℕ) (x : X) → slice_get xs i ≡ Some x → drop i xs ≡ x ∷ drop (suc i) xs
+drop-next [] i x there = absurd (cc there)
+drop-next (y ∷ xs) zero x there = let e : y ≡ x = cc there in ap (λ z. z ∷ xs) e
+drop-next (y ∷ xs) (suc i) x there = drop-next xs i x there
+
+-- what holds of each holds of the one at a place
+pub get_at : {X : Type 0} (P : X → Type 0) (xs : List X) (i : ℕ) (x : X) → slice_get xs i ≡ Some x → All P xs → P x
+get_at P xs i x there all = subst P (get_or_from_slice_get xs i x x there) (All-get_or P xs i x (slice_get_within xs i x there) all)
+
+-- a line that was run
+pub ran-line : (p old : Progress) (before mid after : Caller) (line : Line) (lines : List Line) (answer : BusAnswer) (registers : List ℕ) (waits_on : Option ℕ) (r : List Receipt) (o : Option Call) →
+    p ≡ old → MayTurn old before → old.waits_on ≡ None → p.running.lines ≡ line ∷ lines → IsLineInRange line →
+    call_of p.running.registers line ≡ o → IsRun before mid o (Some answer) → after ≡ mid →
+    r ≡ p.receipts ++ got_of mid o answer → registers ≡ registers_after p.running.registers line answer →
+    waits_on ≡ pipe_waited_for p.running.registers line answer →
+    TakesTurn old (record { running = record { app = p.running.app; lines = lines; registers = registers }; waits_on = waits_on; ended = p.ended; receipts = r }) before.core after.core
+ran-line p old before mid after line lines answer registers waits_on r None is may active next range calls run same got noted waiting = absurd run
+ran-line p old before mid after line lines answer registers waits_on r (Some call) is may active next range calls run same got noted waiting =
+    let new : Progress = record { running = record { app = p.running.app; lines = lines; registers = registers }; waits_on = waits_on; ended = p.ended; receipts = r } in
+    let calls-old : call_of old.running.registers line ≡ Some call = subst (λ (q : Progress). call_of q.running.registers line ≡ Some call) is calls in
+    let next-old : old.running.lines ≡ line ∷ lines = subst (λ (q : Progress). q.running.lines ≡ line ∷ lines) is next in
+    let does : Does before.core mid.core old.running.app call answer = subst (λ app. Does before.core mid.core app call answer) may.own run.does in
+    let allowed : Allowed line call = subst (λ o. AllowedLine line o) calls-old (allowed-line old.running.registers line range) in
+    subst (λ caller. TakesTurn old new before.core caller.core) (sym same)
+    (takes-line old new before.core mid.core line lines call answer may.stands may.goes_on active next-old calls-old allowed does
+    (progress-behind p old line lines answer registers waits_on r (old.receipts ++ got_in old.running.app (state_of mid.core) call answer) is may.goes_on noted waiting
+    (got
+    ∙ ap (λ (q : Progress). q.receipts ++ got_in mid.app (state_of mid.core) call answer) is
+    ∙ ap (λ app. old.receipts ++ got_in app (state_of mid.core) call answer) (run.same_app ∙ may.own))))
+
+-- a line that no service sees
+pub ran-local : (p old : Progress) (before mid after : Caller) (line : Line) (lines : List Line) (r : List Receipt) (o : Option Call) →
+    p ≡ old → MayTurn old before → old.waits_on ≡ None → p.running.lines ≡ line ∷ lines →
+    call_of p.running.registers line ≡ o → IsRun before mid o None → after ≡ mid →
+    r ≡ p.receipts ++ shown mid.app (state_of mid.core) p.running.registers line →
+    TakesTurn old (record { running = record { app = p.running.app; lines = lines; registers = p.running.registers }; waits_on = p.waits_on; ended = p.ended; receipts = r }) before.core after.core
+ran-local p old before mid after line lines r (Some call) is may active next calls run same told = absurd run
+ran-local p old before mid after line lines r None is may active next calls run same told =
+    let new : Progress = record { running = record { app = p.running.app; lines = lines; registers = p.running.registers }; waits_on = p.waits_on; ended = p.ended; receipts = r } in
+    let calls-old : call_of old.running.registers line ≡ None = subst (λ (q : Progress). call_of q.running.registers line ≡ None) is calls in
+    let next-old : old.running.lines ≡ line ∷ lines = subst (λ (q : Progress). q.running.lines ≡ line ∷ lines) is next in
+    subst (λ caller. TakesTurn old new before.core caller.core) (sym (same ∙ run))
+    (takes-local old new before.core line lines may.stands may.goes_on active next-old calls-old
+    (progress-local p old lines r (old.receipts ++ shown old.running.app (state_of before.core) old.running.registers line) is may.goes_on active
+    (told
+    ∙ ap (λ (caller : Caller). p.receipts ++ shown caller.app (state_of caller.core) p.running.registers line) run
+    ∙ ap (λ (q : Progress). q.receipts ++ shown before.app (state_of before.core) q.running.registers line) is
+    ∙ ap (λ app. old.receipts ++ shown app (state_of before.core) old.running.registers line) may.own)))
+
+-- a line that waits got nothing yet
+pub waits-or-got : (pipes : List ℕ) (line : Line) (answer : BusAnswer) → cond (is_some (pipe_waited_for pipes line answer)) 1 0 + most_receipts answer ≤ 1
+unfolding pipe_waited_for
+waits-or-got pipes (Pend pipe) Pending = omega arith
+waits-or-got pipes line (Got n) = omega arith
+waits-or-got pipes line answer = omega arith

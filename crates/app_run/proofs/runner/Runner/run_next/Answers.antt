@@ -1,0 +1,74 @@
+use Rattle.std.proofs.Common.{◌≡◌, suc, ◌+◌, ◌-◌, ◌≤◌, ◌∷◌, None, All, add-one, refl, ap, sym, ◌∙◌, subst, arith, drop, length}
+use Rattle.std.proofs.lemmas.Option.{slice_get_within}
+use Rattle.app_script.specs.Ranges.{IsLineInRange}
+use Rattle.app_run.specs.Lines.{message_size}
+use Rattle.app_run.specs.Runners.{Progress}
+use Rattle.app_run.specs.RunnerParts.{receipts_to_come}
+use Rattle.app_script.specs.Script.{app_at}
+use Rattle.app_script.specs.Trace.{call_of}
+use Rattle.app_run.specs.RunnerParts.{progress_in}
+use Rattle.app_run.proofs.TurnLaws.{allowed-line, may-run, drop-next, get_at, ran-line, ran-local, waits-or-got}
+use Rattle.app_run.proofs.runner.Runner.run_next.Goals as goal
+
+pub overflow_add-self : goal.overflow_add-self
+overflow_add-self g c = omega (arith, c.self.invariant.few, slice_get_within (app_at c.self.inside.script.now c.self.inside.app).lines c.self.inside.next c.line-line.result.now c.line-line.ensures)
+
+pub run_line-requires-clause-may : goal.run_line-requires-clause-may
+run_line-requires-clause-may g c =
+    let a = c.self.inside in
+    let all = (app_at a.script.now a.app).lines in
+    let line = c.line-line.result.now in
+    let next : drop a.next all ≡ line ∷ drop (suc a.next) all = drop-next all a.next line c.line-line.ensures in
+    may-run c.args.self.now (g.C.Calls.caller c.args.calls.now) line (drop (suc a.next) all) (call_of a.registers line) c.requires.may.stands c.requires.may.own
+    c.requires.may.goes_on c.requires.active (subst (λ p. p.running.lines ≡ line ∷ drop (suc a.next) all) c.self.view_is next)
+    (allowed-line a.registers line (get_at IsLineInRange all a.next line c.line-line.ensures c.self.invariant.ranges))
+
+pub run_line-requires-clause-range : goal.run_line-requires-clause-range
+run_line-requires-clause-range g c =
+    get_at IsLineInRange (app_at c.self.inside.script.now c.self.inside.app).lines c.self.inside.next c.line-line.result.now c.line-line.ensures c.self.invariant.ranges
+
+pub run_line-requires-clause-message : goal.run_line-requires-clause-message
+run_line-requires-clause-message g c =
+    get_at (λ line. message_size line ≤ length c.self.inside.message.items) (app_at c.self.inside.script.now c.self.inside.app).lines c.self.inside.next c.line-line.result.now
+    c.line-line.ensures c.self.invariant.message
+
+pub invariant_of-self : goal.invariant_of-self
+invariant_of-self g c =
+    let a = c.self.inside in
+    let active : a.waits_on ≡ None = subst (λ (p : Progress). p.waits_on ≡ None) (sym c.self.view_is) c.requires.active in
+    let room = subst (λ w. receipts_to_come (length (app_at a.script.now a.app).lines - a.next) w ≤ a.receipts.room) active c.self.invariant.room in
+    let there = slice_get_within (app_at c.self.inside.script.now c.self.inside.app).lines c.self.inside.next c.line-line.result.now c.line-line.ensures in
+    let few = waits-or-got a.registers c.line-line.result.now c.in-Some.answer in
+    record {
+      known = c.self.invariant.known;
+      few = c.self.invariant.few;
+      place = omega (arith, there);
+      ranges = c.self.invariant.ranges;
+      message = subst (λ n. All (λ line. message_size line ≤ n) (app_at a.script.now a.app).lines) (sym c.run_line.ensures.message) c.self.invariant.message;
+      room = subst (λ w. receipts_to_come (length (app_at a.script.now a.app).lines - (a.next + 1)) w ≤ c.receive.new.receipts.room) (sym c.pipe_waited_for-self-inside.ensures)
+          (omega (arith, room, there, few, c.receive.ensures.room));
+    }
+
+pub returns-in-Some-clause-turn : goal.returns-in-Some-clause-turn
+returns-in-Some-clause-turn g c =
+    let caller = g.C.Calls.caller in
+    let a = c.self.inside in
+    let all = (app_at a.script.now a.app).lines in
+    let line = c.line-line.result.now in
+    let next : drop a.next all ≡ line ∷ drop (a.next + 1) all = drop-next all a.next line c.line-line.ensures ∙ ap (λ n. line ∷ drop n all) (sym (add-one a.next)) in
+    ran-line (progress_in a) c.args.self.now (caller c.args.calls.now) (caller c.run_line.new.calls) (caller c.receive.new.calls) line (drop (a.next + 1) all) c.in-Some.answer
+    c.note.new.registers c.pipe_waited_for-self-inside.result c.receive.new.receipts.receipts (call_of a.registers line)
+    c.self.view_is c.requires.may c.requires.active next
+    (get_at IsLineInRange all a.next line c.line-line.ensures c.self.invariant.ranges)
+    refl c.in-Some.ensures.call c.receive.ensures.same c.receive.ensures.receipts c.note.ensures c.pipe_waited_for-self-inside.ensures
+
+pub returns-in-None-clause-turn : goal.returns-in-None-clause-turn
+returns-in-None-clause-turn g c =
+    let caller = g.C.Calls.caller in
+    let a = c.self.inside in
+    let all = (app_at a.script.now a.app).lines in
+    let line = c.line-line.result.now in
+    let next : drop a.next all ≡ line ∷ drop (a.next + 1) all = drop-next all a.next line c.line-line.ensures ∙ ap (λ n. line ∷ drop n all) (sym (add-one a.next)) in
+    ran-local (progress_in a) c.args.self.now (caller c.args.calls.now) (caller c.run_line.new.calls) (caller c.show.new.calls) line (drop (a.next + 1) all)
+    c.show.new.receipts.receipts (call_of a.registers line)
+    c.self.view_is c.requires.may c.requires.active next refl c.in-None.ensures.call c.show.ensures.same c.show.ensures.receipts

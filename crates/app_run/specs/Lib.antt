@@ -1,0 +1,7 @@
+pub mod Callers
+pub mod Lines
+pub mod Received
+pub mod Runners
+pub mod RunnerParts
+pub mod Turns
+pub mod Rounds

@@ -1,0 +1,92 @@
+-- One turn of an application.
+use Rattle.std.specs.Prelude.{◌≡◌, ℕ, ◌+◌, ◌≤◌, ◌++◌, ◌⊎◌, false, List, [], ◌∷◌, Option, Some, None, is_some, if◌then◌else◌}
+use Rattle.fsw_base.specs.Limits.{Limits}
+use Rattle.bus_words.specs.declared.calls.BusAnswer.{BusAnswer}
+use Rattle.bus_words.specs.declared.history.Call.{Call}
+use Rattle.bus_words.specs.declared.history.Call.TheVariants.{Look}
+use Rattle.bus_words.specs.declared.receipts.Receipt.{Receipt}
+use Rattle.bus_words.specs.Bus.{Standing, Active, Waiting, Ended, standing_of}
+use Rattle.bus_words.specs.Log.{allowance_of}
+use Rattle.sb_calls.specs.Core.{Core, Does, apps_of, state_of}
+use Rattle.script_lines.specs.declared.line.Line.{Line}
+use Rattle.app_script.specs.Trace.{call_of}
+use Rattle.app_script.specs.Rotation.{Running, SoFar, after_call, after_look, answer_to, turn}
+use Rattle.app_script.specs.Told.{got_in, shown}
+use Rattle.app_run.specs.declared.runner.Turned.{Turned}
+use Rattle.app_run.specs.declared.runner.Turned.TheVariants as turned
+use Rattle.app_run.specs.Callers.{Caller}
+use Rattle.app_run.specs.Lines.{entries_due, bytes_due}
+use Rattle.app_run.specs.Runners.{Progress, standing_in, going}
+
+-- the bus so far
+abbrev pub so_far : Core → SoFar
+so_far core = record { history = core.log.entries; state = state_of core }
+
+-- What a turn tells. --
+
+-- a line: what its call got, or what it shows
+abbrev pub line_tells : Limits → SoFar → Running → Line → Option Call → List Receipt
+line_tells limits sofar running line None = shown running.app sofar.state running.registers line
+line_tells limits sofar running line (Some call) =
+    got_in running.app (after_call limits sofar running.app call).state call (answer_to limits sofar running.app call)
+
+-- the next line; the end tells nothing
+abbrev pub active_tells : Limits → SoFar → Running → List Line → List Receipt
+active_tells limits sofar running [] = []
+active_tells limits sofar running (line ∷ lines) = line_tells limits sofar running line (call_of running.registers line)
+
+-- a turn of an application in this standing
+abbrev pub tells_in : Limits → SoFar → Running → Standing → List Receipt
+tells_in limits sofar running (Waiting pipe) =
+    let answer = answer_to limits sofar running.app (Look pipe) in
+    got_in running.app (after_look limits sofar running.app pipe answer).state (Look pipe) answer
+tells_in limits sofar running Active = active_tells limits sofar running running.lines
+tells_in limits sofar running Ended = []
+
+-- a turn
+abbrev pub tells : Limits → SoFar → Running → List Receipt
+tells limits sofar running = tells_in limits sofar running (standing_of sofar.state running.app)
+
+-- Turns. --
+
+-- how many entries an application may still make
+abbrev pub entries_to_come : Progress → ℕ
+entries_to_come progress =
+    if progress.ended then 0 else entries_due progress.running.lines + (if is_some progress.waits_on then 1 else 0)
+
+-- The bus knows the application as it is, and has room for all that it may still do.
+pub record Stands (progress : Progress) (core : Core) : Type 0 where
+  pub known : progress.running.app ≤ apps_of core
+  pub standing : standing_of (state_of core) progress.running.app ≡ standing_in progress
+  pub entries : entries_to_come progress ≤ (allowance_of core.log.left progress.running.app).entries
+  pub bytes : bytes_due progress.running.lines ≤ (allowance_of core.log.left progress.running.app).bytes
+
+-- the application may take a turn by these calls: they are its own, and it has not ended
+pub record MayTurn (progress : Progress) (caller : Caller) : Type 0 where
+  pub own : caller.app ≡ progress.running.app
+  pub goes_on : progress.ended ≡ false
+  pub stands : Stands progress caller.core
+
+-- the bus made one entry of the application, or none
+abbrev pub Moved : Core → Core → ℕ → Type 0
+Moved old new app = (new ≡ old) ⊎ ((call : Call) × (answer : BusAnswer) × Does old new app call answer)
+
+-- The application took one turn.
+pub record TakesTurn (old new : Progress) (before after : Core) : Type 0 where
+  pub bus : so_far after ≡ (turn before.limits (so_far before) old.running).0
+  pub goes_on : going new ≡ (turn before.limits (so_far before) old.running).1
+  pub receipts : new.receipts ≡ old.receipts ++ tells before.limits (so_far before) old.running
+  pub same_app : new.running.app ≡ old.running.app
+  pub stands : Stands new after
+  pub moved : Moved before after old.running.app
+
+-- how an application stands after its turn
+abbrev pub turned_of : Progress → Turned
+turned_of progress = if progress.ended then turned.Ended else if is_some progress.waits_on then turned.Waits else turned.Went
+
+-- The application took one turn by these calls, and that is how it stands.
+pub record Turns (old new : Progress) (before after : Caller) (now : Turned) : Type 0 where
+  pub turn : TakesTurn old new before.core after.core
+  pub told : now ≡ turned_of new
+  pub same_app : after.app ≡ before.app
+  pub same_bus : after.name ≡ before.name

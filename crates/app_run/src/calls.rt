@@ -1,0 +1,91 @@
+//! The calls of one application.
+ghost use Rattle.std.specs.Prelude.{◌≡◌};
+ghost use Rattle.bus_words.specs.Receipts.{receipt_in};
+ghost use Rattle.sb_calls.specs.Answers.{created, found, done, bits_told, named, sent, got, pended};
+ghost use Rattle.sb_calls.specs.Core.{state_of};
+ghost use Rattle.app_run.specs.Callers.{Caller, MayCallBus, Answers, AnswersLook, pipe_waited_on};
+
+use bus_words::{BusAnswer, Call, PipeText, Receipt};
+use fsw_base::{SbStatus, Scope};
+use sb_calls::{Pended, Sent};
+
+/// The calls of the software bus that one application makes.
+///
+/// Each call has the condition, the answer and the refusals of the core's call of the same name. No
+/// other application calls between two calls of one value. No call takes memory.
+pub trait Calls {
+    /// The application and the bus that it calls.
+    ghost caller: { Self → Caller };
+
+    /// Makes a pipe that holds up to `depth` messages, and answers its number.
+    fn create_pipe(&mut self, depth: u32, name: &[u8]) -> Result<u32, SbStatus>
+        requires { MayCallBus (caller self.old) (Call.Create depth name.now) }
+        ensures { Answers (caller self.old) (caller self.new) (Call.Create depth name.now) (created result) };
+
+    /// Ends a pipe.
+    fn delete_pipe(&mut self, pipe: u32) -> Result<(), SbStatus>
+        requires { MayCallBus (caller self.old) (Call.Delete pipe) }
+        ensures { Answers (caller self.old) (caller self.new) (Call.Delete pipe) (done result) };
+
+    /// Sets a pipe's option bits.
+    fn set_opts(&mut self, pipe: u32, bits: u8) -> Result<(), SbStatus>
+        requires { MayCallBus (caller self.old) (Call.SetOpts pipe bits) }
+        ensures { Answers (caller self.old) (caller self.new) (Call.SetOpts pipe bits) (done result) };
+
+    /// Answers a pipe's option bits.
+    fn get_opts(&mut self, pipe: u32) -> Result<u8, SbStatus>
+        requires { MayCallBus (caller self.old) (Call.GetOpts pipe) }
+        ensures { Answers (caller self.old) (caller self.new) (Call.GetOpts pipe) (bits_told result) };
+
+    /// Answers the number of the pipe of this name.
+    fn find_pipe(&mut self, name: &[u8]) -> Result<u32, SbStatus>
+        requires { MayCallBus (caller self.old) (Call.Find name.now) }
+        ensures { Answers (caller self.old) (caller self.new) (Call.Find name.now) (found result) };
+
+    /// Answers a pipe's name.
+    fn pipe_name(&mut self, pipe: u32) -> Result<PipeText, SbStatus>
+        requires { MayCallBus (caller self.old) (Call.PipeName pipe) }
+        ensures { Answers (caller self.old) (caller self.new) (Call.PipeName pipe) (named result) };
+
+    /// Has messages of this id queued on the pipe, up to `limit` of them at once.
+    fn subscribe(&mut self, id: u16, pipe: u32, limit: u32, scope: Scope) -> Result<(), SbStatus>
+        requires { MayCallBus (caller self.old) (Call.Subscribe id pipe limit scope) }
+        ensures { Answers (caller self.old) (caller self.new) (Call.Subscribe id pipe limit scope) (done result) };
+
+    /// Has no more messages of this id queued on the pipe.
+    fn unsubscribe(&mut self, id: u16, pipe: u32) -> Result<(), SbStatus>
+        requires { MayCallBus (caller self.old) (Call.Unsubscribe id pipe) }
+        ensures { Answers (caller self.old) (caller self.new) (Call.Unsubscribe id pipe) (done result) };
+
+    /// Sends a message; `inc` gives it the id's next sequence count.
+    fn transmit(&mut self, bytes: &[u8], inc: bool) -> Result<Sent, SbStatus>
+        requires { MayCallBus (caller self.old) (Call.Transmit bytes.now inc) }
+        ensures { Answers (caller self.old) (caller self.new) (Call.Transmit bytes.now inc) (sent result) };
+
+    /// Takes the pipe's oldest message, and answers its number.
+    fn receive(&mut self, pipe: u32) -> Result<u32, SbStatus>
+        requires { MayCallBus (caller self.old) (Call.Receive pipe) }
+        ensures { Answers (caller self.old) (caller self.new) (Call.Receive pipe) (got result) };
+
+    /// Takes the pipe's oldest message, or waits for one.
+    fn pend(&mut self, pipe: u32) -> Result<Pended, SbStatus>
+        requires { MayCallBus (caller self.old) (Call.Pend pipe) }
+        ensures { Answers (caller self.old) (caller self.new) (Call.Pend pipe) (pended result) };
+
+    /// Looks again for a message on the pipe that the application waits on.
+    fn look(&mut self) -> Pended
+        requires { MayCallBus (caller self.old) (Call.Look (pipe_waited_on (caller self.old))) }
+        ensures { AnswersLook (caller self.old) (caller self.new) (pipe_waited_on (caller self.old)) result };
+
+    /// The application's last call: its pipes leave with their subscriptions and messages.
+    fn bus_end(&mut self)
+        requires { MayCallBus (caller self.old) Call.End }
+        ensures { Answers (caller self.old) (caller self.new) Call.End BusAnswer.Done };
+
+    /// The receipt of the message that the application received last from its live pipe of this
+    /// number; None exactly where it has no such pipe, or the pipe has no last message. It is no call
+    /// of the bus, and changes nothing.
+    fn last_receipt(&mut self, pipe: u32) -> Option<Receipt>
+        ensures receipt { result ≡ receipt_in (state_of (caller self.old).core) (caller self.old).app pipe }
+        ensures same { caller self.new ≡ caller self.old };
+}

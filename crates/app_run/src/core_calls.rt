@@ -1,0 +1,84 @@
+//! The calls of one application straight on a core.
+ghost use Rattle.std.specs.Prelude.{◌≡◌};
+
+use crate::calls::Calls;
+use bus_words::{PipeText, Receipt};
+use fsw_base::{AppNo, SbStatus, Scope};
+use sb_calls::{BusCore, Pended, Sent};
+
+/// The calls of one application straight on the bus's core.
+#[derive(Drop)]
+pub struct CoreCalls<'c> {
+    core: &'c mut BusCore,
+    app: AppNo,
+}
+
+impl<'c> CoreCalls<'c> {
+    /// The calls of this application.
+    pub fn new(core: &'c mut BusCore, app: AppNo) -> CoreCalls<'c>
+        ensures app { result.app ≡ app }
+        ensures core { result.core ≡ core.entry }
+    {
+        CoreCalls { core, app }
+    }
+}
+
+impl Calls for CoreCalls<'_> {
+    ghost caller = { λ s. record { app = s.app; core = s.core.now; name = s.core.ghost_name } };
+
+    fn create_pipe(&mut self, depth: u32, name: &[u8]) -> Result<u32, SbStatus> {
+        self.core.create_pipe(self.app, depth, name)
+    }
+
+    fn delete_pipe(&mut self, pipe: u32) -> Result<(), SbStatus> {
+        self.core.delete_pipe(self.app, pipe)
+    }
+
+    fn set_opts(&mut self, pipe: u32, bits: u8) -> Result<(), SbStatus> {
+        self.core.set_opts(self.app, pipe, bits)
+    }
+
+    fn get_opts(&mut self, pipe: u32) -> Result<u8, SbStatus> {
+        self.core.get_opts(self.app, pipe)
+    }
+
+    fn find_pipe(&mut self, name: &[u8]) -> Result<u32, SbStatus> {
+        self.core.find_pipe(self.app, name)
+    }
+
+    fn pipe_name(&mut self, pipe: u32) -> Result<PipeText, SbStatus> {
+        self.core.pipe_name(self.app, pipe)
+    }
+
+    fn subscribe(&mut self, id: u16, pipe: u32, limit: u32, scope: Scope) -> Result<(), SbStatus> {
+        self.core.subscribe(self.app, id, pipe, limit, scope)
+    }
+
+    fn unsubscribe(&mut self, id: u16, pipe: u32) -> Result<(), SbStatus> {
+        self.core.unsubscribe(self.app, id, pipe)
+    }
+
+    fn transmit(&mut self, bytes: &[u8], inc: bool) -> Result<Sent, SbStatus> {
+        self.core.transmit(self.app, bytes, inc)
+    }
+
+    fn receive(&mut self, pipe: u32) -> Result<u32, SbStatus> {
+        self.core.receive(self.app, pipe)
+    }
+
+    fn pend(&mut self, pipe: u32) -> Result<Pended, SbStatus> {
+        self.core.pend(self.app, pipe)
+    }
+
+    fn look(&mut self) -> Pended {
+        self.core.look(self.app)
+    }
+
+    fn bus_end(&mut self) {
+        self.core.end(self.app)
+    }
+
+    fn last_receipt(&mut self, pipe: u32) -> Option<Receipt> {
+        self.core.last_receipt(self.app, pipe)
+    }
+}

@@ -1,0 +1,166 @@
+//! The call that a line makes.
+ghost use Rattle.std.specs.Prelude.{◌≡◌, ◌≤◌, length};
+ghost use Rattle.app_script.specs.Messages.{sent_message};
+ghost use Rattle.app_script.specs.Ranges.{IsLineInRange};
+ghost use Rattle.app_script.specs.Trace.{call_of};
+ghost use Rattle.app_run.specs.Callers.{MayCallBus, Answers};
+ghost use Rattle.app_run.specs.Lines.{MayRun, IsRun, message_size};
+
+use crate::answers;
+use crate::calls::Calls;
+use crate::messages::make_message;
+use crate::registers::value_in;
+use bus_words::{BusAnswer, Call};
+use fsw_base::Scope;
+use script_lines::Line;
+
+/// Makes the call of a line, its registers filled in, and tells what it was answered; None for a line
+/// that makes no call.
+#[tactic(auto, unfolding(app_script::specs::Trace::call_of, app_script::specs::Ranges::IsLineInRange, crate::specs::Lines::message_size))]
+pub(crate) fn run_line<C: Calls>(
+    calls: &mut C,
+    registers: &[u32; 64],
+    message: &mut Vec<u8>,
+    line: &Line,
+) -> Option<BusAnswer>
+    requires may { MayRun (C.caller calls.old) (call_of registers.now line.now) }
+    requires range { IsLineInRange line.now }
+    requires message { message_size line.now ≤ length message.old.items }
+    ensures call { IsRun (C.caller calls.old) (C.caller calls.new) (call_of registers.now line.now) result }
+    ensures message { length message.new.items ≡ length message.old.items }
+{
+    match line {
+        Line::Create { depth, name, .. } => Some(create(calls, *depth, name.as_slice())),
+        Line::Delete { pipe } => Some(delete(calls, value_in(registers, *pipe))),
+        Line::SetOpts { pipe, bits } => Some(set_opts(calls, value_in(registers, *pipe), *bits)),
+        Line::GetOpts { pipe } => Some(get_opts(calls, value_in(registers, *pipe))),
+        Line::Find { name, .. } => Some(find(calls, name.as_slice())),
+        Line::PipeName { pipe } => Some(name_of(calls, value_in(registers, *pipe))),
+        Line::Subscribe {
+            id,
+            pipe,
+            limit,
+            scope,
+        } => Some(subscribe(calls, *id, value_in(registers, *pipe), *limit, *scope)),
+        Line::Unsubscribe { id, pipe } => Some(unsubscribe(calls, *id, value_in(registers, *pipe))),
+        Line::Send {
+            id,
+            size,
+            fill,
+            inc,
+        } => Some(send(calls, message, *id, *size, *fill, *inc)),
+        Line::SendRaw { bytes, inc } => Some(transmit(calls, bytes.as_slice(), *inc)),
+        Line::Receive { pipe } => Some(receive(calls, value_in(registers, *pipe))),
+        Line::Pend { pipe } => Some(pend(calls, value_in(registers, *pipe))),
+        _ => None,
+    }
+}
+
+// Makes a message of this size and sends it.
+fn send<C: Calls>(
+    calls: &mut C,
+    message: &mut Vec<u8>,
+    id: u16,
+    size: u32,
+    fill: u8,
+    inc: bool,
+) -> BusAnswer
+    requires least { 7 ≤ size }
+    requires most { size ≤ 65542 }
+    requires room { size ≤ length message.old.items }
+    requires may { MayCallBus (C.caller calls.old) (Call.Transmit (sent_message id size fill) inc) }
+    ensures call { Answers (C.caller calls.old) (C.caller calls.new) (Call.Transmit (sent_message id size fill) inc) result }
+    ensures message { length message.new.items ≡ length message.old.items }
+{
+    let bytes = &mut message[..size as usize];
+    make_message(bytes, id, fill);
+    transmit(calls, bytes, inc)
+}
+
+fn create<C: Calls>(calls: &mut C, depth: u32, name: &[u8]) -> BusAnswer
+    requires { MayCallBus (C.caller calls.old) (Call.Create depth name.now) }
+    ensures { Answers (C.caller calls.old) (C.caller calls.new) (Call.Create depth name.now) result }
+{
+    let answer = calls.create_pipe(depth, name);
+    answers::number(answer)
+}
+
+fn delete<C: Calls>(calls: &mut C, pipe: u32) -> BusAnswer
+    requires { MayCallBus (C.caller calls.old) (Call.Delete pipe) }
+    ensures { Answers (C.caller calls.old) (C.caller calls.new) (Call.Delete pipe) result }
+{
+    let answer = calls.delete_pipe(pipe);
+    answers::done(answer)
+}
+
+fn set_opts<C: Calls>(calls: &mut C, pipe: u32, bits: u8) -> BusAnswer
+    requires { MayCallBus (C.caller calls.old) (Call.SetOpts pipe bits) }
+    ensures { Answers (C.caller calls.old) (C.caller calls.new) (Call.SetOpts pipe bits) result }
+{
+    let answer = calls.set_opts(pipe, bits);
+    answers::done(answer)
+}
+
+fn get_opts<C: Calls>(calls: &mut C, pipe: u32) -> BusAnswer
+    requires { MayCallBus (C.caller calls.old) (Call.GetOpts pipe) }
+    ensures { Answers (C.caller calls.old) (C.caller calls.new) (Call.GetOpts pipe) result }
+{
+    let answer = calls.get_opts(pipe);
+    answers::bits(answer)
+}
+
+fn find<C: Calls>(calls: &mut C, name: &[u8]) -> BusAnswer
+    requires { MayCallBus (C.caller calls.old) (Call.Find name.now) }
+    ensures { Answers (C.caller calls.old) (C.caller calls.new) (Call.Find name.now) result }
+{
+    let answer = calls.find_pipe(name);
+    answers::number(answer)
+}
+
+fn name_of<C: Calls>(calls: &mut C, pipe: u32) -> BusAnswer
+    requires { MayCallBus (C.caller calls.old) (Call.PipeName pipe) }
+    ensures { Answers (C.caller calls.old) (C.caller calls.new) (Call.PipeName pipe) result }
+{
+    let answer = calls.pipe_name(pipe);
+    answers::name(answer)
+}
+
+fn subscribe<C: Calls>(calls: &mut C, id: u16, pipe: u32, limit: u32, scope: Scope) -> BusAnswer
+    requires { MayCallBus (C.caller calls.old) (Call.Subscribe id pipe limit scope) }
+    ensures { Answers (C.caller calls.old) (C.caller calls.new) (Call.Subscribe id pipe limit scope) result }
+{
+    let answer = calls.subscribe(id, pipe, limit, scope);
+    answers::done(answer)
+}
+
+fn unsubscribe<C: Calls>(calls: &mut C, id: u16, pipe: u32) -> BusAnswer
+    requires { MayCallBus (C.caller calls.old) (Call.Unsubscribe id pipe) }
+    ensures { Answers (C.caller calls.old) (C.caller calls.new) (Call.Unsubscribe id pipe) result }
+{
+    let answer = calls.unsubscribe(id, pipe);
+    answers::done(answer)
+}
+
+fn transmit<C: Calls>(calls: &mut C, bytes: &[u8], inc: bool) -> BusAnswer
+    requires { MayCallBus (C.caller calls.old) (Call.Transmit bytes.now inc) }
+    ensures { Answers (C.caller calls.old) (C.caller calls.new) (Call.Transmit bytes.now inc) result }
+{
+    let answer = calls.transmit(bytes, inc);
+    answers::sent(answer)
+}
+
+fn receive<C: Calls>(calls: &mut C, pipe: u32) -> BusAnswer
+    requires { MayCallBus (C.caller calls.old) (Call.Receive pipe) }
+    ensures { Answers (C.caller calls.old) (C.caller calls.new) (Call.Receive pipe) result }
+{
+    let answer = calls.receive(pipe);
+    answers::got(answer)
+}
+
+fn pend<C: Calls>(calls: &mut C, pipe: u32) -> BusAnswer
+    requires { MayCallBus (C.caller calls.old) (Call.Pend pipe) }
+    ensures { Answers (C.caller calls.old) (C.caller calls.new) (Call.Pend pipe) result }
+{
+    let answer = calls.pend(pipe);
+    answers::pended(answer)
+}

@@ -1,0 +1,144 @@
+//! A whole script in strict rotation, on one thread.
+ghost use Rattle.std.specs.Prelude.{◌≡◌, ◌+◌, ◌*◌, ◌<◌, ◌≤◌, ◌-◌, length, map, sum_by, All, IfOk, false, true, vec_len, vec_capacity, [], ◌++◌};
+ghost use Rattle.std.specs.List.{range_with_len};
+ghost use Rattle.sb_calls.specs.Core.{apps_of};
+ghost use Rattle.app_script.specs.Ranges.{IsInRange};
+ghost use Rattle.app_script.specs.Accounts.{budget_of};
+ghost use Rattle.app_script.specs.Rotation.{rotation, rotations, enough};
+ghost use Rattle.app_script.specs.Told.{receipts_told};
+ghost use Rattle.app_script.specs.Script.{ScriptText};
+ghost use Rattle.app_run.specs.Turns.{so_far, Stands};
+ghost use Rattle.app_run.specs.Rounds.{all_beginning, all_going, AllStand, AllTold, Steps, Rotates, RotatesTimes};
+
+use crate::core_calls::CoreCalls;
+use crate::runner::Runner;
+use app_script::Script;
+use bus_words::ReceiptList;
+use fsw_base::{AppNo, Budget};
+use sb_calls::BusCore;
+use std::alloc::{AllocError, Global};
+
+/// What a run leaves: the bus after all applications have ended, and the receipts of each, in order of
+/// number.
+#[derive(Drop)]
+pub struct Finished {
+    /// The bus, with every call and answer in its journal.
+    pub bus: BusCore,
+    /// The receipts of application 1, 2, 3 and so on.
+    pub receipts: Vec<ReceiptList>,
+}
+
+/// Runs a script: each application that has not ended takes a turn, in order of number, again and again.
+/// A turn is its next line; or one look, while it waits; or its end, once its lines are through. All
+/// memory is taken before the first call.
+///
+/// # Errors
+/// Where memory runs out; then no application ran.
+pub fn lockstep(alloc: Global, script: &Script) -> Result<Finished, AllocError>
+    requires { IsInRange script.now }
+    ensures history { IfOk result (λ finished. finished.bus.log.entries ≡ rotation script.now) }
+    ensures limits { IfOk result (λ finished. finished.bus.limits ≡ script.now.limits) }
+    ensures apps { IfOk result (λ finished. apps_of finished.bus ≡ length script.now.apps) }
+    ensures receipts { IfOk result (λ finished. map (λ list. list.receipts) finished.receipts.items ≡ map (receipts_told script.now (rotation script.now)) (range_with_len 1 (length script.now.apps))) }
+{
+    let apps = script.apps() as usize;
+    let budgets = budgets_of(alloc, script)?;
+    let mut bus = BusCore::new(alloc, script.config(), &budgets)?;
+    let mut runners = runners_of(alloc, script)?;
+    let receipts = Vec::with_capacity(alloc, apps)?;
+    run_all(&mut bus, &mut runners, rotations_of(script));
+    Ok(Finished {
+        bus,
+        receipts: receipts_of(runners, receipts),
+    })
+}
+
+// What each application may add to the run.
+fn budgets_of(alloc: Global, script: &Script) -> Result<Vec<Budget>, AllocError>
+    ensures { IfOk result (λ budgets. budgets.items ≡ map (λ a. budget_of a.lines) script.now.apps) }
+{
+    let mut budgets = Vec::with_capacity(alloc, script.apps() as usize)?;
+    for i in 0..script.apps() {
+        budgets.push_reserved(script.budget(app_at(i)));
+    }
+    Ok(budgets)
+}
+
+// The applications, each before its first line.
+fn runners_of(alloc: Global, script: &Script) -> Result<Vec<Runner<'_>>, AllocError>
+    requires { IsInRange script.now }
+    ensures { IfOk result (λ runners. runners.items ≡ all_beginning script.now) }
+{
+    let mut runners = Vec::with_capacity(alloc, script.apps() as usize)?;
+    for i in 0..script.apps() {
+        runners.push_reserved(Runner::new(alloc, script, app_at(i))?);
+    }
+    Ok(runners)
+}
+
+// How many rotations are enough: each application has a turn for each line, one more for each that
+// waits, and one for its end.
+fn rotations_of(script: &Script) -> u32
+    ensures { result ≡ enough script.now }
+{
+    let mut rotations = 0;
+    for i in 0..script.apps() {
+        rotations += 2 * script.lines(app_at(i)) + 1;
+    }
+    rotations
+}
+
+// The application at a place; places count from 0.
+fn app_at(i: u32) -> AppNo
+    requires { i < 16 }
+    ensures { result ≡ i + 1 }
+{
+    AppNo::try_new(i + 1).unwrap()
+}
+
+// So many rotations.
+fn run_all(bus: &mut BusCore, runners: &mut Vec<Runner<'_>>, turns: u32)
+    requires { AllStand bus.old runners.old.items }
+    ensures { RotatesTimes turns bus.old runners.old.items bus.new runners.new.items }
+{
+    for _round in 0..turns {
+        rotate(bus, runners);
+    }
+}
+
+// One rotation: a turn of each application that has not ended, in order of number.
+fn rotate(bus: &mut BusCore, runners: &mut Vec<Runner<'_>>)
+    requires { AllStand bus.old runners.old.items }
+    ensures { Rotates bus.old runners.old.items bus.new runners.new.items }
+{
+    for i in 0..runners.len() {
+        take_turn(bus, &mut runners[i]);
+    }
+}
+
+// A turn of the application, where it has not ended.
+fn take_turn(bus: &mut BusCore, runner: &mut Runner<'_>)
+    requires { Stands runner.old bus.old }
+    ensures { Steps runner.old runner.new bus.old bus.new }
+{
+    if !runner.has_ended() {
+        let app = runner.app();
+        let _ = runner.turn(&mut CoreCalls::new(bus, app));
+    }
+}
+
+// The receipts of each application.
+fn receipts_of(runners: Vec<Runner<'_>>, room: Vec<ReceiptList>) -> Vec<ReceiptList>
+    requires ended { All (λ runner. runner.ended ≡ true) runners.items }
+    requires empty { room.items ≡ [] }
+    requires room { length runners.items ≤ vec_capacity room }
+    ensures { map (λ list. list.receipts) result.items ≡ map (λ runner. runner.receipts) runners.entry.items }
+{
+    let mut left = runners;
+    let mut receipts = room;
+    while !left.is_empty() {
+        let runner = left.remove(0);
+        receipts.push_reserved(runner.finish());
+    }
+    receipts
+}

@@ -1,0 +1,292 @@
+//! One application of a script.
+ghost use Rattle.std.specs.Prelude.{◌≡◌, ◌<◌, ◌≤◌, ◌-◌, ◌+◌, ◌++◌, length, true, false, [], Some, None, All, IfOk};
+ghost use Rattle.std.specs.Option.{option_to_list};
+ghost use Rattle.app_script.specs.Script.{app_at};
+ghost use Rattle.app_script.specs.Ranges.{IsLineInRange};
+ghost use Rattle.bus_words.specs.Receipts.{receipt_in};
+ghost use Rattle.app_script.specs.Trace.{call_of};
+ghost use Rattle.app_script.specs.Told.{shown};
+ghost use Rattle.sb_calls.specs.Core.{state_of};
+ghost use Rattle.app_run.specs.Lines.{message_size, pipe_waited_for, most_receipts};
+ghost use Rattle.app_run.specs.Received.{got_of};
+ghost use Rattle.app_run.specs.Runners.{beginning};
+
+use crate::calls::Calls;
+use crate::line_calls::run_line;
+use crate::registers::{REGISTERS, note, value_in};
+use app_script::Script;
+use bus_words::{BusAnswer, Receipt, ReceiptList};
+use fsw_base::AppNo;
+use sb_calls::Pended;
+use script_lines::Line;
+use std::alloc::{AllocError, Global};
+use std::marker::Model;
+
+/// How an application stands after a turn.
+#[derive(Clone, Copy, Debug, PartialEq, Eq)]
+pub enum Turned {
+    /// It makes calls.
+    Went,
+    /// It waits for a message.
+    Waits,
+    /// It has ended; it takes no more turns.
+    Ended,
+}
+
+/// One application of a script: how far it has come, and its receipts so far.
+#[derive(Drop)]
+pub struct Runner<'s> {
+    script: &'s Script,
+    // Which of the script's applications.
+    app: AppNo,
+    // The place of its next line; how many lines there are once they are through.
+    next: u32,
+    // Its registers of pipes.
+    registers: [u32; REGISTERS],
+    // The pipe that it waits on.
+    waits_on: Option<u32>,
+    // Whether it made its end.
+    ended: bool,
+    // Room for the largest message of its `send` lines.
+    message: Vec<u8>,
+    // Its receipts so far, with room for one of each line left.
+    receipts: ReceiptList,
+}
+
+impl<'s> Model for Runner<'s> {
+    ghost use Rattle.app_run.specs.Runners.{Progress};
+
+    ghost Value = { Progress };
+
+    ghost use Rattle.app_run.specs.RunnerParts.{progress_in, Keeps};
+
+    ghost view = { progress_in };
+
+    ghost invariant = { Keeps };
+}
+
+impl<'s> Runner<'s> {
+    ghost use Rattle.app_run.specs.Turns.{MayTurn, TakesTurn, Turns, turned_of};
+    ghost use Rattle.app_run.specs.Callers.{SameBus};
+
+    /// The application before its first line: its registers are 0, and it has no receipt. All memory that
+    /// its run takes is taken here.
+    ///
+    /// # Errors
+    /// Where memory runs out.
+    pub fn new(alloc: Global, script: &'s Script, app: AppNo) -> Result<Runner<'s>, AllocError>
+        requires known { app ≤ length script.now.apps }
+        requires ranges { All IsLineInRange (app_at script.now app).lines }
+        ensures { IfOk result (λ runner. runner ≡ beginning script.now app) }
+    {
+        let size = largest_message(script, app);
+        Ok(Runner {
+            script,
+            app,
+            next: 0,
+            registers: [0; REGISTERS],
+            waits_on: None,
+            ended: false,
+            message: vec![in alloc; 0; size as usize]?,
+            receipts: ReceiptList::new(alloc, script.lines(app))?,
+        })
+    }
+
+    /// One turn: the next line; or one look, while the application waits; or its end, once its lines are
+    /// through.
+    pub fn turn<C: Calls>(&mut self, calls: &mut C) -> Turned
+        requires { MayTurn self.old (C.caller calls.old) }
+        ensures { Turns self.old self.new (C.caller calls.old) (C.caller calls.new) result }
+    {
+        if let Some(pipe) = self.waits_on {
+            self.look(calls, pipe);
+        } else if self.next < self.script.lines(self.app) {
+            self.run_next(calls);
+        } else {
+            self.end(calls);
+        }
+        self.turned()
+    }
+
+    /// Whether the application has ended.
+    pub fn has_ended(&self) -> bool
+        ensures { result ≡ self.now.ended }
+    {
+        self.ended
+    }
+
+    /// The application's number.
+    pub fn app(&self) -> AppNo
+        ensures { result ≡ self.now.running.app }
+    {
+        self.app
+    }
+
+    /// The receipts, once the application has ended.
+    pub fn finish(self) -> ReceiptList
+        requires { self.ended ≡ true }
+        ensures { result.receipts ≡ self.entry.receipts }
+    {
+        self.receipts
+    }
+
+    // Looks again for a message on the pipe that it waits on.
+    fn look<C: Calls>(&mut self, calls: &mut C, pipe: u32)
+        requires may { MayTurn self.old (C.caller calls.old) }
+        requires waits { self.old.waits_on ≡ Some pipe }
+        ensures turn { TakesTurn self.old self.new (C.caller calls.old).core (C.caller calls.new).core }
+        ensures same { SameBus (C.caller calls.old) (C.caller calls.new) }
+    {
+        match calls.look() {
+            Pended::Got(_) => {
+                take_receipt(calls, pipe, &mut self.receipts);
+                self.waits_on = None;
+            }
+            Pended::TimeOut => self.waits_on = None,
+            Pended::Pending => {}
+        }
+    }
+
+    // Runs the next line.
+    fn run_next<C: Calls>(&mut self, calls: &mut C)
+        requires may { MayTurn self.old (C.caller calls.old) }
+        requires active { self.old.waits_on ≡ None }
+        requires left { 1 ≤ length self.old.running.lines }
+        ensures turn { TakesTurn self.old self.new (C.caller calls.old).core (C.caller calls.new).core }
+        ensures same { SameBus (C.caller calls.old) (C.caller calls.new) }
+    {
+        let line = self.script.line(self.app, self.next);
+        self.next += 1;
+        match run_line(calls, &self.registers, &mut self.message, line) {
+            Some(answer) => {
+                receive(calls, &self.registers, line, &answer, &mut self.receipts);
+                self.waits_on = pipe_waited_for(&self.registers, line, &answer);
+                note(&mut self.registers, line, &answer);
+            }
+            None => show(calls, &self.registers, line, &mut self.receipts),
+        }
+    }
+
+    // Makes the application's last call.
+    fn end<C: Calls>(&mut self, calls: &mut C)
+        requires may { MayTurn self.old (C.caller calls.old) }
+        requires active { self.old.waits_on ≡ None }
+        requires through { self.old.running.lines ≡ [] }
+        ensures turn { TakesTurn self.old self.new (C.caller calls.old).core (C.caller calls.new).core }
+        ensures same { SameBus (C.caller calls.old) (C.caller calls.new) }
+    {
+        calls.bus_end();
+        self.ended = true;
+    }
+
+    // How the application stands.
+    fn turned(&self) -> Turned
+        ensures { result ≡ turned_of self.now }
+    {
+        if self.ended {
+            Turned::Ended
+        } else if self.waits_on.is_some() {
+            Turned::Waits
+        } else {
+            Turned::Went
+        }
+    }
+}
+
+// The size of the largest message that the application's `send` lines make; 0 where it has none.
+fn largest_message(script: &Script, app: AppNo) -> u32
+    requires { app ≤ length script.now.apps }
+    ensures { All (λ line. message_size line ≤ result) (app_at script.now app).lines }
+{
+    let mut largest = 0;
+    for i in 0..script.lines(app) {
+        let size = message_size(script.line(app, i));
+        largest = larger(largest, size);
+    }
+    largest
+}
+
+// The larger of two.
+fn larger(one: u32, other: u32) -> u32
+    ensures one { one ≤ result }
+    ensures other { other ≤ result }
+{
+    if one < other { other } else { one }
+}
+
+// The size of the message that a line makes; 0 for all but `send` lines.
+#[tactic(auto, unfolding(crate::specs::Lines::message_size))]
+fn message_size(line: &Line) -> u32
+    ensures { result ≡ message_size line.now }
+{
+    match line {
+        Line::Send { size, .. } => *size,
+        _ => 0,
+    }
+}
+
+// Adds the receipt of the pipe's last message, where there is one.
+fn take_receipt<C: Calls>(calls: &mut C, pipe: u32, receipts: &mut ReceiptList)
+    requires { 1 ≤ receipts.old.room }
+    ensures receipts { receipts.new.receipts ≡ receipts.old.receipts ++ option_to_list (receipt_in (state_of (C.caller calls.old).core) (C.caller calls.old).app pipe) }
+    ensures room { receipts.old.room ≤ receipts.new.room + 1 }
+    ensures same { C.caller calls.new ≡ C.caller calls.old }
+{
+    if let Some(receipt) = calls.last_receipt(pipe) {
+        receipts.push(receipt);
+    }
+}
+
+// Adds the receipt of a line that was so answered: one where it got a message.
+#[tactic(auto, unfolding(app_script::specs::Trace::call_of))]
+fn receive<C: Calls>(
+    calls: &mut C,
+    registers: &[u32; 64],
+    line: &Line,
+    answer: &BusAnswer,
+    receipts: &mut ReceiptList,
+)
+    requires { 1 ≤ receipts.old.room }
+    ensures receipts { receipts.new.receipts ≡ receipts.old.receipts ++ got_of (C.caller calls.old) (call_of registers.now line.now) answer.now }
+    ensures room { receipts.old.room ≤ receipts.new.room + most_receipts answer.now }
+    ensures same { C.caller calls.new ≡ C.caller calls.old }
+{
+    let BusAnswer::Got(_) = answer else {
+        return;
+    };
+    match line {
+        Line::Receive { pipe } => take_receipt(calls, value_in(registers, *pipe), receipts),
+        Line::Pend { pipe } => take_receipt(calls, value_in(registers, *pipe), receipts),
+        _ => {}
+    }
+}
+
+// Adds the receipts of a line that makes no call.
+#[tactic(auto, unfolding(app_script::specs::Told::shown))]
+fn show<C: Calls>(calls: &mut C, registers: &[u32; 64], line: &Line, receipts: &mut ReceiptList)
+    requires { 1 ≤ receipts.old.room }
+    ensures receipts { receipts.new.receipts ≡ receipts.old.receipts ++ shown (C.caller calls.old).app (state_of (C.caller calls.old).core) registers.now line.now }
+    ensures room { receipts.old.room ≤ receipts.new.room + 1 }
+    ensures same { C.caller calls.new ≡ C.caller calls.old }
+{
+    if let Line::ShowPipe { pipe } = line {
+        match calls.last_receipt(value_in(registers, *pipe)) {
+            Some(receipt) => receipts.push(receipt),
+            None => receipts.push(Receipt::Nothing),
+        }
+    }
+}
+
+// The pipe that the application waits on after a line that was so answered.
+#[tactic(auto, unfolding(crate::specs::Lines::pipe_waited_for))]
+fn pipe_waited_for(registers: &[u32; 64], line: &Line, answer: &BusAnswer) -> Option<u32>
+    ensures { result ≡ pipe_waited_for registers.now line.now answer.now }
+{
+    let BusAnswer::Pending = answer else {
+        return None;
+    };
+    match line {
+        Line::Pend { pipe } => Some(value_in(registers, *pipe)),
+        _ => None,
+    }
+}

@@ -1,5 +1,0 @@
-use Rattle.app_script.proofs.NumberLemmas.{numbers_3-cut}
-use Rattle.app_script.proofs.numbers.three_numbers.Goals as goal
-
-pub returns-in-Some : goal.returns-in-Some
-returns-in-Some c = rw (numbers_3-cut c.args.word.now c.in-Some.first.now c.in-Some.others.now c.in-Some.ensures) c.number_and_two.ensures

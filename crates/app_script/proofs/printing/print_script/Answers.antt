@@ -1,0 +1,23 @@
+use Rattle.std.proofs.Common.{ap, ◌∙◌}
+use Rattle.std.proofs.lemmas.Result.{on_err_weaker, on_ok_weaker}
+use Rattle.std.specs.List.{flat_map}
+use Rattle.fsw_base.specs.Limits.{limits_of}
+use Rattle.text_page.proofs.Putting.{◌▸◌, puts_as, puts_never_falls, puts_part, puts_rose, puts_whole}
+use Rattle.app_script.specs.Script.{ScriptText}
+use Rattle.app_script.specs.ScriptSpelling.{app_lines, ended, spelled_script}
+use Rattle.app_script.proofs.PrintLemmas.{spelled}
+use Rattle.app_script.proofs.printing.print_script.Goals as goal
+
+pub returns : goal.returns
+returns g c =
+    let text = spelled_script c.args.script.now in
+    let limits = limits_of c.config-config.result.now in
+    let all = puts_as text (spelled limits c.applications.result.now ∙ (λ i. spelled_script (record { limits = c.config-config.ensures i; apps = c.applications.ensures i })))
+    (c.put_limits.ensures ▸ c.put_sizes.ensures ▸ c.put_starts.ensures ▸ c.put_applications.ensures ▸ c.finish.ensures.puts) in
+    let blank = c.new-page.ensures in
+    record {
+      ok = on_ok_weaker c.finish.result (puts_whole blank all) c.finish.ensures.ok;
+      err = on_err_weaker c.finish.result (λ set. puts_part blank all) c.finish.ensures.err;
+      cause = on_err_weaker c.finish.result (puts_rose blank all) c.finish.ensures.err;
+      never_falls = puts_never_falls blank all;
+    }

@@ -1,0 +1,20 @@
+-- What is true of every script that the grammar gives: its words are within their ranges, and all of it within the bounds
+-- of a whole script.
+use Rattle.std.specs.Prelude.{◌≤◌, length, sum_by, All}
+use Rattle.script_lines.specs.declared.line.Line.{Line}
+use Rattle.script_lines.specs.declared.line.Line.TheVariants.{Create, Find, Send, SendRaw}
+use Rattle.app_script.specs.Accounts.{budget_of}
+use Rattle.app_script.specs.Script.{ScriptText}
+
+-- a name of at most 64 bytes, a message of 7 to 65542
+unfoldable pub IsLineInRange : Line → Type 0
+IsLineInRange (Create pipe depth name) = length name ≤ 64
+IsLineInRange (Find pipe name) = length name ≤ 64
+IsLineInRange (Send id size fill inc) = (7 ≤ size) × (size ≤ 65542)
+IsLineInRange (SendRaw bytes inc) = length bytes ≤ 65542
+IsLineInRange line = Unit {0}
+
+pub record IsInRange (script : ScriptText) : Type 0 where
+  pub lines : All (λ a. All IsLineInRange a.lines) script.apps
+  pub calls : sum_by (λ a. length a.lines) script.apps ≤ 20000
+  pub bytes : sum_by (λ a. (budget_of a.lines).bytes) script.apps ≤ 16777216

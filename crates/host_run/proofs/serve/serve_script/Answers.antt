@@ -1,0 +1,13 @@
+use Rattle.std.proofs.Common.{map, ap, subst, ◌∙◌}
+use Rattle.text_page.specs.Pieces.{Grew}
+use Rattle.host_run.specs.Audit.{IsShown}
+use Rattle.host_run.proofs.Ends.{report-rotation}
+use Rattle.host_run.proofs.serve.serve_script.Goals as goal
+
+pub returns-in-Ok-write_report : goal.returns-in-Ok-write_report
+returns-in-Ok-write_report g c = record {
+  written = subst (Grew (g.K.Sink.written c.args.sink.now) (g.K.Sink.written c.write_report.new.sink))
+      (report-rotation c.args.script.now c.in-Ok.finished.bus.log c.as_slice.result.now c.in-Ok.ensures.history
+      (ap (map (λ list. list.receipts)) c.as_slice.ensures.value ∙ c.in-Ok.ensures.receipts)) c.in-Ok-write_report.ensures.ok;
+  shown = subst (IsShown (g.A.Audit.shown c.args.audit.now) (g.A.Audit.shown c.closed.new.self)) c.in-Ok.ensures.history c.closed.ensures;
+}

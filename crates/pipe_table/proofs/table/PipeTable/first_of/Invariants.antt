@@ -1,0 +1,9 @@
+use Rattle.std.proofs.Common.{◌≡◌, find, drop, eqb}
+use Rattle.pipe_table.specs.Places.{live_in}
+use Rattle.pipe_table.proofs.table.PipeTable.first_of.Given as goal
+
+-- what is left gives what the whole does
+abbrev pub invariant-loop-at : goal.invariant-loop-at
+invariant-loop-at l =
+    find (λ row. eqb row.owner l.app) (live_in l.self-inside.places.items (drop l.at-index l.self-inside.numbers.items))
+    ≡ find (λ row. eqb row.owner l.app) (live_in l.self-inside.places.items l.self-inside.numbers.items)

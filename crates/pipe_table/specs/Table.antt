@@ -1,0 +1,80 @@
+-- The live pipes as their user sees them.
+use Rattle.std.specs.Prelude.{ℕ, ◌%◌, ◌==◌, ◌&&◌, ◌++◌, ◌∷◌, [], not, Bool, List, Option, None, length, drop, map, filter, find, slice_get, if◌then◌else◌}
+use Rattle.std.specs.List.{list_any}
+use Rattle.std.specs.Option.{option_and_then}
+use Rattle.std.specs.Str.{bytes_eq}
+use Rattle.pipe_queue.specs.declared.item.Item.{Item}
+
+-- A pipe: number, name, owner, depth, option bits, the messages that wait, oldest first, and the one received last.
+pub record PipeRow : Type 0 where
+  pub number : ℕ
+  pub name : List ℕ
+  pub owner : ℕ
+  pub depth : ℕ
+  pub bits : ℕ
+  pub queue : List Item
+  pub last : Option Item
+
+-- The live pipes by rising number, how many were created, how many may be live and be created, and the greatest depth.
+pub record Pipes : Type 0 where
+  pub live : List PipeRow
+  pub created : ℕ
+  pub room : ℕ
+  pub numbers : ℕ
+  pub depth : ℕ
+
+-- the pipe of this number
+abbrev pub pipe_row : List PipeRow → ℕ → Option PipeRow
+pipe_row rows number = find (λ row. row.number == number) rows
+
+-- whether a pipe of this number is live
+abbrev pub is_live_row : List PipeRow → ℕ → Bool
+is_live_row rows number = list_any (λ row. row.number == number) rows
+
+-- whether the pipe of this number is the application's
+abbrev pub owns_row : List PipeRow → ℕ → ℕ → Bool
+owns_row rows app number = list_any (λ row. row.number == number && row.owner == app) rows
+
+-- whether a pipe has the name
+abbrev pub is_named_row : List PipeRow → List ℕ → Bool
+is_named_row rows name = list_any (λ row. bytes_eq row.name name) rows
+
+-- the first pipe of the name
+abbrev pub named_row : List PipeRow → List ℕ → Option PipeRow
+named_row rows name = find (λ row. bytes_eq row.name name) rows
+
+-- the pipes, with the one of this number changed
+abbrev pub with_row : (PipeRow → PipeRow) → ℕ → List PipeRow → List PipeRow
+with_row change number rows = map (λ row. if row.number == number then change row else row) rows
+
+-- the pipes but the one of this number
+abbrev pub without_row : ℕ → List PipeRow → List PipeRow
+without_row number rows = filter (λ row. not (row.number == number)) rows
+
+-- a pipe on which nothing waits
+abbrev pub new_row : ℕ → List ℕ → ℕ → ℕ → PipeRow
+new_row number name owner depth = record { number = number; name = name; owner = owner; depth = depth; bits = 0; queue = []; last = None }
+
+-- option bit 0x01: what the pipe's owner sends is not for it
+abbrev pub ignores_sender : PipeRow → ℕ → Bool
+ignores_sender row sender = row.bits % 2 == 1 && row.owner == sender
+
+-- the pipe with these option bits
+abbrev pub with_bits : ℕ → PipeRow → PipeRow
+with_bits bits row = record row { bits = bits }
+
+-- the pipe with one message more; none where as many wait as its depth
+abbrev pub with_item : Item → PipeRow → PipeRow
+with_item item row = if length row.queue == row.depth then row else (record row { queue = row.queue ++ item ∷ [] })
+
+-- the pipe once the oldest message was received: it is the last then, also where none waits
+abbrev pub taken_row : PipeRow → PipeRow
+taken_row row = record row { queue = drop 1 row.queue; last = slice_get row.queue 0 }
+
+-- the oldest message of the pipe of this number
+abbrev pub oldest_on : List PipeRow → ℕ → Option Item
+oldest_on rows number = option_and_then (λ row. slice_get row.queue 0) (pipe_row rows number)
+
+-- the first pipe of this owner
+abbrev pub first_owned : List PipeRow → ℕ → Option PipeRow
+first_owned rows app = find (λ row. row.owner == app) rows

@@ -1,0 +1,199 @@
+//! A place for a pipe.
+ghost use Rattle.std.specs.Prelude.{◌≡◌, ◌==◌, ◌≤◌, ◌+◌, ◌<◌, ◌↔◌, [], length, slice_get, Some, None, IfOk, IsErr, IsSome, IsTrue, false, ◌%◌, ◌&&◌};
+ghost use Rattle.std.specs.Option.{option_map, option_map_or, option_and_then};
+ghost use Rattle.std.specs.Str.{bytes_eq};
+ghost use Rattle.pipe_table.specs.Table.{PipeRow, new_row, ignores_sender, with_bits, with_item, taken_row};
+
+use bus_words::PipeText;
+use fsw_base::AppNo;
+use pipe_queue::{Full, Item, PipeQueue};
+use std::alloc::{AllocError, Global};
+use std::marker::Model;
+
+/// What a pipe is beside its queue.
+#[derive(Drop)]
+struct Label {
+    // Its number, from 1.
+    number: u32,
+    // 1 to 19 bytes.
+    name: PipeText,
+    // Who created it.
+    owner: AppNo,
+    // Option bits.
+    bits: u8,
+}
+
+/// A place: a queue made once, and the pipe whose queue it is now, if any.
+#[derive(Drop)]
+pub(crate) struct Place {
+    // The pipe; None where the place is free, and the queue is empty then.
+    label: Option<Label>,
+    // What waits on the pipe, and what was received last.
+    queue: PipeQueue,
+}
+
+impl Model for Place {
+    ghost use Rattle.std.specs.Prelude.{◌≡◌, [], None, Some};
+    ghost use Rattle.std.specs.Option.{option_map};
+    ghost use Rattle.pipe_table.specs.Places.{PlaceState};
+
+    ghost Value = { PlaceState };
+
+    ghost view = { λ p. record {
+      pipe = option_map (λ label. record {
+        number = label.number;
+        name = label.name;
+        owner = label.owner;
+        depth = p.queue.depth;
+        bits = label.bits;
+        queue = p.queue.queue;
+        last = p.queue.last;
+      }) p.label;
+      room = p.queue.room;
+    } };
+
+    ghost invariant = { λ p. p.label ≡ None → (p.queue.queue ≡ []) × (p.queue.last ≡ None) };
+}
+
+impl Place {
+    /// A free place whose queue has room for this depth.
+    pub(crate) fn new(alloc: Global, depth: u32) -> Result<Place, AllocError>
+        ensures { IfOk result (λ place. place ≡ record { pipe = None; room = depth }) }
+    {
+        Ok(Place {
+            label: None,
+            queue: PipeQueue::new(alloc, depth)?,
+        })
+    }
+
+    /// Puts a new pipe into a free place.
+    pub(crate) fn fill(&mut self, number: u32, name: &PipeText, owner: AppNo, depth: u32)
+        requires free { self.old.pipe ≡ None }
+        requires some { 1 ≤ depth }
+        requires depth { depth ≤ self.old.room }
+        ensures { self.new ≡ record { pipe = Some (new_row number name.now owner depth); room = self.old.room } }
+    {
+        self.queue.start(depth);
+        self.label = Some(Label {
+            number,
+            name: name.again(),
+            owner,
+            bits: 0,
+        });
+    }
+
+    /// Takes the pipe out, with what waits on it.
+    pub(crate) fn clear(&mut self)
+        ensures { self.new ≡ record { pipe = None; room = self.old.room } }
+    {
+        self.queue.clear();
+        self.label = None;
+    }
+
+    /// The pipe's number.
+    pub(crate) fn number(&self) -> Option<u32>
+        ensures { result ≡ option_map (λ pipe. pipe.number) self.now.pipe }
+    {
+        match &self.label {
+            Some(label) => Some(label.number),
+            None => None,
+        }
+    }
+
+    /// Whether there is a pipe of this name.
+    pub(crate) fn is_named(&self, name: &[u8]) -> bool
+        ensures { result ≡ option_map_or (λ pipe. bytes_eq pipe.name name.now) self.now.pipe false }
+    {
+        match &self.label {
+            Some(label) => label.name.as_slice() == name,
+            None => false,
+        }
+    }
+
+    /// Whether there is a pipe of this owner.
+    pub(crate) fn is_owned_by(&self, app: AppNo) -> bool
+        ensures { result ≡ option_map_or (λ pipe. pipe.owner == app) self.now.pipe false }
+    {
+        match &self.label {
+            Some(label) => label.owner == app,
+            None => false,
+        }
+    }
+
+    /// The pipe's option bits.
+    pub(crate) fn bits(&self) -> Option<u8>
+        ensures { result ≡ option_map (λ pipe. pipe.bits) self.now.pipe }
+    {
+        match &self.label {
+            Some(label) => Some(label.bits),
+            None => None,
+        }
+    }
+
+    /// Sets the pipe's option bits.
+    pub(crate) fn set_bits(&mut self, bits: u8)
+        ensures { self.new ≡ record self.old { pipe = option_map (with_bits bits) self.old.pipe } }
+    {
+        if let Some(label) = &mut self.label {
+            label.bits = bits;
+        }
+    }
+
+    /// The pipe's name.
+    pub(crate) fn name(&self) -> Option<PipeText>
+        ensures { result ≡ option_map (λ pipe. pipe.name) self.now.pipe }
+    {
+        match &self.label {
+            Some(label) => Some(label.name.again()),
+            None => None,
+        }
+    }
+
+    /// Whether the pipe ignores what the application sends.
+    pub(crate) fn ignores(&self, sender: AppNo) -> bool
+        ensures { result ≡ option_map_or (λ pipe. ignores_sender pipe sender) self.now.pipe false }
+    {
+        match &self.label {
+            Some(label) => label.bits % 2 == 1 && label.owner == sender,
+            None => false,
+        }
+    }
+
+    /// How many messages wait.
+    pub(crate) fn waiting(&self) -> u32
+        ensures { result ≡ option_map_or (λ pipe. length pipe.queue) self.now.pipe 0 }
+    {
+        self.queue.len()
+    }
+
+    /// What waits longest.
+    pub(crate) fn oldest(&self) -> Option<Item>
+        ensures { result ≡ option_and_then (λ pipe. slice_get pipe.queue 0) self.now.pipe }
+    {
+        self.queue.front()
+    }
+
+    /// What was received last.
+    pub(crate) fn last(&self) -> Option<Item>
+        ensures { result ≡ option_and_then (λ pipe. pipe.last) self.now.pipe }
+    {
+        self.queue.last()
+    }
+
+    /// Lets the last message go, and takes the one that waits longest, if any, in its place.
+    pub(crate) fn take(&mut self)
+        ensures { self.new ≡ record self.old { pipe = option_map taken_row self.old.pipe } }
+    {
+        let oldest = self.queue.take_front();
+        let _ = self.queue.set_last(oldest);
+    }
+
+    /// Queues the message on the pipe; Full exactly where as many wait as its depth.
+    pub(crate) fn try_put(&mut self, item: Item) -> Result<(), Full>
+        requires { IsSome self.old.pipe }
+        ensures full { IsErr result ↔ IsTrue (option_map_or (λ pipe. length pipe.queue == pipe.depth) self.old.pipe false) }
+        ensures after { self.new ≡ record self.old { pipe = option_map (with_item item) self.old.pipe } }
+    {
+        self.queue.try_put(item)
+    }
+}

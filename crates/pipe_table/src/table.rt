@@ -1,0 +1,295 @@
+//! The table.
+ghost use Rattle.std.specs.Prelude.{◌≡◌, ◌==◌, ◌+◌, ◌<◌, ◌≤◌, ◌^◌, ◌↔◌, ◌++◌, ◌∷◌, [], length, replicate, true, false, All, IfOk, IsErr, IsSome, IfSome, IsTrue, slice_index_or, None, Some, vec_len, vec_capacity};
+ghost use Rattle.std.specs.List.{list_any, range_with_len};
+ghost use Rattle.std.specs.Option.{option_map, option_map_or, option_and_then, option_to_list};
+ghost use Rattle.pipe_table.specs.Table.{Pipes, pipe_row, is_live_row, owns_row, named_row, with_row, without_row, new_row, ignores_sender, with_bits, with_item, taken_row, oldest_on, first_owned};
+ghost use Rattle.pipe_table.specs.Places.{pipe_of, place_under};
+
+use crate::place::Place;
+use bus_words::PipeText;
+use fsw_base::AppNo;
+use pipe_queue::{Full, Item};
+use std::alloc::{AllocError, Global};
+use std::marker::Model;
+
+/// The live pipes, by number. Contracts see them in order of number.
+#[derive(Drop)]
+pub struct PipeTable {
+    // The places, one for each pipe that may be live, with a queue of the greatest depth each.
+    places: Vec<Place>,
+    // The free places, each once.
+    free: Vec<u32>,
+    // For each number given so far, from 1, its pipe's place; None where the pipe has ended. It has room for all numbers.
+    numbers: Vec<Option<u32>>,
+    // The greatest depth of a pipe.
+    depth: u32,
+    // How many numbers may be given.
+    room: u32,
+}
+
+impl Model for PipeTable {
+    ghost use Rattle.std.specs.Prelude.{◌≡◌, ◌≤◌, length, vec_len, vec_capacity};
+    ghost use Rattle.pipe_table.specs.Table.{Pipes};
+
+    ghost Value = { Pipes };
+
+    ghost use Rattle.pipe_table.specs.Places.{live_in, AreKept};
+
+    ghost view = { λ t. record {
+      live = live_in t.places.items t.numbers.items;
+      created = length t.numbers.items;
+      room = length t.places.items;
+      numbers = t.room;
+      depth = t.depth;
+    } };
+
+    ghost invariant = { λ t. AreKept t.depth t.places.items t.numbers.items t.free.items
+        × (length t.places.items ≤ vec_capacity t.free)
+        × (length t.numbers.items ≤ t.room) × (t.room ≤ vec_capacity t.numbers) };
+}
+
+impl PipeTable {
+    /// No pipe, with room for `pipes` live ones that hold up to `depth` messages each, and for `numbers` pipes in all. No
+    /// later call takes memory.
+    ///
+    /// # Errors
+    /// Where memory runs out.
+    pub fn new(alloc: Global, pipes: u32, depth: u32, numbers: u32) -> Result<PipeTable, AllocError>
+        ensures { IfOk result (λ table. table ≡ record { live = []; created = 0; room = pipes; numbers = numbers; depth = depth }) }
+    {
+        Ok(PipeTable {
+            places: free_places(alloc, pipes, depth)?,
+            free: all_places(alloc, pipes)?,
+            numbers: Vec::with_capacity(alloc, numbers as usize)?,
+            depth,
+            room: numbers,
+        })
+    }
+
+    /// How many pipes are live.
+    pub fn len(&self) -> usize
+        ensures { result ≡ length self.now.live }
+    {
+        self.places.len() - self.free.len()
+    }
+
+    /// Whether a pipe of this number is live.
+    pub fn is_live(&self, number: u32) -> bool
+        ensures { result ≡ is_live_row self.now.live number }
+    {
+        self.bits(number).is_some()
+    }
+
+    /// Whether a pipe of this number is live and the application's.
+    pub fn owns(&self, app: AppNo, number: u32) -> bool
+        ensures { result ≡ owns_row self.now.live app number }
+    {
+        match at_number(&self.numbers, number) {
+            Some(at) => place_at(&self.places, at).is_owned_by(app),
+            None => false,
+        }
+    }
+
+    /// The option bits of the live pipe of this number.
+    pub fn bits(&self, number: u32) -> Option<u8>
+        ensures { result ≡ option_map (λ row. row.bits) (pipe_row self.now.live number) }
+    {
+        match at_number(&self.numbers, number) {
+            Some(at) => place_at(&self.places, at).bits(),
+            None => None,
+        }
+    }
+
+    /// The name of the live pipe of this number.
+    pub fn name(&self, number: u32) -> Option<PipeText>
+        ensures { result ≡ option_map (λ row. row.name) (pipe_row self.now.live number) }
+    {
+        match at_number(&self.numbers, number) {
+            Some(at) => place_at(&self.places, at).name(),
+            None => None,
+        }
+    }
+
+    /// Whether the live pipe of this number ignores what the application sends.
+    pub fn ignores(&self, number: u32, sender: AppNo) -> bool
+        ensures { result ≡ option_map_or (λ row. ignores_sender row sender) (pipe_row self.now.live number) false }
+    {
+        match at_number(&self.numbers, number) {
+            Some(at) => place_at(&self.places, at).ignores(sender),
+            None => false,
+        }
+    }
+
+    /// What waits longest on the live pipe of this number.
+    pub fn oldest(&self, number: u32) -> Option<Item>
+        ensures { result ≡ oldest_on self.now.live number }
+    {
+        match at_number(&self.numbers, number) {
+            Some(at) => place_at(&self.places, at).oldest(),
+            None => None,
+        }
+    }
+
+    /// What was received last on the live pipe of this number.
+    pub fn last(&self, number: u32) -> Option<Item>
+        ensures { result ≡ option_and_then (λ row. row.last) (pipe_row self.now.live number) }
+    {
+        match at_number(&self.numbers, number) {
+            Some(at) => place_at(&self.places, at).last(),
+            None => None,
+        }
+    }
+
+    /// The number of the live pipe that was created first of those with the name. For a creation and for finding a pipe
+    /// by name: it looks at every number given.
+    pub fn find(&self, name: &[u8]) -> Option<u32>
+        ensures { result ≡ option_map (λ row. row.number) (named_row self.now.live name.now) }
+    {
+        for at in &self.numbers {
+            if let Some(number) = number_where_named(&self.places, *at, name) {
+                return Some(number);
+            }
+        }
+        None
+    }
+
+    /// The number of the live pipe that was created first of the application's. For an application's end: it looks at
+    /// every number given.
+    pub fn first_of(&self, app: AppNo) -> Option<u32>
+        ensures { result ≡ option_map (λ row. row.number) (first_owned self.now.live app) }
+    {
+        for at in &self.numbers {
+            if let Some(number) = number_where_owned(&self.places, *at, app) {
+                return Some(number);
+            }
+        }
+        None
+    }
+
+    /// Creates a pipe that holds up to `depth` messages, and answers its number: one more than were created.
+    pub fn create(&mut self, name: &PipeText, owner: AppNo, depth: u32) -> u32
+        requires room { length self.old.live < self.old.room }
+        requires numbers { self.old.created < self.old.numbers }
+        requires some { 1 ≤ depth }
+        requires depth { depth ≤ self.old.depth }
+        ensures number { result ≡ self.old.created + 1 }
+        ensures after { self.new ≡ record self.old {
+          live = self.old.live ++ new_row (self.old.created + 1) name.now owner depth ∷ [];
+          created = self.old.created + 1;
+        } }
+    {
+        let at = self.free.pop().unwrap();
+        self.numbers.push_reserved(Some(at));
+        let number = self.numbers.len() as u32;
+        self.places[at as usize].fill(number, name, owner, depth);
+        number
+    }
+
+    /// Ends the live pipe of this number, with what waits on it; no effect where none is live.
+    pub fn remove(&mut self, number: u32)
+        ensures { self.new ≡ record self.old { live = without_row number self.old.live } }
+    {
+        if let Some(at) = at_number(&self.numbers, number) {
+            self.numbers[(number - 1) as usize] = None;
+            self.places[at as usize].clear();
+            self.free.push_reserved(at);
+        }
+    }
+
+    /// Sets the option bits of the live pipe of this number.
+    pub fn set_bits(&mut self, number: u32, bits: u8)
+        ensures { self.new ≡ record self.old { live = with_row (with_bits bits) number self.old.live } }
+    {
+        if let Some(at) = at_number(&self.numbers, number) {
+            self.places[at as usize].set_bits(bits);
+        }
+    }
+
+    /// Lets the last message of the live pipe of this number go, and takes the one that waits longest, if any, in its
+    /// place.
+    pub fn take(&mut self, number: u32)
+        ensures { self.new ≡ record self.old { live = with_row taken_row number self.old.live } }
+    {
+        if let Some(at) = at_number(&self.numbers, number) {
+            self.places[at as usize].take();
+        }
+    }
+
+    /// Queues a message on the live pipe of this number; Full exactly where as many wait as its depth.
+    pub fn try_put(&mut self, number: u32, item: Item) -> Result<(), Full>
+        requires live { IsSome (pipe_row self.old.live number) }
+        ensures full { IsErr result ↔ IsTrue (option_map_or (λ row. length row.queue == row.depth) (pipe_row self.old.live number) false) }
+        ensures after { self.new ≡ record self.old { live = with_row (with_item item) number self.old.live } }
+    {
+        let at = at_number(&self.numbers, number).unwrap();
+        self.places[at as usize].try_put(item)
+    }
+}
+
+// The place of the pipe of a number.
+fn at_number(numbers: &[Option<u32>], number: u32) -> Option<u32>
+    ensures { result ≡ place_under numbers.now number }
+{
+    if number == 0 {
+        return None;
+    }
+    match numbers.get((number - 1) as usize) {
+        Some(at) => *at,
+        None => None,
+    }
+}
+
+// A place.
+fn place_at(places: &[Place], at: u32) -> &Place
+    requires { at < length places.now }
+    ensures { result.now ≡ slice_index_or places.now at (record { pipe = None; room = 0 }) }
+{
+    &places[at as usize]
+}
+
+// The number of the pipe in a place, where it has the name.
+fn number_where_named(places: &[Place], at: Option<u32>, name: &[u8]) -> Option<u32>
+    ensures { result ≡ option_map (λ row. row.number) (named_row (option_to_list (pipe_of places.now at)) name.now) }
+{
+    let place = places.get(at? as usize)?;
+    if place.is_named(name) {
+        place.number()
+    } else {
+        None
+    }
+}
+
+// The number of the pipe in a place, where it is the application's.
+fn number_where_owned(places: &[Place], at: Option<u32>, app: AppNo) -> Option<u32>
+    ensures { result ≡ option_map (λ row. row.number) (first_owned (option_to_list (pipe_of places.now at)) app) }
+{
+    let place = places.get(at? as usize)?;
+    if place.is_owned_by(app) {
+        place.number()
+    } else {
+        None
+    }
+}
+
+// So many free places, each with a queue of this depth.
+fn free_places(alloc: Global, pipes: u32, depth: u32) -> Result<Vec<Place>, AllocError>
+    ensures { IfOk result (λ places. places.items ≡ replicate pipes (record { pipe = None; room = depth })) }
+{
+    let mut places = Vec::with_capacity(alloc, pipes as usize)?;
+    for _ in 0..pipes {
+        places.push_reserved(Place::new(alloc, depth)?);
+    }
+    Ok(places)
+}
+
+// Their numbers, in order.
+fn all_places(alloc: Global, pipes: u32) -> Result<Vec<u32>, AllocError>
+    ensures items { IfOk result (λ free. free.items ≡ range_with_len 0 pipes) }
+    ensures room { IfOk result (λ free. pipes ≤ vec_capacity free) }
+{
+    let mut free = Vec::with_capacity(alloc, pipes as usize)?;
+    for place in 0..pipes {
+        free.push_reserved(place);
+    }
+    Ok(free)
+}

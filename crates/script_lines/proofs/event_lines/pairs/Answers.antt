@@ -1,0 +1,24 @@
+use Rattle.std.proofs.Common.{◌≡◌, ◌∷◌, [], ap, arith, length, rules}
+use Rattle.std.proofs.lemmas.Result.{err_from_is_err_and}
+use Rattle.std.proofs.lemmas.List.{length-append}
+use Rattle.script_words.specs.Text.{words_of}
+use Rattle.script_words.specs.Lists.{each}
+use Rattle.script_lines.specs.EventLines.{pair_word}
+use Rattle.script_words.proofs.ListLemmas.{each_more, each_fault, each_end}
+use Rattle.script_lines.proofs.event_lines.pairs.Goals as goal
+
+pub returns-in_err-pair : goal.returns-in_err-pair
+returns-in_err-pair c =
+    let p = err_from_is_err_and c.from_residual.result c.from_residual.ensures.1 in
+    rw (p.1, p.2) (each_fault pair_word c.loop-word.pairs.items (words_of c.loop-word.rest.now) (words_of c.in-Some.behind.now) c.in-Some.word.now c.in_err-pair.field-0.0 (each pair_word (words_of c.args.words.now)) c.in_err-pair.ensures c.in-Some.ensures.words c.loop-word.invariant.read)
+
+pub loop-word-preserved : goal.loop-word-preserved
+loop-word-preserved c = record {
+  read = rw c.push.ensures.items (each_more pair_word c.loop-word.pairs.items (words_of c.loop-word.rest.now) (words_of c.in-Some.behind.now) c.in-Some.word.now c.in_ok-pair.pair (each pair_word (words_of c.args.words.now)) c.in_ok-pair.ensures c.in-Some.ensures.words c.loop-word.invariant.read);
+  room = omega (arith, ap length c.push.ensures.items, length-append c.loop-word.pairs.items (c.in_ok-pair.pair ∷ []), ap length c.in-Some.ensures.words, c.loop-word.invariant.room);
+}
+
+pub returns : goal.returns
+returns c =
+    let end : words_of c.loop-word.rest.now ≡ [] = search rules in
+    each_end pair_word c.loop-word.pairs.items (words_of c.loop-word.rest.now) (each pair_word (words_of c.args.words.now)) end c.loop-word.invariant.read

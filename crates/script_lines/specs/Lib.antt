@@ -1,0 +1,5 @@
+pub mod BusLines
+pub mod MemoryLines
+pub mod EventLines
+pub mod TableLines
+pub mod CallLines

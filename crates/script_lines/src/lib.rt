@@ -1,0 +1,36 @@
+//! The call lines of a script, one enum variant a form, and the readers of single lines.
+//! A line names its registers by number, owns its texts, and has each word that was left out as its
+//! default.
+//!
+//! A reader answers just the line that the words stand for, or the line's first fault.
+//!
+//! ```
+//! /// The call line of a text; None where it is none.
+//! fn line_of(alloc: Global, text: &[u8]) -> Option<Line> {
+//!     match first_word(text) {
+//!         None => None,
+//!         Some((first, rest)) => match call_word(first) {
+//!             None => None,
+//!             Some(first) => call_line(alloc, first, rest).ok(),
+//!         },
+//!     }
+//! }
+//! ```
+#![tactic(auto)]
+
+mod bus_lines;
+mod call_lines;
+mod event_lines;
+mod line;
+mod memory_lines;
+mod table_lines;
+#[cfg(test)]
+mod tests;
+
+pub use bus_lines::BusWord;
+pub use call_lines::{CallWord, call_line, call_word};
+pub use event_lines::EventWord;
+pub use line::{BoxedRules, Line, MAX_RULES, Rule, RuleList};
+pub use memory_lines::MemoryWord;
+pub use script_words::{ByteText, Content};
+pub use table_lines::TableWord;

@@ -1,0 +1,6 @@
+use Rattle.std.proofs.Common.{◌≡◌, min, take}
+use Rattle.script_words.specs.Numbers.{value_in}
+use Rattle.script_words.proofs.numbers.value_in.Given as goal
+
+abbrev pub invariant-loop-digit : goal.invariant-loop-digit
+invariant-loop-digit l = l.value ≡ min (value_in l.base (take l.digit-index l.digits)) 4294967296

@@ -1,0 +1,64 @@
+//! Numbers, ids, names and bytes as pieces of a text.
+ghost use Rattle.std.specs.Prelude.{◌≡◌, ℕ, ◌<◌, decimal};
+ghost use Rattle.text_page.specs.Pieces.{Puts};
+ghost use Rattle.text_page.specs.Texts.{hex_digit, hex_byte, hex_bytes, hex_id, name_text};
+
+use crate::pages::{Page, put};
+use fsw_base::Sink;
+use itoa::{Buffer, Integer};
+
+/// Puts a number in decimal.
+pub fn put_number<K: Sink, N: Integer>(sink: &mut K, page: &mut Page, number: N)
+    ensures { Puts K.written K.faults sink.old sink.new page.old page.new (N.text number) }
+{
+    let mut buffer = Buffer::new();
+    put(sink, page, buffer.format(number).as_bytes());
+}
+
+/// Puts a name, or `-` for the empty one.
+pub fn put_name<K: Sink>(sink: &mut K, page: &mut Page, name: &[u8])
+    ensures { Puts K.written K.faults sink.old sink.new page.old page.new (name_text name.now) }
+{
+    if name.is_empty() {
+        put(sink, page, b"-");
+    } else {
+        put(sink, page, name);
+    }
+}
+
+/// Puts a message id as `0x` and four hexadecimal digits.
+pub fn put_hex_id<K: Sink>(sink: &mut K, page: &mut Page, id: u16)
+    ensures { Puts K.written K.faults sink.old sink.new page.old page.new (hex_id id) }
+{
+    put(sink, page, b"0x");
+    put(sink, page, &hex_byte((id / 256) as u8));
+    put(sink, page, &hex_byte((id % 256) as u8));
+}
+
+/// Puts bytes as two hexadecimal digits each.
+pub fn put_hex_bytes<K: Sink>(sink: &mut K, page: &mut Page, bytes: &[u8])
+    ensures { Puts K.written K.faults sink.old sink.new page.old page.new (hex_bytes bytes.now) }
+{
+    for byte in bytes {
+        put(sink, page, &hex_byte(*byte));
+    }
+}
+
+// The byte's two hexadecimal digits.
+fn hex_byte(byte: u8) -> [u8; 2]
+    ensures { result ≡ hex_byte byte }
+{
+    [hex_digit(byte / 16), hex_digit(byte % 16)]
+}
+
+// The hexadecimal digit of a number below 16.
+fn hex_digit(number: u8) -> u8
+    requires { number < 16 }
+    ensures { result ≡ hex_digit number }
+{
+    if number < 10 {
+        b'0' + number
+    } else {
+        b'a' - 10 + number
+    }
+}

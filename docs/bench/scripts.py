@@ -1,0 +1,60 @@
+"""Scripts to be timed: `largest` has as many call lines and charges as a script may have, `mixed` has 20,000 lines of all the
+calls of the bus over four applications, and `longest` has as many bytes as a script may have.
+
+    scripts.py largest|mixed|longest
+"""
+import sys
+
+
+def largest():
+    """Ten thousand sends of 1,677 bytes, each received: 20,000 call lines and 16,766,646 bytes of charges."""
+    yield "app A"
+    yield "create p0 4 A"
+    yield "sub 0x0801 p0"
+    for _ in range(9998):
+        yield "send 0x0801 1677 7"
+        yield "recv p0"
+    yield "show p0"
+    yield "recv p0"
+
+
+def mixed():
+    """Four applications of 5,000 lines each: two pipes, options, names, sends of their own id and of the next one's."""
+    for app in range(4):
+        own, other = 0x0801 + app, 0x0801 + (app + 1) % 4
+        yield f"app A{app}"
+        yield f"create p0 8 P{app}"
+        yield f"create p1 8 Q{app}"
+        yield f"sub 0x{own:04x} p0 4"
+        yield f"sub 0x{other:04x} p0 4"
+        yield f"sub 0x{own:04x} p1 8 local"
+        for turn in range(555):
+            yield f"send 0x{other:04x} {20 + turn % 200} {turn % 256}"
+            yield "recv p0"
+            yield f"send 0x{own:04x} 64 {turn % 256} keep"
+            yield "recv p1"
+            yield f"opts p1 {turn % 2}"
+            yield "getopts p1"
+            yield f"find p2 P{(app + turn) % 4}"
+            yield "show p0"
+            yield "recv p0"
+
+
+def longest():
+    """One application with 15,000 receives, and lines of words behind a hash sign up to 1,048,576 bytes."""
+    lines = ["app A"] + ["recv p0"] * 15000
+    left = 1048576 - sum(len(line) + 1 for line in lines)
+    while left > 0:
+        size = min(left, 71)
+        lines.append(("# " + "word " * 14)[: size - 1])
+        left -= len(lines[-1]) + 1
+    yield from lines
+
+
+def main():
+    lines = {"largest": largest, "mixed": mixed, "longest": longest}[sys.argv[1]]()
+    sys.stdout.write("\n".join(lines) + "\n")
+
+
+if __name__ == "__main__":
+    main()
