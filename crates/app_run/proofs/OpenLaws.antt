@@ -15,8 +15,8 @@ use Rattle.bus_words.specs.Log.{AreBudgets, allowances, allowance_of}
 use Rattle.sb_calls.specs.Core.{Core, apps_of, state_of}
 use Rattle.script_lines.specs.declared.line.Line.{Line}
 use Rattle.script_lines.specs.declared.line.Line.TheVariants.{Create, Find, Send, SendRaw, Pend, Allocate}
-use Rattle.app_script.specs.declared.account.Account.{Account}
-use Rattle.app_script.specs.Accounts.{no_calls, charge_of, waits_of, buffers_of, counted, account_of, budget_of}
+use Rattle.script_settings.specs.declared.account.Account.{Account}
+use Rattle.script_settings.specs.Accounts.{no_calls, charge_of, waits_of, buffers_of, counted, account_of, budget_of}
 use Rattle.app_script.specs.Ranges.{IsInRange}
 use Rattle.app_script.specs.Rotation.{Running, SoFar, rotated, rotations, starting, enough, before_all, rotation}
 use Rattle.app_script.specs.Script.{Application, ScriptText, app_at}

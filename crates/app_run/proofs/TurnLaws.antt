@@ -33,7 +33,7 @@ use Rattle.bus_words.specs.Machine.{may_call}
 use Rattle.sb_calls.specs.Core.{Core, Does, MayCall, apps_of, state_of, is_within}
 use Rattle.script_lines.specs.declared.line.Line.{Line}
 use Rattle.script_lines.specs.declared.line.Line.TheVariants.{Create, Delete, SetOpts, GetOpts, Find, PipeName, Subscribe, Unsubscribe, Send, SendRaw, Receive, Pend}
-use Rattle.app_script.specs.Accounts.{waits_of}
+use Rattle.script_settings.specs.Accounts.{waits_of}
 use Rattle.app_script.specs.Messages.{fill_byte, sent_message}
 use Rattle.app_script.specs.Ranges.{IsLineInRange}
 use Rattle.app_script.specs.Rotation.{Running, SoFar, after_call, after_look, answer_to, turn, turn_in, active_turn, line_turn}

@@ -5,7 +5,7 @@ use Rattle.bus_words.specs.declared.calls.BusAnswer.TheVariants.{Pending, Got}
 use Rattle.bus_words.specs.declared.history.Call.{Call}
 use Rattle.script_lines.specs.declared.line.Line.{Line}
 use Rattle.script_lines.specs.declared.line.Line.TheVariants.{Create, Find, Send, SendRaw, Pend}
-use Rattle.app_script.specs.Accounts.{waits_of}
+use Rattle.script_settings.specs.Accounts.{waits_of}
 use Rattle.app_run.specs.Callers.{Caller, MayCallBus, Answers}
 
 -- the application may make the call of its line, where the line makes one

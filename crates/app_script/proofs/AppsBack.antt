@@ -27,8 +27,8 @@ use Rattle.app_script.specs.declared.forms.Form.TheVariants.{Script, Set, Sizes,
 use Rattle.app_script.specs.Forms.{call_form, form_of, is_misplaced}
 use Rattle.app_script.specs.Noted.{noted, is_built}
 use Rattle.app_script.specs.Script.{Application, ScriptText}
-use Rattle.app_script.specs.Settings.{is_name_byte, is_app_name, app_of}
-use Rattle.app_script.specs.Accounts.{account_of, charge_of, counted}
+use Rattle.script_settings.specs.Settings.{is_name_byte, is_app_name, app_of}
+use Rattle.script_settings.specs.Accounts.{account_of, charge_of, counted}
 use Rattle.fsw_base.specs.declared.script_faults.FaultKind.TheVariants.{LineTooLong, BadByte}
 use Rattle.app_script.specs.Grammar.{Progress, opening, apps_of, after_app, after_call, after_form, after_words, after_line, after_lines, at_line, progress_of, grammar, ◌>=>◌}
 use Rattle.app_script.specs.ScriptSpelling.{app_lines, ended, set_lines, sizes_lines, seq_text, spelled_lines, spelled_script}

@@ -7,13 +7,13 @@ use Rattle.std.proofs.lemmas.List.{length-append}
 use Rattle.fsw_base.specs.Starts.{are_count_starts}
 use Rattle.app_script.specs.declared.app.App.TheInside as app
 use Rattle.app_script.specs.declared.reading.Reading.TheInside as reading
-use Rattle.app_script.specs.declared.account.Account.{Account}
+use Rattle.script_settings.specs.declared.account.Account.{Account}
 use Rattle.script_lines.specs.declared.line.Line.{Line}
 use Rattle.script_lines.specs.declared.line.Line.TheVariants.{Pend, Allocate}
-use Rattle.app_script.specs.Accounts.{account_of, charge_of, counted, waits_of, buffers_of}
+use Rattle.script_settings.specs.Accounts.{account_of, charge_of, counted, waits_of, buffers_of}
 use Rattle.app_script.specs.AppParts.{Fits}
 use Rattle.app_script.specs.ReadingParts.{Keeps, progress_in}
-use Rattle.app_script.specs.Settings.{seq_of}
+use Rattle.script_settings.specs.Settings.{seq_of}
 use Rattle.app_script.specs.Grammar.{Progress, after_seq, apps_of}
 use Rattle.app_script.proofs.ScriptLemmas.{account_of_push}
 

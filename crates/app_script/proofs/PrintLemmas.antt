@@ -6,7 +6,7 @@ use Rattle.std.proofs.lemmas.Bool.{eq-eqb, eqb-true, ne_eqb}
 use Rattle.fsw_base.specs.Limits.{Limits, usual_limits}
 use Rattle.fsw_base.specs.Blocks.{usual_sizes}
 use Rattle.script_words.specs.Text.{is_same}
-use Rattle.app_script.specs.declared.settings.LimitName.{LimitName}
+use Rattle.script_settings.specs.declared.settings.LimitName.{LimitName}
 use Rattle.app_script.specs.ScriptSpelling.{limit_word, limit_of, set_lines_of, set_lines, sizes_lines, seq_text, app_lines, ended, spelled_lines, spelled_script}
 use Rattle.app_script.specs.Script.{Application, ScriptText}
 use Rattle.line_spelling.specs.Spelling.{spaced, behind}

@@ -21,13 +21,13 @@ use Rattle.line_spelling.proofs.Holding.{Holds, then, any, guard, refuse, either
 use Rattle.line_spelling.proofs.ReadTexts.{behind_is_text}
 use Rattle.line_spelling.proofs.ReadWords.{within_in, below_in}
 use Rattle.line_spelling.proofs.ReadLines.{call_readable}
-use Rattle.app_script.specs.declared.settings.LimitName.{LimitName}
-use Rattle.app_script.specs.declared.settings.LimitName.TheVariants.{MsgIds, Pipes, Dests, Depth, MsgMax, Pool, AppPool, Tables, Handles, TableMax, TablePool}
+use Rattle.script_settings.specs.declared.settings.LimitName.{LimitName}
+use Rattle.script_settings.specs.declared.settings.LimitName.TheVariants.{MsgIds, Pipes, Dests, Depth, MsgMax, Pool, AppPool, Tables, Handles, TableMax, TablePool}
 use Rattle.app_script.specs.declared.forms.Form.{Form}
 use Rattle.app_script.specs.declared.forms.Form.TheVariants.{Script, Set, Sizes, Seq, App, Call}
 use Rattle.app_script.specs.Forms.{form_of, is_misplaced}
-use Rattle.app_script.specs.Settings.{least, greatest, with_limit, is_among, limit_named, set_of, some_words, sizes_within, sizes_of, seq_of, is_app_name, app_of, script_of}
-use Rattle.app_script.specs.Accounts.{account_of, charge_of, budget_of}
+use Rattle.script_settings.specs.Settings.{least, greatest, with_limit, is_among, limit_named, set_of, some_words, sizes_within, sizes_of, seq_of, is_app_name, app_of, script_of}
+use Rattle.script_settings.specs.Accounts.{account_of, charge_of, budget_of}
 use Rattle.app_script.specs.Script.{Application, ScriptText}
 use Rattle.app_script.specs.ScriptSpelling.{limit_of}
 use Rattle.app_script.specs.ScriptRanges.{are_limits, have_new_names, is_application, all_calls, all_bytes, IsScript}

@@ -15,8 +15,8 @@ use Rattle.line_spelling.proofs.Holding.{Holds, then, any, refuse, either}
 use Rattle.app_script.specs.declared.forms.Form.{Form}
 use Rattle.app_script.specs.declared.forms.Form.TheVariants.{Script, Set, Sizes, Seq, App, Call}
 use Rattle.app_script.specs.Forms.{form_of, is_misplaced}
-use Rattle.app_script.specs.Settings.{is_among, set_of, sizes_of, seq_of, app_of, script_of}
-use Rattle.app_script.specs.Accounts.{account_of, charge_of, budget_of}
+use Rattle.script_settings.specs.Settings.{is_among, set_of, sizes_of, seq_of, app_of, script_of}
+use Rattle.script_settings.specs.Accounts.{account_of, charge_of, budget_of}
 use Rattle.app_script.specs.Script.{Application, ScriptText}
 use Rattle.app_script.specs.Grammar.{Progress, opening, apps_of, after_set, after_sizes, after_seq, after_app, after_call, after_form, after_known, after_words, after_line, progress_of, grammar, unbuilt_line, built_script, ◌>=>◌}
 use Rattle.app_script.specs.Ranges.{IsLineInRange, IsInRange}

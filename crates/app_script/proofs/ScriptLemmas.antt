@@ -6,11 +6,11 @@ use Rattle.std.proofs.lemmas.List.{length-append}
 use Rattle.std.proofs.lemmas.List.Sums.{fold_push}
 use Rattle.fsw_base.specs.Starts.{are_distinct_ids, are_count_starts, is_start}
 use Rattle.fsw_base.specs.Limits.{Limits}
-use Rattle.app_script.specs.declared.settings.LimitName.{LimitName}
-use Rattle.app_script.specs.declared.settings.LimitName.TheVariants.{MsgIds, Pipes, Dests, Depth, MsgMax, Pool, AppPool, Tables, Handles, TableMax, TablePool}
-use Rattle.app_script.specs.Settings.{with_limit}
+use Rattle.script_settings.specs.declared.settings.LimitName.{LimitName}
+use Rattle.script_settings.specs.declared.settings.LimitName.TheVariants.{MsgIds, Pipes, Dests, Depth, MsgMax, Pool, AppPool, Tables, Handles, TableMax, TablePool}
+use Rattle.script_settings.specs.Settings.{with_limit}
 use Rattle.script_lines.specs.declared.line.Line.{Line}
-use Rattle.app_script.specs.Accounts.{account_of, counted, no_calls}
+use Rattle.script_settings.specs.Accounts.{account_of, counted, no_calls}
 
 -- one line more is counted
 pub account_of_push : (lines : List Line) (line : Line) → account_of (lines ++ line ∷ []) ≡ counted (account_of lines) line

@@ -17,12 +17,12 @@ use Rattle.line_spelling.proofs.Booleans.{and_first, and_second, both, all_appen
 use Rattle.line_spelling.proofs.WordLemmas.{is_word, IsWord, AreWords, no_words, ◌◃◌, keyword}
 use Rattle.line_spelling.proofs.SpelledNumbers.{number_of-decimal, decimal_word, number_reads, number_fits, within_reads, within_most, id_reads, id_fits}
 use Rattle.line_spelling.proofs.SpelledWords.{each-same, elements_fit, map_length}
-use Rattle.app_script.specs.declared.settings.LimitName.{LimitName}
-use Rattle.app_script.specs.declared.settings.LimitName.TheVariants.{MsgIds, Pipes, Dests, Depth, MsgMax, Pool, AppPool, Tables, Handles, TableMax, TablePool}
+use Rattle.script_settings.specs.declared.settings.LimitName.{LimitName}
+use Rattle.script_settings.specs.declared.settings.LimitName.TheVariants.{MsgIds, Pipes, Dests, Depth, MsgMax, Pool, AppPool, Tables, Handles, TableMax, TablePool}
 use Rattle.app_script.specs.declared.forms.Form.TheVariants.{Set, Sizes, Seq}
 use Rattle.app_script.specs.Forms.{form_of, is_misplaced}
 use Rattle.app_script.specs.Script.{Application, ScriptText}
-use Rattle.app_script.specs.Settings.{limit_name, limit_number, least, greatest, with_limit, is_among, limit_named, set_of, some_words, sizes_within, sizes_of, seq_of, is_built_limit}
+use Rattle.script_settings.specs.Settings.{limit_name, limit_number, least, greatest, with_limit, is_among, limit_named, set_of, some_words, sizes_within, sizes_of, seq_of, is_built_limit}
 use Rattle.app_script.specs.Noted.{noted}
 use Rattle.app_script.specs.Grammar.{Progress, opening, after_set, after_sizes, after_seq, after_form, after_line, after_lines}
 use Rattle.app_script.specs.ScriptSpelling.{limit_word, limit_of, all_limits, set_lines_of, set_lines, sizes_lines, seq_text}

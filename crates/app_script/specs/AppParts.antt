@@ -1,7 +1,7 @@
 -- What an application's fields stand for.
 use Rattle.std.specs.Prelude.{◌≡◌, ◌≤◌, length}
 use Rattle.app_script.specs.declared.app.App.TheInside.{Inside}
-use Rattle.app_script.specs.Accounts.{account_of}
+use Rattle.script_settings.specs.Accounts.{account_of}
 use Rattle.app_script.specs.Script.{Application}
 
 abbrev pub application_in : Inside → Application

@@ -6,7 +6,7 @@ use Rattle.fsw_base.specs.declared.script_faults.FaultKind.TheVariants.{LineTooL
 use Rattle.fsw_base.specs.declared.script_faults.ScriptFault.{ScriptFault}
 use Rattle.fsw_base.specs.Limits.{Limits, usual_limits}
 use Rattle.script_lines.specs.declared.line.Line.{Line}
-use Rattle.app_script.specs.declared.settings.LimitName.{LimitName}
+use Rattle.script_settings.specs.declared.settings.LimitName.{LimitName}
 use Rattle.app_script.specs.declared.forms.Form.{Form}
 use Rattle.app_script.specs.declared.forms.Form.TheVariants.{Script, Set, Sizes, Seq, App, Call}
 use Rattle.script_words.specs.Readings.{◌>>=◌}
@@ -15,8 +15,8 @@ use Rattle.script_words.specs.Counts.{Word}
 use Rattle.app_script.specs.Forms.{form_of, is_misplaced}
 use Rattle.app_script.specs.Noted.{noted, is_built}
 use Rattle.script_lines.specs.CallLines.{call_line_of}
-use Rattle.app_script.specs.Settings.{with_limit, is_among, set_of, sizes_of, seq_of, app_of, script_of, is_built_limit}
-use Rattle.app_script.specs.Accounts.{charge_of, account_of}
+use Rattle.script_settings.specs.Settings.{with_limit, is_among, set_of, sizes_of, seq_of, app_of, script_of, is_built_limit}
+use Rattle.script_settings.specs.Accounts.{charge_of, account_of}
 use Rattle.app_script.specs.Script.{Application, ScriptText}
 
 -- what was read of a script so far

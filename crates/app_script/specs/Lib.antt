@@ -1,7 +1,5 @@
 pub mod Forms
 pub mod Noted
-pub mod Settings
-pub mod Accounts
 pub mod Script
 pub mod ScriptSpelling
 pub mod ScriptRanges

@@ -3,7 +3,7 @@
 use Rattle.std.specs.Prelude.{◌≤◌, length, sum_by, All}
 use Rattle.script_lines.specs.declared.line.Line.{Line}
 use Rattle.script_lines.specs.declared.line.Line.TheVariants.{Create, Find, Send, SendRaw}
-use Rattle.app_script.specs.Accounts.{budget_of}
+use Rattle.script_settings.specs.Accounts.{budget_of}
 use Rattle.app_script.specs.Script.{ScriptText}
 
 -- a name of at most 64 bytes, a message of 7 to 65542

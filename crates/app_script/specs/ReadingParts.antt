@@ -3,7 +3,7 @@ use Rattle.std.specs.Prelude.{◌≤◌, IsTrue, length}
 use Rattle.fsw_base.specs.Limits.{limits_of}
 use Rattle.fsw_base.specs.Starts.{are_count_starts}
 use Rattle.app_script.specs.declared.reading.Reading.TheInside.{Inside}
-use Rattle.app_script.specs.Accounts.{account_of}
+use Rattle.script_settings.specs.Accounts.{account_of}
 use Rattle.app_script.specs.Grammar.{Progress}
 
 abbrev pub progress_in : Inside → Progress

@@ -6,8 +6,8 @@ use Rattle.fsw_base.specs.Blocks.{are_block_sizes}
 use Rattle.fsw_base.specs.Starts.{are_count_starts}
 use Rattle.script_words.specs.Text.{is_same}
 use Rattle.line_spelling.specs.Ranges.{is_readable}
-use Rattle.app_script.specs.Settings.{least, greatest, is_app_name}
-use Rattle.app_script.specs.Accounts.{account_of}
+use Rattle.script_settings.specs.Settings.{least, greatest, is_app_name}
+use Rattle.script_settings.specs.Accounts.{account_of}
 use Rattle.app_script.specs.Script.{Application, ScriptText}
 use Rattle.app_script.specs.ScriptSpelling.{limit_of, all_limits}
 

@@ -7,8 +7,8 @@ use Rattle.text_page.specs.Texts.{hex_id}
 use Rattle.script_words.specs.Text.{is_same}
 use Rattle.script_words.specs.Counts.{Word}
 use Rattle.line_spelling.specs.Spelling.{spaced, line_text}
-use Rattle.app_script.specs.declared.settings.LimitName.{LimitName}
-use Rattle.app_script.specs.declared.settings.LimitName.TheVariants.{MsgIds, Pipes, Dests, Depth, MsgMax, Pool, AppPool, Tables, Handles, TableMax, TablePool}
+use Rattle.script_settings.specs.declared.settings.LimitName.{LimitName}
+use Rattle.script_settings.specs.declared.settings.LimitName.TheVariants.{MsgIds, Pipes, Dests, Depth, MsgMax, Pool, AppPool, Tables, Handles, TableMax, TablePool}
 use Rattle.app_script.specs.Script.{Application, ScriptText}
 
 -- the word for a limit

@@ -1,9 +1,9 @@
 //! One application of a script.
 ghost use Rattle.std.specs.Prelude.{◌≡◌, ◌+◌, ◌<◌, ◌≤◌, ◌++◌, ◌∷◌, [], length, OnOk, OnErr, Some, slice_get};
 
-use crate::account::Account;
 use fsw_base::Budget;
 use script_lines::{ByteText, Line};
+use script_settings::Account;
 use std::alloc::{AllocError, Global};
 use std::marker::Model;
 
@@ -28,10 +28,10 @@ impl Model for App {
 }
 
 impl App {
-    ghost use Rattle.app_script.specs.Accounts.{account_of, charge_of, budget_of};
+    ghost use Rattle.script_settings.specs.Accounts.{account_of, charge_of, budget_of};
 
     // An application without lines.
-    #[tactic(auto, unfolding(crate::specs::Accounts::account_of))]
+    #[tactic(auto, unfolding(script_settings::specs::Accounts::account_of))]
     pub(crate) fn new(alloc: Global, name: ByteText) -> App
         ensures { result ≡ record { name = name; lines = [] } }
     {
@@ -66,7 +66,7 @@ impl App {
     }
 
     // What its lines may add to a run.
-    #[tactic(auto, unfolding(crate::specs::Accounts::budget_of))]
+    #[tactic(auto, unfolding(script_settings::specs::Accounts::budget_of))]
     pub(crate) fn budget(&self) -> Budget
         ensures { result ≡ budget_of self.now.lines }
     {

@@ -15,7 +15,6 @@
 //! ```
 #![tactic(auto)]
 
-mod account;
 mod app;
 mod fail;
 mod forms;
@@ -23,7 +22,6 @@ mod laws;
 mod printing;
 mod reading;
 mod script;
-mod settings;
 
 pub use fail::ReadFail;
 pub use laws::{last_messages_stay, printed_scripts_read_back, rotations_merge};

@@ -11,9 +11,9 @@ ghost use Rattle.app_script.specs.ScriptSpelling.{limit_word, limit_of, set_line
 
 use crate::app::App;
 use crate::script::Script;
-use crate::settings::LimitName;
 use fsw_base::{BlockSizes, Config, CountStarts, Sink, WriteFault};
 use line_spelling::print_line;
+use script_settings::LimitName;
 use text_page::{Page, finish, put, put_hex_id, put_number};
 
 /// Writes the one spelling of a script: each setting that isn't the usual one, then the applications

@@ -10,12 +10,13 @@ ghost use Rattle.app_script.specs.Forms.{is_misplaced};
 use crate::app::App;
 use crate::forms::{Form, form_of, is_misplaced};
 use crate::script::Script;
-use crate::settings::{
-    LimitName, app, is_among, is_built_limit, put_limit, seq, set, sizes, version,
-};
 use arrayvec::ArrayVec;
 use fsw_base::{Config, CountStarts, FaultKind, MAX_APPS, MAX_STARTS};
 use script_lines::{Line, call_line};
+use script_settings::LimitName;
+use script_settings::settings::{
+    app, is_among, is_built_limit, put_limit, seq, set, sizes, version,
+};
 use script_words::text::{first_word, is_same, is_text};
 use script_words::{ByteText, LineFail};
 use std::alloc::{AllocError, Global};
@@ -130,7 +131,7 @@ impl Reading {
     ghost use Rattle.script_words.specs.Text.{words_of, behind_word};
 
     // Nothing was read yet.
-    #[tactic(auto, unfolding(crate::specs::Accounts::account_of))]
+    #[tactic(auto, unfolding(script_settings::specs::Accounts::account_of))]
     pub(crate) fn new(alloc: Global, name: ByteText) -> Reading
         requires { name ≡ [] }
         ensures { result ≡ opening }

@@ -39,7 +39,7 @@ impl Model for Script {
 
 impl Script {
     ghost use Rattle.app_script.specs.Script.{app_at};
-    ghost use Rattle.app_script.specs.Accounts.{budget_of};
+    ghost use Rattle.script_settings.specs.Accounts.{budget_of};
 
     // The script of what was read.
     pub(crate) fn new(config: Config, apps: Vec<App>) -> Script

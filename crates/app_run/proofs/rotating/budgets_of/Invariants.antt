@@ -1,5 +1,5 @@
 use Rattle.std.proofs.Common.{◌≡◌, take, length, map, vec_len, vec_capacity}
-use Rattle.app_script.specs.Accounts.{budget_of}
+use Rattle.script_settings.specs.Accounts.{budget_of}
 use Rattle.app_run.proofs.rotating.budgets_of.Given as goal
 
 -- the budgets so far, and the room for those to come

@@ -1,7 +1,7 @@
 use Rattle.text_page.proofs.Putting.{◌▸◌, puts_as}
 use Rattle.std.proofs.Common.{sym, ◌∙◌}
 use Rattle.fsw_base.specs.Limits.{limits_of}
-use Rattle.app_script.specs.declared.settings.LimitName.TheVariants.{MsgIds, Pipes, Dests, Depth, MsgMax, Pool, AppPool, Tables, Handles, TableMax, TablePool}
+use Rattle.script_settings.specs.declared.settings.LimitName.TheVariants.{MsgIds, Pipes, Dests, Depth, MsgMax, Pool, AppPool, Tables, Handles, TableMax, TablePool}
 use Rattle.app_script.specs.ScriptSpelling.{set_lines_of, limit_of, all_limits, ended}
 use Rattle.app_script.proofs.PrintLemmas.{ended-flat, eleven}
 use Rattle.app_script.proofs.printing.put_limits.Goals as goal

@@ -5,7 +5,7 @@ use Rattle.script_words.specs.Text.{words_of}
 use Rattle.script_words.specs.Lists.{each}
 use Rattle.script_words.specs.Numbers.{number_of}
 use Rattle.script_words.proofs.ListLemmas.{each_more, each_fault, each_end}
-use Rattle.app_script.proofs.settings.numbers.Goals as goal
+use Rattle.script_settings.proofs.settings.numbers.Goals as goal
 
 pub returns-in_err-n : goal.returns-in_err-n
 returns-in_err-n c =

@@ -1,20 +1,25 @@
 //! What an application's call lines take.
 ghost use Rattle.std.specs.Prelude.{◌≡◌, ◌+◌, ◌<◌, ◌^◌, ◌≤◌, length, slice_index, slice_set};
 ghost use Rattle.script_words.specs.Content.{content_len};
-ghost use Rattle.app_script.specs.Accounts.{waits_of, buffers_of, sizes_after};
+ghost use Rattle.script_settings.specs.Accounts.{waits_of, buffers_of, sizes_after};
 
 use fsw_base::Budget;
 use script_lines::{Content, Line};
 
-/// What call lines take: their number, those that wait, the sum of their charges, the buffers, and for
-/// each register of buffers the size that its latest `alloc` asked for.
+/// What the call lines of one application take, counted line by line in their order.
 #[derive(Drop)]
-pub(crate) struct Account {
-    pub(crate) calls: u32,
-    pub(crate) waits: u32,
-    pub(crate) bytes: u32,
-    pub(crate) buffers: u32,
-    pub(crate) sizes: [u32; 64],
+pub struct Account {
+    /// How many call lines were counted.
+    pub calls: u32,
+    /// How many of them can wait for a message: each may make a second entry.
+    pub waits: u32,
+    /// The sum of their charges, in bytes.
+    pub bytes: u32,
+    /// How many buffers they take: one an `alloc` line.
+    pub buffers: u32,
+    /// For each register of buffers, `b0` to `b63`, the size in bytes that its latest `alloc` asked for;
+    /// 0 before its first.
+    pub sizes: [u32; 64],
 }
 
 // How many bytes a content has.
@@ -72,10 +77,10 @@ fn set_size(sizes: &mut [u32; 64], buf: u32, size: u32)
 }
 
 impl Account {
-    ghost use Rattle.app_script.specs.Accounts.{no_calls, charge_of, counted, budget_in};
+    ghost use Rattle.script_settings.specs.Accounts.{no_calls, charge_of, counted, budget_in};
 
-    // Before the first call line.
-    pub(crate) fn new() -> Account
+    /// The account before the first call line: all of it is 0.
+    pub fn new() -> Account
         ensures { result ≡ no_calls }
     {
         Account {
@@ -98,9 +103,11 @@ impl Account {
         }
     }
 
-    // The charge of a line, in bytes.
+    /// The charge of the line that comes next, in bytes: the length of the name, message, text or content
+    /// that it brings; for `xmit` the size that the latest `alloc` of its register asked for; 0 for all
+    /// other lines.
     #[tactic(auto, unfolding(crate::specs::Accounts::charge_of))]
-    pub(crate) fn charge(&self, line: &Line) -> usize
+    pub fn charge(&self, line: &Line) -> usize
         ensures { result ≡ charge_of self.now line.now }
     {
         match line {
@@ -118,8 +125,9 @@ impl Account {
         }
     }
 
-    // What these lines may add to a run.
-    pub(crate) fn budget(&self) -> Budget
+    /// What an application with these lines may add to a run: an entry for each line, one more for each
+    /// that can wait, and one for its end; the bytes of its charges; its buffers.
+    pub fn budget(&self) -> Budget
         requires { self.now.calls + self.now.waits + 1 < 2 ^ 32 }
         ensures { result ≡ budget_in self.now }
     {
@@ -130,8 +138,9 @@ impl Account {
         }
     }
 
-    // One call line more.
-    pub(crate) fn count(&mut self, line: &Line, charge: u32)
+    /// Counts one call line more, with its charge in bytes, which is what [`Account::charge`] answers for
+    /// it before it is counted.
+    pub fn count(&mut self, line: &Line, charge: u32)
         requires charge { charge ≡ charge_of self.old line.now }
         requires calls { self.old.calls < 2 ^ 31 }
         requires waits { self.old.waits < 2 ^ 31 }

@@ -1,4 +1,4 @@
-//! The lines that configure a run.
+//! The lines that configure a run. Each reader takes the line behind the first word.
 ghost use Rattle.std.specs.Prelude.{◌≡◌, ◌≤◌, length, IfOk, IsTrue};
 ghost use Rattle.std.specs.List.{list_all};
 ghost use Rattle.fsw_base.specs.Limits.{limits_of};
@@ -6,7 +6,7 @@ ghost use Rattle.script_words.specs.Readings.{Reads};
 ghost use Rattle.script_words.specs.Text.{words_of};
 ghost use Rattle.script_words.specs.Lists.{each};
 ghost use Rattle.script_words.specs.Numbers.{number_of};
-ghost use Rattle.app_script.specs.Settings.{limit_name, limit_number, least, greatest, with_limit, is_among, limit_named, set_of, some_words, sizes_within, sizes_of, seq_of, is_name_byte, is_app_name, app_of, script_of, is_built_limit};
+ghost use Rattle.script_settings.specs.Settings.{limit_name, limit_number, least, greatest, with_limit, is_among, limit_named, set_of, some_words, sizes_within, sizes_of, seq_of, is_name_byte, is_app_name, app_of, script_of, is_built_limit};
 
 use arrayvec::ArrayVec;
 use fsw_base::{BlockSizes, Config, FaultKind, MAX_BLOCK_SIZES};
@@ -14,19 +14,30 @@ use script_words::counts::{few, one, two};
 use script_words::numbers::{number, within};
 use script_words::text::{first_word, is_same};
 
-/// The name of a limit.
+/// The name of a limit of a run.
 #[derive(Clone, Copy)]
-pub(crate) enum LimitName {
+pub enum LimitName {
+    /// `msgids`: how many message ids may have a route, 1 to 1024.
     MsgIds,
+    /// `pipes`: how many pipes may be live at once, 1 to 256.
     Pipes,
+    /// `dests`: how many subscriptions a message id may have, 1 to 64.
     Dests,
+    /// `depth`: the greatest depth of a pipe, 1 to 1024 messages.
     Depth,
+    /// `msgmax`: the largest message, 7 to 65542 bytes.
     MsgMax,
+    /// `pool`: the bus's memory pool, 24 to 16777216 bytes.
     Pool,
+    /// `apppool`: the largest memory pool of an application, 24 to 1048576 bytes.
     AppPool,
+    /// `tables`: how many tables may be registered, 1 to 256.
     Tables,
+    /// `handles`: how many table handles may be live at once, 1 to 1024.
     Handles,
+    /// `tablemax`: the largest table, 1 to 65536 bytes.
     TableMax,
+    /// `tablepool`: the memory pool of the tables, 24 to 16777216 bytes.
     TablePool,
 }
 
@@ -89,8 +100,8 @@ impl LimitName {
     }
 }
 
-// Whether this limit is among those set.
-pub(crate) fn is_among(name: LimitName, names: &[LimitName]) -> bool
+/// Whether this limit is among those named.
+pub fn is_among(name: LimitName, names: &[LimitName]) -> bool
     ensures { result ≡ is_among name names.now }
 {
     names.iter().any(|other| other.number() == name.number())
@@ -138,9 +149,12 @@ fn limit_named(word: &[u8]) -> Result<LimitName, FaultKind>
     }
 }
 
-// The limit and the value of a set line.
+/// The limit that a `set` line names, and its value, which is in the limit's range.
+///
+/// `WrongCount` unless there are two words; else `BadWord` where the first names no limit or the second
+/// is no number; else `OutOfRange` where the value is outside the limit's range.
 #[tactic(auto, unfolding(crate::specs::Settings::set_of))]
-pub(crate) fn set(rest: &[u8]) -> Result<(LimitName, u32), FaultKind>
+pub fn set(rest: &[u8]) -> Result<(LimitName, u32), FaultKind>
     ensures line { Reads (λ x. x) result (set_of (words_of rest.now)) }
     ensures range { IfOk result (λ x. (least x.0 ≤ x.1) × (x.1 ≤ greatest x.0)) }
 {
@@ -151,8 +165,8 @@ pub(crate) fn set(rest: &[u8]) -> Result<(LimitName, u32), FaultKind>
     Ok((name, value))
 }
 
-// Gives a limit its value.
-pub(crate) fn put_limit(config: &mut Config, name: LimitName, value: u32)
+/// Gives a limit its value, which is in the limit's range; all else of the configuration stays.
+pub fn put_limit(config: &mut Config, name: LimitName, value: u32)
     requires low { least name ≤ value }
     requires high { value ≤ greatest name }
     ensures { limits_of config.new ≡ with_limit (limits_of config.old) name value }
@@ -209,9 +223,12 @@ fn sizes_within(sizes: &[u32]) -> Result<BlockSizes, FaultKind>
     }
 }
 
-// The block sizes of a sizes line.
+/// The block sizes of a `sizes` line, in bytes: 1 to 17 multiples of 8 that rise, at most 80000.
+///
+/// `WrongCount` where there is no word or an eighteenth; else `BadWord` where a word is no number; else
+/// `OutOfRange` where the numbers aren't such sizes.
 #[tactic(auto, unfolding(crate::specs::Settings::sizes_of))]
-pub(crate) fn sizes(rest: &[u8]) -> Result<BlockSizes, FaultKind>
+pub fn sizes(rest: &[u8]) -> Result<BlockSizes, FaultKind>
     ensures { Reads (λ sizes. sizes) result (sizes_of (words_of rest.now)) }
 {
     some_words(rest)?;
@@ -220,9 +237,12 @@ pub(crate) fn sizes(rest: &[u8]) -> Result<BlockSizes, FaultKind>
     sizes_within(sizes.as_slice())
 }
 
-// The message id and the sequence count of a seq line.
+/// The message id of a `seq` line, 1 to 8191, and the sequence count at which it starts, 0 to 16383.
+///
+/// `WrongCount` unless there are two words; else `BadWord` where one is no number; else `OutOfRange`
+/// where the id or the count is outside its range.
 #[tactic(auto, unfolding(crate::specs::Settings::seq_of))]
-pub(crate) fn seq(rest: &[u8]) -> Result<(u16, u16), FaultKind>
+pub fn seq(rest: &[u8]) -> Result<(u16, u16), FaultKind>
     ensures line { Reads (λ x. x) result (seq_of (words_of rest.now)) }
     ensures range { IfOk result (λ x. (1 ≤ x.0) × (x.0 ≤ 8191) × (x.1 ≤ 16383)) }
 {
@@ -257,9 +277,11 @@ fn is_app_name(word: &[u8]) -> bool
     1 <= word.len() && word.len() <= 19 && are_name_bytes(word)
 }
 
-// The name of an app line.
+/// The application's name that an `app` line gives: 1 to 19 letters, digits or underscores.
+///
+/// `WrongCount` unless there is one word; else `BadWord` where it is no such name.
 #[tactic(auto, unfolding(crate::specs::Settings::app_of))]
-pub(crate) fn app(rest: &[u8]) -> Result<&[u8], FaultKind>
+pub fn app(rest: &[u8]) -> Result<&[u8], FaultKind>
     ensures { Reads (λ word. word.now) result (app_of (words_of rest.now)) }
 {
     let word = one(rest)?;
@@ -270,9 +292,12 @@ pub(crate) fn app(rest: &[u8]) -> Result<&[u8], FaultKind>
     }
 }
 
-// The version of a script line.
+/// The version of a `script` line, of which there is one today, 1.
+///
+/// `WrongCount` unless there is one word; else `BadWord` where it is no number; else `OutOfRange` where
+/// it is another version.
 #[tactic(auto, unfolding(crate::specs::Settings::script_of))]
-pub(crate) fn version(rest: &[u8]) -> Result<u32, FaultKind>
+pub fn version(rest: &[u8]) -> Result<u32, FaultKind>
     ensures { Reads (λ version. version) result (script_of (words_of rest.now)) }
 {
     let word = one(rest)?;
@@ -280,8 +305,8 @@ pub(crate) fn version(rest: &[u8]) -> Result<u32, FaultKind>
     within(1, 1, version)
 }
 
-// Whether the program runs with this limit already.
-pub(crate) fn is_built_limit(name: LimitName) -> bool
+/// Whether the program runs with this limit already: those from `msgids` to `msgmax`.
+pub fn is_built_limit(name: LimitName) -> bool
     ensures { result ≡ is_built_limit name }
 {
     name.number() <= 4

@@ -1,6 +1,6 @@
 use Rattle.std.proofs.Common.{arith}
-use Rattle.app_script.proofs.LineLemmas.{charge_default}
-use Rattle.app_script.proofs.account.Account.charge.Goals as goal
+use Rattle.script_settings.proofs.LineLemmas.{charge_default}
+use Rattle.script_settings.proofs.account.Account.charge.Goals as goal
 
 pub returns-in_default : goal.returns-in_default
 returns-in_default c = charge_default c.args.self.now c.args.line.now (record {

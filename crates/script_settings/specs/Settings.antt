@@ -5,8 +5,8 @@ use Rattle.fsw_base.specs.declared.script_faults.FaultKind.{FaultKind}
 use Rattle.fsw_base.specs.declared.script_faults.FaultKind.TheVariants.{WrongCount, BadWord, OutOfRange}
 use Rattle.fsw_base.specs.Limits.{Limits}
 use Rattle.fsw_base.specs.Blocks.{are_block_sizes}
-use Rattle.app_script.specs.declared.settings.LimitName.{LimitName}
-use Rattle.app_script.specs.declared.settings.LimitName.TheVariants.{MsgIds, Pipes, Dests, Depth, MsgMax, Pool, AppPool, Tables, Handles, TableMax, TablePool}
+use Rattle.script_settings.specs.declared.settings.LimitName.{LimitName}
+use Rattle.script_settings.specs.declared.settings.LimitName.TheVariants.{MsgIds, Pipes, Dests, Depth, MsgMax, Pool, AppPool, Tables, Handles, TableMax, TablePool}
 use Rattle.script_words.specs.Readings.{◌>>=◌}
 use Rattle.script_words.specs.Text.{is_same}
 use Rattle.script_words.specs.Counts.{Word, one, two, few}

@@ -3,7 +3,7 @@ use Rattle.script_words.specs.Text.{words_of}
 use Rattle.script_words.specs.Lists.{each}
 use Rattle.script_words.specs.Numbers.{number_of}
 use Rattle.script_words.proofs.ListLemmas.{with_front}
-use Rattle.app_script.proofs.settings.numbers.Given as goal
+use Rattle.script_settings.proofs.settings.numbers.Given as goal
 
 abbrev pub invariant-loop-word : goal.invariant-loop-word
 invariant-loop-word l = record {

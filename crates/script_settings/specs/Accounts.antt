@@ -1,7 +1,7 @@
 -- What an application's call lines take: their charges, and its budget.
 use Rattle.std.specs.Prelude.{ℕ, ◌+◌, List, length, fold, replicate, slice_index, slice_set}
 use Rattle.fsw_base.specs.declared.config.Budget.{Budget}
-use Rattle.app_script.specs.declared.account.Account.{Account}
+use Rattle.script_settings.specs.declared.account.Account.{Account}
 use Rattle.script_lines.specs.declared.line.Line.{Line}
 use Rattle.script_lines.specs.declared.line.Line.TheVariants.{Create, Find, Send, SendRaw, Pend, Allocate, TransmitBuffer, SendEvent, TableRegister, TableShare, Stage, Load}
 use Rattle.script_words.specs.Content.{content_len}
