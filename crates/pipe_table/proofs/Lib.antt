@@ -1,3 +1,4 @@
 mod Changes
 mod Filing
+mod Order
 mod Searches

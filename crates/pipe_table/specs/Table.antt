@@ -1,5 +1,5 @@
 -- The live pipes as their user sees them.
-use Rattle.std.specs.Prelude.{ℕ, ◌%◌, ◌==◌, ◌&&◌, ◌++◌, ◌∷◌, [], not, Bool, List, Option, None, length, drop, map, filter, find, slice_get, if◌then◌else◌}
+use Rattle.std.specs.Prelude.{ℕ, ◌<◌, ◌%◌, ◌==◌, ◌&&◌, ◌++◌, ◌∷◌, [], not, Bool, List, Option, None, length, drop, map, filter, find, slice_get, if◌then◌else◌}
 use Rattle.std.specs.List.{list_any}
 use Rattle.std.specs.Option.{option_and_then}
 use Rattle.std.specs.Str.{bytes_eq}
@@ -78,3 +78,8 @@ oldest_on rows number = option_and_then (λ row. slice_get row.queue 0) (pipe_ro
 -- the first pipe of this owner
 abbrev pub first_owned : List PipeRow → ℕ → Option PipeRow
 first_owned rows app = find (λ row. row.owner == app) rows
+
+-- the numbers rise, all of them above this one
+abbrev pub IsRising : ℕ → List PipeRow → Type 0
+IsRising below [] = Unit {0}
+IsRising below (row ∷ rows) = (below < row.number) × IsRising row.number rows

@@ -2,7 +2,7 @@
 ghost use Rattle.std.specs.Prelude.{◌≡◌, ◌==◌, ◌+◌, ◌<◌, ◌≤◌, ◌^◌, ◌↔◌, ◌++◌, ◌∷◌, [], length, replicate, true, false, All, IfOk, IsErr, IsSome, IfSome, IsTrue, slice_index_or, None, Some, vec_len, vec_capacity};
 ghost use Rattle.std.specs.List.{list_any, range_with_len};
 ghost use Rattle.std.specs.Option.{option_map, option_map_or, option_and_then, option_to_list};
-ghost use Rattle.pipe_table.specs.Table.{Pipes, pipe_row, is_live_row, owns_row, named_row, with_row, without_row, new_row, ignores_sender, with_bits, with_item, taken_row, oldest_on, first_owned};
+ghost use Rattle.pipe_table.specs.Table.{Pipes, pipe_row, is_live_row, owns_row, named_row, with_row, without_row, new_row, ignores_sender, with_bits, with_item, taken_row, oldest_on, first_owned, IsRising};
 ghost use Rattle.pipe_table.specs.Places.{pipe_of, place_under};
 
 use crate::place::Place;
@@ -71,6 +71,13 @@ impl PipeTable {
         ensures { result ≡ length self.now.live }
     {
         self.places.len() - self.free.len()
+    }
+
+    /// The live pipes stand in order of number. Does nothing.
+    pub fn are_in_order(&self)
+        ensures { IsRising 0 self.now.live }
+    {
+        let _ = &self.numbers;
     }
 
     /// Whether a pipe of this number is live.

@@ -1,0 +1,14 @@
+mod Along
+mod Offers
+mod OffersLists
+mod OffersRows
+mod OffersSubs
+mod Takings
+mod Endings
+mod EndingsLists
+mod Releases
+mod Ties
+mod Counting
+mod Makings
+mod MakingsRouted
+mod Readers

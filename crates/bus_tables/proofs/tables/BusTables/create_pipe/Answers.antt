@@ -1,0 +1,14 @@
+use Rattle.std.proofs.Common.{◌+◌, sym, subst}
+use Rattle.pipe_table.specs.Table.{Pipes}
+use Rattle.bus_tables.specs.Tied.{AreTied}
+use Rattle.bus_tables.proofs.Makings.{queued_more}
+use Rattle.bus_tables.proofs.tables.BusTables.create_pipe.Goals as goal
+
+pub invariant_of-self : goal.invariant_of-self
+invariant_of-self c =
+    let s = c.self.inside in
+    let P : Pipes → Type 0 = λ p. AreTied p s.subs s.routes in
+    subst P (sym c.create.ensures.after) (record {
+      queued = queued_more s.pipes.live s.subs (s.pipes.created + 1) c.args.name.now c.args.owner c.args.depth c.self.invariant.queued;
+      routed = c.self.invariant.routed;
+    })

@@ -1,0 +1,21 @@
+use Rattle.std.proofs.Common.{map, ap, ◌∙◌}
+use Rattle.bus_words.specs.Bus.{route}
+use Rattle.bus_tables.specs.Rows.{deliver_rows}
+use Rattle.bus_tables.specs.Tables.{Tables}
+use Rattle.bus_tables.specs.Tied.{row_in, sub_in}
+use Rattle.bus_tables.proofs.Takings.{tables_after, tied_after}
+use Rattle.bus_tables.proofs.tables.BusTables.deliver.Goals as goal
+
+pub invariant_of-self : goal.invariant_of-self
+invariant_of-self g c =
+    let a = c.self.inside in
+    tied_after a.pipes c.along.new.pipes a.subs c.along.new.subs a.routes c.self.invariant c.along.ensures.subs c.along.ensures.queued
+
+pub returns-clause-after : goal.returns-clause-after
+returns-clause-after g c =
+    let a = c.self.inside in
+    let e = c.along.ensures in
+    tables_after a.pipes c.along.new.pipes a.subs c.along.new.subs a.routes
+    (deliver_rows c.args.sender c.args.number (route (map sub_in a.subs.live) c.args.id) (map row_in a.pipes.live))
+    e.frame e.subs e.rows
+    ∙ ap (λ (t : Tables). let n : Tables = record t { pipes = deliver_rows c.args.sender c.args.number (route t.subscriptions c.args.id) t.pipes } in n) c.self.view_is

@@ -1,0 +1,112 @@
+-- How the three tables belong together: what waits on the pipes is counted at its subscriptions, and the destinations of an
+-- id are its subscriptions.
+use Rattle.std.specs.Prelude.{◌≡◌, ℕ, ◌≤◌, ◌==◌, true, List, [], map, filter, count_by, Some, is_some}
+use Rattle.std.specs.List.{All}
+use Rattle.std.specs.Option.{option_map}
+use Rattle.bus_words.specs.Bus.{Subscription}
+use Rattle.pipe_queue.specs.declared.item.Item.{Item}
+use Rattle.pipe_table.specs.Table.{Pipes, PipeRow, pipe_row}
+use Rattle.routing.specs.Routing.{Route, Routing, route_of, dests_at}
+use Rattle.subscriptions.specs.Subs as subs
+use Rattle.bus_tables.specs.declared.tables.ItemRow.{ItemRow}
+use Rattle.bus_tables.specs.Rows.{Row, RouteRow}
+use Rattle.bus_tables.specs.Tables.{Tables}
+
+-- What the tables stand for. --
+
+abbrev pub item_in : Item → ItemRow
+item_in item = record { number = item.number; subscription = item.sub.number }
+
+abbrev pub row_in : PipeRow → Row
+row_in row = record {
+  number = row.number;
+  name = row.name;
+  owner = row.owner;
+  depth = row.depth;
+  bits = row.bits;
+  queue = map item_in row.queue;
+  last = option_map item_in row.last;
+}
+
+abbrev pub sub_in : subs.Subscription → Subscription
+sub_in s = record { number = s.number; id = s.id; pipe = s.pipe; limit = s.limit; scope = s.scope }
+
+abbrev pub way_in : Route → RouteRow
+way_in route = record { id = route.id; counted = route.counted }
+
+abbrev pub tables_in : Pipes → subs.Subscribed → Routing → Tables
+tables_in pipes subscribed routing = record {
+  pipes = map row_in pipes.live;
+  pipes_created = pipes.created;
+  subscriptions = map sub_in subscribed.live;
+  subscriptions_made = subscribed.made;
+  routes = map way_in routing.routes;
+  room = record {
+    pipes = pipes.room;
+    depth = pipes.depth;
+    numbers = pipes.numbers;
+    subscriptions = subscribed.room;
+    msgids = routing.msgids;
+    dests = routing.dests;
+    starts = routing.starts;
+  };
+}
+
+-- Pipes and subscriptions. --
+
+-- how many items of a subscription wait on a pipe
+abbrev pub waiting_at : PipeRow → ℕ → ℕ
+waiting_at row number = count_by (λ item. item.sub.number == number) row.queue
+
+-- a subscription's pipe is live, and as many of its messages wait there as it counts
+abbrev pub IsCounted : List PipeRow → subs.Subscription → Type 0
+IsCounted rows s = option_map (λ row. waiting_at row s.number) (pipe_row rows s.pipe) ≡ Some s.waiting
+
+-- a subscription is the item's, where it has the item's number: in that slot, and of this pipe
+abbrev pub IsOf : ℕ → Item → subs.Subscription → Type 0
+IsOf pipe item s = s.number ≡ item.sub.number → (s.slot ≡ item.sub.slot) × (s.pipe ≡ pipe)
+
+-- an item on a pipe is of a subscription that was made, and where that one lives it is the pipe's
+pub record IsQueued (subscribed : subs.Subscribed) (pipe : ℕ) (item : Item) : Type 0 where
+  pub made : item.sub.number ≤ subscribed.made
+  pub own : All (IsOf pipe item) subscribed.live
+
+-- what waits is counted
+pub record AreQueued (rows : List PipeRow) (subscribed : subs.Subscribed) : Type 0 where
+  pub counted : All (IsCounted rows) subscribed.live
+  pub items : All (λ row. All (IsQueued subscribed row.number) row.queue) rows
+
+-- Subscriptions and routes. --
+
+-- the live subscriptions of an id, in order of number
+abbrev pub of_id : ℕ → subs.Subscribed → List subs.Subscription
+of_id id subscribed = filter (λ s. s.id == id) subscribed.live
+
+-- each id's destinations are its live subscriptions, each live one has a route, and no two tie the same id to the same pipe
+pub record AreRouted (subscribed : subs.Subscribed) (routing : Routing) : Type 0 where
+  pub dests : (id route : ℕ) → route_of routing.routes id ≡ Some route → map (λ dest. dest.1) (dests_at routing route) ≡ map subs.number_of (of_id id subscribed)
+  pub ways : All (λ s. is_some (route_of routing.routes s.id) ≡ true) subscribed.live
+  pub once : (id pipe : ℕ) → count_by (subs.ties id pipe) subscribed.live ≤ 1
+
+-- what is always true of the three
+pub record AreTied (pipes : Pipes) (subscribed : subs.Subscribed) (routing : Routing) : Type 0 where
+  pub queued : AreQueued pipes.live subscribed
+  pub routed : AreRouted subscribed routing
+
+-- What a change leaves. --
+
+-- a subscription but for how many of its messages wait
+abbrev pub uncounted : subs.Subscription → subs.Subscription
+uncounted s = record s { waiting = 0 }
+
+-- the subscriptions but for how many of their messages wait
+abbrev pub still : subs.Subscribed → subs.Subscribed
+still subscribed = record subscribed { live = map uncounted subscribed.live }
+
+-- the room and the number created, of a table of pipes
+abbrev pub frame : Pipes → Pipes
+frame pipes = record pipes { live = [] }
+
+-- the routes but for their destinations
+abbrev pub ways_of : Routing → List RouteRow
+ways_of routing = map way_in routing.routes

@@ -1,0 +1,35 @@
+//! The pipes, subscriptions and routes of a software bus, kept so that a call looks at no more than it needs: a pipe is
+//! found by its number, a route by its message id, and a send goes along the destinations of its id alone, with the count of
+//! what waits ready at each (cFE Software Bus).
+//!
+//! Contracts see three lists: pipes and subscriptions in order of number, and routes with their counts. Behind them stand
+//! the table of pipes, the subscriptions and the routes, each of a crate of its own, and the facts that tie them together.
+//! No call but `new` takes memory.
+//!
+//! ```
+//! /// A message for the one subscription of an id reaches its pipe, and waits there.
+//! fn first_waiting<L: Ledger>(
+//!     tables: &mut BusTables,
+//!     name: &PipeText,
+//!     app: AppNo,
+//!     steps: &mut Steps<L>,
+//! ) -> Option<ItemRow>
+//!     requires { tables.old ≡ opened usual_limits 1 }
+//!     ensures { result ≡ Some (record { number = 1; subscription = 1 }) }
+//! {
+//!     let pipe = tables.create_pipe(name, app, 4);
+//!     tables.subscribe(0x0801, pipe, 4, Scope::Global, steps);
+//!     tables.deliver(0x0801, app, 1, steps);
+//!     tables.oldest(pipe)
+//! }
+//! ```
+#![tactic(auto)]
+
+mod delivery;
+mod ending;
+mod making;
+mod tables;
+#[cfg(test)]
+mod tests;
+
+pub use tables::{BusTables, ItemRow};

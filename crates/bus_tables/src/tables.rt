@@ -1,0 +1,307 @@
+//! The tables.
+ghost use Rattle.std.specs.Prelude.{◌≡◌, ◌==◌, ◌&&◌, ◌+◌, ◌*◌, ◌%◌, ◌<◌, ◌≤◌, ◌^◌, ◌++◌, ◌∷◌, [], not, length, map, filter, find, true, false, IfOk, IsTrue};
+ghost use Rattle.std.specs.List.{list_any};
+ghost use Rattle.std.specs.Option.{option_map};
+ghost use Rattle.std.specs.Str.{bytes_eq};
+ghost use Rattle.fsw_base.specs.Limits.{limits_of};
+ghost use Rattle.fsw_base.specs.Starts.{start_of};
+ghost use Rattle.bus_words.specs.Bus.{route, is_subscribed};
+ghost use Rattle.bus_tables.specs.Rows.{row_of, owns_row, oldest_item, last_row_item, with_row, after_take, row_with_bits, new_row, deliver_rows, reached_rows, has_way, counted_in, counted_on, with_route};
+ghost use Rattle.bus_tables.specs.Tables.{opened, IsRising};
+
+use crate::delivery::along;
+use crate::ending::{end_of_pipe, end_subscription};
+use crate::making::{item_row, route_for};
+use bucket_list::{Ledger, Steps};
+use bus_words::PipeText;
+use fsw_base::{AppNo, Config, Scope};
+use pipe_table::PipeTable;
+use routing::Routes;
+use std::alloc::{AllocError, Global};
+use std::marker::Model;
+use subscriptions::Subs;
+
+/// A message that waits on a pipe or was received last: the number of its send, and the number of the subscription that
+/// queued it.
+#[derive(Clone, Copy, Debug, PartialEq, Eq)]
+pub struct ItemRow {
+    /// The number of its send.
+    pub number: u32,
+    /// The number of the subscription that queued it.
+    pub subscription: u32,
+}
+
+/// The pipes, subscriptions and routes of a bus. Contracts see each as a list, and the room that was taken for them.
+#[derive(Drop)]
+pub struct BusTables {
+    /// The pipes, with what waits on them.
+    pipes: PipeTable,
+    /// The subscriptions, each with the count of its messages that wait.
+    subs: Subs,
+    /// The routes: for each id that has one, its subscriptions and its sequence count.
+    routes: Routes,
+}
+
+impl Model for BusTables {
+    ghost use Rattle.bus_tables.specs.Tables.{Tables};
+
+    ghost Value = { Tables };
+
+    ghost use Rattle.bus_tables.specs.Tied.{tables_in, AreTied};
+
+    ghost view = { λ t. tables_in t.pipes t.subs t.routes };
+
+    ghost invariant = { λ t. AreTied t.pipes t.subs t.routes };
+}
+
+impl BusTables {
+    /// No pipe, subscription or route, with the room that the limits ask for, and for `numbers` pipes and subscriptions in
+    /// all. No later call takes memory.
+    ///
+    /// # Errors
+    /// Where memory runs out.
+    pub fn new(alloc: Global, config: &Config, numbers: u32) -> Result<BusTables, AllocError>
+        ensures { IfOk result (λ tables. tables ≡ opened (limits_of config.now) numbers) }
+    {
+        Ok(BusTables {
+            pipes: PipeTable::new(alloc, config.pipes, config.depth, numbers)?,
+            subs: Subs::new(alloc, numbers)?,
+            routes: Routes::new(alloc, config.msgids, config.dests, config.starts.again())?,
+        })
+    }
+
+    /// How many pipes are live.
+    pub fn pipes_len(&self) -> usize
+        ensures { result ≡ length self.now.pipes }
+    {
+        self.pipes.len()
+    }
+
+    /// Whether a pipe of this number is live and the application's. Takes a constant time.
+    pub fn owns(&self, app: AppNo, number: u32) -> bool
+        ensures { result ≡ owns_row self.now.pipes app number }
+    {
+        self.pipes.owns(app, number)
+    }
+
+    /// The option bits of the live pipe of this number. Takes a constant time.
+    pub fn bits(&self, number: u32) -> Option<u8>
+        ensures { result ≡ option_map (λ row. row.bits) (row_of self.now.pipes number) }
+    {
+        self.pipes.bits(number)
+    }
+
+    /// The name of the live pipe of this number. Takes a constant time.
+    pub fn name(&self, number: u32) -> Option<PipeText>
+        ensures { result ≡ option_map (λ row. row.name) (row_of self.now.pipes number) }
+    {
+        self.pipes.name(number)
+    }
+
+    /// The number of the live pipe of this name. Looks at every number given.
+    pub fn find(&self, name: &[u8]) -> Option<u32>
+        ensures { result ≡ option_map (λ row. row.number) (find (λ row. bytes_eq row.name name.now) self.now.pipes) }
+    {
+        self.pipes.find(name)
+    }
+
+    /// What waits longest on the live pipe of this number. Takes a constant time.
+    pub fn oldest(&self, number: u32) -> Option<ItemRow>
+        ensures { result ≡ oldest_item self.now.pipes number }
+    {
+        item_row(self.pipes.oldest(number))
+    }
+
+    /// What was received last on the application's live pipe of this number. Takes a constant time.
+    pub fn last(&self, app: AppNo, number: u32) -> Option<ItemRow>
+        ensures { result ≡ last_row_item self.now.pipes app number }
+    {
+        if !self.pipes.owns(app, number) {
+            return None;
+        }
+        item_row(self.pipes.last(number))
+    }
+
+    /// Whether the pipe is subscribed to the id. Looks at the id's subscriptions alone.
+    pub fn is_subscribed(&self, id: u16, pipe: u32) -> bool
+        ensures { result ≡ is_subscribed self.now.subscriptions id pipe }
+    {
+        self.subs.find(id, pipe).is_some()
+    }
+
+    /// Whether the id has a route. Takes a constant time.
+    pub fn has_route(&self, id: u16) -> bool
+        ensures { result ≡ has_way self.now.routes id }
+    {
+        self.routes.route_of(id).is_some()
+    }
+
+    /// How many ids have a route.
+    pub fn routes_len(&self) -> u32
+        ensures { result ≡ length self.now.routes }
+    {
+        self.routes.len()
+    }
+
+    /// How many live subscriptions the id has. Takes a constant time.
+    pub fn dests_of(&self, id: u16) -> u32
+        ensures { result ≡ length (route self.now.subscriptions id) }
+    {
+        match self.routes.route_of(id) {
+            Some(route) => self.routes.dests_of(route),
+            None => 0,
+        }
+    }
+
+    /// The live pipes stand in order of number. Does nothing.
+    pub fn are_in_order(&self)
+        ensures { IsRising 0 self.now.pipes }
+    {
+        self.pipes.are_in_order();
+    }
+
+    /// Creates a pipe that holds up to `depth` messages, and answers its number: one more than were created.
+    pub fn create_pipe(&mut self, name: &PipeText, owner: AppNo, depth: u32) -> u32
+        requires room { length self.old.pipes < self.old.room.pipes }
+        requires numbers { self.old.pipes_created < self.old.room.numbers }
+        requires some { 1 ≤ depth }
+        requires depth { depth ≤ self.old.room.depth }
+        ensures number { result ≡ self.old.pipes_created + 1 }
+        ensures after { self.new ≡ record self.old {
+          pipes = self.old.pipes ++ new_row (self.old.pipes_created + 1) name.now owner depth ∷ [];
+          pipes_created = self.old.pipes_created + 1;
+        } }
+    {
+        self.pipes.create(name, owner, depth)
+    }
+
+    /// Ends the live pipe of this number, with its subscriptions and what waits on it; no effect where none is live. Looks
+    /// at every subscription.
+    pub fn delete_pipe<L: Ledger>(&mut self, number: u32, steps: &mut Steps<L>)
+        ensures { self.new ≡ record self.old {
+          pipes = filter (λ row. not (row.number == number)) self.old.pipes;
+          subscriptions = filter (λ sub. not (sub.pipe == number)) self.old.subscriptions;
+        } }
+    {
+        end_of_pipe(&mut self.subs, &mut self.routes, number, steps);
+        self.pipes.remove(number);
+    }
+
+    /// The number of the live pipe that was created first of the application's. Looks at every number given.
+    pub fn first_of(&self, app: AppNo) -> Option<u32>
+        ensures { result ≡ option_map (λ row. row.number) (find (λ row. row.owner == app) self.now.pipes) }
+    {
+        self.pipes.first_of(app)
+    }
+
+    /// Ends the application's pipes, with their subscriptions and what waits on them.
+    pub fn release<L: Ledger>(&mut self, app: AppNo, steps: &mut Steps<L>)
+        ensures { self.new ≡ record self.old {
+          pipes = filter (λ row. not (row.owner == app)) self.old.pipes;
+          subscriptions = filter (λ sub. not (owns_row self.old.pipes app sub.pipe)) self.old.subscriptions;
+        } }
+    {
+        while let Some(number) = self.first_of(app) {
+            self.are_in_order();
+            self.delete_pipe(number, steps);
+        }
+    }
+
+    /// Sets the option bits of the live pipe of this number. Takes a constant time.
+    pub fn set_bits(&mut self, number: u32, bits: u8)
+        ensures { self.new ≡ record self.old { pipes = with_row (row_with_bits bits) number self.old.pipes } }
+    {
+        self.pipes.set_bits(number, bits);
+    }
+
+    /// Lets the last message of the live pipe of this number go, and takes the one that waits longest, if any, in its
+    /// place. Takes a constant time.
+    pub fn take(&mut self, number: u32)
+        ensures { self.new ≡ record self.old { pipes = with_row after_take number self.old.pipes } }
+    {
+        if let Some(item) = self.pipes.oldest(number) {
+            self.subs.unqueued(item.sub);
+        }
+        self.pipes.take(number);
+    }
+
+    /// Subscribes a live pipe to an id, 1 to 0x1FFF, of which it has no subscription yet: up to `limit` messages of it may
+    /// wait at once. The id gets a route where it has none. At most 8 steps.
+    pub fn subscribe<L: Ledger>(
+        &mut self,
+        id: u16,
+        pipe: u32,
+        limit: u32,
+        scope: Scope,
+        steps: &mut Steps<L>,
+    )
+        requires first { 1 ≤ id }
+        requires last { id ≤ 0x1FFF }
+        requires live { list_any (λ row. row.number == pipe) self.old.pipes ≡ true }
+        requires new { is_subscribed self.old.subscriptions id pipe ≡ false }
+        requires way { has_way self.old.routes id ≡ false → length self.old.routes < self.old.room.msgids }
+        requires dests { length (route self.old.subscriptions id) < self.old.room.dests }
+        requires room { length self.old.subscriptions < self.old.room.subscriptions }
+        requires number { self.old.subscriptions_made + 1 < 2 ^ 32 }
+        ensures after { self.new ≡ record self.old {
+          subscriptions = self.old.subscriptions ++ record { number = self.old.subscriptions_made + 1; id = id; pipe = pipe; limit = limit; scope = scope } ∷ [];
+          subscriptions_made = self.old.subscriptions_made + 1;
+          routes = with_route self.old.routes id;
+        } }
+        ensures cost { steps.new ≤ steps.old + 8 }
+    {
+        let route = route_for(&mut self.routes, id);
+        let sub = self.subs.add(id, pipe, limit, scope);
+        let _ = self.routes.add_dest(route, sub, steps);
+    }
+
+    /// Ends the pipe's subscription to the id; no effect where it has none. Looks at the id's subscriptions alone: a step
+    /// for each, and at most 8 more.
+    pub fn unsubscribe<L: Ledger>(&mut self, id: u16, pipe: u32, steps: &mut Steps<L>)
+        ensures after { self.new ≡ record self.old { subscriptions = filter (λ sub. not (sub.id == id && sub.pipe == pipe)) self.old.subscriptions } }
+        ensures cost { steps.new ≤ steps.old + length (route self.old.subscriptions id) + 8 }
+    {
+        self.subs.are_in_order();
+        if let Some(sub) = self.subs.find(id, pipe) {
+            end_subscription(&mut self.subs, &mut self.routes, sub, steps);
+        }
+    }
+
+    /// The next sequence count of an id that has a route: its start, one for each count that it has given, and one more,
+    /// modulo 16384 (CCSDS 133.0-B, 4.1.3.4.3). It counts as given. Takes a constant time.
+    pub fn next_count(&mut self, id: u16) -> u16
+        requires { has_way self.old.routes id ≡ true }
+        ensures count { result ≡ (start_of self.old.room.starts id + counted_in self.old.routes id + 1) % 16384 }
+        ensures after { self.new ≡ record self.old { routes = counted_on self.old.routes id } }
+    {
+        let route = self.routes.route_of(id).unwrap();
+        self.routes.next_count(route)
+    }
+
+    /// Offers the message of this send, numbered from 1, to the subscriptions of its id, in order, and tells how many pipes
+    /// took it. A pipe takes it where it doesn't ignore the sender, fewer messages of the subscription wait than its limit
+    /// says, and fewer in all than its depth. Goes along the id's subscriptions alone: at most 2 steps for each, and 2 more.
+    pub fn deliver<L: Ledger>(
+        &mut self,
+        id: u16,
+        sender: AppNo,
+        number: u32,
+        steps: &mut Steps<L>,
+    ) -> u32
+        requires number { 1 ≤ number }
+        requires few { length self.old.subscriptions < 2 ^ 32 }
+        ensures after { self.new ≡ record self.old { pipes = deliver_rows sender number (route self.old.subscriptions id) self.old.pipes } }
+        ensures reached { result ≡ reached_rows sender number (route self.old.subscriptions id) self.old.pipes }
+        ensures cost { steps.new ≤ steps.old + 2 * length (route self.old.subscriptions id) + 2 }
+    {
+        along(
+            &mut self.pipes,
+            &mut self.subs,
+            &self.routes,
+            id,
+            sender,
+            number,
+            steps,
+        )
+    }
+}

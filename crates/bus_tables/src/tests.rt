@@ -1,0 +1,107 @@
+//! The caller that the crate's head shows, a run of it, and a run of the other calls.
+ghost use Rattle.std.specs.Prelude.{◌≡◌, ◌<◌, Some};
+ghost use Rattle.fsw_base.specs.Limits.{usual_limits};
+ghost use Rattle.bus_tables.specs.Tables.{opened};
+
+use crate::tables::{BusTables, ItemRow};
+use bucket_list::{Blank, Ledger, Steps};
+use bus_words::PipeText;
+use fsw_base::{AppNo, Config, Scope};
+use std::marker::Brand;
+use std::process::Abort;
+use std::test::Fail;
+
+/// A message for the one subscription of an id reaches its pipe, and waits there.
+fn first_waiting<L: Ledger>(
+    tables: &mut BusTables,
+    name: &PipeText,
+    app: AppNo,
+    steps: &mut Steps<L>,
+) -> Option<ItemRow>
+    requires { tables.old ≡ opened usual_limits 1 }
+    ensures { result ≡ Some (record { number = 1; subscription = 1 }) }
+{
+    let pipe = tables.create_pipe(name, app, 4);
+    tables.subscribe(0x0801, pipe, 4, Scope::Global, steps);
+    tables.deliver(0x0801, app, 1, steps);
+    tables.oldest(pipe)
+}
+
+/// The same with a count of its own.
+fn first_counted<L: Ledger>(
+    tables: &mut BusTables,
+    name: &PipeText,
+    app: AppNo,
+    blank: Blank,
+) -> Option<ItemRow>
+    requires name { blank.name ≡ L.name }
+    requires parts { blank.parts ≡ L.parts }
+    requires some_part { 0 < blank.parts }
+    requires tables { tables.old ≡ opened usual_limits 1 }
+{
+    let mut steps = Steps::<L>::new(blank);
+    first_waiting(tables, name, app, &mut steps)
+}
+
+#[test]
+fn the_first_message_waits(rt: HostRuntime) -> Result<(), Fail> {
+    let mut tables = BusTables::new(rt.alloc(), &Config::usual(), 1)?;
+    let app = AppNo::try_new(1).ok_or("an application's number")?;
+    let name = PipeText::try_new(b"TLM").ok_or("a name")?;
+    let first = first_counted::<Brand>(&mut tables, &name, app, Blank::new(1));
+    let item = ItemRow {
+        number: 1,
+        subscription: 1,
+    };
+    assert_eq!(rt; first, Some(item));
+    assert_eq!(rt; tables.find(b"TLM"), Some(1));
+    Ok(())
+}
+
+/// Two pipes take a message of an id, and one receives it; then its subscription ends, the other pipe is deleted, and the
+/// application released.
+fn come_and_go<L: Ledger, R: Abort>(
+    rt: &R,
+    tables: &mut BusTables,
+    name: &PipeText,
+    app: AppNo,
+    blank: Blank,
+)
+    requires name { blank.name ≡ L.name }
+    requires parts { blank.parts ≡ L.parts }
+    requires some_part { 0 < blank.parts }
+    requires tables { tables.old ≡ opened usual_limits 2 }
+{
+    let mut steps = Steps::<L>::new(blank);
+    let first = tables.create_pipe(name, app, 4);
+    let second = tables.create_pipe(name, app, 4);
+    tables.subscribe(0x0801, first, 1, Scope::Global, &mut steps);
+    tables.subscribe(0x0801, second, 1, Scope::Global, &mut steps);
+    assert_eq!(rt; tables.next_count(0x0801), 1);
+    assert_eq!(rt; tables.deliver(0x0801, app, 7, &mut steps), 2);
+    tables.take(first);
+    assert_eq!(rt; tables.deliver(0x0801, app, 8, &mut steps), 1);
+    let item = ItemRow {
+        number: 7,
+        subscription: 1,
+    };
+    assert_eq!(rt; tables.last(app, first), Some(item));
+    tables.unsubscribe(0x0801, first, &mut steps);
+    assert!(rt; !tables.is_subscribed(0x0801, first));
+    assert_eq!(rt; tables.dests_of(0x0801), 1);
+    tables.delete_pipe(second, &mut steps);
+    assert_eq!(rt; tables.dests_of(0x0801), 0);
+    tables.release(app, &mut steps);
+    assert_eq!(rt; tables.pipes_len(), 0);
+}
+
+#[test]
+fn pipes_and_subscriptions_come_and_go(rt: HostRuntime) -> Result<(), Fail> {
+    let mut tables = BusTables::new(rt.alloc(), &Config::usual(), 2)?;
+    let app = AppNo::try_new(1).ok_or("an application's number")?;
+    let name = PipeText::try_new(b"TLM").ok_or("a name")?;
+    come_and_go::<Brand, HostRuntime>(&rt, &mut tables, &name, app, Blank::new(1));
+    assert!(rt; tables.has_route(0x0801));
+    assert_eq!(rt; tables.routes_len(), 1);
+    Ok(())
+}
