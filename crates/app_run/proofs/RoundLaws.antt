@@ -17,7 +17,7 @@ use Rattle.app_script.specs.Script.{ScriptText}
 use Rattle.app_script.specs.Told.{receipts_told, seen_from}
 use Rattle.app_script.proofs.LastMessages.{legal-last, receipt-other}
 use Rattle.app_script.proofs.LegalSteps.{caller-first, standing-step}
-use Rattle.app_run.specs.Rounds.{all_going, AreNumbered, AllStand, AllTold, AreTurned, HasTold, Rotates, Steps, StepsIf, to_come, told_on}
+use Rattle.app_run.specs.Rounds.{all_going, AreNumbered, AllStand, AllTold, AreTurned, HasTold, Rotates, MovesOn, StepsIf, to_come, told_on}
 use Rattle.app_run.specs.Lines.{bytes_due}
 use Rattle.app_run.specs.Runners.{Progress, going}
 use Rattle.app_run.specs.Turns.{so_far, Stands, TakesTurn, Moved, tells, entries_to_come}
@@ -227,7 +227,7 @@ record TakesOne (all : List Progress) (i : ℕ) (new : Progress) (before after :
   apps : apps_of after ≡ apps_of before
 
 takes-one : (all : List Progress) (i : ℕ) (new old : Progress) (before after : Core) → AllStand before all → i < length all → old ≡ get_or all i old →
-    Steps old new before after → TakesOne all i new before after
+    MovesOn old new before after → TakesOne all i new before after
 takes-one all i new old before after stand within at step =
     let stands : Stands old before = subst (λ p. Stands p before) (sym at) (All-get_or (λ p. Stands p before) all i old within stand.each) in
     let s = stepped old.ended old new before after stands step in
@@ -262,7 +262,7 @@ turned-none before first stand = record {
 }
 
 pub turned-one : (i : ℕ) (before : Core) (first : List Progress) (core after : Core) (all : List Progress) (old new : Progress) →
-    AreTurned i before first core all → i < length all → old ≡ get_or all i old → Steps old new core after → AreTurned (i + 1) before first after (slice_set all i new)
+    AreTurned i before first core all → i < length all → old ≡ get_or all i old → MovesOn old new core after → AreTurned (i + 1) before first after (slice_set all i new)
 turned-one i before first core after all old new t within at step =
     let one = takes-one all i new old core after t.stand within at step in
     let L = before.limits in

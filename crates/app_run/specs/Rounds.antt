@@ -70,8 +70,8 @@ abbrev pub StepsIf : Bool → Progress → Progress → Core → Core → Type 0
 StepsIf true old new before after = (new ≡ old) × (after ≡ before)
 StepsIf false old new before after = TakesTurn old new before after
 
-abbrev pub Steps : Progress → Progress → Core → Core → Type 0
-Steps old new before after = StepsIf old.ended old new before after
+abbrev pub MovesOn : Progress → Progress → Core → Core → Type 0
+MovesOn old new before after = StepsIf old.ended old new before after
 
 -- The first so many applications took their turns of one rotation.
 pub record AreTurned (i : ℕ) (before : Core) (first : List Progress) (after : Core) (all : List Progress) : Type 0 where

@@ -2,28 +2,31 @@
 ghost use Rattle.std.specs.Prelude.{◌≡◌};
 
 use crate::calls::Calls;
+use bucket_list::{Ledger, Steps};
 use bus_words::{PipeText, Receipt};
 use fsw_base::{AppNo, SbStatus, Scope};
 use sb_calls::{BusCore, Pended, Sent};
 
 /// The calls of one application straight on the bus's core.
 #[derive(Drop)]
-pub struct CoreCalls<'c> {
+pub struct CoreCalls<'c, L: Ledger> {
     core: &'c mut BusCore,
     app: AppNo,
+    // The steps that its calls take; told to nobody here.
+    steps: &'c mut Steps<L>,
 }
 
-impl<'c> CoreCalls<'c> {
-    /// The calls of this application.
-    pub fn new(core: &'c mut BusCore, app: AppNo) -> CoreCalls<'c>
+impl<'c, L: Ledger> CoreCalls<'c, L> {
+    /// The calls of this application. Their steps are added to `steps`.
+    pub fn new(core: &'c mut BusCore, app: AppNo, steps: &'c mut Steps<L>) -> CoreCalls<'c, L>
         ensures app { result.app ≡ app }
         ensures core { result.core ≡ core.entry }
     {
-        CoreCalls { core, app }
+        CoreCalls { core, app, steps }
     }
 }
 
-impl Calls for CoreCalls<'_> {
+impl<L: Ledger> Calls for CoreCalls<'_, L> {
     ghost caller = { λ s. record { app = s.app; core = s.core.now; name = s.core.ghost_name } };
 
     fn create_pipe(&mut self, depth: u32, name: &[u8]) -> Result<u32, SbStatus> {
@@ -31,7 +34,7 @@ impl Calls for CoreCalls<'_> {
     }
 
     fn delete_pipe(&mut self, pipe: u32) -> Result<(), SbStatus> {
-        self.core.delete_pipe(self.app, pipe)
+        self.core.delete_pipe(self.app, pipe, self.steps)
     }
 
     fn set_opts(&mut self, pipe: u32, bits: u8) -> Result<(), SbStatus> {
@@ -51,15 +54,16 @@ impl Calls for CoreCalls<'_> {
     }
 
     fn subscribe(&mut self, id: u16, pipe: u32, limit: u32, scope: Scope) -> Result<(), SbStatus> {
-        self.core.subscribe(self.app, id, pipe, limit, scope)
+        self.core
+            .subscribe(self.app, id, pipe, limit, scope, self.steps)
     }
 
     fn unsubscribe(&mut self, id: u16, pipe: u32) -> Result<(), SbStatus> {
-        self.core.unsubscribe(self.app, id, pipe)
+        self.core.unsubscribe(self.app, id, pipe, self.steps)
     }
 
     fn transmit(&mut self, bytes: &[u8], inc: bool) -> Result<Sent, SbStatus> {
-        self.core.transmit(self.app, bytes, inc)
+        self.core.transmit(self.app, bytes, inc, self.steps)
     }
 
     fn receive(&mut self, pipe: u32) -> Result<u32, SbStatus> {
@@ -75,7 +79,7 @@ impl Calls for CoreCalls<'_> {
     }
 
     fn bus_end(&mut self) {
-        self.core.end(self.app)
+        self.core.end(self.app, self.steps)
     }
 
     fn last_receipt(&mut self, pipe: u32) -> Option<Receipt> {

@@ -8,15 +8,17 @@ ghost use Rattle.app_script.specs.Rotation.{rotation, rotations, enough};
 ghost use Rattle.app_script.specs.Told.{receipts_told};
 ghost use Rattle.app_script.specs.Script.{ScriptText};
 ghost use Rattle.app_run.specs.Turns.{so_far, Stands};
-ghost use Rattle.app_run.specs.Rounds.{all_beginning, all_going, AllStand, AllTold, Steps, Rotates, RotatesTimes};
+ghost use Rattle.app_run.specs.Rounds.{all_beginning, all_going, AllStand, AllTold, MovesOn, Rotates, RotatesTimes};
 
 use crate::core_calls::CoreCalls;
 use crate::runner::Runner;
 use app_script::Script;
+use bucket_list::{Blank, Ledger, Steps};
 use bus_words::ReceiptList;
 use fsw_base::{AppNo, Budget};
 use sb_calls::BusCore;
 use std::alloc::{AllocError, Global};
+use std::marker::Brand;
 
 /// What a run leaves: the bus after all applications have ended, and the receipts of each, in order of
 /// number.
@@ -46,7 +48,7 @@ pub fn lockstep(alloc: Global, script: &Script) -> Result<Finished, AllocError>
     let mut bus = BusCore::new(alloc, script.config(), &budgets)?;
     let mut runners = runners_of(alloc, script)?;
     let receipts = Vec::with_capacity(alloc, apps)?;
-    run_all(&mut bus, &mut runners, rotations_of(script));
+    run_counted::<Brand>(&mut bus, &mut runners, rotations_of(script), Blank::new(1));
     Ok(Finished {
         bus,
         receipts: receipts_of(runners, receipts),
@@ -96,34 +98,56 @@ fn app_at(i: u32) -> AppNo
     AppNo::try_new(i + 1).unwrap()
 }
 
+// So many rotations, with a count of steps of their own.
+fn run_counted<L: Ledger>(
+    bus: &mut BusCore,
+    runners: &mut Vec<Runner<'_>>,
+    turns: u32,
+    blank: Blank,
+)
+    requires name { blank.name ≡ L.name }
+    requires parts { blank.parts ≡ L.parts }
+    requires some_part { 0 < blank.parts }
+    requires stand { AllStand bus.old runners.old.items }
+    ensures { RotatesTimes turns bus.old runners.old.items bus.new runners.new.items }
+{
+    let mut steps = Steps::<L>::new(blank);
+    run_all(bus, runners, turns, &mut steps);
+}
+
 // So many rotations.
-fn run_all(bus: &mut BusCore, runners: &mut Vec<Runner<'_>>, turns: u32)
+fn run_all<L: Ledger>(
+    bus: &mut BusCore,
+    runners: &mut Vec<Runner<'_>>,
+    turns: u32,
+    steps: &mut Steps<L>,
+)
     requires { AllStand bus.old runners.old.items }
     ensures { RotatesTimes turns bus.old runners.old.items bus.new runners.new.items }
 {
     for _round in 0..turns {
-        rotate(bus, runners);
+        rotate(bus, runners, steps);
     }
 }
 
 // One rotation: a turn of each application that has not ended, in order of number.
-fn rotate(bus: &mut BusCore, runners: &mut Vec<Runner<'_>>)
+fn rotate<L: Ledger>(bus: &mut BusCore, runners: &mut Vec<Runner<'_>>, steps: &mut Steps<L>)
     requires { AllStand bus.old runners.old.items }
     ensures { Rotates bus.old runners.old.items bus.new runners.new.items }
 {
     for i in 0..runners.len() {
-        take_turn(bus, &mut runners[i]);
+        take_turn(bus, &mut runners[i], steps);
     }
 }
 
 // A turn of the application, where it has not ended.
-fn take_turn(bus: &mut BusCore, runner: &mut Runner<'_>)
+fn take_turn<L: Ledger>(bus: &mut BusCore, runner: &mut Runner<'_>, steps: &mut Steps<L>)
     requires { Stands runner.old bus.old }
-    ensures { Steps runner.old runner.new bus.old bus.new }
+    ensures { MovesOn runner.old runner.new bus.old bus.new }
 {
     if !runner.has_ended() {
         let app = runner.app();
-        let _ = runner.turn(&mut CoreCalls::new(bus, app));
+        let _ = runner.turn(&mut CoreCalls::new(bus, app, steps));
     }
 }
 
@@ -134,10 +158,8 @@ fn receipts_of(runners: Vec<Runner<'_>>, room: Vec<ReceiptList>) -> Vec<ReceiptL
     requires room { length runners.items ≤ vec_capacity room }
     ensures { map (λ list. list.receipts) result.items ≡ map (λ runner. runner.receipts) runners.entry.items }
 {
-    let mut left = runners;
     let mut receipts = room;
-    while !left.is_empty() {
-        let runner = left.remove(0);
+    for runner in runners {
         receipts.push_reserved(runner.finish());
     }
     receipts

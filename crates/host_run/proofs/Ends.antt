@@ -1,17 +1,15 @@
 -- Why the program ended as it did, and that a script is run where nothing fails.
-use Rattle.std.proofs.Common.{◌≡◌, ◌⊎◌, ℕ, ◌<◌, ◌≤◌, nat_lt, Bool, true, false, cond, true≢false, List, ◌++◌, length, map, Option, Some, None, Result, Ok, Err, IfSome, inl, inr, refl, sym, ap, subst, ◌∙◌, arith, length-append}
+use Rattle.std.proofs.Common.{◌≡◌, ◌⊎◌, ℕ, ◌<◌, List, ◌++◌, length, map, Option, Some, None, Result, Ok, Err, IfSome, inl, inr, refl, sym, ap, subst, ◌∙◌, arith, length-append}
 use Rattle.std.specs.List.{range_with_len}
 use Rattle.fsw_base.specs.Outside.{Rose}
 use Rattle.fsw_base.specs.declared.script_faults.ScriptFault.{ScriptFault}
 use Rattle.bus_words.specs.Log.{Log}
-use Rattle.bus_words.specs.Machine.{IsLegal}
 use Rattle.bus_words.specs.ReceiptLists.{Receipts}
 use Rattle.run_report.specs.Report.{report_text, report_of}
 use Rattle.app_script.specs.Grammar.{built_script}
 use Rattle.app_script.specs.Rotation.{rotation}
 use Rattle.app_script.specs.Script.{ScriptText}
 use Rattle.app_script.specs.Told.{receipts_told}
-use Rattle.app_script.specs.Trace.{Merges}
 use Rattle.app_script.proofs.Merged.{rotation-legal, rotation-merges}
 use Rattle.host_run.proofs.Sizes.{length-built_script}
 use Rattle.host_run.specs.Input.{most_input, IsWhole, IsTooLarge}

@@ -1,5 +1,5 @@
 -- What one more entry leaves: the fields stand for the bus that the step leaves, and the call does what the bus does.
-use Rattle.std.proofs.Common.{◌≡◌, add-zero, zero-add, ℕ, zero, suc, ◌+◌, ◌-◌, ◌<◌, ◌≤◌, true, false, ◌&&◌, cond, ltb, List, [], ◌∷◌, ◌++◌, length, map, get_or, Option, Some, None, IsTrue, refl, ap, sym, ◌∙◌, subst, arith}
+use Rattle.std.proofs.Common.{◌≡◌, add-zero, zero-add, ℕ, zero, suc, ◌+◌, ◌-◌, ◌%◌, ◌<◌, ◌≤◌, true, false, ◌&&◌, cond, ltb, List, [], ◌∷◌, ◌++◌, length, map, get_or, Option, Some, None, IsTrue, refl, ap, sym, ◌∙◌, subst, arith}
 use Rattle.std.specs.List.{All, slice_get}
 use Rattle.std.proofs.lemmas.List.{length-set, length_push, get_or_past}
 use Rattle.std.proofs.lemmas.List.Sums.{sum_by-set, sum_by-append}
@@ -205,28 +205,24 @@ entry_keeps a journal e keeps room is silent =
     let g = grown a.journal journal e room is in
     record {
       activities = keeps.activities ∙ sym g.apps;
-      queues = keeps.queues;
-      pipes_room = keeps.pipes_room;
-      spare_room = keeps.spare_room;
+      room = keeps.room;
       rows = keeps.rows;
-      spare = keeps.spare;
       sends = sends_grown a.journal journal e a.sends.items is keeps.sends;
-      counts = λ id. keeps.counts id ∙ sym (counts_stay a.journal journal e id is (silent id));
+      counts = λ id. keeps.counts id ∙ ap (λ n. n % 16384) (sym (counts_stay a.journal journal e id is (silent id)));
       ways = keeps.ways;
       pipes_made = omega (arith, keeps.pipes_made, g.entries);
       subscriptions_made = omega (arith, keeps.subscriptions_made, g.entries);
       subscriptions_live = keeps.subscriptions_live;
       sends_made = omega (arith, keeps.sends_made, g.entries);
       few = omega (arith, keeps.few, g.entries, g.left);
-      subscriptions_room = omega (arith, keeps.subscriptions_room, g.entries, g.left);
+      numbers_room = omega (arith, keeps.numbers_room, g.entries, g.left);
       sends_room = omega (arith, keeps.sends_room, g.entries, g.left);
-      routes_room = keeps.routes_room;
     }
 
 -- and changes nothing that the fields stand for
 pub entry_means : (a : Inside) (journal : Log) (e : Entry) → Keeps a → journal ≡ with_entry a.journal e → means (record a { journal = journal }) ≡ means a
 entry_means a journal e keeps is =
-    ap (λ kept. record (means a) { pipes = map (pipe_in kept) a.pipes.items }) (kept_grown a.journal journal e a.sends.items is keeps.sends)
+    ap (λ kept. record (means a) { pipes = map (pipe_in kept) a.tables.pipes }) (kept_grown a.journal journal e a.sends.items is keeps.sends)
 
 -- the answer and the bus of a call whose cause is known
 pub step_by : (limits : Limits) (history : List Entry) (s : State) (app : ℕ) (call : Call) (why : Option SbStatus) → cause limits s app call ≡ why →

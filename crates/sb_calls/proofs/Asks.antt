@@ -14,7 +14,8 @@ use Rattle.bus_words.specs.Machine.{cause, decided, step, refused_if}
 use Rattle.sb_calls.specs.declared.bus_core.BusCore.TheInside.{Inside}
 use Rattle.sb_calls.specs.Core.{Core, state_of}
 use Rattle.sb_calls.specs.Inside.{core_of, Stands}
-use Rattle.sb_calls.specs.Rows.{Row, kept_in, pipe_in}
+use Rattle.sb_calls.specs.Rows.{kept_in, pipe_in}
+use Rattle.bus_tables.specs.Rows.{Row}
 use Rattle.sb_calls.proofs.Refusals.{state_is}
 
 -- A search tells what a test tells. --
@@ -26,6 +27,15 @@ any_found {X} p (x ∷ xs) = by_test (p x) (any_found p xs)
     by_test : (b : Bool) → list_any p xs ≡ is_some (find p xs) → (b || list_any p xs) ≡ is_some (cond {A = Option X} b (Some x) (find p xs))
     by_test true ih = refl
     by_test false ih = ih
+
+-- whether a pipe has the name
+pub name_told : (rows : List Row) (name : List ℕ) →
+    list_any (λ row. bytes_eq row.name name) rows ≡ is_some (option_map (λ row. row.number) (find (λ row. bytes_eq row.name name) rows))
+name_told rows name = any_found (λ (row : Row). bytes_eq row.name name) rows ∙ mapped (find (λ row. bytes_eq row.name name) rows)
+  where
+    mapped : (o : Option Row) → is_some o ≡ is_some (option_map (λ row. row.number) o)
+    mapped None = refl
+    mapped (Some row) = refl
 
 none_told : {X Y : Type 0} (f : X → Y) (o : Option X) → option_map f o ≡ None → is_some o ≡ false
 none_told f None is = refl
@@ -46,14 +56,13 @@ map_twice f g None = refl
 map_twice f g (Some x) = refl
 
 -- what is told of the pipe that passes a test, from the rows
-pub told_of : {X : Type 0} (a : Inside) (now : Core) → core_of a ≡ now → Stands a → (f : Pipe → X) (p : Pipe → Bool) (rows : List Row) → rows ≡ a.pipes.items →
-    option_map (λ row. f (pipe_in (kept_in a.journal.entries a.sends.items) row)) (find (λ row. p (pipe_in (kept_in a.journal.entries a.sends.items) row)) rows)
+pub told_of : {X : Type 0} (a : Inside) (now : Core) → core_of a ≡ now → Stands a → (f : Pipe → X) (p : Pipe → Bool) →
+    option_map (λ row. f (pipe_in (kept_in a.journal.entries a.sends.items) row)) (find (λ row. p (pipe_in (kept_in a.journal.entries a.sends.items) row)) a.tables.pipes)
     ≡ option_map f (find p (state_of now).pipes)
-told_of a now is stands f p rows same =
+told_of a now is stands f p =
     let kept = kept_in a.journal.entries a.sends.items in
-    ap (λ l. option_map (λ row. f (pipe_in kept row)) (find (λ row. p (pipe_in kept row)) l)) same
-    ∙ sym (map_twice f (pipe_in kept) (find (λ row. p (pipe_in kept row)) a.pipes.items))
-    ∙ ap (option_map f) (sym (find-map p (pipe_in kept) a.pipes.items))
+    sym (map_twice f (pipe_in kept) (find (λ row. p (pipe_in kept row)) a.tables.pipes))
+    ∙ ap (option_map f) (sym (find-map p (pipe_in kept) a.tables.pipes))
     ∙ ap (λ (s : State). option_map f (find p s.pipes)) (state_is a now is stands)
 
 -- Answers of calls that only ask. --

@@ -1,11 +1,11 @@
 mod After
+mod Alone
 mod Asks
 mod Changes
 mod Counts
 mod Creates
 mod Deletes
 mod Ends
-mod Loops
 mod Meaning
 mod OpenedCore
 mod Options

@@ -6,8 +6,9 @@ use Rattle.std.proofs.lemmas.List.{length-map, map_push}
 use Rattle.fsw_base.proofs.Lists.{find-map, list_any-map, count_by-map}
 use Rattle.bus_words.specs.Bus.{Pipe, Subscription, Sending, Verdict, Skip, OverLimit, Full, In, verdict, is_in, item_for, offered, deliver, reached, taken_by, owns, with_pipe, oldest, after_receive, is_empty}
 use Rattle.bus_words.specs.Machine.{oldest_number}
-use Rattle.sb_calls.specs.declared.rows.ItemRow.{ItemRow}
-use Rattle.sb_calls.specs.Rows.{Kept, Row, item_in, pipe_in, with_row, first_item, oldest_item, after_take, owns_row, waiting_in, ignores_sender, takes, offered_row, row_takes, deliver_rows, reached_rows}
+use Rattle.bus_tables.specs.declared.tables.ItemRow.{ItemRow}
+use Rattle.sb_calls.specs.Rows.{Kept, item_in, pipe_in}
+use Rattle.bus_tables.specs.Rows.{Row, with_row, first_item, oldest_item, after_take, owns_row, waiting_in, ignores_sender, takes, offered_row, row_takes, deliver_rows, reached_rows}
 
 -- a change of one row is that change of its pipe
 pub pipes_with_row : (kept : List Kept) (change : Row → Row) (next : Pipe → Pipe) → ((row : Row) → pipe_in kept (change row) ≡ next (pipe_in kept row)) →

@@ -11,8 +11,9 @@ use Rattle.bus_words.specs.Log.{Log, allowances, entries_left}
 use Rattle.sb_calls.specs.declared.bus_core.BusCore.TheInside.{Inside}
 use Rattle.sb_calls.specs.declared.rows.Activity.TheVariants as activities
 use Rattle.sb_calls.specs.Core.{IsLegalCore, state_of}
-use Rattle.sb_calls.specs.Inside.{Keeps, Stands}
-use Rattle.sb_calls.specs.Rows.{pipe_in, kept_in, ids_of, standing_in}
+use Rattle.sb_calls.specs.Inside.{means, Keeps, Stands}
+use Rattle.sb_calls.specs.Rows.{standing_in}
+use Rattle.bus_tables.specs.Tables.{opened}
 
 -- what holds of each element of an empty list
 pub All-empty : {X : Type 0} (P : X → Type 0) (xs : List X) → xs ≡ [] → All P xs
@@ -35,21 +36,15 @@ standings-active : (n : ℕ) → map standing_in (replicate n activities.Active)
 standings-active zero = refl
 standings-active (suc n) = ap (λ l. Active ∷ l) (standings-active n)
 
-pub stands_opening : (a : Inside) (budgets : List Budget) →
+pub stands_opening : (a : Inside) (budgets : List Budget) (numbers : ℕ) →
     a.journal ≡ record { entries = []; left = allowances budgets } →
     a.activities.items ≡ replicate (length budgets) activities.Active →
-    a.pipes.items ≡ [] → a.pipes_created ≡ 0 →
-    a.subscriptions.items ≡ [] → a.subscriptions_made ≡ 0 →
-    a.routes.items ≡ [] → a.sends.items ≡ [] → Keeps a → Stands a
-stands_opening a budgets journal active pipes created subscriptions made routes sends keeps = record {
+    a.tables ≡ opened (limits_of a.config) numbers → a.sends.items ≡ [] → Keeps a → Stands a
+stands_opening a budgets numbers journal active tables sends keeps = record {
   legal = subst (λ (log : Log). IsLegalCore (record { limits = limits_of a.config; log = log })) (sym journal) tt;
   state =
-      cc (
-        ap (λ rows. map (pipe_in (kept_in a.journal.entries a.sends.items)) rows) pipes,
-        created,
-        subscriptions,
-        made,
-        ap (λ l. ids_of l) routes,
+      ap (λ t. means (record a { tables = t })) tables
+      ∙ cc (
         ap length sends,
         ap (λ l. map standing_in l) active ∙ standings-active (length budgets),
         ap (λ n. replicate n Active) (length-allowances budgets),

@@ -1,9 +1,9 @@
 -- What a receive that may wait leaves.
-use Rattle.std.proofs.Common.{◌≡◌, zero-add, ℕ, ◌+◌, ◌-◌, ◌<◌, ◌≤◌, Bool, true, false, ◌&&◌, not, cond, if◌then◌else◌, eqb, List, [], ◌∷◌, length, map, set, get_or, Some, None, is_none, count_by, IsTrue, refl, ap, sym, ◌∙◌, arith, Vec, Global, vec_capacity}
+use Rattle.std.proofs.Common.{◌≡◌, zero-add, ℕ, ◌+◌, ◌-◌, ◌<◌, ◌≤◌, Bool, true, false, ◌&&◌, not, cond, if◌then◌else◌, eqb, List, [], ◌∷◌, length, map, set, get_or, Some, None, is_none, count_by, IsTrue, refl, ap, sym, ◌∙◌, arith, Vec, Global}
 use Rattle.std.specs.List.{list_all}
 use Rattle.std.specs.Option.{option_map_or}
 use Rattle.std.proofs.lemmas.Bool.Decides.{nat_tests}
-use Rattle.std.proofs.lemmas.List.{length-set, length-map, map-set}
+use Rattle.std.proofs.lemmas.List.{length-set, map-set}
 use Rattle.std.proofs.lemmas.List.Sums.{sum_by-set, sum_by-cons}
 use Rattle.std.proofs.Math.ListN.{get_or-map}
 use Rattle.std.proofs.lemmas.List.Folds.{list_all-map}
@@ -21,14 +21,17 @@ use Rattle.sb_calls.specs.declared.pending.Pended.{Pended}
 use Rattle.sb_calls.specs.declared.pending.Pended.TheVariants as waits
 use Rattle.sb_calls.specs.declared.rows.Activity.{Activity}
 use Rattle.sb_calls.specs.declared.rows.Activity.TheVariants as activities
-use Rattle.sb_calls.specs.declared.rows.ItemRow.{ItemRow}
+use Rattle.bus_tables.specs.declared.tables.ItemRow.{ItemRow}
 use Rattle.sb_calls.specs.Answers.{waited}
 use Rattle.sb_calls.specs.Core.{Core, Does, Looks, state_of}
 use Rattle.sb_calls.specs.Inside.{core_of, means, Keeps, Stands}
-use Rattle.sb_calls.specs.Rows.{Kept, Row, kept_in, pipe_in, with_row, oldest_item, after_take, owns_row, standing_in, idle_in, is_pending}
+use Rattle.sb_calls.specs.Rows.{Kept, kept_in, pipe_in, standing_in, idle_in, is_pending}
+use Rattle.bus_tables.specs.Rows.{Row, with_row, oldest_item, after_take, owns_row}
 use Rattle.sb_calls.proofs.After.{Called, step_by, exit_stands, exit_does}
 use Rattle.sb_calls.proofs.Meaning.{pipes_with_row, pipe_in-after_take, owns-rows, is_empty-rows, oldest_number-rows}
-use Rattle.sb_calls.proofs.Receives.{rows_kept, IsRow-after_take}
+use Rattle.bus_tables.specs.Tables.{Tables}
+use Rattle.sb_calls.proofs.Changes.{activities_keep, row_keeps}
+use Rattle.sb_calls.proofs.Receives.{IsRow-after_take}
 
 -- Counting the busy. --
 
@@ -65,30 +68,30 @@ idle-row kept rows (activities.Waiting pipe) = is_empty-rows kept rows pipe
 idle-row kept rows activities.Ended = refl
 
 -- whether all others are idle
-pub others_idle-rows : (a : Inside) (app : ℕ) → others_idle (means a) app ≡ list_all (idle_in a.pipes.items) (set a.activities.items (app - 1) activities.Ended)
+pub others_idle-rows : (a : Inside) (app : ℕ) → others_idle (means a) app ≡ list_all (idle_in a.tables.pipes) (set a.activities.items (app - 1) activities.Ended)
 others_idle-rows a app =
     let kept = kept_in a.journal.entries a.sends.items in
-    let pipes = map (pipe_in kept) a.pipes.items in
+    let pipes = map (pipe_in kept) a.tables.pipes in
     ap (list_all (is_idle pipes)) (sym (map-set standing_in a.activities.items (app - 1) activities.Ended))
     ∙ list_all-map (is_idle pipes) standing_in (set a.activities.items (app - 1) activities.Ended)
-    ∙ all_agrees (λ x. is_idle pipes (standing_in x)) (idle_in a.pipes.items) (idle-row kept a.pipes.items) (set a.activities.items (app - 1) activities.Ended)
+    ∙ all_agrees (λ x. is_idle pipes (standing_in x)) (idle_in a.tables.pipes) (idle-row kept a.tables.pipes) (set a.activities.items (app - 1) activities.Ended)
 
-empty-rows : (a : Inside) (pipe : ℕ) → is_empty (means a).pipes pipe ≡ is_none (oldest_item a.pipes.items pipe)
-empty-rows a pipe = is_empty-rows (kept_in a.journal.entries a.sends.items) a.pipes.items pipe
+empty-rows : (a : Inside) (pipe : ℕ) → is_empty (means a).pipes pipe ≡ is_none (oldest_item a.tables.pipes pipe)
+empty-rows a pipe = is_empty-rows (kept_in a.journal.entries a.sends.items) a.tables.pipes pipe
 
 -- the answer, by whether the pipe is empty and the others are idle
 abbrev answer_by : Bool → Bool → ℕ → BusAnswer
 answer_by empty idle number = if not empty then Got number else if idle then TimeOut else Pending
 
 -- a message waits
-pub pended-some : (a : Inside) (app pipe : ℕ) (item : ItemRow) → oldest_item a.pipes.items pipe ≡ Some item → pended_answer (means a) app pipe ≡ Got item.number
+pub pended-some : (a : Inside) (app pipe : ℕ) (item : ItemRow) → oldest_item a.tables.pipes pipe ≡ Some item → pended_answer (means a) app pipe ≡ Got item.number
 pended-some a app pipe item some =
     ap (λ b. answer_by b (others_idle (means a) app) (oldest_number (means a).pipes pipe)) (empty-rows a pipe ∙ ap is_none some)
-    ∙ ap Got (oldest_number-rows (kept_in a.journal.entries a.sends.items) a.pipes.items pipe ∙ ap (λ o. option_map_or {U = ℕ} (λ i. i.number) o 0) some)
+    ∙ ap Got (oldest_number-rows (kept_in a.journal.entries a.sends.items) a.tables.pipes pipe ∙ ap (λ o. option_map_or {U = ℕ} (λ i. i.number) o 0) some)
 
 -- none waits
-pub pended-none : (a : Inside) (app pipe : ℕ) (idle : Bool) → oldest_item a.pipes.items pipe ≡ None →
-    list_all (idle_in a.pipes.items) (set a.activities.items (app - 1) activities.Ended) ≡ idle →
+pub pended-none : (a : Inside) (app pipe : ℕ) (idle : Bool) → oldest_item a.tables.pipes pipe ≡ None →
+    list_all (idle_in a.tables.pipes) (set a.activities.items (app - 1) activities.Ended) ≡ idle →
     pended_answer (means a) app pipe ≡ (if idle then TimeOut else Pending)
 pended-none a app pipe idle none is =
     ap (λ b. answer_by b (others_idle (means a) app) (oldest_number (means a).pipes pipe)) (empty-rows a pipe ∙ ap is_none none)
@@ -129,44 +132,27 @@ waited_silent id End answer = refl
 
 -- Taking. --
 
-module _ (a : Inside) (pipes : Vec Row Global) (acts : Vec Activity Global) (old : Core) (app pipe : ℕ) (call : Call) (called : Called a old app call)
-    (rows : pipes.items ≡ with_row after_take pipe a.pipes.items) (capacity : vec_capacity pipes ≡ vec_capacity a.pipes)
+module _ (a : Inside) (next : Tables) (acts : Vec Activity Global) (old : Core) (app pipe : ℕ) (call : Call) (called : Called a old app call)
+    (is : next ≡ record a.tables { pipes = with_row after_take pipe a.tables.pipes })
     (kept_acts : length acts.items ≡ length a.activities.items) where
-  pub took_keeps : Keeps (record a { pipes = pipes; activities = acts })
+  pub took_keeps : Keeps (record a { tables = next; activities = acts })
   took_keeps =
-      let keeps = called.stands.keeps in
-      record {
-        activities = kept_acts ∙ keeps.activities;
-        queues = ap (λ n. n + length a.spare.items) (ap length rows ∙ length-map a.pipes.items (λ row. cond {A = Row} (eqb row.number pipe) (after_take row) row)) ∙ keeps.queues;
-        pipes_room = omega (arith, capacity, keeps.pipes_room);
-        spare_room = keeps.spare_room;
-        rows = rows_kept a.config.depth (length a.sends.items) after_take (IsRow-after_take a.config.depth (length a.sends.items)) pipe a.pipes.items pipes.items rows keeps.rows;
-        spare = keeps.spare;
-        sends = keeps.sends;
-        counts = keeps.counts;
-        ways = keeps.ways;
-        pipes_made = keeps.pipes_made;
-        subscriptions_made = keeps.subscriptions_made;
-        subscriptions_live = keeps.subscriptions_live;
-        sends_made = keeps.sends_made;
-        few = keeps.few;
-        subscriptions_room = keeps.subscriptions_room;
-        sends_room = keeps.sends_room;
-        routes_room = keeps.routes_room;
-      }
+      activities_keep (record a { tables = next }) acts
+      (row_keeps a next after_take pipe called.stands.keeps (IsRow-after_take (length a.sends.items)) is) kept_acts
 
-  pub took_means : means (record a { pipes = pipes; activities = acts }) ≡ record (received (means a) pipe) { standings = map standing_in acts.items }
+  pub took_means : means (record a { tables = next; activities = acts }) ≡ record (received (means a) pipe) { standings = map standing_in acts.items }
   took_means =
       let kept = kept_in a.journal.entries a.sends.items in
-      ap (λ (ps : List Pipe). record (means a) { pipes = ps; standings = map standing_in acts.items })
-      (ap (map (pipe_in kept)) rows ∙ pipes_with_row kept after_take after_receive (pipe_in-after_take kept) pipe a.pipes.items)
+      ap (λ t. means (record a { tables = t; activities = acts })) is
+      ∙ ap (λ (ps : List Pipe). record (means a) { pipes = ps; standings = map standing_in acts.items })
+      (pipes_with_row kept after_take after_receive (pipe_in-after_take kept) pipe a.tables.pipes)
 
 -- Pending receives. --
 
-module _ (a : Inside) (pipes : Vec Row Global) (acts : Vec Activity Global) (journal : Log) (old : Core) (app pipe : ℕ) (answer : Pended)
+module _ (a : Inside) (next : Tables) (acts : Vec Activity Global) (journal : Log) (old : Core) (app pipe : ℕ) (answer : Pended)
     (called : Called a old app (Pend pipe))
-    (own : owns_row a.pipes.items app pipe ≡ true)
-    (rows : pipes.items ≡ with_row after_take pipe a.pipes.items) (capacity : vec_capacity pipes ≡ vec_capacity a.pipes)
+    (own : owns_row a.tables.pipes app pipe ≡ true)
+    (is : next ≡ record a.tables { pipes = with_row after_take pipe a.tables.pipes })
     (waits_where_told : acts.items ≡ (if is_pending answer then set a.activities.items (app - 1) (activities.Waiting pipe) else a.activities.items))
     (answers : waited answer ≡ pended_answer (means a) app pipe)
     (pushed : journal ≡ with_entry a.journal (record { app = app; call = Pend pipe; answer = waited answer })) where
@@ -177,9 +163,9 @@ module _ (a : Inside) (pipes : Vec Row Global) (acts : Vec Activity Global) (jou
       by_test true = length-set a.activities.items (app - 1) (activities.Waiting pipe)
       by_test false = refl
 
-  pend_means : means (record a { pipes = pipes; activities = acts }) ≡ pended (means a) app pipe
+  pend_means : means (record a { tables = next; activities = acts }) ≡ pended (means a) app pipe
   pend_means =
-      took_means a pipes acts old app pipe (Pend pipe) called rows capacity pend_length
+      took_means a next acts old app pipe (Pend pipe) called is pend_length
       ∙ ap (λ l. record (received (means a) pipe) { standings = map standing_in l }) waits_where_told
       ∙ by_test (is_pending answer)
       ∙ ap (λ b. cond {A = State} b (with_standing (received (means a) pipe) app (Waiting pipe)) (received (means a) pipe)) (sym (pending-test (means a) app pipe answer answers))
@@ -190,28 +176,28 @@ module _ (a : Inside) (pipes : Vec Row Global) (acts : Vec Activity Global) (jou
       by_test true = ap (λ (st : List Standing). record (received (means a) pipe) { standings = st }) (map-set standing_in a.activities.items (app - 1) (activities.Waiting pipe))
       by_test false = refl
 
-  pend_step : step (limits_of a.config) a.journal.entries (means a) app (Pend pipe) ≡ (waited answer, means (record a { pipes = pipes; activities = acts }))
+  pend_step : step (limits_of a.config) a.journal.entries (means a) app (Pend pipe) ≡ (waited answer, means (record a { tables = next; activities = acts }))
   pend_step =
       step_by (limits_of a.config) a.journal.entries (means a) app (Pend pipe) None
-      (ap (λ b. refused_if (not b) BadArgument None) (owns-rows (kept_in a.journal.entries a.sends.items) a.pipes.items app pipe ∙ own))
+      (ap (λ b. refused_if (not b) BadArgument None) (owns-rows (kept_in a.journal.entries a.sends.items) a.tables.pipes app pipe ∙ own))
       ∙ ap (λ x. (x, pended (means a) app pipe)) (sym answers)
       ∙ ap (λ s. (waited answer, s)) (sym pend_means)
 
-  pub pend_stands : Stands (record a { pipes = pipes; activities = acts; journal = journal })
+  pub pend_stands : Stands (record a { tables = next; activities = acts; journal = journal })
   pend_stands =
-      exit_stands a (record a { pipes = pipes; activities = acts }) journal old app (Pend pipe) (waited answer) called refl refl
-      (took_keeps a pipes acts old app pipe (Pend pipe) called rows capacity pend_length) (λ id. waited_silent id (Pend pipe) answer) refl pend_step pushed
+      exit_stands a (record a { tables = next; activities = acts }) journal old app (Pend pipe) (waited answer) called refl refl
+      (took_keeps a next acts old app pipe (Pend pipe) called is pend_length) (λ id. waited_silent id (Pend pipe) answer) refl pend_step pushed
 
-  pub pend_does : Does old (core_of (record a { pipes = pipes; activities = acts; journal = journal })) app (Pend pipe) (waited answer)
+  pub pend_does : Does old (core_of (record a { tables = next; activities = acts; journal = journal })) app (Pend pipe) (waited answer)
   pend_does =
-      exit_does a (record a { pipes = pipes; activities = acts }) journal old app (Pend pipe) (waited answer) called refl refl
-      (took_keeps a pipes acts old app pipe (Pend pipe) called rows capacity pend_length) (λ id. waited_silent id (Pend pipe) answer) refl pend_step pushed
+      exit_does a (record a { tables = next; activities = acts }) journal old app (Pend pipe) (waited answer) called refl refl
+      (took_keeps a next acts old app pipe (Pend pipe) called is pend_length) (λ id. waited_silent id (Pend pipe) answer) refl pend_step pushed
 
 -- Looks. --
 
-module _ (a : Inside) (pipes : Vec Row Global) (acts : Vec Activity Global) (journal : Log) (old : Core) (app pipe : ℕ) (answer : Pended)
+module _ (a : Inside) (next : Tables) (acts : Vec Activity Global) (journal : Log) (old : Core) (app pipe : ℕ) (answer : Pended)
     (called : Called a old app (Look pipe))
-    (rows : pipes.items ≡ with_row after_take pipe a.pipes.items) (capacity : vec_capacity pipes ≡ vec_capacity a.pipes)
+    (is : next ≡ record a.tables { pipes = with_row after_take pipe a.tables.pipes })
     (active : acts.items ≡ set a.activities.items (app - 1) activities.Active)
     (found : is_pending answer ≡ false)
     (answers : waited answer ≡ pended_answer (means a) app pipe)
@@ -219,14 +205,14 @@ module _ (a : Inside) (pipes : Vec Row Global) (acts : Vec Activity Global) (jou
   look_length : length acts.items ≡ length a.activities.items
   look_length = ap length active ∙ length-set a.activities.items (app - 1) activities.Active
 
-  look_means : means (record a { pipes = pipes; activities = acts }) ≡ looked (means a) app pipe
+  look_means : means (record a { tables = next; activities = acts }) ≡ looked (means a) app pipe
   look_means =
-      took_means a pipes acts old app pipe (Look pipe) called rows capacity look_length
+      took_means a next acts old app pipe (Look pipe) called is look_length
       ∙ ap (λ l. record (received (means a) pipe) { standings = map standing_in l }) active
       ∙ ap (λ (st : List Standing). record (received (means a) pipe) { standings = st }) (map-set standing_in a.activities.items (app - 1) activities.Active)
       ∙ ap (λ b. cond {A = State} b (means a) (with_standing (received (means a) pipe) app Active)) (sym (pending-test (means a) app pipe answer answers ∙ found))
 
-  look_step : step (limits_of a.config) a.journal.entries (means a) app (Look pipe) ≡ (waited answer, means (record a { pipes = pipes; activities = acts }))
+  look_step : step (limits_of a.config) a.journal.entries (means a) app (Look pipe) ≡ (waited answer, means (record a { tables = next; activities = acts }))
   look_step =
       ap (λ x. (x, looked (means a) app pipe)) (sym answers)
       ∙ ap (λ s. (waited answer, s)) (sym look_means)
@@ -239,15 +225,15 @@ module _ (a : Inside) (pipes : Vec Row Global) (acts : Vec Activity Global) (jou
       by_answer waits.TimeOut is = refl
       by_answer waits.Pending is = absurd (cc (is))
 
-  pub look_stands : Stands (record a { pipes = pipes; activities = acts; journal = journal })
+  pub look_stands : Stands (record a { tables = next; activities = acts; journal = journal })
   look_stands =
-      exit_stands a (record a { pipes = pipes; activities = acts }) journal old app (Look pipe) (waited answer) called refl refl
-      (took_keeps a pipes acts old app pipe (Look pipe) called rows capacity look_length) (λ id. waited_silent id (Look pipe) answer) makes_look look_step pushed
+      exit_stands a (record a { tables = next; activities = acts }) journal old app (Look pipe) (waited answer) called refl refl
+      (took_keeps a next acts old app pipe (Look pipe) called is look_length) (λ id. waited_silent id (Look pipe) answer) makes_look look_step pushed
 
-  pub look_does : Does old (core_of (record a { pipes = pipes; activities = acts; journal = journal })) app (Look pipe) (waited answer)
+  pub look_does : Does old (core_of (record a { tables = next; activities = acts; journal = journal })) app (Look pipe) (waited answer)
   look_does =
-      exit_does a (record a { pipes = pipes; activities = acts }) journal old app (Look pipe) (waited answer) called refl refl
-      (took_keeps a pipes acts old app pipe (Look pipe) called rows capacity look_length) (λ id. waited_silent id (Look pipe) answer) makes_look look_step pushed
+      exit_does a (record a { tables = next; activities = acts }) journal old app (Look pipe) (waited answer) called refl refl
+      (took_keeps a next acts old app pipe (Look pipe) called is look_length) (λ id. waited_silent id (Look pipe) answer) makes_look look_step pushed
 
 -- What an application waits on. --
 

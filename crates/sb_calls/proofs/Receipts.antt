@@ -23,12 +23,13 @@ use Rattle.bus_words.specs.declared.history.Entry.{Entry}
 use Rattle.bus_words.specs.declared.receipts.Receipt.{Receipt}
 use Rattle.bus_words.specs.declared.receipts.Receipt.TheVariants.{Message}
 use Rattle.bus_words.specs.Receipts.{message_receipt, receipt_in}
-use Rattle.sb_calls.specs.declared.rows.ItemRow.{ItemRow}
+use Rattle.bus_tables.specs.declared.tables.ItemRow.{ItemRow}
 use Rattle.sb_calls.specs.declared.rows.SendRow.{SendRow}
 use Rattle.sb_calls.specs.declared.bus_core.BusCore.TheInside.{Inside}
 use Rattle.sb_calls.specs.Core.{Core, state_of}
 use Rattle.sb_calls.specs.Inside.{Stands, core_of}
-use Rattle.sb_calls.specs.Rows.{Kept, kept_at, kept_in, kept_of, bytes_sent, bytes_of_entry, Row, item_in, pipe_in, last_row_item, owns_row, IsItem, IsRow, is_send, is_transmit}
+use Rattle.sb_calls.specs.Rows.{Kept, kept_at, kept_in, kept_of, bytes_sent, bytes_of_entry, item_in, pipe_in, IsItem, IsRow, is_send, is_transmit}
+use Rattle.bus_tables.specs.Rows.{Row, last_row_item, owns_row}
 use Rattle.sb_calls.proofs.Meaning.{owns-rows}
 
 -- a sum of bytes is at most 255 for each
@@ -92,16 +93,16 @@ item_found None item is = absurd cc
 item_found (Some row) item is = (row, refl, is)
 
 -- the last item of an application's row names an accepted send
-pub last_row_item-IsItem : (depth sends : ℕ) (rows : List Row) (app number : ℕ) (item : ItemRow) →
-    All (IsRow depth sends) rows → last_row_item rows app number ≡ Some item → IsItem sends item
-last_row_item-IsItem depth sends rows app number item all is = by_owner (owns_row rows app number) is
+pub last_row_item-IsItem : (sends : ℕ) (rows : List Row) (app number : ℕ) (item : ItemRow) →
+    All (IsRow sends) rows → last_row_item rows app number ≡ Some item → IsItem sends item
+last_row_item-IsItem sends rows app number item all is = by_owner (owns_row rows app number) is
   where
     by_owner : (own : Bool) →
         cond {A = Option ItemRow} own (option_and_then (λ row. row.last) (find (λ row. row.number == number) rows)) None ≡ Some item → IsItem sends item
     by_owner false there = absurd cc
     by_owner true there =
         let at = item_found (find (λ (row : Row). row.number == number) rows) item there in
-        subst (λ o. IfSome o (IsItem sends)) at.2 (found_in (IsRow depth sends) (λ (row : Row). row.number == number) rows at.0 all at.1).last
+        subst (λ o. IfSome o (IsItem sends)) at.2 (found_in (IsRow sends) (λ (row : Row). row.number == number) rows at.0 all at.1).last
 
 -- the receipt of the last item, where there is a row
 receipt_of_found : (kept : List Kept) (number : ℕ) (own : Bool) (found : Option Row) →
@@ -180,11 +181,10 @@ sends_by_transmit app (calls.Look pipe) answer sends other = false≢true sends
 sends_by_transmit app calls.End answer sends other = false≢true sends
 
 -- the last item names an accepted send
-pub last_item-IsItem : (a : Inside) (pipes : List Row) (found : Option ItemRow) (app number : ℕ) (item : ItemRow) → Stands a →
-    pipes ≡ a.pipes.items → found ≡ last_row_item pipes app number → found ≡ Some item → IsItem (length a.sends.items) item
-last_item-IsItem a pipes found app number item stands rows finds is =
-    last_row_item-IsItem a.config.depth (length a.sends.items) a.pipes.items app number item stands.keeps.rows
-    (ap (λ l. last_row_item l app number) (sym rows) ∙ sym finds ∙ is)
+pub last_item-IsItem : (a : Inside) (found : Option ItemRow) (app number : ℕ) (item : ItemRow) → Stands a →
+    found ≡ last_row_item a.tables.pipes app number → found ≡ Some item → IsItem (length a.sends.items) item
+last_item-IsItem a found app number item stands finds is =
+    last_row_item-IsItem (length a.sends.items) a.tables.pipes app number item stands.keeps.rows (sym finds ∙ is)
 
 -- the send of an item
 pub send_of_item : (a : Inside) (item : ItemRow) (send : SendRow) → Stands a → IsItem (length a.sends.items) item →
@@ -201,38 +201,38 @@ kept_message entries sends item send named is =
     (get_or-map (kept_of entries) sends (item.number - 1) send _ (omega (arith, named.first, named.last)) ∙ ap (λ s. kept_of entries s) (sym is))
 
 -- the last receipt, from the last row's item
-last_receipt_kept : (a : Inside) (core : Core) (pipes : List Row) (found : Option ItemRow) (app number : ℕ) → Stands a → core_of a ≡ core →
-    pipes ≡ a.pipes.items → found ≡ last_row_item pipes app number →
+last_receipt_kept : (a : Inside) (core : Core) (found : Option ItemRow) (app number : ℕ) → Stands a → core_of a ≡ core →
+    found ≡ last_row_item a.tables.pipes app number →
     receipt_in (state_of core) app number
     ≡ option_map (λ item. message_receipt number item.number (kept_at (kept_in a.journal.entries a.sends.items) item.number).message) found
-last_receipt_kept a core pipes found app number stands view rows finds =
+last_receipt_kept a core found app number stands view finds =
     let kept = kept_in a.journal.entries a.sends.items in
-    let same : (state_of core).pipes ≡ map (pipe_in kept) a.pipes.items =
+    let same : (state_of core).pipes ≡ map (pipe_in kept) a.tables.pipes =
     ap (λ (c : Core). (state_of c).pipes) (sym view) ∙ ap (λ (s : State). s.pipes) (sym stands.state) in
-    receipt_in-rows kept a.pipes.items (state_of core) app number same
+    receipt_in-rows kept a.tables.pipes (state_of core) app number same
     ∙ ap (λ o. option_map (λ item. message_receipt number item.number (kept_at kept item.number).message) o)
-    (ap (λ l. last_row_item l app number) (sym rows) ∙ sym finds)
+    (sym finds)
 
 -- there is none where there is no last item
-pub receipt_in-none : (a : Inside) (core : Core) (pipes : List Row) (found : Option ItemRow) (app number : ℕ) → Stands a → core_of a ≡ core →
-    pipes ≡ a.pipes.items → found ≡ last_row_item pipes app number → found ≡ None → receipt_in (state_of core) app number ≡ None
-receipt_in-none a core pipes found app number stands view rows finds none =
-    last_receipt_kept a core pipes found app number stands view rows finds
+pub receipt_in-none : (a : Inside) (core : Core) (found : Option ItemRow) (app number : ℕ) → Stands a → core_of a ≡ core →
+    found ≡ last_row_item a.tables.pipes app number → found ≡ None → receipt_in (state_of core) app number ≡ None
+receipt_in-none a core found app number stands view finds none =
+    last_receipt_kept a core found app number stands view finds
     ∙ ap (λ o. option_map (λ item. message_receipt number item.number (kept_at (kept_in a.journal.entries a.sends.items) item.number).message) o) none
 
 -- else it is that of the bytes that were sent, with their count
-pub receipt_in-some : (a : Inside) (core : Core) (pipes : List Row) (found : Option ItemRow) (app number : ℕ) (item : ItemRow) (send : SendRow)
-    (e : BusEntry) (bytes : Bor (List ℕ)) (inc : Bool) → Stands a → core_of a ≡ core → pipes ≡ a.pipes.items →
-    found ≡ last_row_item pipes app number → found ≡ Some item → send ≡ slice_index_or a.sends.items (item.number - 1) send →
+pub receipt_in-some : (a : Inside) (core : Core) (found : Option ItemRow) (app number : ℕ) (item : ItemRow) (send : SendRow)
+    (e : BusEntry) (bytes : Bor (List ℕ)) (inc : Bool) → Stands a → core_of a ≡ core →
+    found ≡ last_row_item a.tables.pipes app number → found ≡ Some item → send ≡ slice_index_or a.sends.items (item.number - 1) send →
     slice_get a.journal.entries send.entry ≡ Some (entry_of e) → e.call ≡ calls.Transmit bytes inc →
     receipt_in (state_of core) app number ≡ Some (message_receipt number item.number (with_count bytes.now send.count))
-receipt_in-some a core pipes found app number item send e bytes inc stands view rows finds is sent entry call =
+receipt_in-some a core found app number item send e bytes inc stands view finds is sent entry call =
     let kept = kept_in a.journal.entries a.sends.items in
-    let named = last_item-IsItem a pipes found app number item stands rows finds is in
+    let named = last_item-IsItem a found app number item stands finds is in
     let told : bytes_of_entry (slice_get a.journal.entries send.entry) ≡ bytes.now =
     ap (λ o. bytes_of_entry o) entry ∙ ap (λ c. bytes_sent (call_of c)) call in
     let message : (kept_at kept item.number).message ≡ with_count bytes.now send.count =
     kept_message a.journal.entries a.sends.items item send named sent ∙ ap (λ b. with_count b send.count) told in
-    last_receipt_kept a core pipes found app number stands view rows finds
+    last_receipt_kept a core found app number stands view finds
     ∙ ap (λ o. option_map (λ item. message_receipt number item.number (kept_at kept item.number).message) o) is
     ∙ ap (λ m. Some (message_receipt number item.number m)) message

@@ -14,10 +14,11 @@ use Rattle.bus_words.specs.declared.history.Call.{Call}
 use Rattle.bus_words.specs.Bus.{State, owns, is_subscribed, has_route, route}
 use Rattle.bus_words.specs.Machine.{create_cause, subscribe_cause, refused_if, refused_state, step}
 use Rattle.sb_calls.specs.declared.bus_core.BusCore.TheInside.{Inside}
-use Rattle.sb_calls.specs.declared.rows.RouteRow.{RouteRow}
+use Rattle.bus_tables.specs.Rows.{RouteRow}
 use Rattle.sb_calls.specs.Core.{Core, state_of}
 use Rattle.sb_calls.specs.Inside.{core_of, means, Stands}
-use Rattle.sb_calls.specs.Rows.{Row, kept_in, pipe_in, ids_of, owns_row}
+use Rattle.sb_calls.specs.Rows.{kept_in, pipe_in}
+use Rattle.bus_tables.specs.Rows.{ids_of, has_way, owns_row}
 use Rattle.sb_calls.proofs.Meaning.{owns-rows}
 
 -- the bus that the fields stand for is the core's
@@ -54,11 +55,9 @@ same_from_core a now is stands call status there =
     subst P (sym (state_is a now is stands)) there
 
 -- whether a pipe is live and the application's
-pub owns_here : (a : Inside) (now : Core) → core_of a ≡ now → Stands a → (app pipe : ℕ) (rows : List Row) → rows ≡ a.pipes.items →
-    owns_row rows app pipe ≡ owns (state_of now).pipes app pipe
-owns_here a now is stands app pipe rows same =
-    ap (λ l. owns_row l app pipe) same
-    ∙ sym (owns-rows (kept_in a.journal.entries a.sends.items) a.pipes.items app pipe)
+pub owns_here : (a : Inside) (now : Core) → core_of a ≡ now → Stands a → (app pipe : ℕ) → owns_row a.tables.pipes app pipe ≡ owns (state_of now).pipes app pipe
+owns_here a now is stands app pipe =
+    sym (owns-rows (kept_in a.journal.entries a.sends.items) a.tables.pipes app pipe)
     ∙ ap (λ (s : State). owns s.pipes app pipe) (state_is a now is stands)
 
 -- tests of numbers
@@ -82,19 +81,19 @@ create_checked limits s depth name bad full taken is_bad is_full is_taken =
     ∙ ap (λ b. refused_if bad BadArgument (refused_if full MaxPipesMet (refused_if b PipeCrErr None))) is_taken
 
 module _ (a : Inside) where
-  pub pipes_full : a.config.pipes ≤ length a.pipes.items → leb a.config.pipes (length (means a).pipes) ≡ true
+  pub pipes_full : a.config.pipes ≤ length a.tables.pipes → leb a.config.pipes (length (means a).pipes) ≡ true
   pipes_full full =
-      let n = length-map a.pipes.items (pipe_in (kept_in a.journal.entries a.sends.items)) in
+      let n = length-map a.tables.pipes (pipe_in (kept_in a.journal.entries a.sends.items)) in
       at_least a.config.pipes (length (means a).pipes) (omega (arith, n))
 
-  pub pipes_free : length a.pipes.items < a.config.pipes → leb a.config.pipes (length (means a).pipes) ≡ false
+  pub pipes_free : length a.tables.pipes < a.config.pipes → leb a.config.pipes (length (means a).pipes) ≡ false
   pipes_free free =
-      let n = length-map a.pipes.items (pipe_in (kept_in a.journal.entries a.sends.items)) in
+      let n = length-map a.tables.pipes (pipe_in (kept_in a.journal.entries a.sends.items)) in
       not_at_least a.config.pipes (length (means a).pipes) (omega (arith, n))
 
-  pub name_taken : (name : List ℕ) (taken : Bool) → list_any (λ row. bytes_eq row.name name) a.pipes.items ≡ taken →
+  pub name_taken : (name : List ℕ) (taken : Bool) → list_any (λ row. bytes_eq row.name name) a.tables.pipes ≡ taken →
       list_any (λ pipe. bytes_eq pipe.name name) (means a).pipes ≡ taken
-  name_taken name taken is = list_any-map (λ pipe. bytes_eq pipe.name name) (pipe_in (kept_in a.journal.entries a.sends.items)) a.pipes.items ∙ is
+  name_taken name taken is = list_any-map (λ pipe. bytes_eq pipe.name name) (pipe_in (kept_in a.journal.entries a.sends.items)) a.tables.pipes ∙ is
 
 -- Subscribing. --
 
@@ -112,18 +111,18 @@ subscribe_checked limits s app id pipe bad live lacks full is_bad is_live is_lac
     ∙ ap (λ b. refused_if bad BadArgument (cond live None (refused_if lacks MaxMsgsMet (refused_if b MaxDestsMet None)))) is_full
 
 -- whether an id has a route
-pub has_route-rows : (routes : List RouteRow) (id : ℕ) → has_route (ids_of routes) id ≡ list_any (λ route. eqb route.id id) routes
+pub has_route-rows : (routes : List RouteRow) (id : ℕ) → has_route (ids_of routes) id ≡ has_way routes id
 has_route-rows routes id = list_any-map (λ other. eqb other id) (λ route. route.id) routes
 
 module _ (a : Inside) where
-  pub bad_subscription : (app id pipe : ℕ) (bad : Bool) → (not (is_valid_id id) || not (owns_row a.pipes.items app pipe)) ≡ bad →
+  pub bad_subscription : (app id pipe : ℕ) (bad : Bool) → (not (is_valid_id id) || not (owns_row a.tables.pipes app pipe)) ≡ bad →
       (not (is_valid_id id) || not (owns (means a).pipes app pipe)) ≡ bad
   bad_subscription app id pipe bad is =
-      ap (λ b. not (is_valid_id id) || not b) (owns-rows (kept_in a.journal.entries a.sends.items) a.pipes.items app pipe) ∙ is
+      ap (λ b. not (is_valid_id id) || not b) (owns-rows (kept_in a.journal.entries a.sends.items) a.tables.pipes app pipe) ∙ is
 
-  pub lacks_route : (id : ℕ) (lacks : Bool) → (not (list_any (λ route. eqb route.id id) a.routes.items) && leb a.config.msgids (length a.routes.items)) ≡ lacks →
+  pub lacks_route : (id : ℕ) (lacks : Bool) → (not (has_way a.tables.routes id) && leb a.config.msgids (length a.tables.routes)) ≡ lacks →
       (not (has_route (means a).routed id) && leb a.config.msgids (length (means a).routed)) ≡ lacks
   lacks_route id lacks is =
-      ap (λ b. not b && leb a.config.msgids (length (means a).routed)) (has_route-rows a.routes.items id)
-      ∙ ap (λ n. not (list_any (λ route. eqb route.id id) a.routes.items) && leb a.config.msgids n) (length-map a.routes.items (λ route. route.id))
+      ap (λ b. not b && leb a.config.msgids (length (means a).routed)) (has_route-rows a.tables.routes id)
+      ∙ ap (λ n. not (has_way a.tables.routes id) && leb a.config.msgids n) (length-map a.tables.routes (λ route. route.id))
       ∙ is

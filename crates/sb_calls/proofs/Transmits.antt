@@ -1,6 +1,6 @@
 -- What a send leaves.
-use Rattle.std.proofs.Common.{◌≡◌, ℕ, zero, suc, ◌+◌, ◌-◌, ◌<◌, ◌≤◌, Bool, true, false, ◌&&◌, cond, eqb, leb, ltb, List, [], ◌∷◌, ◌++◌, length, map, Option, Some, None, is_some, is_none, refl, ap, sym, ◌∙◌, subst, arith, Vec, Global, vec_capacity}
-use Rattle.std.specs.List.{All, slice_get, list_any}
+use Rattle.std.proofs.Common.{◌≡◌, ℕ, zero, suc, ◌+◌, ◌-◌, ◌%◌, ◌<◌, ◌≤◌, Bool, true, false, ◌&&◌, cond, eqb, leb, ltb, List, [], ◌∷◌, ◌++◌, length, map, Option, Some, None, is_some, is_none, refl, ap, sym, ◌∙◌, subst, arith, Vec, Global, vec_capacity}
+use Rattle.std.specs.List.{All, slice_get}
 use Rattle.std.specs.Option.{IfSome, option_map}
 use Rattle.std.proofs.lemmas.Bool.Decides.{nat_tests}
 use Rattle.std.proofs.lemmas.List.{length_push, length-map, map_push, get_or_push, get_or_append_left}
@@ -17,16 +17,17 @@ use Rattle.bus_words.specs.Bus.{Item, State, Pipe, Subscription, Sending, route,
 use Rattle.bus_words.specs.Log.{Log, with_entry}
 use Rattle.bus_words.specs.Machine.{cause, step, counts_for, transmit_cause, sent_along, delivered, refused_if}
 use Rattle.sb_calls.specs.declared.bus_core.BusCore.TheInside.{Inside}
-use Rattle.sb_calls.specs.declared.rows.ItemRow.{ItemRow}
-use Rattle.sb_calls.specs.declared.rows.RouteRow.{RouteRow}
+use Rattle.bus_tables.specs.declared.tables.ItemRow.{ItemRow}
 use Rattle.sb_calls.specs.declared.rows.SendRow.{SendRow}
 use Rattle.sb_calls.specs.Core.{Core, Does}
 use Rattle.sb_calls.specs.Inside.{core_of, means, Keeps, Stands}
-use Rattle.sb_calls.specs.Rows.{Kept, Row, IsItem, IsRow, is_send, is_transmit, bytes_of_entry, kept_of, kept_in, kept_at, item_in, pipe_in, takes, with_row, offered_row, deliver_rows, reached_rows, counted_up, counted_in, counted_sends, ids_of}
+use Rattle.sb_calls.specs.Rows.{Kept, IsItem, IsRow, is_send, is_transmit, bytes_of_entry, kept_of, kept_in, kept_at, item_in, pipe_in, counted_up, counted_sends}
+use Rattle.bus_tables.specs.Rows.{Row, takes, with_row, offered_row, deliver_rows, reached_rows, ids_of, has_way}
+use Rattle.bus_tables.specs.Tables.{Tables}
 use Rattle.sb_calls.proofs.After.{Called, Next, may_here, step_by, does_from, stands_after, grown, kept_grown, sends_grown, counts_move, map_agrees}
-use Rattle.sb_calls.proofs.Counts.{counted_in-counted_up, ids_of-counted_up, has_route-counted_up, way_of}
+use Rattle.sb_calls.proofs.Counts.{counted_in-counted_up, count_of_sends, ids_of-counted_up, has_route-counted_up, way_of}
 use Rattle.sb_calls.proofs.Meaning.{IsSending, deliver-rows, reached-rows}
-use Rattle.sb_calls.proofs.Receives.{rows_kept}
+use Rattle.sb_calls.proofs.Changes.{rows_kept}
 
 -- Causes. --
 
@@ -59,18 +60,17 @@ module _ (kept : List Kept) (more : Kept) where
   last_stays None is = refl
   last_stays (Some item) is = ap Some (item_stays item is)
 
-  pipe_stays : (depth : ℕ) (row : Row) → IsRow depth (length kept) row → pipe_in (kept ++ more ∷ []) row ≡ pipe_in kept row
-  pipe_stays depth row is =
+  pipe_stays : (row : Row) → IsRow (length kept) row → pipe_in (kept ++ more ∷ []) row ≡ pipe_in kept row
+  pipe_stays row is =
       ap (λ (q : List Item). record (pipe_in (kept ++ more ∷ []) row) { queue = q }) (map_agrees (IsItem (length kept)) (item_in (kept ++ more ∷ [])) (item_in kept) item_stays row.queue is.queue)
       ∙ ap (λ (o : Option Item). record (pipe_in kept row) { last = o }) (last_stays row.last is.last)
 
   -- the pipes stay what they were
-  pub pipes_stay : (depth : ℕ) (rows : List Row) → All (IsRow depth (length kept)) rows → map (pipe_in (kept ++ more ∷ [])) rows ≡ map (pipe_in kept) rows
-  pipes_stay depth rows all = map_agrees (IsRow depth (length kept)) (pipe_in (kept ++ more ∷ [])) (pipe_in kept) (pipe_stays depth) rows all
+  pub pipes_stay : (rows : List Row) → All (IsRow (length kept)) rows → map (pipe_in (kept ++ more ∷ [])) rows ≡ map (pipe_in kept) rows
+  pipes_stay rows all = map_agrees (IsRow (length kept)) (pipe_in (kept ++ more ∷ [])) (pipe_in kept) pipe_stays rows all
 
-IsRow-more : (depth sends : ℕ) (row : Row) → IsRow depth sends row → IsRow depth (sends + 1) row
-IsRow-more depth sends row is = record {
-  room = is.room;
+IsRow-more : (sends : ℕ) (row : Row) → IsRow sends row → IsRow (sends + 1) row
+IsRow-more sends row is = record {
   queue = All-weaker (IsItem sends) (IsItem (sends + 1)) item_more row.queue is.queue;
   last = last_more row.last is.last;
 }
@@ -82,29 +82,22 @@ IsRow-more depth sends row is = record {
     last_more None one = tt
     last_more (Some item) one = item_more item one
 
-IsRow-offered : (depth sends sender number : ℕ) (sub : Subscription) → 1 ≤ number → number ≤ sends → (row : Row) → IsRow depth sends row → IsRow depth sends (offered_row sender number sub row)
-IsRow-offered depth sends sender number sub first last row is = by_test (takes row sub sender)
+IsRow-offered : (sends sender number : ℕ) (sub : Subscription) → 1 ≤ number → number ≤ sends → (row : Row) → IsRow sends row → IsRow sends (offered_row sender number sub row)
+IsRow-offered sends sender number sub first last row is = by_test (takes row sub sender)
   where
-    by_test : (b : Bool) → IsRow depth sends (cond {A = Row} b (record row { queue = row.queue ++ record { number = number; subscription = sub.number } ∷ [] }) row)
+    by_test : (b : Bool) → IsRow sends (cond {A = Row} b (record row { queue = row.queue ++ record { number = number; subscription = sub.number } ∷ [] }) row)
     by_test true = record {
-      room = is.room;
       queue = All-push (IsItem sends) row.queue (record { number = number; subscription = sub.number }) is.queue (record { first = first; last = last });
       last = is.last;
     }
     by_test false = is
 
-rows_delivered : (depth sends sender number : ℕ) → 1 ≤ number → number ≤ sends → (subs : List Subscription) (rows : List Row) → All (IsRow depth sends) rows →
-    All (IsRow depth sends) (deliver_rows sender number subs rows)
-rows_delivered depth sends sender number first last [] rows all = all
-rows_delivered depth sends sender number first last (sub ∷ subs) rows all =
-    rows_delivered depth sends sender number first last subs (with_row (offered_row sender number sub) sub.pipe rows)
-    (rows_kept depth sends (offered_row sender number sub) (IsRow-offered depth sends sender number sub first last) sub.pipe rows (with_row (offered_row sender number sub) sub.pipe rows) refl all)
-
-length-deliver_rows : (sender number : ℕ) (subs : List Subscription) (rows : List Row) → length (deliver_rows sender number subs rows) ≡ length rows
-length-deliver_rows sender number [] rows = refl
-length-deliver_rows sender number (sub ∷ subs) rows =
-    length-deliver_rows sender number subs (with_row (offered_row sender number sub) sub.pipe rows)
-    ∙ length-map rows (λ row. cond {A = Row} (eqb row.number sub.pipe) (offered_row sender number sub row) row)
+rows_delivered : (sends sender number : ℕ) → 1 ≤ number → number ≤ sends → (subs : List Subscription) (rows : List Row) → All (IsRow sends) rows →
+    All (IsRow sends) (deliver_rows sender number subs rows)
+rows_delivered sends sender number first last [] rows all = all
+rows_delivered sends sender number first last (sub ∷ subs) rows all =
+    rows_delivered sends sender number first last subs (with_row (offered_row sender number sub) sub.pipe rows)
+    (rows_kept sends (offered_row sender number sub) (IsRow-offered sends sender number sub first last) sub.pipe rows all)
 
 -- a send along a subscription
 along : (subs : List Subscription) (first : Subscription) (more : List Subscription) (sending : Sending) (s : State) → subs ≡ first ∷ more →
@@ -139,16 +132,19 @@ nobody_uncounted bytes inc id = silent (inc && eqb (message_id bytes) id)
     silent true = refl
     silent false = refl
 
-module _ (a : Inside) (pipes : Vec Row Global) (routes : Vec RouteRow Global) (sends : Vec SendRow Global) (journal : Log) (old : Core) (app : ℕ) (bytes : List ℕ) (inc : Bool)
+-- the tables once a send of this number, which moves the id's count or not, was offered to the id's subscriptions
+abbrev pub with_send : Tables → ℕ → ℕ → ℕ → Bool → Tables
+with_send t id app number inc = record t { pipes = deliver_rows app number (route t.subscriptions id) t.pipes; routes = counted_up t.routes id inc }
+
+module _ (a : Inside) (next : Tables) (sends : Vec SendRow Global) (journal : Log) (old : Core) (app : ℕ) (bytes : List ℕ) (inc : Bool)
     (called : Called a old app (Transmit bytes inc)) (why : cause (limits_of a.config) (means a) app (Transmit bytes inc) ≡ None)
-    (first : Subscription) (more : List Subscription) (someone : route a.subscriptions.items (message_id bytes) ≡ first ∷ more)
+    (first : Subscription) (more : List Subscription) (someone : route a.tables.subscriptions (message_id bytes) ≡ first ∷ more)
     (count entry number arrived : ℕ)
     (counted : with_count bytes count ≡ delivered (limits_of a.config) a.journal.entries bytes inc) (bits : count < 16384)
     (place : entry ≡ length a.journal.entries) (numbered : number ≡ length a.sends.items + 1)
     (sent : sends.items ≡ a.sends.items ++ record { entry = entry; count = count } ∷ []) (sends_capacity : vec_capacity sends ≡ vec_capacity a.sends)
-    (rows : pipes.items ≡ deliver_rows app number (route a.subscriptions.items (message_id bytes)) a.pipes.items) (capacity : vec_capacity pipes ≡ vec_capacity a.pipes)
-    (arrives : arrived ≡ reached_rows app number (route a.subscriptions.items (message_id bytes)) a.pipes.items)
-    (ways : routes.items ≡ counted_up a.routes.items (message_id bytes) inc) (routes_capacity : vec_capacity routes ≡ vec_capacity a.routes)
+    (is : next ≡ with_send a.tables (message_id bytes) app number inc)
+    (arrives : arrived ≡ reached_rows app number (route a.tables.subscriptions (message_id bytes)) a.tables.pipes)
     (pushed : journal ≡ with_entry a.journal (record { app = app; call = Transmit bytes inc; answer = Sent number arrived })) where
   there : slice_get journal.entries entry ≡ Some (record { app = app; call = Transmit bytes inc; answer = Sent number arrived })
   there =
@@ -165,49 +161,45 @@ module _ (a : Inside) (pipes : Vec Row Global) (routes : Vec RouteRow Global) (s
       ∙ ap (λ o. is_none o && ltb count 16384) message
       ∙ small
 
-  sent_keeps : Keeps (record a { pipes = pipes; routes = routes; sends = sends; journal = journal })
+  sent_keeps : Keeps (record a { tables = next; sends = sends; journal = journal })
   sent_keeps =
       let e : Entry = record { app = app; call = Transmit bytes inc; answer = Sent number arrived } in
       let keeps = called.stands.keeps in
       let g = grown a.journal journal e (may_here a old app (Transmit bytes inc) called).room pushed in
       let id = message_id bytes in
       let send : SendRow = record { entry = entry; count = count } in
+      let subs = route a.tables.subscriptions id in
       let one_more : length sends.items ≡ length a.sends.items + 1 = ap length sent ∙ length_push a.sends.items send in
-      let all_pipes : length pipes.items ≡ length a.pipes.items = ap length rows ∙ length-deliver_rows app number (route a.subscriptions.items id) a.pipes.items in
-      let way = way_of a.routes.items a.subscriptions.items id first more keeps.ways someone in
+      let way = way_of a.tables.routes a.tables.subscriptions id first more keeps.ways someone in
       let numbered_one : leb 1 number ≡ true = grind (arith, nat_tests, numbered) in
       let S : List SendRow → Type 0 = λ l. All (λ s. is_send journal.entries s ≡ true) l in
-      let R : List Row → Type 0 = λ l. All (IsRow a.config.depth (length a.sends.items + 1)) l in
-      let N : ℕ → Type 0 = λ n. All (IsRow a.config.depth n) pipes.items in
-      let W : List RouteRow → Type 0 = λ l. All (λ sub. list_any (λ route. eqb route.id sub.id) l ≡ true) a.subscriptions.items in
-      record {
+      let N : ℕ → Type 0 = λ n. All (IsRow n) (deliver_rows app number subs a.tables.pipes) in
+      let P : Tables → Type 0 = λ t. Keeps (record a { tables = t; sends = sends; journal = journal }) in
+      subst P (sym is)
+      (record {
         activities = keeps.activities ∙ sym g.apps;
-        queues = omega (arith, all_pipes, keeps.queues);
-        pipes_room = omega (arith, capacity, keeps.pipes_room);
-        spare_room = keeps.spare_room;
+        room = keeps.room;
         rows = subst N (sym one_more)
-            (subst R (sym rows)
-            (rows_delivered a.config.depth (length a.sends.items + 1) app number (omega (arith, numbered)) (omega (arith, numbered)) (route a.subscriptions.items id) a.pipes.items
-            (All-weaker (IsRow a.config.depth (length a.sends.items)) (IsRow a.config.depth (length a.sends.items + 1)) (IsRow-more a.config.depth (length a.sends.items)) a.pipes.items keeps.rows)));
-        spare = keeps.spare;
+            (rows_delivered (length a.sends.items + 1) app number (omega (arith, numbered)) (omega (arith, numbered)) subs a.tables.pipes
+            (All-weaker (IsRow (length a.sends.items)) (IsRow (length a.sends.items + 1)) (IsRow-more (length a.sends.items)) a.tables.pipes keeps.rows));
         sends = subst S (sym sent) (All-push (λ s. is_send journal.entries s ≡ true) a.sends.items send (sends_grown a.journal journal e a.sends.items pushed keeps.sends) is_sent);
         counts = λ other.
-            ap (λ (l : List RouteRow). counted_in l other) ways
-            ∙ counted_in-counted_up a.routes.items id other inc way
-            ∙ ap (λ n. n + cond (inc && eqb id other) 1 0) (keeps.counts other)
-            ∙ sym (counts_move a.journal journal e other pushed ∙ ap (λ b. counted_sends a.journal.entries other + cond {A = ℕ} (inc && eqb id other && b) 1 0) numbered_one ∙ ap (λ b. counted_sends a.journal.entries other + cond {A = ℕ} b 1 0) (and_true (inc && eqb id other)));
-        ways = subst W (sym ways)
-            (All-weaker (λ sub. list_any (λ route. eqb route.id sub.id) a.routes.items ≡ true) (λ sub. list_any (λ route. eqb route.id sub.id) (counted_up a.routes.items id inc) ≡ true)
-            (λ sub one. has_route-counted_up a.routes.items id sub.id inc ∙ one) a.subscriptions.items keeps.ways);
+            counted_in-counted_up a.tables.routes id other inc way
+            ∙ ap (λ n. cond (inc && eqb id other) ((n + 1) % 16384) n) (keeps.counts other)
+            ∙ count_of_sends (counted_sends a.journal.entries other) (inc && eqb id other)
+            ∙ ap (λ n. n % 16384)
+            (sym (counts_move a.journal journal e other pushed ∙ ap (λ b. counted_sends a.journal.entries other + cond {A = ℕ} (inc && eqb id other && b) 1 0) numbered_one ∙ ap (λ b. counted_sends a.journal.entries other + cond {A = ℕ} b 1 0) (and_true (inc && eqb id other))));
+        ways =
+            All-weaker (λ sub. has_way a.tables.routes sub.id ≡ true) (λ sub. has_way (counted_up a.tables.routes id inc) sub.id ≡ true)
+            (λ sub one. has_route-counted_up a.tables.routes id sub.id inc ∙ one) a.tables.subscriptions keeps.ways;
         pipes_made = omega (arith, keeps.pipes_made, g.entries);
         subscriptions_made = omega (arith, keeps.subscriptions_made, g.entries);
         subscriptions_live = keeps.subscriptions_live;
         sends_made = omega (arith, one_more, keeps.sends_made, g.entries);
         few = omega (arith, keeps.few, g.entries, g.left);
-        subscriptions_room = omega (arith, keeps.subscriptions_room, g.entries, g.left);
+        numbers_room = omega (arith, keeps.numbers_room, g.entries, g.left);
         sends_room = omega (arith, sends_capacity, keeps.sends_room, g.entries, g.left);
-        routes_room = omega (arith, routes_capacity, keeps.routes_room);
-      }
+      })
     where
       and_true : (b : Bool) → (b && true) ≡ b
       and_true true = refl
@@ -222,27 +214,27 @@ module _ (a : Inside) (pipes : Vec Row Global) (routes : Vec RouteRow Global) (s
       ∙ ap (λ l. l ++ kept_of journal.entries send ∷ []) (kept_grown a.journal journal e a.sends.items pushed called.stands.keeps.sends)
       ∙ ap (λ o. kept_in a.journal.entries a.sends.items ++ record { asked = length (bytes_of_entry o); message = with_count (bytes_of_entry o) count } ∷ []) there
 
-  sent_next : Next a (record a { pipes = pipes; routes = routes; sends = sends; journal = journal }) app (Transmit bytes inc) (Sent number arrived)
+  sent_next : Next a (record a { tables = next; sends = sends; journal = journal }) app (Transmit bytes inc) (Sent number arrived)
   sent_next =
       let s = means a in
       let id = message_id bytes in
-      let subs = route a.subscriptions.items id in
+      let subs = route a.tables.subscriptions id in
       let kept = kept_in a.journal.entries a.sends.items in
       let new : Kept = record { asked = length bytes; message = with_count bytes count } in
       let sending : Sending = record { sender = app; number = length a.sends.items + 1; asked = length bytes; message = delivered (limits_of a.config) a.journal.entries bytes inc } in
       let lengths : length kept ≡ length a.sends.items = length-map a.sends.items (kept_of a.journal.entries) in
-      let all : All (IsRow a.config.depth (length kept)) a.pipes.items =
-      let N : ℕ → Type 0 = λ n. All (IsRow a.config.depth n) a.pipes.items in subst N (sym lengths) called.stands.keeps.rows in
-      let still = pipes_stay kept new a.config.depth a.pipes.items all in
+      let all : All (IsRow (length kept)) a.tables.pipes =
+      let N : ℕ → Type 0 = λ n. All (IsRow n) a.tables.pipes in subst N (sym lengths) called.stands.keeps.rows in
+      let still = pipes_stay kept new a.tables.pipes all in
       let as_sent : IsSending (kept ++ new ∷ []) sending = sending_is kept new lengths in
-      let pipes_after : map (pipe_in (kept_in journal.entries sends.items)) pipes.items ≡ deliver sending subs s.pipes =
-      ap (λ k. map (pipe_in k) pipes.items) new_kept
-      ∙ ap (map (pipe_in (kept ++ new ∷ []))) (rows ∙ ap (λ n. deliver_rows app n subs a.pipes.items) numbered)
-      ∙ deliver-rows (kept ++ new ∷ []) sending as_sent subs a.pipes.items
+      let pipes_after : map (pipe_in (kept_in journal.entries sends.items)) (deliver_rows app number subs a.tables.pipes) ≡ deliver sending subs s.pipes =
+      ap (λ k. map (pipe_in k) (deliver_rows app number subs a.tables.pipes)) new_kept
+      ∙ ap (λ n. map (pipe_in (kept ++ new ∷ [])) (deliver_rows app n subs a.tables.pipes)) numbered
+      ∙ deliver-rows (kept ++ new ∷ []) sending as_sent subs a.tables.pipes
       ∙ ap (deliver sending subs) still in
       let arrived_is : arrived ≡ reached sending subs s.pipes =
-      arrives ∙ ap (λ n. reached_rows app n subs a.pipes.items) numbered
-      ∙ reached-rows (kept ++ new ∷ []) sending as_sent subs a.pipes.items
+      arrives ∙ ap (λ n. reached_rows app n subs a.tables.pipes) numbered
+      ∙ reached-rows (kept ++ new ∷ []) sending as_sent subs a.tables.pipes
       ∙ ap (reached sending subs) still in
       record {
         limits = refl;
@@ -251,10 +243,11 @@ module _ (a : Inside) (pipes : Vec Row Global) (routes : Vec RouteRow Global) (s
         step =
             step_by (limits_of a.config) a.journal.entries (means a) app (Transmit bytes inc) None why
             ∙ along subs first more sending s someone
-            ∙ sym (ap (λ n. (Sent n arrived, means (record a { pipes = pipes; routes = routes; sends = sends; journal = journal }))) numbered
-            ∙ ap (λ n. (Sent (length a.sends.items + 1) n, means (record a { pipes = pipes; routes = routes; sends = sends; journal = journal }))) arrived_is
-            ∙ ap (λ (ps : List Pipe). (Sent (length a.sends.items + 1) (reached sending subs s.pipes), record s { pipes = ps; routed = ids_of routes.items; numbers_given = length sends.items })) pipes_after
-            ∙ ap (λ (l : List ℕ). (Sent (length a.sends.items + 1) (reached sending subs s.pipes), record s { pipes = deliver sending subs s.pipes; routed = l; numbers_given = length sends.items })) (ap ids_of ways ∙ ids_of-counted_up a.routes.items id inc)
+            ∙ sym (ap (λ n. (Sent n arrived, means (record a { tables = next; sends = sends; journal = journal }))) numbered
+            ∙ ap (λ n. (Sent (length a.sends.items + 1) n, means (record a { tables = next; sends = sends; journal = journal }))) arrived_is
+            ∙ ap (λ t. (Sent (length a.sends.items + 1) (reached sending subs s.pipes), means (record a { tables = t; sends = sends; journal = journal }))) is
+            ∙ ap (λ (ps : List Pipe). (Sent (length a.sends.items + 1) (reached sending subs s.pipes), record s { pipes = ps; routed = ids_of (counted_up a.tables.routes id inc); numbers_given = length sends.items })) pipes_after
+            ∙ ap (λ (l : List ℕ). (Sent (length a.sends.items + 1) (reached sending subs s.pipes), record s { pipes = deliver sending subs s.pipes; routed = l; numbers_given = length sends.items })) (ids_of-counted_up a.tables.routes id inc)
             ∙ ap (λ n. (Sent (length a.sends.items + 1) (reached sending subs s.pipes), record s { pipes = deliver sending subs s.pipes; numbers_given = n })) (ap length sent ∙ length_push a.sends.items (record { entry = entry; count = count })));
       }
     where
@@ -269,8 +262,8 @@ module _ (a : Inside) (pipes : Vec Row Global) (routes : Vec RouteRow Global) (s
                 ∙ ap (λ m. record { number = length a.sends.items + 1; asked = length bytes; subscription = sub.number; message = m }) counted;
           }
 
-  pub sent_stands : Stands (record a { pipes = pipes; routes = routes; sends = sends; journal = journal })
-  sent_stands = stands_after a (record a { pipes = pipes; routes = routes; sends = sends; journal = journal }) old app (Transmit bytes inc) (Sent number arrived) called sent_next sent_keeps
+  pub sent_stands : Stands (record a { tables = next; sends = sends; journal = journal })
+  sent_stands = stands_after a (record a { tables = next; sends = sends; journal = journal }) old app (Transmit bytes inc) (Sent number arrived) called sent_next sent_keeps
 
-  pub sent_does : Does old (core_of (record a { pipes = pipes; routes = routes; sends = sends; journal = journal })) app (Transmit bytes inc) (Sent number arrived)
-  sent_does = does_from a (record a { pipes = pipes; routes = routes; sends = sends; journal = journal }) old app (Transmit bytes inc) (Sent number arrived) called sent_next
+  pub sent_does : Does old (core_of (record a { tables = next; sends = sends; journal = journal })) app (Transmit bytes inc) (Sent number arrived)
+  sent_does = does_from a (record a { tables = next; sends = sends; journal = journal }) old app (Transmit bytes inc) (Sent number arrived) called sent_next

@@ -1,11 +1,12 @@
 -- The bus core as its callers see it: its limits and its journal. What the bus is follows from them.
-use Rattle.std.specs.Prelude.{◌≡◌, ℕ, ◌≤◌, nat_le, Bool, true, length, IsTrue, Option, None, option_and_then, if◌then◌else◌}
-use Rattle.std.specs.Option.{option_map}
+use Rattle.std.specs.Prelude.{◌≡◌, ℕ, ◌≤◌, nat_le, Bool, true, length, IsTrue}
 use Rattle.fsw_base.specs.Limits.{Limits}
 use Rattle.bus_words.specs.declared.calls.BusAnswer.{BusAnswer}
+use Rattle.bus_words.specs.declared.calls.BusAnswer.TheVariants.{Got}
 use Rattle.bus_words.specs.declared.history.Call.{Call}
 use Rattle.bus_words.specs.declared.history.Call.TheVariants.{Create, Delete, SetOpts, GetOpts, Find, PipeName, Subscribe, Unsubscribe, Transmit, Receive, Pend, Look, End}
-use Rattle.bus_words.specs.Bus.{State, standing_of, owns, pipe_at}
+use Rattle.bus_words.specs.Alone.{Received, Gives, receipts, solo_receipts, unmade, cut}
+use Rattle.bus_words.specs.Bus.{State, standing_of}
 use Rattle.bus_words.specs.Entries.{call_bytes}
 use Rattle.bus_words.specs.Log.{Log, HasRoom, with_entry}
 use Rattle.sb_calls.specs.declared.pending.Pended.{Pended}
@@ -64,3 +65,17 @@ abbrev pub Looks : Core → Core → ℕ → ℕ → Pended → Type 0
 Looks old new app pipe Pending =
     (new ≡ old) × ((step old.limits old.log.entries (state_of old) app (Look pipe)).0 ≡ waited Pending)
 Looks old new app pipe answer = Does old new app (Look pipe) (waited answer)
+
+-- Isolation. --
+
+-- the message of this number, which the application gets from a pipe by this call, is the pipe's last message, and the
+-- newest that the pipe alone gives
+abbrev pub GotAlone : Core → ℕ → ℕ → Call → ℕ → Type 0
+GotAlone old app pipe call number =
+    (message : Received) × (message.number ≡ number)
+    × Gives old.limits (apps_of old) pipe old.log.entries (record { app = app; call = call; answer = Got number }) message
+
+-- what each pipe gave so far is what the pipe alone gives, whatever befell the others
+abbrev pub StandAlone : Core → Type 0
+StandAlone core =
+    (pipe : ℕ) → receipts core.limits (apps_of core) pipe core.log.entries ≡ solo_receipts unmade (cut core.limits (apps_of core) pipe core.log.entries)

@@ -2,13 +2,12 @@
 ghost use Rattle.std.specs.Prelude.{◌≡◌, ◌≤◌, [], length, IfOk};
 ghost use Rattle.fsw_base.specs.Limits.{limits_of};
 ghost use Rattle.bus_words.specs.Log.{AreBudgets, allowances, allowance_of};
-ghost use Rattle.sb_calls.specs.Core.{IsLegalCore, apps_of};
+ghost use Rattle.sb_calls.specs.Core.{IsLegalCore, StandAlone, apps_of};
 
-use crate::opening::{all_active, empty_queues, total_entries};
-use crate::pipe_row::PipeRow;
-use crate::rows::{Activity, ItemRow, RouteRow, SendRow, SubscriptionRow};
+use crate::opening::{all_active, total_entries};
+use crate::rows::{Activity, SendRow};
+use bus_tables::BusTables;
 use bus_words::BusJournal;
-use circular_buffer::HeapCircularBuffer;
 use fsw_base::{AppNo, Budget, Config};
 use std::alloc::{AllocError, Global};
 use std::marker::Model;
@@ -23,18 +22,9 @@ pub struct BusCore {
     pub(crate) journal: BusJournal,
     // What each application does, from application 1.
     pub(crate) activities: Vec<Activity>,
-    // The live pipes, by rising number, with room for as many as may be live.
-    pub(crate) pipes: Vec<PipeRow>,
-    // How many pipes were created.
-    pub(crate) pipes_created: u32,
-    // An empty queue of the greatest depth for each pipe that may be created beside the live ones.
-    pub(crate) spare: Vec<HeapCircularBuffer<ItemRow>>,
-    // The live subscriptions, by rising number.
-    pub(crate) subscriptions: Vec<SubscriptionRow>,
-    // How many subscriptions were made.
-    pub(crate) subscriptions_made: u32,
-    // The ids that have a route; the count of each is that of the journal's entries.
-    pub(crate) routes: Vec<RouteRow>,
+    // The live pipes with what waits on them, the live subscriptions, and the routes with their
+    // counts.
+    pub(crate) tables: BusTables,
     // The accepted sends that a subscription waited for, by number, from 1.
     pub(crate) sends: Vec<SendRow>,
 }
@@ -66,13 +56,8 @@ impl BusCore {
             config: cfg.again(),
             journal: BusJournal::new(alloc, budgets)?,
             activities: all_active(alloc, budgets.len())?,
-            pipes: Vec::with_capacity(alloc, cfg.pipes as usize)?,
-            pipes_created: 0,
-            spare: empty_queues(alloc, cfg.pipes, cfg.depth)?,
-            subscriptions: Vec::with_capacity(alloc, entries)?,
-            subscriptions_made: 0,
-            routes: Vec::with_capacity(alloc, cfg.msgids as usize)?,
-            sends: Vec::with_capacity(alloc, entries)?,
+            tables: BusTables::new(alloc, cfg, entries)?,
+            sends: Vec::with_capacity(alloc, entries as usize)?,
         })
     }
 
@@ -99,10 +84,12 @@ impl BusCore {
         self.journal.left(app).bytes
     }
 
-    /// Every call with its answer, in order.
+    /// Every call with its answer, in order. What each pipe gave its owner is what that pipe alone
+    /// gives: no other pipe's depth, limits or overflow matter to it.
     pub fn journal(&self) -> &BusJournal
         ensures journal { result.now ≡ self.now.log }
         ensures legal { IsLegalCore self.now }
+        ensures alone { StandAlone self.now }
     {
         &self.journal
     }

@@ -1,15 +1,17 @@
 //! The calls. Each makes one entry of the journal: the call with its answer.
-ghost use Rattle.std.specs.Prelude.{◌≡◌, ◌<◌, ◌≤◌, length};
-ghost use Rattle.ccsds_msg.specs.Message.{with_count};
-ghost use Rattle.bus_words.specs.Machine.{delivered};
-ghost use Rattle.sb_calls.specs.Core.{MayCall, Does};
+ghost use Rattle.std.specs.Prelude.{◌≡◌, ℕ, ◌+◌, ◌*◌, ◌<◌, ◌≤◌, true, length, Ok};
+ghost use Rattle.ccsds_msg.specs.Message.{message_id};
+ghost use Rattle.bus_words.specs.Bus.{route};
+ghost use Rattle.sb_calls.specs.Core.{MayCall, Does, GotAlone, state_of};
 ghost use Rattle.sb_calls.specs.Answers.{created, done, sent, got};
+ghost use Rattle.sb_calls.specs.Rows.{count_sent, counted_up};
+ghost use Rattle.bus_tables.specs.Rows.{has_way};
 
 use crate::bus_core::BusCore;
-use crate::pipe_row::PipeRow;
-use crate::rows::{Activity, SendRow, SubscriptionRow};
-use crate::{pipes, routes, subscriptions};
-use bus_words::{BusAnswer, BusCall, BusEntry, Call};
+use crate::rows::{Activity, SendRow};
+use bucket_list::{Ledger, Steps};
+use bus_tables::BusTables;
+use bus_words::{BusAnswer, BusCall, BusEntry, Call, PipeText};
 use ccsds_msg::{count_of, id_of};
 use fsw_base::{AppNo, SbStatus, Scope};
 
@@ -23,22 +25,6 @@ pub struct Sent {
 }
 
 impl BusCore {
-    // The sequence count of a message that is sent: the id's next where the send asks for it, else
-    // its own.
-    fn count_for(&self, bytes: &[u8], inc: bool) -> u16
-        requires { 7 ≤ length bytes.now }
-        ensures message { with_count bytes.now result ≡ delivered self.now.limits self.now.log.entries bytes.now inc }
-        ensures bits { result < 16384 }
-    {
-        if !inc {
-            return count_of(bytes);
-        }
-        let id = id_of(bytes);
-        let start = self.config.starts.start_of(id);
-        let counted = routes::counted(&self.routes, id);
-        ((start as u64 + counted as u64 + 1) % 16384) as u16
-    }
-
     /// Creates a pipe that holds up to `depth` messages, and answers its number. Pipes are numbered
     /// 1, 2, 3 and so on, and no number is used again.
     ///
@@ -55,11 +41,8 @@ impl BusCore {
             self.refuse(app, call, status);
             return Err(status);
         }
-        let queue = self.spare.pop().unwrap();
-        self.pipes_created += 1;
-        let number = self.pipes_created;
-        self.pipes
-            .push_reserved(PipeRow::new(number, name, app, depth, queue));
+        let text = PipeText::try_new(name).unwrap();
+        let number = self.tables.create_pipe(&text, app, depth);
         self.journal.push(&BusEntry {
             app,
             call,
@@ -69,23 +52,25 @@ impl BusCore {
     }
 
     /// Has messages of this id queued on the caller's pipe, up to `limit` of them at once. Where the
-    /// pipe is subscribed to the id already, this changes nothing.
+    /// pipe is subscribed to the id already, this changes nothing. At most 8 steps.
     ///
     /// # Errors
     /// `BadArgument` for an id that isn't 1 to 0x1FFF, and for a pipe that isn't live or isn't the
     /// caller's; `MaxMsgsMet` where the id has no route and as many ids have one as the
     /// configuration allows; `MaxDestsMet` where the id has as many subscriptions as the
     /// configuration allows. The first that applies.
-    pub fn subscribe(
+    pub fn subscribe<L: Ledger>(
         &mut self,
         app: AppNo,
         id: u16,
         pipe: u32,
         limit: u32,
         scope: Scope,
+        steps: &mut Steps<L>,
     ) -> Result<(), SbStatus>
         requires may { MayCall self.old app (Call.Subscribe id pipe limit scope) }
-        ensures { Does self.old self.new app (Call.Subscribe id pipe limit scope) (done result) }
+        ensures does { Does self.old self.new app (Call.Subscribe id pipe limit scope) (done result) }
+        ensures cost { steps.new ≤ steps.old + 8 }
     {
         let call = BusCall::Subscribe {
             id,
@@ -97,19 +82,11 @@ impl BusCore {
             self.refuse(app, call, status);
             return Err(status);
         }
-        if subscriptions::is_subscribed(&self.subscriptions, id, pipe) {
+        if self.tables.is_subscribed(id, pipe) {
             self.tell(app, call, BusAnswer::Done);
             return Ok(());
         }
-        self.subscriptions_made += 1;
-        self.subscriptions.push_reserved(SubscriptionRow::new(
-            self.subscriptions_made,
-            id,
-            pipe,
-            limit,
-            scope,
-        ));
-        routes::add(&mut self.routes, id);
+        self.tables.subscribe(id, pipe, limit, scope, steps);
         self.journal.push(&BusEntry {
             app,
             call,
@@ -119,21 +96,29 @@ impl BusCore {
     }
 
     /// Has no more messages of this id queued on the caller's pipe. Those that wait
-    /// stay. Where the pipe isn't subscribed to the id, this changes nothing.
+    /// stay. Where the pipe isn't subscribed to the id, this changes nothing. A step for each
+    /// subscription of the id, and at most 8 more.
     ///
     /// # Errors
     /// `BadArgument` for an id that isn't 1 to 0x1FFF, and for a pipe that isn't live or isn't the
     /// caller's.
-    pub fn unsubscribe(&mut self, app: AppNo, id: u16, pipe: u32) -> Result<(), SbStatus>
+    pub fn unsubscribe<L: Ledger>(
+        &mut self,
+        app: AppNo,
+        id: u16,
+        pipe: u32,
+        steps: &mut Steps<L>,
+    ) -> Result<(), SbStatus>
         requires may { MayCall self.old app (Call.Unsubscribe id pipe) }
-        ensures { Does self.old self.new app (Call.Unsubscribe id pipe) (done result) }
+        ensures does { Does self.old self.new app (Call.Unsubscribe id pipe) (done result) }
+        ensures cost { steps.new ≤ steps.old + length (route (state_of self.old).subscriptions id) + 8 }
     {
         let call = BusCall::Unsubscribe { id, pipe };
         if let Some(status) = self.unsubscribe_cause(app, id, pipe) {
             self.refuse(app, call, status);
             return Err(status);
         }
-        subscriptions::remove(&mut self.subscriptions, id, pipe);
+        self.tables.unsubscribe(id, pipe, steps);
         self.journal.push(&BusEntry {
             app,
             call,
@@ -144,14 +129,22 @@ impl BusCore {
 
     /// Sends a message to every pipe that is subscribed to its id, in order of subscription. A pipe
     /// that is full, or where as many messages of the subscription wait as its limit says, misses
-    /// it. With `inc` the message gets the id's next sequence count (CCSDS 133.0-B, 4.1.3.4.3).
+    /// it. With `inc` the message gets the id's next sequence count (CCSDS 133.0-B, 4.1.3.4.3). At
+    /// most 4 steps for each subscription of the id, and 32 more, whatever else there is.
     ///
     /// # Errors
     /// `BadArgument` for bytes that are no message; `MsgTooBig` for more bytes than the
     /// configuration allows. The first that applies.
-    pub fn transmit(&mut self, app: AppNo, bytes: &[u8], inc: bool) -> Result<Sent, SbStatus>
+    pub fn transmit<L: Ledger>(
+        &mut self,
+        app: AppNo,
+        bytes: &[u8],
+        inc: bool,
+        steps: &mut Steps<L>,
+    ) -> Result<Sent, SbStatus>
         requires may { MayCall self.old app (Call.Transmit bytes.now inc) }
-        ensures { Does self.old self.new app (Call.Transmit bytes.now inc) (sent result) }
+        ensures does { Does self.old self.new app (Call.Transmit bytes.now inc) (sent result) }
+        ensures cost { steps.new ≤ steps.old + 32 + 4 * length (route (state_of self.old).subscriptions (message_id bytes.now)) }
     {
         let call = BusCall::Transmit { bytes, inc };
         if let Some(status) = self.transmit_cause(bytes) {
@@ -159,7 +152,7 @@ impl BusCore {
             return Err(status);
         }
         let id = id_of(bytes);
-        if subscriptions::route_length(&self.subscriptions, id) == 0 {
+        if self.tables.dests_of(id) == 0 {
             let nobody = BusAnswer::Sent {
                 number: 0,
                 reached: 0,
@@ -170,12 +163,11 @@ impl BusCore {
                 reached: 0,
             });
         }
-        let count = self.count_for(bytes, inc);
+        let count = count_for(&mut self.tables, bytes, inc);
         let entry = self.journal.len();
-        routes::count_up(&mut self.routes, id, inc);
         self.sends.push_reserved(SendRow { entry, count });
         let number = self.sends.len() as u32;
-        let reached = pipes::deliver(&mut self.pipes, &self.subscriptions, id, app, number);
+        let reached = self.tables.deliver(id, app, number, steps);
         self.journal.push(&BusEntry {
             app,
             call,
@@ -192,15 +184,16 @@ impl BusCore {
     /// The first that applies.
     pub fn receive(&mut self, app: AppNo, pipe: u32) -> Result<u32, SbStatus>
         requires may { MayCall self.old app (Call.Receive pipe) }
-        ensures { Does self.old self.new app (Call.Receive pipe) (got result) }
+        ensures does { Does self.old self.new app (Call.Receive pipe) (got result) }
+        ensures alone { (number : ℕ) → result ≡ Ok number → GotAlone self.old app pipe (Call.Receive pipe) number }
     {
         let call = BusCall::Receive { pipe };
-        if !pipes::owns(&self.pipes, app, pipe) {
+        if !self.tables.owns(app, pipe) {
             self.refuse(app, call, SbStatus::BadArgument);
             return Err(SbStatus::BadArgument);
         }
-        let oldest = pipes::oldest(&self.pipes, pipe);
-        pipes::take(&mut self.pipes, pipe);
+        let oldest = self.tables.oldest(pipe);
+        self.tables.take(pipe);
         let Some(item) = oldest else {
             self.journal.push(&BusEntry {
                 app,
@@ -218,18 +211,33 @@ impl BusCore {
     }
 
     /// The caller's last call: its pipes leave with their subscriptions and messages.
-    pub fn end(&mut self, app: AppNo)
+    pub fn end<L: Ledger>(&mut self, app: AppNo, steps: &mut Steps<L>)
         requires may { MayCall self.old app Call.End }
         ensures { Does self.old self.new app Call.End BusAnswer.Done }
     {
         let call = BusCall::End;
         self.activities[(app.get() - 1) as usize] = Activity::Ended;
-        subscriptions::release(&mut self.subscriptions, &self.pipes, app);
-        pipes::release(&mut self.pipes, &mut self.spare, app);
+        self.tables.release(app, steps);
         self.journal.push(&BusEntry {
             app,
             call,
             answer: BusAnswer::Done,
         });
+    }
+}
+
+// The sequence count of a message that is sent: the id's next where the send asks for it, which then
+// counts as given, else the message's own.
+fn count_for(tables: &mut BusTables, bytes: &[u8], inc: bool) -> u16
+    requires message { 7 ≤ length bytes.now }
+    requires route { has_way tables.old.routes (message_id bytes.now) ≡ true }
+    ensures count { result ≡ count_sent tables.old bytes.now inc }
+    ensures after { tables.new ≡ record tables.old { routes = counted_up tables.old.routes (message_id bytes.now) inc } }
+    ensures bits { result < 16384 }
+{
+    if inc {
+        tables.next_count(id_of(bytes))
+    } else {
+        count_of(bytes)
     }
 }

@@ -1,18 +1,12 @@
 //! Why a call is refused: the first cause that applies, in the order of the guides.
 ghost use Rattle.std.specs.Prelude.{◌≡◌, None, ◌==◌, ◌||◌, ◌&&◌, not, nat_lt, nat_le, length, is_some, ◌≤◌};
 ghost use Rattle.ccsds_msg.specs.Message.{fault, is_valid_id};
-ghost use Rattle.std.specs.List.{list_any};
-ghost use Rattle.bus_words.specs.Bus.{route};
 ghost use Rattle.bus_words.specs.Machine.{refused_if, create_cause, subscribe_cause, unsubscribe_cause, unowned_cause, set_opts_cause, transmit_cause};
 ghost use Rattle.sb_calls.specs.Core.{state_of};
-ghost use Rattle.sb_calls.specs.Rows.{owns_row};
+ghost use Rattle.bus_tables.specs.Rows.{owns_row, has_way};
 
 use crate::bus_core::BusCore;
-use crate::pipe_row::PipeRow;
-use crate::pipes::{is_name_taken, owns};
-use crate::routes::has_route;
-use crate::rows::{RouteRow, SubscriptionRow};
-use crate::subscriptions::{is_subscribed, route_length};
+use bus_tables::BusTables;
 use bus_words::NAME_BYTES;
 use ccsds_msg::read_header;
 use fsw_base::{AppNo, SbStatus};
@@ -25,10 +19,10 @@ impl BusCore {
         if is_bad_pipe(depth, self.config.depth, name) {
             return Some(SbStatus::BadArgument);
         }
-        if self.pipes.len() >= self.config.pipes as usize {
+        if self.tables.pipes_len() >= self.config.pipes as usize {
             return Some(SbStatus::MaxPipesMet);
         }
-        if is_name_taken(&self.pipes, name) {
+        if self.tables.find(name).is_some() {
             return Some(SbStatus::PipeCrErr);
         }
         None
@@ -38,16 +32,16 @@ impl BusCore {
     pub(crate) fn subscribe_cause(&self, app: AppNo, id: u16, pipe: u32) -> Option<SbStatus>
         ensures { result ≡ subscribe_cause self.now.limits (state_of self.now) app id pipe }
     {
-        if is_bad_subscription(&self.pipes, app, id, pipe) {
+        if is_bad_subscription(&self.tables, app, id, pipe) {
             return Some(SbStatus::BadArgument);
         }
-        if is_subscribed(&self.subscriptions, id, pipe) {
+        if self.tables.is_subscribed(id, pipe) {
             return None;
         }
-        if lacks_route(&self.routes, id, self.config.msgids) {
+        if lacks_route(&self.tables, id, self.config.msgids) {
             return Some(SbStatus::MaxMsgsMet);
         }
-        if is_route_full(&self.subscriptions, id, self.config.dests) {
+        if self.tables.dests_of(id) >= self.config.dests {
             return Some(SbStatus::MaxDestsMet);
         }
         None
@@ -57,21 +51,21 @@ impl BusCore {
     pub(crate) fn unsubscribe_cause(&self, app: AppNo, id: u16, pipe: u32) -> Option<SbStatus>
         ensures { result ≡ unsubscribe_cause (state_of self.now) app id pipe }
     {
-        bad_argument_if(is_bad_subscription(&self.pipes, app, id, pipe))
+        bad_argument_if(is_bad_subscription(&self.tables, app, id, pipe))
     }
 
     /// Why the pipe isn't the application's to end or to receive on.
     pub(crate) fn unowned_cause(&self, app: AppNo, pipe: u32) -> Option<SbStatus>
         ensures { result ≡ unowned_cause (state_of self.now) app pipe }
     {
-        bad_argument_if(!owns(&self.pipes, app, pipe))
+        bad_argument_if(!self.tables.owns(app, pipe))
     }
 
     /// Why the pipe's option bits can't be set to these.
     pub(crate) fn set_opts_cause(&self, app: AppNo, pipe: u32, bits: u8) -> Option<SbStatus>
         ensures { result ≡ set_opts_cause (state_of self.now) app pipe bits }
     {
-        bad_argument_if(is_bad_option(&self.pipes, app, pipe, bits))
+        bad_argument_if(is_bad_option(&self.tables, app, pipe, bits))
     }
 
     /// Why the bytes can't be sent.
@@ -107,31 +101,24 @@ fn is_bad_pipe(depth: u32, greatest: u32, name: &[u8]) -> bool
 }
 
 // Whether the pipe isn't the application's, or a bit is no option.
-fn is_bad_option(pipes: &[PipeRow], app: AppNo, pipe: u32, bits: u8) -> bool
-    ensures { result ≡ (not (owns_row pipes.now app pipe) || nat_lt 1 bits) }
+fn is_bad_option(tables: &BusTables, app: AppNo, pipe: u32, bits: u8) -> bool
+    ensures { result ≡ (not (owns_row tables.now.pipes app pipe) || nat_lt 1 bits) }
 {
-    !owns(pipes, app, pipe) || bits > 1
+    !tables.owns(app, pipe) || bits > 1
 }
 
 // Whether the id is out of its range, or the pipe isn't the application's.
-fn is_bad_subscription(pipes: &[PipeRow], app: AppNo, id: u16, pipe: u32) -> bool
-    ensures { result ≡ (not (is_valid_id id) || not (owns_row pipes.now app pipe)) }
+fn is_bad_subscription(tables: &BusTables, app: AppNo, id: u16, pipe: u32) -> bool
+    ensures { result ≡ (not (is_valid_id id) || not (owns_row tables.now.pipes app pipe)) }
 {
-    !is_valid_id(id) || !owns(pipes, app, pipe)
+    !is_valid_id(id) || !tables.owns(app, pipe)
 }
 
 // Whether the id has no route where as many ids have one as may.
-fn lacks_route(routes: &[RouteRow], id: u16, most: u32) -> bool
-    ensures { result ≡ (not (list_any (λ route. route.id == id) routes.now) && nat_le most (length routes.now)) }
+fn lacks_route(tables: &BusTables, id: u16, most: u32) -> bool
+    ensures { result ≡ (not (has_way tables.now.routes id) && nat_le most (length tables.now.routes)) }
 {
-    !has_route(routes, id) && routes.len() >= most as usize
-}
-
-// Whether the id has as many subscriptions as it may.
-fn is_route_full(subscriptions: &[SubscriptionRow], id: u16, most: u32) -> bool
-    ensures { result ≡ nat_le most (length (route subscriptions.now id)) }
-{
-    route_length(subscriptions, id) >= most as usize
+    !tables.has_route(id) && tables.routes_len() >= most
 }
 
 // Whether it is a message id, 1 to 0x1FFF (CCSDS 133.0-B, 4.1.3.2 and 4.1.3.3).

@@ -4,12 +4,8 @@ ghost use Rattle.ccsds_msg.specs.Message.{with_count, IsMessage};
 ghost use Rattle.bus_words.specs.Receipts.{message_receipt};
 ghost use Rattle.bus_words.specs.Receipts.{receipt_in};
 ghost use Rattle.sb_calls.specs.Core.{state_of};
-ghost use Rattle.sb_calls.specs.Rows.{last_row_item};
 
 use crate::bus_core::BusCore;
-use crate::pipe_row::PipeRow;
-use crate::pipes::{owns, pipe_of};
-use crate::rows::ItemRow;
 use bus_words::{BusCall, HEAD_BYTES, Head, Receipt};
 use ccsds_msg::{id_of, set_count};
 use fsw_base::AppNo;
@@ -21,7 +17,7 @@ impl BusCore {
     pub fn last_receipt(&self, app: AppNo, pipe: u32) -> Option<Receipt>
         ensures { result ≡ receipt_in (state_of self.now) app pipe }
     {
-        let item = last_item(&self.pipes, app, pipe)?;
+        let item = self.tables.last(app, pipe)?;
         let send = self.sends[(item.number - 1) as usize];
         let entry = self.journal.get(send.entry);
         match entry.call {
@@ -30,19 +26,6 @@ impl BusCore {
             }
             _ => unreachable!(),
         }
-    }
-}
-
-// The last item of the application's pipe of this number.
-fn last_item(pipes: &[PipeRow], app: AppNo, number: u32) -> Option<ItemRow>
-    ensures { result ≡ last_row_item pipes.now app number }
-{
-    if !owns(pipes, app, number) {
-        return None;
-    }
-    match pipe_of(pipes, number) {
-        Some(row) => row.last(),
-        None => None,
     }
 }
 

@@ -5,7 +5,6 @@ ghost use Rattle.bus_words.specs.Bus.{pipe_at, pipe_named};
 ghost use Rattle.sb_calls.specs.Core.{state_of};
 
 use crate::bus_core::BusCore;
-use crate::pipes;
 use bus_words::PipeText;
 
 impl BusCore {
@@ -13,20 +12,20 @@ impl BusCore {
     pub(crate) fn number_of(&self, name: &[u8]) -> Option<u32>
         ensures { result ≡ option_map (λ pipe. pipe.number) (pipe_named (state_of self.now).pipes name.now) }
     {
-        pipes::number_of(&self.pipes, name)
+        self.tables.find(name)
     }
 
     /// The option bits of the live pipe of this number.
     pub(crate) fn bits_of(&self, pipe: u32) -> Option<u8>
         ensures { result ≡ option_map (λ pipe. pipe.bits) (pipe_at (state_of self.now).pipes pipe) }
     {
-        pipes::bits_of(&self.pipes, pipe)
+        self.tables.bits(pipe)
     }
 
     /// The name of the live pipe of this number.
     pub(crate) fn name_of(&self, pipe: u32) -> Option<PipeText>
         ensures { result ≡ option_map (λ pipe. pipe.name) (pipe_at (state_of self.now).pipes pipe) }
     {
-        pipes::name_of(&self.pipes, pipe)
+        self.tables.name(pipe)
     }
 }

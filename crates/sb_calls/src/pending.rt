@@ -1,17 +1,16 @@
 //! Receives that wait. Nothing blocks here: an application that would wait is told so, and looks again in its next turn.
-ghost use Rattle.std.specs.Prelude.{◌≡◌, ◌≤◌, ◌-◌, not, length, is_none, slice_set, slice_index_or, count_by, if◌then◌else◌};
+ghost use Rattle.std.specs.Prelude.{◌≡◌, ℕ, ◌≤◌, ◌-◌, not, length, is_none, slice_set, slice_index_or, count_by, if◌then◌else◌, Ok};
 ghost use Rattle.std.specs.List.{list_all};
 ghost use Rattle.bus_words.specs.declared.history.Call.TheVariants.{Look};
 ghost use Rattle.bus_words.specs.Bus.{standing_of, waited_on};
 ghost use Rattle.bus_words.specs.Machine.{pended_answer};
 ghost use Rattle.sb_calls.specs.Answers.{pended, waited};
-ghost use Rattle.sb_calls.specs.Core.{MayCall, Does, Looks, state_of};
+ghost use Rattle.sb_calls.specs.Core.{MayCall, Does, Looks, GotAlone, state_of};
 ghost use Rattle.sb_calls.specs.Rows.{idle_in, is_pending, standing_in};
 
 use crate::bus_core::BusCore;
-use crate::pipe_row::PipeRow;
-use crate::pipes;
 use crate::rows::Activity;
+use bus_tables::BusTables;
 use bus_words::{BusAnswer, BusCall, BusEntry, Call};
 use fsw_base::{AppNo, SbStatus};
 
@@ -57,15 +56,16 @@ impl BusCore {
     /// `BadArgument` for a pipe that isn't live or isn't the caller's.
     pub fn pend(&mut self, app: AppNo, pipe: u32) -> Result<Pended, SbStatus>
         requires may { MayCall self.old app (Call.Pend pipe) }
-        ensures { Does self.old self.new app (Call.Pend pipe) (pended result) }
+        ensures does { Does self.old self.new app (Call.Pend pipe) (pended result) }
+        ensures alone { (number : ℕ) → result ≡ Ok (Pended.Got number) → GotAlone self.old app pipe (Call.Pend pipe) number }
     {
         let call = BusCall::Pend { pipe };
-        if !pipes::owns(&self.pipes, app, pipe) {
+        if !self.tables.owns(app, pipe) {
             self.refuse(app, call, SbStatus::BadArgument);
             return Err(SbStatus::BadArgument);
         }
         let answer = self.pended(app, pipe);
-        pipes::take(&mut self.pipes, pipe);
+        self.tables.take(pipe);
         set_waiting(&mut self.activities, app, pipe, &answer);
         self.journal.push(&BusEntry {
             app,
@@ -79,14 +79,15 @@ impl BusCore {
     /// the caller makes calls again. Where it still waits, nothing changes and no entry is made.
     pub fn look(&mut self, app: AppNo) -> Pended
         requires may { MayCall self.old app (Look (waited_on (standing_of (state_of self.old) app))) }
-        ensures { Looks self.old self.new app (waited_on (standing_of (state_of self.old) app)) result }
+        ensures looks { Looks self.old self.new app (waited_on (standing_of (state_of self.old) app)) result }
+        ensures alone { (number : ℕ) → result ≡ Pended.Got number → GotAlone self.old app (waited_on (standing_of (state_of self.old) app)) (Look (waited_on (standing_of (state_of self.old) app))) number }
     {
         let pipe = waited_pipe(activity_of(&self.activities, app));
         let answer = self.pended(app, pipe);
         if answer.is_pending() {
             return answer;
         }
-        pipes::take(&mut self.pipes, pipe);
+        self.tables.take(pipe);
         self.activities[(app.get() - 1) as usize] = Activity::Active;
         self.journal.push(&BusEntry {
             app,
@@ -101,10 +102,10 @@ impl BusCore {
         requires { app ≤ length self.now.log.left }
         ensures { waited result ≡ pended_answer (state_of self.now) app pipe }
     {
-        if let Some(item) = pipes::oldest(&self.pipes, pipe) {
+        if let Some(item) = self.tables.oldest(pipe) {
             return Pended::Got(item.number);
         }
-        if are_others_idle(&self.activities, &self.pipes, app) {
+        if are_others_idle(&self.activities, &self.tables, app) {
             return Pended::TimeOut;
         }
         Pended::Pending
@@ -113,11 +114,11 @@ impl BusCore {
 
 // Whether every application but this one has ended or waits on an empty pipe: no busy one is left where the
 // caller isn't counted.
-fn are_others_idle(activities: &[Activity], pipes: &[PipeRow], app: AppNo) -> bool
+fn are_others_idle(activities: &[Activity], tables: &BusTables, app: AppNo) -> bool
     requires { app ≤ length activities.now }
-    ensures { result ≡ list_all (idle_in pipes.now) (slice_set activities.now (app - 1) Activity.Ended) }
+    ensures { result ≡ list_all (idle_in tables.now.pipes) (slice_set activities.now (app - 1) Activity.Ended) }
 {
-    busy(activities, pipes) == busy_once(activity_of(activities, app), pipes)
+    busy(activities, tables) == busy_once(activity_of(activities, app), tables)
 }
 
 // What the application does.
@@ -130,31 +131,31 @@ fn activity_of(activities: &[Activity], app: AppNo) -> Activity
 }
 
 // How many applications are busy.
-fn busy(activities: &[Activity], pipes: &[PipeRow]) -> usize
-    ensures { result ≡ count_by (λ activity. not (idle_in pipes.now activity)) activities.now }
+fn busy(activities: &[Activity], tables: &BusTables) -> usize
+    ensures { result ≡ count_by (λ activity. not (idle_in tables.now.pipes activity)) activities.now }
 {
     activities
         .iter()
-        .filter(|activity| !is_idle(activity, pipes))
+        .filter(|activity| !is_idle(activity, tables))
         .count()
 }
 
 // Whether the application has ended or waits on an empty pipe.
-fn is_idle(activity: &Activity, pipes: &[PipeRow]) -> bool
-    ensures { result ≡ idle_in pipes.now activity.now }
+fn is_idle(activity: &Activity, tables: &BusTables) -> bool
+    ensures { result ≡ idle_in tables.now.pipes activity.now }
 {
     match activity {
         Activity::Active => false,
-        Activity::Waiting(pipe) => pipes::oldest(pipes, *pipe).is_none(),
+        Activity::Waiting(pipe) => tables.oldest(*pipe).is_none(),
         Activity::Ended => true,
     }
 }
 
 // 1 where the application isn't idle.
-fn busy_once(activity: Activity, pipes: &[PipeRow]) -> usize
-    ensures { result ≡ (if not (idle_in pipes.now activity) then 1 else 0) }
+fn busy_once(activity: Activity, tables: &BusTables) -> usize
+    ensures { result ≡ (if not (idle_in tables.now.pipes activity) then 1 else 0) }
 {
-    if is_idle(&activity, pipes) { 0 } else { 1 }
+    if is_idle(&activity, tables) { 0 } else { 1 }
 }
 
 // Has the application wait on the pipe where it was told so.

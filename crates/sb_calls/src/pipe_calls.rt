@@ -4,7 +4,7 @@ ghost use Rattle.sb_calls.specs.Core.{MayCall, Does};
 ghost use Rattle.sb_calls.specs.Answers.{done, found, bits_told, named};
 
 use crate::bus_core::BusCore;
-use crate::{pipes, subscriptions};
+use bucket_list::{Ledger, Steps};
 use bus_words::{BusAnswer, BusCall, BusEntry, Call, PipeText};
 use fsw_base::{AppNo, SbStatus};
 
@@ -14,7 +14,12 @@ impl BusCore {
     ///
     /// # Errors
     /// `BadArgument` for a pipe that isn't live or isn't the caller's.
-    pub fn delete_pipe(&mut self, app: AppNo, pipe: u32) -> Result<(), SbStatus>
+    pub fn delete_pipe<L: Ledger>(
+        &mut self,
+        app: AppNo,
+        pipe: u32,
+        steps: &mut Steps<L>,
+    ) -> Result<(), SbStatus>
         requires may { MayCall self.old app (Call.Delete pipe) }
         ensures { Does self.old self.new app (Call.Delete pipe) (done result) }
     {
@@ -23,8 +28,7 @@ impl BusCore {
             self.refuse(app, call, status);
             return Err(status);
         }
-        subscriptions::release_pipe(&mut self.subscriptions, pipe);
-        pipes::delete(&mut self.pipes, &mut self.spare, pipe);
+        self.tables.delete_pipe(pipe, steps);
         self.journal.push(&BusEntry {
             app,
             call,
@@ -48,7 +52,7 @@ impl BusCore {
             self.refuse(app, call, status);
             return Err(status);
         }
-        pipes::set_bits(&mut self.pipes, pipe, bits);
+        self.tables.set_bits(pipe, bits);
         self.journal.push(&BusEntry {
             app,
             call,

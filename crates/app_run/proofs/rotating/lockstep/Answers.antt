@@ -14,8 +14,8 @@ new-requires c =
     subst (λ (bs : List Budget). AreBudgets bs) (sym (c.deref.ensures.value ∙ c.in_ok-budgets.ensures))
     (are-budgets c.args.script.now c.requires (omega (arith, c.apps-apps.ensures.count, c.apps-apps.ensures.some)) (omega (arith, c.apps-apps.ensures.count, c.apps-apps.ensures.few)))
 
-pub run_all-requires : goal.run_all-requires
-run_all-requires c =
+pub run_counted-requires-clause-stand : goal.run_counted-requires-clause-stand
+run_counted-requires-clause-stand c =
     let script = c.args.script.now in
     stands-from script c.in_ok-bus.bus c.in_ok-runners.runners.items
     (opened-is script c.in_ok-bus.bus (limits_of c.config.result.now) c.in_ok-budgets.budgets.items c.deref.result.now c.in_ok-bus.ensures c.config.ensures
@@ -25,17 +25,17 @@ run_all-requires c =
 pub receipts_of-requires-clause-ended : goal.receipts_of-requires-clause-ended
 receipts_of-requires-clause-ended c =
     let script = c.args.script.now in
-    (finishes-from script c.rotations_of.result c.in_ok-bus.bus c.run_all.new.bus c.in_ok-runners.runners.items c.run_all.new.runners.items
+    (finishes-from script c.rotations_of.result c.in_ok-bus.bus c.run_counted.new.bus c.in_ok-runners.runners.items c.run_counted.new.runners.items
     (opened-is script c.in_ok-bus.bus (limits_of c.config.result.now) c.in_ok-budgets.budgets.items c.deref.result.now c.in_ok-bus.ensures c.config.ensures
     c.deref.ensures.value c.in_ok-budgets.ensures)
-    c.in_ok-runners.ensures c.rotations_of.ensures c.run_all.ensures).ended
+    c.in_ok-runners.ensures c.rotations_of.ensures c.run_counted.ensures).ended
 
 pub receipts_of-requires-clause-room : goal.receipts_of-requires-clause-room
 receipts_of-requires-clause-room c =
     let script = c.args.script.now in
     omega (
       arith,
-      c.run_all.ensures.count,
+      c.run_counted.ensures.count,
       ap length c.in_ok-runners.ensures,
       length-map (range_with_len 1 (length script.apps)) (beginning script),
       length-range_with_len 1 (length script.apps),
@@ -46,16 +46,16 @@ receipts_of-requires-clause-room c =
 pub returns-clause-history : goal.returns-clause-history
 returns-clause-history c =
     let script = c.args.script.now in
-    (finishes-from script c.rotations_of.result c.in_ok-bus.bus c.run_all.new.bus c.in_ok-runners.runners.items c.run_all.new.runners.items
+    (finishes-from script c.rotations_of.result c.in_ok-bus.bus c.run_counted.new.bus c.in_ok-runners.runners.items c.run_counted.new.runners.items
     (opened-is script c.in_ok-bus.bus (limits_of c.config.result.now) c.in_ok-budgets.budgets.items c.deref.result.now c.in_ok-bus.ensures c.config.ensures
     c.deref.ensures.value c.in_ok-budgets.ensures)
-    c.in_ok-runners.ensures c.rotations_of.ensures c.run_all.ensures).history
+    c.in_ok-runners.ensures c.rotations_of.ensures c.run_counted.ensures).history
 
 pub returns-clause-receipts : goal.returns-clause-receipts
 returns-clause-receipts c =
     let script = c.args.script.now in
     c.receipts_of.ensures
-    ∙ (finishes-from script c.rotations_of.result c.in_ok-bus.bus c.run_all.new.bus c.in_ok-runners.runners.items c.run_all.new.runners.items
+    ∙ (finishes-from script c.rotations_of.result c.in_ok-bus.bus c.run_counted.new.bus c.in_ok-runners.runners.items c.run_counted.new.runners.items
     (opened-is script c.in_ok-bus.bus (limits_of c.config.result.now) c.in_ok-budgets.budgets.items c.deref.result.now c.in_ok-bus.ensures c.config.ensures
     c.deref.ensures.value c.in_ok-budgets.ensures)
-    c.in_ok-runners.ensures c.rotations_of.ensures c.run_all.ensures).receipts
+    c.in_ok-runners.ensures c.rotations_of.ensures c.run_counted.ensures).receipts

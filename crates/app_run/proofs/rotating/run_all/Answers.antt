@@ -4,14 +4,14 @@ use Rattle.app_run.proofs.OpenLaws.{times-none, times-more}
 use Rattle.app_run.proofs.rotating.run_all.Goals as goal
 
 pub loop-round-init : goal.loop-round-init
-loop-round-init c = times-none c.args.bus.now c.args.runners.now.items c.requires
+loop-round-init g c = times-none c.args.bus.now c.args.runners.now.items c.requires
 
 pub loop-round-preserved : goal.loop-round-preserved
-loop-round-preserved c =
+loop-round-preserved g c =
     times-more c.loop-round._round c.args.bus.now c.args.runners.now.items c.loop-round.bus c.loop-round.runners.items c.rotate.new.bus c.rotate.new.runners.items
     c.loop-round.invariant c.rotate.ensures
 
 pub returns : goal.returns
-returns c =
+returns g c =
     let through : c.loop-round._round ≡ c.args.turns = omega (arith, c.loop-round.auto._round-end, c.loop-round-test.false) in
     subst (λ n. RotatesTimes n c.args.bus.now c.args.runners.now.items c.loop-round.bus c.loop-round.runners.items) through c.loop-round.invariant

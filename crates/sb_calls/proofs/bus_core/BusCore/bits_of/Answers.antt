@@ -4,5 +4,5 @@ use Rattle.sb_calls.proofs.bus_core.BusCore.bits_of.Goals as goal
 
 pub returns : goal.returns
 returns c =
-    c.bits_of.ensures
-    ∙ told_of c.self.inside c.args.self.now c.self.view_is c.self.invariant (λ pipe. pipe.bits) (λ pipe. eqb pipe.number c.args.pipe) c.deref.result.now c.deref.ensures.value
+    c.bits.ensures
+    ∙ told_of c.self.inside c.args.self.now c.self.view_is c.self.invariant (λ pipe. pipe.bits) (λ pipe. eqb pipe.number c.args.pipe)

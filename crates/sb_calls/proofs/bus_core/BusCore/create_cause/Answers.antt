@@ -1,20 +1,19 @@
-use Rattle.std.proofs.Common.{◌<◌, true, false, List, length, Some, None, ap, sym, ◌∙◌, arith}
-use Rattle.std.specs.List.{list_any}
-use Rattle.std.specs.Str.{bytes_eq}
+use Rattle.std.proofs.Common.{◌<◌, true, false, length, Some, None, ap, sym, ◌∙◌, arith}
+use Rattle.std.specs.Option.{is_some}
 use Rattle.fsw_base.specs.Limits.{limits_of}
 use Rattle.fsw_base.specs.declared.statuses.SbStatus.TheVariants.{PipeCrErr}
 use Rattle.bus_words.specs.Machine.{create_cause}
 use Rattle.sb_calls.specs.Inside.{means}
-use Rattle.sb_calls.specs.Rows.{Row}
+use Rattle.sb_calls.proofs.Asks.{name_told}
 use Rattle.sb_calls.proofs.Refusals.{at_core, create_checked, pipes_free, name_taken}
 use Rattle.sb_calls.proofs.bus_core.BusCore.create_cause.Goals as goal
 
-pub returns-then-is_name_taken : goal.returns-then-is_name_taken
-returns-then-is_name_taken c =
+pub returns-then-is_some : goal.returns-then-is_some
+returns-then-is_some c =
     let a = c.self.inside in
     let name = c.args.name.now in
-    let free : length a.pipes.items < a.config.pipes = omega (arith, a.pipes.ok.0, c.len.ensures, c.if-len-self.false) in
-    let taken = ap (λ (l : List Row). list_any (λ row. bytes_eq row.name name) l) (sym c.deref.ensures.value) ∙ sym c.is_name_taken.ensures ∙ c.if-is_name_taken.true in
+    let free : length a.tables.pipes < a.config.pipes = omega (arith, c.pipes_len.ensures, c.if-pipes_len-self.false) in
+    let taken = name_told a.tables.pipes name ∙ ap is_some (sym c.find.ensures) ∙ sym c.is_some.ensures ∙ c.if-is_some.true in
     at_core a c.args.self.now c.self.view_is c.self.invariant (λ limits s. create_cause limits s c.args.depth name) (Some PipeCrErr)
     (create_checked (limits_of a.config) (means a) c.args.depth name false false true
     (sym c.is_bad_pipe.ensures ∙ c.if-is_bad_pipe.false) (pipes_free a free) (name_taken a name true taken))
@@ -23,8 +22,8 @@ pub returns : goal.returns
 returns c =
     let a = c.self.inside in
     let name = c.args.name.now in
-    let free : length a.pipes.items < a.config.pipes = omega (arith, a.pipes.ok.0, c.len.ensures, c.if-len-self.false) in
-    let taken = ap (λ (l : List Row). list_any (λ row. bytes_eq row.name name) l) (sym c.deref.ensures.value) ∙ sym c.is_name_taken.ensures ∙ c.if-is_name_taken.false in
+    let free : length a.tables.pipes < a.config.pipes = omega (arith, c.pipes_len.ensures, c.if-pipes_len-self.false) in
+    let taken = name_told a.tables.pipes name ∙ ap is_some (sym c.find.ensures) ∙ sym c.is_some.ensures ∙ c.if-is_some.false in
     at_core a c.args.self.now c.self.view_is c.self.invariant (λ limits s. create_cause limits s c.args.depth name) None
     (create_checked (limits_of a.config) (means a) c.args.depth name false false false
     (sym c.is_bad_pipe.ensures ∙ c.if-is_bad_pipe.false) (pipes_free a free) (name_taken a name false taken))

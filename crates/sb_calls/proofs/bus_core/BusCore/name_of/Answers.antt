@@ -4,5 +4,5 @@ use Rattle.sb_calls.proofs.bus_core.BusCore.name_of.Goals as goal
 
 pub returns : goal.returns
 returns c =
-    c.name_of.ensures
-    ∙ told_of c.self.inside c.args.self.now c.self.view_is c.self.invariant (λ pipe. pipe.name) (λ pipe. eqb pipe.number c.args.pipe) c.deref.result.now c.deref.ensures.value
+    c.name.ensures
+    ∙ told_of c.self.inside c.args.self.now c.self.view_is c.self.invariant (λ pipe. pipe.name) (λ pipe. eqb pipe.number c.args.pipe)

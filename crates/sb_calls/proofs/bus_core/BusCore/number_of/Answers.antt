@@ -5,5 +5,5 @@ use Rattle.sb_calls.proofs.bus_core.BusCore.number_of.Goals as goal
 
 pub returns : goal.returns
 returns c =
-    c.number_of.ensures
-    ∙ told_of c.self.inside c.args.self.now c.self.view_is c.self.invariant (λ pipe. pipe.number) (λ pipe. bytes_eq pipe.name c.args.name.now) c.deref.result.now c.deref.ensures.value
+    c.find.ensures
+    ∙ told_of c.self.inside c.args.self.now c.self.view_is c.self.invariant (λ pipe. pipe.number) (λ pipe. bytes_eq pipe.name c.args.name.now)

@@ -5,32 +5,30 @@ use Rattle.bus_words.specs.Machine.{pended_answer}
 use Rattle.sb_calls.specs.declared.rows.Activity.{Activity}
 use Rattle.sb_calls.specs.declared.rows.Activity.TheVariants as activities
 use Rattle.sb_calls.specs.Core.{state_of}
-use Rattle.sb_calls.specs.Rows.{Row, oldest_item, idle_in}
+use Rattle.sb_calls.specs.Rows.{idle_in}
 use Rattle.sb_calls.proofs.Pends.{pended-some, pended-none}
 use Rattle.sb_calls.proofs.bus_core.BusCore.pended.Goals as goal
 
 pub returns-in-Some : goal.returns-in-Some
 returns-in-Some c =
-    let some = ap (λ (l : List Row). oldest_item l c.args.pipe) (sym c.deref.ensures.value) ∙ sym c.oldest.ensures ∙ c.in-Some.is in
+    let some = sym c.oldest.ensures ∙ c.in-Some.is in
     sym (pended-some c.self.inside c.args.app c.args.pipe c.in-Some.item some)
     ∙ ap (λ (s : State). pended_answer s c.args.app c.args.pipe) (c.self.invariant.state ∙ ap state_of c.self.view_is)
 
 pub returns-then-are_others_idle : goal.returns-then-are_others_idle
 returns-then-are_others_idle c =
-    let none = ap (λ (l : List Row). oldest_item l c.args.pipe) (sym c.deref.ensures.value) ∙ sym c.oldest.ensures ∙ c.in_default.is in
+    let none = sym c.oldest.ensures ∙ c.in_default.is in
     let idle =
-    ap (λ (l : List Row). list_all (idle_in l) (set c.self.inside.activities.items (c.args.app - 1) activities.Ended)) (sym c.deref-3.ensures.value)
-    ∙ ap (λ (l : List Activity). list_all (idle_in c.deref-3.result.now) (set l (c.args.app - 1) activities.Ended)) (sym c.deref-2.ensures.value)
+    ap (λ (l : List Activity). list_all (idle_in c.self.inside.tables.pipes) (set l (c.args.app - 1) activities.Ended)) (sym c.deref.ensures.value)
     ∙ sym c.are_others_idle.ensures ∙ c.if-are_others_idle.true in
     sym (pended-none c.self.inside c.args.app c.args.pipe true none idle)
     ∙ ap (λ (s : State). pended_answer s c.args.app c.args.pipe) (c.self.invariant.state ∙ ap state_of c.self.view_is)
 
 pub returns : goal.returns
 returns c =
-    let none = ap (λ (l : List Row). oldest_item l c.args.pipe) (sym c.deref.ensures.value) ∙ sym c.oldest.ensures ∙ c.in_default.is in
+    let none = sym c.oldest.ensures ∙ c.in_default.is in
     let idle =
-    ap (λ (l : List Row). list_all (idle_in l) (set c.self.inside.activities.items (c.args.app - 1) activities.Ended)) (sym c.deref-3.ensures.value)
-    ∙ ap (λ (l : List Activity). list_all (idle_in c.deref-3.result.now) (set l (c.args.app - 1) activities.Ended)) (sym c.deref-2.ensures.value)
+    ap (λ (l : List Activity). list_all (idle_in c.self.inside.tables.pipes) (set l (c.args.app - 1) activities.Ended)) (sym c.deref.ensures.value)
     ∙ sym c.are_others_idle.ensures ∙ c.if-are_others_idle.false in
     sym (pended-none c.self.inside c.args.app c.args.pipe false none idle)
     ∙ ap (λ (s : State). pended_answer s c.args.app c.args.pipe) (c.self.invariant.state ∙ ap state_of c.self.view_is)

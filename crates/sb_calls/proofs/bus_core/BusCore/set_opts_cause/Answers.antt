@@ -9,4 +9,4 @@ returns c =
     c.bad_argument_if.ensures
     ∙ ap (λ b. refused_if b BadArgument None) c.is_bad_option.ensures
     ∙ ap (λ b. refused_if (not b || ltb 1 c.args.bits) BadArgument None)
-    (owns_here c.self.inside c.args.self.now c.self.view_is c.self.invariant c.args.app c.args.pipe c.deref.result.now c.deref.ensures.value)
+    (owns_here c.self.inside c.args.self.now c.self.view_is c.self.invariant c.args.app c.args.pipe)

@@ -8,4 +8,4 @@ pub returns : goal.returns
 returns c =
     c.bad_argument_if.ensures
     ∙ ap (λ b. refused_if (not b) BadArgument None)
-    (c.owns.ensures ∙ owns_here c.self.inside c.args.self.now c.self.view_is c.self.invariant c.args.app c.args.pipe c.deref.result.now c.deref.ensures.value)
+    (c.owns.ensures ∙ owns_here c.self.inside c.args.self.now c.self.view_is c.self.invariant c.args.app c.args.pipe)

@@ -10,4 +10,4 @@ returns c =
     c.bad_argument_if.ensures
     ∙ ap (λ b. refused_if b BadArgument None) c.is_bad_subscription.ensures
     ∙ ap (λ b. refused_if (not (is_valid_id c.args.id) || not b) BadArgument None)
-    (owns_here c.self.inside c.args.self.now c.self.view_is c.self.invariant c.args.app c.args.pipe c.deref.result.now c.deref.ensures.value)
+    (owns_here c.self.inside c.args.self.now c.self.view_is c.self.invariant c.args.app c.args.pipe)

@@ -1,0 +1,59 @@
+-- What an application gets from a pipe is what the pipe alone gives.
+use Rattle.std.proofs.Common.{◌≡◌, ℕ, ◌-◌, true, eqb, List, [], ◌∷◌, ◌++◌, length, sym, subst, arith}
+use Rattle.std.proofs.lemmas.Bool.Decides.{nat_tests}
+use Rattle.std.proofs.lemmas.List.{length-set}
+use Rattle.bus_words.specs.declared.calls.BusAnswer.TheVariants.{Got}
+use Rattle.bus_words.specs.declared.history.Call.{Call}
+use Rattle.bus_words.specs.declared.history.Call.TheVariants.{Receive, Pend, Look}
+use Rattle.bus_words.specs.declared.history.Entry.{Entry}
+use Rattle.bus_words.specs.declared.journal.Allowance.{Allowance}
+use Rattle.bus_words.specs.Alone.{gets_from}
+use Rattle.bus_words.specs.Entries.{call_bytes}
+use Rattle.bus_words.specs.Log.{charged, allowance_of}
+use Rattle.bus_words.specs.Machine.{IsLegal}
+use Rattle.bus_words.proofs.Isolation.{gives_newest, stands_alone}
+use Rattle.sb_calls.specs.declared.pending.Pended.{Pended}
+use Rattle.sb_calls.specs.declared.pending.Pended.TheVariants as waits
+use Rattle.sb_calls.specs.Answers.{waited}
+use Rattle.sb_calls.specs.Core.{Core, Does, Looks, GotAlone, StandAlone, IsLegalCore, apps_of}
+
+length-charged : (left : List Allowance) (app bytes : ℕ) → length (charged left app bytes) ≡ length left
+length-charged left app bytes =
+    length-set left (app - 1) (record { entries = (allowance_of left app).entries - 1; bytes = (allowance_of left app).bytes - bytes })
+
+itself : (n : ℕ) → eqb n n ≡ true
+itself n = grind (arith, nat_tests)
+
+got_alone : (old new : Core) (app pipe : ℕ) (call : Call) (number : ℕ) → gets_from pipe (record { app = app; call = call; answer = Got number }) ≡ true →
+    Does old new app call (Got number) → GotAlone old app pipe call number
+got_alone old new app pipe call number gets does =
+    let e : Entry = record { app = app; call = call; answer = Got number } in
+    let P : Core → Type 0 = λ c. IsLegalCore c in
+    let Q : ℕ → Type 0 = λ n. IsLegal old.limits n (old.log.entries ++ e ∷ []) in
+    let legal = subst Q (length-charged old.log.left app (call_bytes call)) (subst P does.entry does.legal) in
+    let given = gives_newest old.limits (apps_of old) pipe old.log.entries e legal gets in
+    (given.0, sym (cc (given.1.answer)), given.1)
+
+-- by a receive
+pub received_alone : (old new : Core) (app pipe given number : ℕ) → given ≡ number → Does old new app (Receive pipe) (Got given) → GotAlone old app pipe (Receive pipe) number
+received_alone old new app pipe given number is does =
+    let P : ℕ → Type 0 = λ n. Does old new app (Receive pipe) (Got n) in
+    got_alone old new app pipe (Receive pipe) number (itself pipe) (subst P is does)
+
+-- by one that may wait
+pub pended_alone : (old new : Core) (app pipe : ℕ) (answer : Pended) (number : ℕ) → answer ≡ waits.Got number → Does old new app (Pend pipe) (waited answer) →
+    GotAlone old app pipe (Pend pipe) number
+pended_alone old new app pipe answer number is does =
+    let P : Pended → Type 0 = λ a. Does old new app (Pend pipe) (waited a) in
+    got_alone old new app pipe (Pend pipe) number (itself pipe) (subst P is does)
+
+-- and by a look
+pub looked_alone : (old new : Core) (app pipe : ℕ) (answer : Pended) (number : ℕ) → answer ≡ waits.Got number → Looks old new app pipe answer →
+    GotAlone old app pipe (Look pipe) number
+looked_alone old new app pipe answer number is looks =
+    let P : Pended → Type 0 = λ a. Looks old new app pipe a in
+    got_alone old new app pipe (Look pipe) number (itself pipe) (subst P is looks)
+
+-- and each pipe so far
+pub all_alone : (core : Core) → IsLegalCore core → StandAlone core
+all_alone core legal pipe = stands_alone core.limits (apps_of core) pipe core.log.entries legal
