@@ -1,0 +1,297 @@
+"""Plays the worked examples of the program core_rows on the executable model's bus, and prints what the program must print;
+with a second word compares that with the file of this name.
+
+    core_rows.py MODEL [ANSWERS]
+
+A step is spelled as the report spells a call, with pipes by their numbers: its words are the application, the call and what
+the call is given; `show` is a receipt of the pipe's last message.
+"""
+import importlib.util
+import sys
+
+STAGE = "script-and-report"
+
+# A title, the limits that aren't the usual ones, the sequence counts at which ids start, and how many applications there are,
+# each with its steps.
+EXAMPLES = [
+    ("a message limit", {}, {}, 1, """
+        a1 create 4 A
+        a1 create 4 B
+        a1 sub 0x0801 1 2
+        a1 sub 0x0801 2 4
+        a1 send 0x0801 8 0
+        a1 send 0x0801 8 0
+        a1 send 0x0801 8 0
+        a1 recv 1
+        a1 recv 1
+        a1 recv 1
+        a1 recv 2
+        a1 recv 2
+        a1 recv 2
+        a1 end
+    """),
+    ("a full pipe", {}, {}, 1, """
+        a1 create 2 A
+        a1 sub 0x0801 1 4
+        a1 send 0x0801 8 0
+        a1 send 0x0801 8 0
+        a1 send 0x0801 8 0
+        a1 recv 1
+        a1 recv 1
+        a1 recv 1
+        a1 end
+    """),
+    ("a message limit that is the pipe's depth", {}, {}, 1, """
+        a1 create 2 A
+        a1 sub 0x0801 1 2
+        a1 send 0x0801 8 0
+        a1 send 0x0801 8 0
+        a1 send 0x0801 8 0
+        a1 recv 1
+        a1 recv 1
+        a1 recv 1
+        a1 end
+    """),
+    ("subscribed anew", {}, {}, 1, """
+        a1 create 4 A
+        a1 sub 0x0801 1 2
+        a1 send 0x0801 8 0
+        a1 send 0x0801 8 0
+        a1 unsub 0x0801 1
+        a1 sub 0x0801 1 2
+        a1 send 0x0801 8 0
+        a1 send 0x0801 8 0
+        a1 recv 1
+        a1 recv 1
+        a1 recv 1
+        a1 recv 1
+        a1 end
+    """),
+    ("a deleted pipe", {}, {}, 1, """
+        a1 create 4 A
+        a1 create 4 B
+        a1 sub 0x0801 1 4
+        a1 sub 0x0801 2 4
+        a1 send 0x0801 8 0
+        a1 delete 1
+        a1 recv 2
+        a1 recv 1
+        a1 show 1
+        a1 show 2
+        a1 create 4 A
+        a1 end
+    """),
+    ("two applications that wait for each other", {}, {}, 2, """
+        a1 create 1 A
+        a2 create 1 B
+        a1 pend 1
+        a2 pend 2
+        a1 look 1
+        a2 end
+        a1 look 1
+        a1 end
+    """),
+    ("a message that is waited for", {}, {}, 2, """
+        a1 create 1 A
+        a1 sub 0x0801 1 4
+        a1 pend 1
+        a1 look 1
+        a2 send 0x0801 9 250
+        a1 look 1
+        a1 show 1
+        a1 pend 1
+        a1 show 1
+        a2 end
+        a1 end
+    """),
+    ("an owner's own messages ignored", {}, {}, 2, """
+        a1 create 4 A
+        a1 opts 1 1
+        a1 sub 0x0801 1 4
+        a2 getopts 1
+        a1 send 0x0801 8 0
+        a2 send 0x0801 8 1
+        a1 recv 1
+        a1 recv 1
+        a1 opts 1 2
+        a1 opts 1 0
+        a1 send 0x0801 8 2
+        a1 recv 1
+        a1 end
+        a2 getopts 1
+        a2 end
+    """),
+    ("nobody subscribed", {}, {}, 1, """
+        a1 send 0x0801 8 0
+        a1 create 4 A
+        a1 sub 0x0801 1 4
+        a1 send 0x0801 8 0
+        a1 recv 1
+        a1 end
+    """),
+    ("a sequence count that wraps", {}, {0x0801: 16382}, 1, """
+        a1 create 4 A
+        a1 sub 0x0801 1 4
+        a1 send 0x0801 8 0
+        a1 send 0x0801 8 0
+        a1 send 0x0801 8 0
+        a1 recv 1
+        a1 recv 1
+        a1 recv 1
+        a1 end
+    """),
+    ("what is a message and what isn't", {}, {}, 1, """
+        a1 create 4 A
+        a1 sub 0x0801 1 4
+        a1 sendraw 0801c0000000
+        a1 sendraw 0801c000000111
+        a1 sendraw 0000c000000000
+        a1 sendraw 0801c000000011
+        a1 send 0x0801 32768 0
+        a1 send 0x0801 32769 0
+        a1 recv 1
+        a1 recv 1
+        a1 recv 1
+        a1 end
+    """),
+    ("pipes and subscriptions that are refused", {"msgids": 1, "pipes": 2, "dests": 1}, {}, 1, """
+        a1 create 0 A
+        a1 create 1 A
+        a1 create 1 A
+        a1 create 1 B
+        a1 create 1 A
+        a1 sub 0x0801 1 4
+        a1 sub 0x0801 1 9
+        a1 sub 0x0801 2 4
+        a1 sub 0x0802 2 4
+        a1 sub 0x0000 2 4
+        a1 end
+    """),
+    ("names", {}, {}, 1, """
+        a1 create 4 -
+        a1 create 4 ABCDEFGHIJKLMNOPQRST
+        a1 create 4 ABCDEFGHIJKLMNOPQRS
+        a1 find ABCDEFGHIJKLMNOPQRS
+        a1 find ABCDEFGHIJKLMNOPQR
+        a1 find -
+        a1 pname 1
+        a1 pname 2
+        a1 end
+    """),
+    ("another's pipe", {}, {}, 2, """
+        a1 create 4 A
+        a1 sub 0x0801 1 4
+        a1 send 0x0801 8 0
+        a2 delete 1
+        a2 opts 1 1
+        a2 sub 0x0802 1 4
+        a2 unsub 0x0801 1
+        a2 recv 1
+        a2 pend 1
+        a2 show 1
+        a2 getopts 1
+        a2 find A
+        a2 pname 1
+        a1 recv 1
+        a2 show 1
+        a1 end
+        a2 pname 1
+        a2 end
+    """),
+]
+
+# The largest configuration: each application makes as many pipes as every other, each id has a subscription, and the first id
+# as many as it may have.
+LARGEST = {"msgids": 1024, "pipes": 256, "dests": 64, "depth": 4}
+APPLICATIONS = 16
+
+
+def model_of(path):
+    spec = importlib.util.spec_from_file_location("fsw", path)
+    model = importlib.util.module_from_spec(spec)
+    spec.loader.exec_module(model)
+    return model
+
+
+def opened(model, limits, starts, applications):
+    """The model's bus before the first call."""
+    config = model.Config()
+    for limit, value in limits.items():
+        setattr(config, limit, value)
+    config.starts.update(starts)
+    return model.Bus(config, applications, model.stage_number(STAGE))
+
+
+def call_of(model, word, given):
+    """A call as the model has it, and as the report spells it."""
+    if word == "sub":
+        message_id, pipe, limit = (int(part, 0) for part in given)
+        return ("sub", message_id, pipe, limit, "global"), f"sub {given[0]} {pipe} {limit} global"
+    if word == "unsub":
+        return ("unsub", int(given[0], 16), int(given[1])), f"unsub {given[0]} {given[1]}"
+    if word in ("send", "sendraw"):
+        message = bytes.fromhex(given[0]) if word == "sendraw" else model.make_message(*(int(part, 0) for part in given))
+        return ("send", message, True), f"send {len(message)} {sum(message)} inc"
+    if word in ("create", "find"):
+        name = b"" if given[-1] == "-" else given[-1].encode()
+        return (word, *map(int, given[:-1]), name), " ".join([word, *given])
+    return (word, *map(int, given)), " ".join([word, *given])
+
+
+def report(model, example):
+    """The report of an example's calls, each made on the model's bus."""
+    _, limits, starts, applications, steps = example
+    bus = opened(model, limits, starts, applications)
+    receipts = {application: [] for application in range(1, applications + 1)}
+    for application, word, *given in (line.split() for line in steps.strip().splitlines()):
+        application = int(application[1:])
+        if word == "look":
+            answer = bus.look(application)
+        elif word != "show":
+            answer = bus.call(application, *call_of(model, word, given))
+        if word == "show" or answer[0] == "got":
+            pipe = int(given[0])
+            item = bus.last_item(application, pipe)
+            receipts[application].append(model.receipt_text(application, item and ("msg", pipe, item)))
+    return ["fsw 1", "bus", *bus.lines, "receipts", *sum(receipts.values(), []), "end"]
+
+
+def largest(model):
+    """How many calls were accepted as the largest configuration filled, and whom two sends reached."""
+    bus = opened(model, LARGEST, {}, APPLICATIONS)
+    owner = [1 + pipe * APPLICATIONS // LARGEST["pipes"] for pipe in range(LARGEST["pipes"])]
+
+    def accepted(calls):
+        return sum(bus.call(application, call, "")[0] != "refused" for application, call in calls)
+
+    def subscriptions(pairs):
+        return ((owner[pipe % 256], ("sub", message_id, pipe % 256 + 1, 4, "global")) for message_id, pipe in pairs)
+
+    def reached(message_id):
+        return bus.call(1, ("send", model.make_message(message_id, 8, 0), True), "")[2]
+
+    return [
+        f"pipes {accepted((owner[pipe % 256], ('create', 4, bytes([65 + pipe // 16, 65 + pipe % 16]))) for pipe in range(257))}",
+        f"ids {accepted(subscriptions((place + 1, place) for place in range(1025)))}",
+        f"destinations {accepted(subscriptions((1, place) for place in range(65)))}",
+        f"reached {reached(1)}",
+        f"reached {reached(1024)}",
+    ]
+
+
+def main():
+    model = model_of(sys.argv[1])
+    wanted = [line for example in EXAMPLES for line in [example[0], *report(model, example)]]
+    wanted += ["the largest configuration", *largest(model)]
+    if len(sys.argv) < 3:
+        print("\n".join(wanted))
+        return 0
+    with open(sys.argv[2]) as file:
+        answers = file.read().splitlines()
+    wrong = [n for n, pair in enumerate(zip(wanted, answers), 1) if pair[0] != pair[1]]
+    for n in wrong:
+        print(f"line {n}: {answers[n - 1]}, and by the model {wanted[n - 1]}")
+    return 1 if wrong or len(wanted) != len(answers) else 0
+
+
+sys.exit(main())

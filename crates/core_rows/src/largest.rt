@@ -1,0 +1,139 @@
+//! The largest configuration.
+ghost use Rattle.std.specs.Prelude.{◌≡◌, ◌+◌, ◌*◌, ◌<◌, ◌≤◌, length};
+ghost use Rattle.bus_words.specs.Bus.{route};
+ghost use Rattle.sb_calls.specs.Core.{state_of};
+
+use crate::example::Limit;
+use crate::fail::Fail;
+use crate::opening::{budgets, config_of};
+use crate::playing::make;
+use crate::printing::print_title;
+use bucket_list::{Blank, Ledger, Steps};
+use bus_words::BusCall;
+use ccsds_msg::write_header;
+use fsw_base::{AppNo, Scope, Sink, WriteFault};
+use sb_calls::BusCore;
+use std::alloc::Global;
+use text_page::{Page, finish, put, put_number};
+
+/// As many ids, pipes and destinations as there can be.
+const LIMITS: [Limit; 4] = [
+    Limit::MsgIds(1024),
+    Limit::Pipes(256),
+    Limit::Dests(64),
+    Limit::Depth(4),
+];
+
+/// With what the bus is filled.
+#[derive(Clone, Copy)]
+enum Filling {
+    // Pipes, 16 of each application.
+    Pipes,
+    // A subscription of each id, one behind the other on all pipes.
+    Ids,
+    // Subscriptions of the first id, on each of the first pipes.
+    Dests,
+}
+
+/// Fills a bus of 16 applications, each time with one more than it takes, and prints how many it took; then how many pipes
+/// a message reaches that goes to as many as a message can, and one that goes to a single pipe.
+pub fn print_largest<L: Ledger, K: Sink>(
+    alloc: Global,
+    sink: &mut K,
+    blank: Blank,
+) -> Result<(), Fail>
+    requires name { blank.name ≡ L.name }
+    requires parts { blank.parts ≡ L.parts }
+    requires some_part { 0 < blank.parts }
+{
+    let mut steps = Steps::<L>::new(blank);
+    let mut core = BusCore::new(alloc, &config_of(&LIMITS), budgets(16))?;
+    print_title("the largest configuration", sink)?;
+    let pipes = fill(&mut core, Filling::Pipes, 257, &mut steps);
+    print_figure(b"pipes ", pipes, sink)?;
+    let ids = fill(&mut core, Filling::Ids, 1025, &mut steps);
+    print_figure(b"ids ", ids, sink)?;
+    let dests = fill(&mut core, Filling::Dests, 65, &mut steps);
+    print_figure(b"destinations ", dests, sink)?;
+    let all = reached(&mut core, 1, &mut steps);
+    print_figure(b"reached ", all, sink)?;
+    let one = reached(&mut core, 1024, &mut steps);
+    print_figure(b"reached ", one, sink)?;
+    Ok(())
+}
+
+// Fills the bus at so many places; how many calls were accepted.
+fn fill<L: Ledger>(core: &mut BusCore, filling: Filling, places: u32, steps: &mut Steps<L>) -> u32
+    requires { places ≤ 1025 }
+{
+    let mut accepted = 0;
+    for place in 0..places {
+        if is_filled(core, filling, place, steps) {
+            accepted += 1;
+        }
+    }
+    accepted
+}
+
+// Makes the call that fills a place; whether it was accepted.
+fn is_filled<L: Ledger>(
+    core: &mut BusCore,
+    filling: Filling,
+    place: u32,
+    steps: &mut Steps<L>,
+) -> bool
+    requires { place ≤ 1024 }
+{
+    let Some(app) = AppNo::try_new(place % 256 / 16 + 1) else {
+        return false;
+    };
+    let pipe = place % 256 + 1;
+    let name = [b'A' + (place / 16) as u8, b'A' + (place % 16) as u8];
+    let call = match filling {
+        Filling::Pipes => BusCall::Create {
+            depth: 4,
+            name: &name,
+        },
+        Filling::Ids => subscription(place as u16 + 1, pipe),
+        Filling::Dests => subscription(1, pipe),
+    };
+    core.may_make(app, &call) && make(core, app, call, steps)
+}
+
+// A call that subscribes the pipe to the id.
+fn subscription(id: u16, pipe: u32) -> BusCall<'static> {
+    BusCall::Subscribe {
+        id,
+        pipe,
+        limit: 4,
+        scope: Scope::Global,
+    }
+}
+
+/// Has the first application send a message of this id; how many pipes it reached. An id of at most 64 destinations takes at
+/// most 32 + 4 * 64 steps, whatever else is there.
+fn reached<L: Ledger>(core: &mut BusCore, id: u16, steps: &mut Steps<L>) -> u32
+    ensures cost { length (route (state_of core.old).subscriptions id) ≤ 64 → steps.new ≤ steps.old + (32 + 4 * 64) }
+{
+    let mut message = [0, 0, 0, 0, 0, 0, 0, 1];
+    write_header(&mut message, id, 0);
+    let call = BusCall::Transmit {
+        bytes: &message,
+        inc: true,
+    };
+    match AppNo::try_new(1) {
+        Some(app) if core.may_make(app, &call) => core
+            .transmit(app, &message, true, steps)
+            .map_or(0, |sent| sent.reached),
+        _ => 0,
+    }
+}
+
+// Prints a figure as a line.
+fn print_figure<K: Sink>(name: &[u8], figure: u32, sink: &mut K) -> Result<(), WriteFault> {
+    let mut page = Page::new();
+    put(sink, &mut page, name);
+    put_number(sink, &mut page, figure);
+    put(sink, &mut page, b"\n");
+    finish(sink, &mut page)
+}

@@ -1,0 +1,162 @@
+//! The steps of an example on a bus.
+ghost use Rattle.std.specs.Prelude.{◌≡◌, ◌≤◌, length};
+ghost use Rattle.bus_words.specs.Entries.{call_of};
+ghost use Rattle.sb_calls.specs.Core.{MayCall};
+
+use crate::example::{Act, Step};
+use bucket_list::{Ledger, Steps};
+use bus_words::{BusCall, Receipt};
+use ccsds_msg::write_header;
+use fsw_base::{AppNo, Scope};
+use sb_calls::{BusCore, Pended};
+
+/// The most bytes that a message can have.
+pub const MOST_BYTES: usize = 65542;
+
+/// What a step left to tell.
+#[derive(Drop)]
+pub enum Played {
+    /// Nothing but the call's entry in the journal.
+    Entry,
+    /// What the application sees of a pipe's last message.
+    Seen(AppNo, Receipt),
+    /// The application may not make this call now.
+    NotAllowed,
+}
+
+/// Plays one step. A message is made in the buffer.
+pub fn play<L: Ledger>(
+    core: &mut BusCore,
+    step: &Step,
+    buffer: &mut [u8],
+    steps: &mut Steps<L>,
+) -> Played {
+    let (number, act) = step;
+    let Some(app) = AppNo::try_new(*number) else {
+        return Played::NotAllowed;
+    };
+    let Some(call) = call_of(act, buffer) else {
+        return shown(core, app, act);
+    };
+    if !core.may_make(app, &call) {
+        return Played::NotAllowed;
+    }
+    make(core, app, call, steps);
+    received(core, app, act)
+}
+
+/// Makes the call, which the application may make now; whether it was accepted.
+pub fn make<L: Ledger>(
+    core: &mut BusCore,
+    app: AppNo,
+    call: BusCall<'_>,
+    steps: &mut Steps<L>,
+) -> bool
+    requires { MayCall core.old app (call_of call) }
+{
+    match call {
+        BusCall::Create { depth, name } => core.create_pipe(app, depth, name).is_ok(),
+        BusCall::Delete { pipe } => core.delete_pipe(app, pipe, steps).is_ok(),
+        BusCall::SetOpts { pipe, bits } => core.set_opts(app, pipe, bits).is_ok(),
+        BusCall::GetOpts { pipe } => core.get_opts(app, pipe).is_ok(),
+        BusCall::Find { name } => core.find_pipe(app, name).is_ok(),
+        BusCall::PipeName { pipe } => core.pipe_name(app, pipe).is_ok(),
+        BusCall::Subscribe {
+            id,
+            pipe,
+            limit,
+            scope,
+        } => core.subscribe(app, id, pipe, limit, scope, steps).is_ok(),
+        BusCall::Unsubscribe { id, pipe } => core.unsubscribe(app, id, pipe, steps).is_ok(),
+        BusCall::Transmit { bytes, inc } => core.transmit(app, bytes, inc, steps).is_ok(),
+        BusCall::Receive { pipe } => core.receive(app, pipe).is_ok(),
+        BusCall::Pend { pipe } => core.pend(app, pipe).is_ok(),
+        BusCall::Look { pipe: _ } => core.look(app) != Pended::Pending,
+        BusCall::End => {
+            core.end(app, steps);
+            true
+        }
+    }
+}
+
+// The call of the bus that this is; None where it is none.
+fn call_of<'b>(act: &Act, buffer: &'b mut [u8]) -> Option<BusCall<'b>> {
+    Some(match act {
+        Act::Create(depth, name) => BusCall::Create {
+            depth: *depth,
+            name,
+        },
+        Act::Delete(pipe) => BusCall::Delete { pipe: *pipe },
+        Act::SetOpts(pipe, bits) => BusCall::SetOpts {
+            pipe: *pipe,
+            bits: *bits,
+        },
+        Act::GetOpts(pipe) => BusCall::GetOpts { pipe: *pipe },
+        Act::Find(name) => BusCall::Find { name },
+        Act::PipeName(pipe) => BusCall::PipeName { pipe: *pipe },
+        Act::Subscribe(id, pipe, limit) => BusCall::Subscribe {
+            id: *id,
+            pipe: *pipe,
+            limit: *limit,
+            scope: Scope::Global,
+        },
+        Act::Unsubscribe(id, pipe) => BusCall::Unsubscribe {
+            id: *id,
+            pipe: *pipe,
+        },
+        Act::Send(id, size, fill) => BusCall::Transmit {
+            bytes: message_in(buffer, *id, *size, *fill),
+            inc: true,
+        },
+        Act::SendRaw(bytes) => BusCall::Transmit { bytes, inc: true },
+        Act::Receive(pipe) => BusCall::Receive { pipe: *pipe },
+        Act::Pend(pipe) => BusCall::Pend { pipe: *pipe },
+        Act::Look(pipe) => BusCall::Look { pipe: *pipe },
+        Act::End => BusCall::End,
+        Act::Show(_) => return None,
+    })
+}
+
+// A message of this id and size, made at the buffer's front. No bytes, which every bus refuses, for a size that no message
+// has or the buffer hasn't.
+fn message_in(buffer: &mut [u8], id: u16, size: u32, fill: u8) -> &[u8] {
+    let size = size as usize;
+    if size < 7 || MOST_BYTES < size || buffer.len() < size {
+        return &[];
+    }
+    let message = &mut buffer[..size];
+    write_header(message, id, 0);
+    fill_payload(&mut message[6..], fill);
+    message
+}
+
+// Writes bytes that count up from `fill`.
+fn fill_payload(payload: &mut [u8], fill: u8) {
+    for i in 0..payload.len() {
+        payload[i] = ((fill as usize + i % 256) % 256) as u8;
+    }
+}
+
+// What a look at a pipe's last message tells.
+fn shown(core: &BusCore, app: AppNo, act: &Act) -> Played {
+    match act {
+        Act::Show(pipe) => {
+            let receipt = core.last_receipt(app, *pipe);
+            Played::Seen(app, receipt.unwrap_or(Receipt::Nothing))
+        }
+        _ => Played::NotAllowed,
+    }
+}
+
+// What a call that was made left to tell. A receive lets the pipe's last message go, so there is one behind it only where
+// the receive got it.
+fn received(core: &BusCore, app: AppNo, act: &Act) -> Played {
+    let receipt = match act {
+        Act::Receive(pipe) | Act::Pend(pipe) | Act::Look(pipe) => core.last_receipt(app, *pipe),
+        _ => None,
+    };
+    match receipt {
+        Some(receipt) => Played::Seen(app, receipt),
+        None => Played::Entry,
+    }
+}

@@ -1,0 +1,84 @@
+//! Examples as text.
+ghost use Rattle.std.specs.Prelude.{◌≡◌, ◌<◌};
+
+use crate::example::Example;
+use crate::fail::Fail;
+use crate::opening::{budgets, config_of};
+use crate::playing::{MOST_BYTES, Played, play};
+use bucket_list::{Blank, Ledger, Steps};
+use bus_words::{Receipt, ReceiptList};
+use fsw_base::{AppNo, Sink, WriteFault};
+use run_report::write_report;
+use sb_calls::BusCore;
+use std::alloc::{AllocError, Global};
+use text_page::write_text;
+
+/// Plays an example and prints its title and its report. The bus's memory is taken before the first step.
+pub fn print_example<L: Ledger, K: Sink>(
+    alloc: Global,
+    example: &Example,
+    sink: &mut K,
+    blank: Blank,
+) -> Result<(), Fail>
+    requires name { blank.name ≡ L.name }
+    requires parts { blank.parts ≡ L.parts }
+    requires some_part { 0 < blank.parts }
+{
+    let mut steps = Steps::<L>::new(blank);
+    let mut core = BusCore::new(alloc, &config_of(example.limits), budgets(example.apps))?;
+    let mut buffer = vec![in alloc; 0u8; MOST_BYTES]?;
+    let mut seen = Vec::with_capacity(alloc, example.steps.len())?;
+    print_title(example.title, sink)?;
+    for step in example.steps {
+        match play(&mut core, step, &mut buffer, &mut steps) {
+            Played::Entry => {}
+            Played::Seen(app, receipt) => note(&mut seen, app, receipt)?,
+            Played::NotAllowed => write_text(sink, b"not allowed\n")?,
+        }
+    }
+    let receipts = receipt_lists(alloc, example.apps, &seen)?;
+    write_report(&core, &receipts, sink)?;
+    Ok(())
+}
+
+/// Prints a title as a line.
+pub fn print_title<K: Sink>(title: &str, sink: &mut K) -> Result<(), WriteFault> {
+    write_text(sink, title.as_bytes())?;
+    write_text(sink, b"\n")
+}
+
+// Adds what an application saw.
+fn note(seen: &mut Vec<(AppNo, Receipt)>, app: AppNo, receipt: Receipt) -> Result<(), AllocError> {
+    seen.push((app, receipt))?;
+    Ok(())
+}
+
+// The receipts of each application, in its own order.
+fn receipt_lists(
+    alloc: Global,
+    apps: u32,
+    seen: &[(AppNo, Receipt)],
+) -> Result<Vec<ReceiptList>, AllocError> {
+    let mut lists = Vec::new(alloc);
+    for app in 1..=apps {
+        lists.push(receipts_of(alloc, app, seen)?)?;
+    }
+    Ok(lists)
+}
+
+// The receipts of one application.
+fn receipts_of(
+    alloc: Global,
+    app: u32,
+    seen: &[(AppNo, Receipt)],
+) -> Result<ReceiptList, AllocError> {
+    let mut left = u32::try_from(seen.len()).unwrap_or(u32::MAX);
+    let mut list = ReceiptList::new(alloc, left)?;
+    for (owner, receipt) in seen {
+        if owner.get() == app && 0 < left {
+            list.push(receipt.again());
+            left -= 1;
+        }
+    }
+    Ok(list)
+}
