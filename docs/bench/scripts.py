@@ -1,7 +1,8 @@
 """Scripts to be timed: `largest` has as many call lines and charges as a script may have, `mixed` has 20,000 lines of all the
-calls of the bus over four applications, and `longest` has as many bytes as a script may have.
+calls of the bus over four applications, and `longest` has as many bytes as a script may have. `narrow` and `wide` make the
+same sends, the one with four pipes and ids, the other with 256 pipes and 1024 ids.
 
-    scripts.py largest|mixed|longest
+    scripts.py largest|mixed|longest|narrow|wide
 """
 import sys
 
@@ -51,8 +52,32 @@ def longest():
     yield from lines
 
 
+def sends(pipes, ids):
+    """Four applications with so many pipes and ids each, and 2,000 sends each to an id with one destination."""
+    yield "set msgids 1024"
+    yield "set pipes 256"
+    for app in range(4):
+        yield f"app A{app}"
+        for pipe in range(pipes):
+            yield f"create p{pipe} 4 N{app}_{pipe}"
+        for place in range(ids):
+            yield f"sub 0x{1 + 256 * app + place:04x} p{place % pipes}"
+        for _ in range(2000):
+            yield f"send 0x{256 * app + ids:04x} 8 1"
+
+
+def narrow():
+    """A pipe and an id for each application."""
+    yield from sends(1, 1)
+
+
+def wide():
+    """64 pipes and 256 ids for each application."""
+    yield from sends(64, 256)
+
+
 def main():
-    lines = {"largest": largest, "mixed": mixed, "longest": longest}[sys.argv[1]]()
+    lines = {"narrow": narrow, "wide": wide, "largest": largest, "mixed": mixed, "longest": longest}[sys.argv[1]]()
     sys.stdout.write("\n".join(lines) + "\n")
 
 
