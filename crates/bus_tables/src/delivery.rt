@@ -34,6 +34,7 @@ pub(crate) fn along<L: Ledger>(
     ensures queued { AreQueued pipes.new.live subs.new }
     ensures cost { steps.new ≤ steps.old + 2 * length (route (map sub_in subs.old.live) id) + 2 }
 {
+    // Does nothing; the proof learns of it that no two subscriptions have one number.
     subs.are_in_order();
     let Some(route) = routes.route_of(id) else {
         return 0;
@@ -62,6 +63,7 @@ fn offer(pipes: &mut PipeTable, subs: &mut Subs, sub: SubNo, sender: AppNo, numb
     ensures subs { still subs.new ≡ still subs.old }
     ensures queued { AreQueued pipes.new.live subs.new }
 {
+    // Do nothing; the proof learns of them that no two pipes, and no two subscriptions, have one number.
     pipes.are_in_order();
     subs.are_in_order();
     let pipe = subs.at(sub).pipe;
@@ -69,6 +71,7 @@ fn offer(pipes: &mut PipeTable, subs: &mut Subs, sub: SubNo, sender: AppNo, numb
         return 0;
     }
     let item = Item {
+        // The place of its send among the accepted ones.
         desc: number - 1,
         number,
         sub,

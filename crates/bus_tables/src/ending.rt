@@ -23,6 +23,7 @@ pub(crate) fn end_subscription<L: Ledger>(
     ensures ways { ways_of routes.new ≡ ways_of routes.old }
     ensures cost { ForSome (live_at subs.old sub) (λ s. steps.new ≤ steps.old + length (of_id s.id subs.old) + 8) }
 {
+    // Does nothing; the proof learns of it that no two subscriptions have one number.
     subs.are_in_order();
     let id = subs.at(sub).id;
     if let Some(route) = routes.route_of(id) {
@@ -45,6 +46,7 @@ pub(crate) fn end_of_pipe<L: Ledger>(
     ensures ways { ways_of routes.new ≡ ways_of routes.old }
 {
     while let Some(sub) = subs.any_of_pipe(pipe) {
+        // As above: the one that ends is the only one of its number.
         subs.are_in_order();
         end_subscription(subs, routes, sub, steps);
     }

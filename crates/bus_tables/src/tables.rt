@@ -176,7 +176,7 @@ impl BusTables {
     }
 
     /// Ends the live pipe of this number, with its subscriptions and what waits on it; no effect where none is live. Looks
-    /// at every subscription.
+    /// at as many subscriptions as ever were live at once, for each that ends and once more.
     pub fn delete_pipe<L: Ledger>(&mut self, number: u32, steps: &mut Steps<L>)
         ensures { self.new ≡ record self.old {
           pipes = filter (λ row. not (row.number == number)) self.old.pipes;
@@ -202,6 +202,7 @@ impl BusTables {
         } }
     {
         while let Some(number) = self.first_of(app) {
+            // Does nothing; the proof learns of it that no other pipe has this number.
             self.are_in_order();
             self.delete_pipe(number, steps);
         }
@@ -261,6 +262,7 @@ impl BusTables {
         ensures after { self.new ≡ record self.old { subscriptions = filter (λ sub. not (sub.id == id && sub.pipe == pipe)) self.old.subscriptions } }
         ensures cost { steps.new ≤ steps.old + length (route self.old.subscriptions id) + 8 }
     {
+        // Does nothing; the proof learns of it that no two subscriptions have one number.
         self.subs.are_in_order();
         if let Some(sub) = self.subs.find(id, pipe) {
             end_subscription(&mut self.subs, &mut self.routes, sub, steps);

@@ -10,6 +10,7 @@ pub mod Live
 pub mod Numbers
 pub mod Opened
 pub mod Order
+mod Top
 pub mod Unused
 pub mod Upkeep
 pub mod Waiting

@@ -98,3 +98,7 @@ pub record AreKept (slots : List (Option Place)) (free : List ℕ) (newest : Lis
   pub unused : AreFree slots free
   pub numbers : (slot : ℕ) → number_at slots slot ≤ made
   pub full : length free + length (live_upto slots made) ≡ length slots
+
+-- no slot from this one on holds anything
+abbrev pub IsTop : List (Option Place) → ℕ → Type 0
+IsTop slots top = (slot : ℕ) → top ≤ slot → slice_index_or slots slot None ≡ None

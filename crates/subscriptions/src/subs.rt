@@ -32,6 +32,8 @@ pub struct Subs {
     newest: Vec<Option<u32>>,
     /// How many subscriptions were made, which is the newest one's number.
     made: u32,
+    /// No slot from this one on was ever used.
+    top: u32,
 }
 
 impl Model for Subs {
@@ -40,11 +42,11 @@ impl Model for Subs {
 
     ghost Value = { Subscribed };
 
-    ghost use Rattle.subscriptions.specs.Slots.{live_upto, AreKept};
+    ghost use Rattle.subscriptions.specs.Slots.{live_upto, AreKept, IsTop};
 
     ghost view = { λ s. record { room = length s.slots.items; made = s.made; live = live_upto s.slots.items s.made } };
 
-    ghost invariant = { λ s. AreKept s.slots.items s.free.items s.newest.items s.made × (length s.slots.items < 2 ^ 32) × (length s.slots.items ≤ vec_capacity s.free) };
+    ghost invariant = { λ s. AreKept s.slots.items s.free.items s.newest.items s.made × (length s.slots.items < 2 ^ 32) × (length s.slots.items ≤ vec_capacity s.free) × IsTop s.slots.items s.top × (s.top ≤ length s.slots.items) };
 }
 
 impl Subs {
@@ -60,6 +62,7 @@ impl Subs {
             free,
             newest,
             made: 0,
+            top: 0,
         })
     }
 
@@ -93,6 +96,7 @@ impl Subs {
     {
         let slot = self.free.pop().unwrap();
         self.made += 1;
+        self.top = self.top.max(slot + 1);
         let older = self.newest[id as usize];
         self.newest[id as usize] = Some(slot);
         self.slots[slot as usize] = Some(Place {
@@ -184,17 +188,17 @@ impl Subs {
         }
     }
 
-    /// A live subscription of a pipe; None exactly where it has none. For the deletion of a pipe: it looks at every slot,
-    /// used or free.
+    /// A live subscription of a pipe; None exactly where it has none. For the deletion of a pipe: it looks at as many slots
+    /// as ever were used at once.
     pub fn any_of_pipe(&self, pipe: u32) -> Option<SubNo>
         ensures some { IsSome result ↔ IsTrue (list_any (λ s. s.pipe == pipe) self.now.live) }
         ensures own { IfSome result (λ sub. option_map (λ s. s.pipe) (live_at self.now sub) ≡ Some pipe) }
     {
-        for slot in 0..self.slots.len() {
-            if let Some(place) = self.slots[slot] {
+        for slot in 0..self.top {
+            if let Some(place) = self.slots[slot as usize] {
                 if place.pipe == pipe {
                     return Some(SubNo {
-                        slot: slot as u32,
+                        slot,
                         number: place.number,
                     });
                 }

@@ -8,6 +8,8 @@ use Rattle.subscriptions.specs.Subs.{Subscribed, Subscription}
 use Rattle.subscriptions.specs.Slots.{live_upto, AreKept}
 use Rattle.subscriptions.proofs.Upkeep.{kept_added, live_grown}
 use Rattle.subscriptions.proofs.Kept.{not_in_use}
+use Rattle.subscriptions.proofs.Top.{top_used}
+use Rattle.subscriptions.proofs.Unused.{last_free}
 use Rattle.subscriptions.proofs.subs.Subs.add.Goals as goal
 
 pub invariant_of-self : goal.invariant_of-self
@@ -22,6 +24,8 @@ invariant_of-self c =
       kept_added s.slots.items c.pop.new.self.items s.newest.items s.made (s.made + 1) slot p kept (add-one s.made) (omega (arith, c.requires.number, ap (λ v. v.made) c.self.view_is)) refl c.requires.id linked,
       omega (arith, l, c.self.invariant.1),
       omega (arith, l, c.self.invariant.2, c.pop.ensures.capacity),
+      top_used s.slots.items slot s.top c.max-self-inside.result p (omega (arith, c.max-self-inside.ensures)) (omega (arith, c.max-self-inside.ensures)) c.self.invariant.3,
+      omega (arith, l, c.max-self-inside.ensures, c.self.invariant.4, (last_free s.slots.items c.pop.new.self.items slot kept.unused).0),
     )
 
 pub returns-clause-free : goal.returns-clause-free

@@ -3,6 +3,7 @@ use Rattle.std.proofs.Common.{◌≡◌, length, replicate, None, sym, ap, subst
 use Rattle.std.proofs.lemmas.List.{length-replicate}
 use Rattle.subscriptions.specs.Slots.{AreKept}
 use Rattle.subscriptions.proofs.Opened.{kept_opened}
+use Rattle.subscriptions.proofs.Top.{top_opened}
 use Rattle.subscriptions.proofs.subs.Subs.new.Goals as goal
 
 pub invariant_of-result : goal.invariant_of-result
@@ -12,4 +13,6 @@ invariant_of-result c =
       subst (λ ys. AreKept c.in_ok-slots.slots.items c.in_ok-free.free.items ys 0) (sym c.in_ok-newest.ensures) (subst (λ xs. AreKept xs c.in_ok-free.free.items (replicate 8192 None) 0) (sym c.in_ok-slots.ensures) kept),
       omega (arith, all),
       omega (arith, all, c.in_ok-free.ensures.room),
+      top_opened c.in_ok-slots.slots.items c.args.room c.in_ok-slots.ensures,
+      omega arith,
     )

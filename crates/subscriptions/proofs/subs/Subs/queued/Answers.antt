@@ -1,9 +1,10 @@
 -- The count in the slot changes where the subscription is live, and nothing where it isn't.
-use Rattle.std.proofs.Common.{◌≡◌, ◌+◌, length, get_or, None, refl, sym, ap, ◌∙◌, arith}
+use Rattle.std.proofs.Common.{◌≡◌, ◌+◌, length, get_or, None, refl, sym, ap, subst, ◌∙◌, arith}
 use Rattle.std.proofs.lemmas.List.{length-set}
 use Rattle.subscriptions.specs.Subs.{live_at, one_more, with_change}
-use Rattle.subscriptions.specs.Slots.{held_at, held_in, with_waiting}
+use Rattle.subscriptions.specs.Slots.{held_at, held_in, with_waiting, IsTop}
 use Rattle.subscriptions.proofs.Kept.{live_found, live_ended}
+use Rattle.subscriptions.proofs.Top.{top_waiting}
 use Rattle.subscriptions.proofs.Waiting.{shown_waiting, kept_after, unchanged, held_inside}
 use Rattle.subscriptions.proofs.subs.Subs.queued.Goals as goal
 
@@ -32,6 +33,8 @@ invariant_of-self c =
       kept_after c.set_waiting.new.slots.items s.slots.items s.free.items s.newest.items s.made sub c.in-Some.place (c.in-Some.place.waiting + 1) c.self.invariant.0 held c.set_waiting.ensures.items,
       omega (arith, all, c.self.invariant.1),
       omega (arith, all, c.self.invariant.2),
+      subst (λ xs. IsTop xs s.top) (sym c.set_waiting.ensures.items) (top_waiting s.slots.items sub.slot s.top (c.in-Some.place.waiting + 1) c.self.invariant.3),
+      omega (arith, all, c.self.invariant.4),
     )
 
 pub returns-in-Some : goal.returns-in-Some

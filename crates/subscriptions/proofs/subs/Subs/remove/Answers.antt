@@ -1,10 +1,11 @@
 -- The chain goes past the slot, which is free then, and the live subscriptions are those of other numbers.
-use Rattle.std.proofs.Common.{◌≡◌, ◌<◌, length, get_or, set, Some, None, IsSome, MatchOption, vec_capacity, sym, ap, subst, ◌∙◌, arith}
+use Rattle.std.proofs.Common.{◌≡◌, ◌<◌, ◌≤◌, length, get_or, set, Some, None, IsSome, MatchOption, vec_capacity, sym, ap, subst, ◌∙◌, arith}
 use Rattle.std.proofs.lemmas.List.{length-set}
 use Rattle.subscriptions.specs.Subs.{Subscribed, live_at, without}
-use Rattle.subscriptions.specs.Slots.{held_at, number_at, older_at, live_upto, AreKept}
+use Rattle.subscriptions.specs.Slots.{held_at, number_at, older_at, live_upto, with_older, AreKept, IsTop}
 use Rattle.subscriptions.proofs.Kept.{held_if_live}
 use Rattle.subscriptions.proofs.Ended.{IsUnlinked, unlinked_newest, unlinked_older}
+use Rattle.subscriptions.proofs.Top.{top_freed, top_older}
 use Rattle.subscriptions.proofs.subs.Subs.remove.Goals.{in-None, in-Some}
 use Rattle.subscriptions.proofs.subs.Subs.remove.Goals as goal
 
@@ -33,10 +34,22 @@ invariant_of-self c =
           subst (λ a. IsUnlinked s.slots.items s.made sub.slot sub.number a.slots.items a.free.items a.newest.items a.made (vec_capacity a.free)) (sym w.self-inside-is)
           (unlinked_older s.slots.items w.set_older.new.slots.items s.free.items s.newest.items s.made w.in-Some.slot sub p (vec_capacity s.free) c.self.invariant.0 held leads c.self.invariant.2 w.set_older.ensures.items)
     ] in
+    let top : IsTop c.match-newer.self-inside.slots.items c.match-newer.self-inside.top × (c.match-newer.self-inside.top ≤ length c.match-newer.self-inside.slots.items) =
+    elim c.match-newer.branch [
+      | in-None w ↦ subst (λ a. IsTop a.slots.items a.top × (a.top ≤ length a.slots.items)) (sym w.self-inside-is) (c.self.invariant.3, c.self.invariant.4)
+      | in-Some w ↦
+          subst (λ a. IsTop a.slots.items a.top × (a.top ≤ length a.slots.items)) (sym w.self-inside-is)
+          (subst (λ xs. IsTop xs s.top × (s.top ≤ length xs)) (sym w.set_older.ensures.items) (
+            top_older s.slots.items w.in-Some.slot s.top p.older c.self.invariant.3,
+            omega (arith, length-set s.slots.items w.in-Some.slot (with_older p.older (get_or s.slots.items w.in-Some.slot None)), c.self.invariant.4),
+          ))
+    ] in
     let l : length (set c.match-newer.self-inside.slots.items sub.slot None) ≡ length c.match-newer.self-inside.slots.items = length-set c.match-newer.self-inside.slots.items sub.slot None in (
       subst (λ fs. AreKept (set c.match-newer.self-inside.slots.items sub.slot None) fs c.match-newer.self-inside.newest.items c.match-newer.self-inside.made) (sym c.push_reserved.ensures.items) unlinked.kept,
       omega (arith, l, unlinked.all, c.self.invariant.1),
       omega (arith, l, unlinked.room, c.push_reserved.ensures.capacity),
+      top_freed c.match-newer.self-inside.slots.items sub.slot c.match-newer.self-inside.top top.0,
+      omega (arith, l, top.1),
     )
 
 pub returns : goal.returns
