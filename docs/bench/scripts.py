@@ -1,8 +1,9 @@
 """Scripts to be timed: `largest` has as many call lines and charges as a script may have, `mixed` has 20,000 lines of all the
 calls of the bus over four applications, and `longest` has as many bytes as a script may have. `narrow` and `wide` make the
-same sends, the one with four pipes and ids, the other with 256 pipes and 1024 ids.
+same sends, the one with four pipes and ids, the other with 256 pipes and 1024 ids; `cycles` makes, subscribes and deletes a
+pipe again and again.
 
-    scripts.py largest|mixed|longest|narrow|wide
+    scripts.py largest|mixed|longest|narrow|wide|cycles
 """
 import sys
 
@@ -76,8 +77,18 @@ def wide():
     yield from sends(64, 256)
 
 
+def cycles():
+    """5,000 times: a pipe is made, subscribed, sent to and deleted with its message."""
+    yield "app A"
+    for _ in range(5000):
+        yield "create p0 4 A"
+        yield "sub 0x0801 p0"
+        yield "send 0x0801 8 1"
+        yield "delete p0"
+
+
 def main():
-    lines = {"narrow": narrow, "wide": wide, "largest": largest, "mixed": mixed, "longest": longest}[sys.argv[1]]()
+    lines = {"cycles": cycles, "narrow": narrow, "wide": wide, "largest": largest, "mixed": mixed, "longest": longest}[sys.argv[1]]()
     sys.stdout.write("\n".join(lines) + "\n")
 
 
