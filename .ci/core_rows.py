@@ -6,8 +6,11 @@ with a second word compares that with the file of this name.
 A step is spelled as the report spells a call, with pipes by their numbers: its words are the application, the call and what
 the call is given; `show` is a receipt of the pipe's last message.
 """
-import importlib.util
 import sys
+
+sys.dont_write_bytecode = True  # nothing is left beside the scripts
+
+from model_answers import compared, model_of
 
 STAGE = "script-and-report"
 
@@ -206,13 +209,6 @@ LARGEST = {"msgids": 1024, "pipes": 256, "dests": 64, "depth": 4}
 APPLICATIONS = 16
 
 
-def model_of(path):
-    spec = importlib.util.spec_from_file_location("fsw", path)
-    model = importlib.util.module_from_spec(spec)
-    spec.loader.exec_module(model)
-    return model
-
-
 def opened(model, limits, starts, applications):
     """The model's bus before the first call."""
     config = model.Config()
@@ -286,12 +282,7 @@ def main():
     if len(sys.argv) < 3:
         print("\n".join(wanted))
         return 0
-    with open(sys.argv[2]) as file:
-        answers = file.read().splitlines()
-    wrong = [n for n, pair in enumerate(zip(wanted, answers), 1) if pair[0] != pair[1]]
-    for n in wrong:
-        print(f"line {n}: {answers[n - 1]}, and by the model {wanted[n - 1]}")
-    return 1 if wrong or len(wanted) != len(answers) else 0
+    return compared(wanted, sys.argv[2])
 
 
 sys.exit(main())

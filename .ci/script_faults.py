@@ -3,19 +3,15 @@ reads it, and prints an answer a line; with a third word compares them with the 
 
     script_faults.py MODEL TABLE [ANSWERS]
 """
-import importlib.util
 import re
 import sys
 
+sys.dont_write_bytecode = True  # nothing is left beside the scripts
+
+from model_answers import compared, model_of
+
 STAGE = "script-and-report"
 BYTES = {b"n": b"\n", b"r": b"\r", b"t": b"\t"}
-
-
-def model_of(path):
-    spec = importlib.util.spec_from_file_location("fsw", path)
-    model = importlib.util.module_from_spec(spec)
-    spec.loader.exec_module(model)
-    return model
 
 
 def spelled(line):
@@ -53,12 +49,7 @@ def main():
     if len(sys.argv) < 4:
         print("\n".join(wanted))
         return 0
-    with open(sys.argv[3]) as file:
-        answers = file.read().splitlines()
-    wrong = [n for n, pair in enumerate(zip(wanted, answers), 1) if pair[0] != pair[1]]
-    for n in wrong:
-        print(f"line {n}: {answers[n - 1]}, and by the model {wanted[n - 1]}")
-    return 1 if wrong or len(wanted) != len(answers) else 0
+    return compared(wanted, sys.argv[3])
 
 
 sys.exit(main())

@@ -1,0 +1,19 @@
+"""The executable model, loaded from its file, and the comparison of what it answers with a stored file."""
+import importlib.util
+
+
+def model_of(path):
+    spec = importlib.util.spec_from_file_location("fsw", path)
+    model = importlib.util.module_from_spec(spec)
+    spec.loader.exec_module(model)
+    return model
+
+
+def compared(wanted, path):
+    """Prints each line of the file that isn't the model's; the status: 0 where all are, else 1."""
+    with open(path) as file:
+        answers = file.read().splitlines()
+    wrong = [n for n, pair in enumerate(zip(wanted, answers), 1) if pair[0] != pair[1]]
+    for n in wrong:
+        print(f"line {n}: {answers[n - 1]}, and by the model {wanted[n - 1]}")
+    return 1 if wrong or len(wanted) != len(answers) else 0
