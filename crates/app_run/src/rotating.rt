@@ -2,7 +2,6 @@
 ghost use Rattle.std.specs.Prelude.{◌≡◌, ◌+◌, ◌*◌, ◌<◌, ◌≤◌, ◌-◌, length, map, sum_by, All, IfOk, false, true, vec_len, vec_capacity, [], ◌++◌};
 ghost use Rattle.std.specs.List.{range_with_len};
 ghost use Rattle.sb_calls.specs.Core.{apps_of};
-ghost use Rattle.app_script.specs.Ranges.{IsInRange};
 ghost use Rattle.script_settings.specs.Accounts.{budget_of};
 ghost use Rattle.app_script.specs.Rotation.{rotation, rotations, enough};
 ghost use Rattle.app_script.specs.Told.{receipts_told};
@@ -37,12 +36,12 @@ pub struct Finished {
 /// # Errors
 /// Where memory runs out; then no application ran.
 pub fn lockstep(alloc: Global, script: &Script) -> Result<Finished, AllocError>
-    requires { IsInRange script.now }
     ensures history { IfOk result (λ finished. finished.bus.log.entries ≡ rotation script.now) }
     ensures limits { IfOk result (λ finished. finished.bus.limits ≡ script.now.limits) }
     ensures apps { IfOk result (λ finished. apps_of finished.bus ≡ length script.now.apps) }
     ensures receipts { IfOk result (λ finished. map (λ list. list.receipts) finished.receipts.items ≡ map (receipts_told script.now (rotation script.now)) (range_with_len 1 (length script.now.apps))) }
 {
+    script.recall_ranges();
     let apps = script.apps() as usize;
     let budgets = budgets_of(alloc, script)?;
     let mut bus = BusCore::new(alloc, script.config(), &budgets)?;
@@ -68,7 +67,6 @@ fn budgets_of(alloc: Global, script: &Script) -> Result<Vec<Budget>, AllocError>
 
 // The applications, each before its first line.
 fn runners_of(alloc: Global, script: &Script) -> Result<Vec<Runner<'_>>, AllocError>
-    requires { IsInRange script.now }
     ensures { IfOk result (λ runners. runners.items ≡ all_beginning script.now) }
 {
     let mut runners = Vec::with_capacity(alloc, script.apps() as usize)?;

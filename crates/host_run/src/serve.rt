@@ -2,7 +2,6 @@
 ghost use Rattle.std.specs.Prelude.{◌≡◌, ◌⊎◌, true, false, List, Option};
 ghost use Rattle.bus_words.specs.declared.history.Entry.{Entry};
 ghost use Rattle.app_script.specs.Grammar.{built_script};
-ghost use Rattle.app_script.specs.Ranges.{IsInRange};
 ghost use Rattle.host_run.specs.Serve.{Headline, Lockstep, OtherWords, HasCauses, Completes, fed_by, made_by, EndsInput, EndsScript, EndsRefused, EndsTelling, usage_text};
 ghost use Rattle.host_run.specs.Words.{is_lockstep};
 
@@ -126,7 +125,6 @@ fn serve_script<K: Sink, A: Audit>(
     sink: &mut K,
     audit: &mut A,
 ) -> HostStatus
-    requires { IsInRange script.now }
     ensures { EndsScript result script.now
         (made_by K.written K.faults A.shown sink.old audit.old)
         (made_by K.written K.faults A.shown sink.new audit.new) }

@@ -12,7 +12,7 @@ use Rattle.app_run.proofs.rotating.lockstep.Goals as goal
 pub new-requires : goal.new-requires
 new-requires c =
     subst (λ (bs : List Budget). AreBudgets bs) (sym (c.deref.ensures.value ∙ c.in_ok-budgets.ensures))
-    (are-budgets c.args.script.now c.requires (omega (arith, c.apps-apps.ensures.count, c.apps-apps.ensures.some)) (omega (arith, c.apps-apps.ensures.count, c.apps-apps.ensures.few)))
+    (are-budgets c.args.script.now c.recall_ranges.ensures.run c.recall_ranges.ensures.text.some c.recall_ranges.ensures.text.few)
 
 pub run_counted-requires-clause-stand : goal.run_counted-requires-clause-stand
 run_counted-requires-clause-stand c =

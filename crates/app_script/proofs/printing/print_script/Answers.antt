@@ -5,6 +5,7 @@ use Rattle.fsw_base.specs.Limits.{limits_of}
 use Rattle.text_page.proofs.Putting.{◌▸◌, puts_as, puts_never_falls, puts_part, puts_rose, puts_whole}
 use Rattle.app_script.specs.Script.{ScriptText}
 use Rattle.app_script.specs.ScriptSpelling.{app_lines, ended, spelled_script}
+use Rattle.app_script.proofs.AppsBack.{scripts_back}
 use Rattle.app_script.proofs.PrintLemmas.{spelled}
 use Rattle.app_script.proofs.printing.print_script.Goals as goal
 
@@ -20,4 +21,5 @@ returns g c =
       err = on_err_weaker c.finish.result (λ set. puts_part blank all) c.finish.ensures.err;
       cause = on_err_weaker c.finish.result (puts_rose blank all) c.finish.ensures.err;
       never_falls = puts_never_falls blank all;
+      reads_back = on_ok_weaker c.finish.result (λ grew short. scripts_back c.args.script.now c.recall_ranges.ensures.text short) c.finish.ensures.ok;
     }
