@@ -14,9 +14,3 @@ pub mod ItemSteps
 pub mod ItemsTell
 pub mod ItemsPass
 pub mod LanguageLaw
-pub mod Owners
-pub mod LegalSteps
-pub mod LastMessages
-pub mod OneTurn
-pub mod Rotated
-pub mod Merged

@@ -12,7 +12,3 @@ pub mod Whole
 pub mod AppParts
 pub mod ReadingParts
 pub mod ScriptParts
-pub mod Messages
-pub mod Trace
-pub mod Rotation
-pub mod Told

@@ -24,10 +24,7 @@ mod reading;
 mod script;
 
 pub use fail::ReadFail;
-pub use laws::{
-    last_messages_stay, printed_scripts_read_back, read_scripts_are_in_range, rotations_merge,
-    texts_are_scripts,
-};
+pub use laws::{printed_scripts_read_back, read_scripts_are_in_range, texts_are_scripts};
 pub use printing::print_script;
 pub use script::{Script, read_script};
 pub use script_lines::{BoxedRules, ByteText, Content, Line, MAX_RULES, Rule, RuleList};

@@ -11,7 +11,7 @@ use Rattle.bus_words.specs.Bus.{State, Standing, Active, Waiting, Ended, opening
 use Rattle.bus_words.specs.Machine.{step}
 use Rattle.script_lines.specs.declared.line.Line.{Line}
 use Rattle.app_script.specs.Script.{Application, ScriptText}
-use Rattle.app_script.specs.Trace.{first_registers, call_of, registers_after}
+use Rattle.script_runs.specs.Trace.{first_registers, call_of, registers_after}
 
 -- An application that has not ended: its number, the lines left and its registers.
 pub record Running : Type 0 where

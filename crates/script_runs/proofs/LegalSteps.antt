@@ -15,7 +15,7 @@ use Rattle.bus_words.specs.Machine.{delivered, created, deleted, unsubscribed, s
 use Rattle.bus_words.proofs.Finds.{neither, not_false}
 use Rattle.bus_words.proofs.Steps.{with_subscription, with_sent, AreNumbered, AreNumbered-step}
 use Rattle.bus_words.proofs.Ties.{refused_none}
-use Rattle.app_script.proofs.Owners.{single-rising, owns-one, owns-with_pipe, IsKept, kept-same, kept-push, kept-change, kept-deliver, kept-receive, kept-delete, kept-end}
+use Rattle.script_runs.proofs.Owners.{single-rising, owns-one, owns-with_pipe, IsKept, kept-same, kept-push, kept-change, kept-deliver, kept-receive, kept-delete, kept-end}
 
 -- Steps by cases. --
 

@@ -10,8 +10,8 @@ use Rattle.bus_words.specs.Machine.{step, may_call, state_from, state_after, Leg
 use Rattle.bus_words.specs.Receipts.{message_receipt, receipt_in}
 use Rattle.bus_words.proofs.Finds.{same-sym}
 use Rattle.bus_words.proofs.Replay.{state_from-push}
-use Rattle.app_script.proofs.Owners.{IsKept}
-use Rattle.app_script.proofs.LegalSteps.{AreWaiters-after, kept-step}
+use Rattle.script_runs.proofs.Owners.{IsKept}
+use Rattle.script_runs.proofs.LegalSteps.{AreWaiters-after, kept-step}
 
 -- what is kept of an application's pipes are the receipts of their last messages
 pub receipt-kept : (s t : State) (app pipe : ℕ) → IsKept s.pipes t.pipes app pipe → receipt_in t app pipe ≡ receipt_in s app pipe
@@ -38,7 +38,7 @@ pub receipt-step : (limits : Limits) (apps : ℕ) (history : List Entry) (s : St
     receipt_in ((step limits history s who call).1) app pipe ≡ receipt_in s app pipe
 receipt-step limits apps history s who app pipe call legal is may differ =
     receipt-kept s ((step limits history s who call).1) app pipe
-    (kept-step limits history s who app pipe call (subst Rattle.app_script.proofs.LegalSteps.AreWaiters (sym is) (AreWaiters-after limits apps history legal)) may differ)
+    (kept-step limits history s who app pipe call (subst Rattle.script_runs.proofs.LegalSteps.AreWaiters (sym is) (AreWaiters-after limits apps history legal)) may differ)
 
 -- the last entry of a legal history
 pub legal-last : (limits : Limits) (history : List Entry) (s : State) (es : List Entry) (e : Entry) → LegalFrom limits history s (es ++ e ∷ []) →

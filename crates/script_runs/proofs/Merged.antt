@@ -9,12 +9,12 @@ use Rattle.bus_words.specs.declared.history.Entry.{Entry}
 use Rattle.bus_words.specs.Bus.{State, Standing, Active, Waiting, Ended, opening, standing_of}
 use Rattle.bus_words.specs.Machine.{step, may_call, LegalFrom, IsLegal}
 use Rattle.bus_words.proofs.Steps.{length-standings-step}
-use Rattle.app_script.specs.Rotation.{Running, SoFar, before_all, enough, rotation, rotations, starting}
+use Rattle.script_runs.specs.Rotation.{Running, SoFar, before_all, enough, rotation, rotations, starting}
 use Rattle.app_script.specs.Script.{Application, ScriptText, app_at}
-use Rattle.app_script.specs.Trace.{Trace, Merges, first_registers, own_entries}
-use Rattle.app_script.proofs.LegalSteps.{standing_at}
-use Rattle.app_script.proofs.OneTurn.{Owes, waits, is_ended}
-use Rattle.app_script.proofs.Rotated.{left_of, AreApart, IsFit, Owed, HasRotated, weights, rotations-end}
+use Rattle.script_runs.specs.Trace.{Trace, Merges, first_registers, own_entries}
+use Rattle.script_runs.proofs.LegalSteps.{standing_at}
+use Rattle.script_runs.proofs.OneTurn.{Owes, waits, is_ended}
+use Rattle.script_runs.proofs.Rotated.{left_of, AreApart, IsFit, Owed, HasRotated, weights, rotations-end}
 
 -- At the opening. --
 

@@ -18,9 +18,9 @@ use Rattle.bus_words.proofs.Replay.{goes_on}
 use Rattle.bus_words.proofs.Steps.{with_subscription}
 use Rattle.script_lines.specs.declared.line.Line.{Line}
 use Rattle.script_lines.specs.declared.line.Line.TheVariants as lines
-use Rattle.app_script.specs.Rotation.{Running, SoFar, answer_to, after_call, after_look, behind, line_turn, active_turn, turn_in}
-use Rattle.app_script.specs.Trace.{call_of, registers_after, AfterAnswer, LineEntries, IsEnd, Trace}
-use Rattle.app_script.proofs.LegalSteps.{standing_at, standing-ended, standing-step}
+use Rattle.script_runs.specs.Rotation.{Running, SoFar, answer_to, after_call, after_look, behind, line_turn, active_turn, turn_in}
+use Rattle.script_runs.specs.Trace.{call_of, registers_after, AfterAnswer, LineEntries, IsEnd, Trace}
+use Rattle.script_runs.proofs.LegalSteps.{standing_at, standing-ended, standing-step}
 
 -- The calls of lines. --
 

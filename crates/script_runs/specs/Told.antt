@@ -15,7 +15,7 @@ use Rattle.bus_words.specs.Receipts.{receipt_in}
 use Rattle.script_lines.specs.declared.line.Line.{Line}
 use Rattle.script_lines.specs.declared.line.Line.TheVariants.{ShowPipe}
 use Rattle.app_script.specs.Script.{ScriptText, app_at}
-use Rattle.app_script.specs.Trace.{first_registers, call_of, registers_after}
+use Rattle.script_runs.specs.Trace.{first_registers, call_of, registers_after}
 
 -- An entry of an application, and the bus after it.
 pub record Seen : Type 0 where

@@ -7,7 +7,7 @@ use Rattle.bus_words.specs.declared.history.Call.TheVariants as calls
 use Rattle.bus_words.specs.declared.history.Entry.{Entry}
 use Rattle.script_lines.specs.declared.line.Line.{Line}
 use Rattle.script_lines.specs.declared.line.Line.TheVariants.{Create, Delete, SetOpts, GetOpts, Find, PipeName, Subscribe, Unsubscribe, Send, SendRaw, Receive, Pend}
-use Rattle.app_script.specs.Messages.{sent_message}
+use Rattle.script_runs.specs.Messages.{sent_message}
 use Rattle.app_script.specs.Script.{ScriptText, app_at}
 
 -- an application's 64 pipe registers, at first

@@ -9,10 +9,10 @@ use Rattle.bus_words.specs.declared.history.Entry.{Entry}
 use Rattle.bus_words.specs.Bus.{Pipe, State, Standing, Active, Waiting, Ended, standing_of, is_empty, is_idle, others_idle}
 use Rattle.bus_words.specs.Machine.{pended_answer, oldest_number}
 use Rattle.bus_words.proofs.Finds.{Each, not_true, not_false, same-sym, same-self}
-use Rattle.app_script.specs.Rotation.{Running, SoFar, turn, rotated, rotations}
-use Rattle.app_script.specs.Trace.{own_entries}
-use Rattle.app_script.proofs.LegalSteps.{standing_at}
-use Rattle.app_script.proofs.OneTurn.{IsSound, IsTurn, IsStuck, Owes, HasNumber, listed, weight, is_ended, is_pending, turn-in}
+use Rattle.script_runs.specs.Rotation.{Running, SoFar, turn, rotated, rotations}
+use Rattle.script_runs.specs.Trace.{own_entries}
+use Rattle.script_runs.proofs.LegalSteps.{standing_at}
+use Rattle.script_runs.proofs.OneTurn.{IsSound, IsTurn, IsStuck, Owes, HasNumber, listed, weight, is_ended, is_pending, turn-in}
 
 -- Who is left. --
 
