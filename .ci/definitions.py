@@ -7,6 +7,9 @@ the names in backticks before its first colon are those that it explains. What i
 
 A public clause is a `requires` or `ensures` of a `pub fn`, or of a method of a public trait or of a trait's impl, and the
 `Value` of an `impl Model`. A name in it is resolved by the file's `ghost use` lines.
+
+`--mend` adds an entry for each name that is missing, with the comment that stands above its definition, and takes out the
+names that are defined nowhere; what it wrote is to be read, and put into plain words.
 """
 import re
 import sys
@@ -142,6 +145,63 @@ def defined(crate, name):
     return set(re.findall(r"^(?:\s*(?:abbrev |unfoldable )+pub |\s*pub (?:record |data )|pub )(" + WORD + ")", path.read_text(), re.M))
 
 
+def comment_on(crate, name, word):
+    """The comment above a definition, in one line."""
+    lines = (TOP / 'crates' / crate / 'specs' / f'{name}.antt').read_text().splitlines()
+    for at, line in enumerate(lines):
+        if re.match(r"\s*(?:abbrev |unfoldable )*pub\s+(?:record |data )?" + re.escape(word) + r"(?=[\s:({]|$)", line):
+            above = []
+            while at > 0 and lines[at - 1].lstrip().startswith('--'):
+                at -= 1
+                above.insert(0, lines[at].strip().strip('-').strip())
+            if above:
+                text = ' '.join(above)
+                return text[0].lower() + text[1:].rstrip('.') + '.'
+    return '?'
+
+
+def mended(lines, missing, gone):
+    """The page's lines with an entry for each missing name, and without the names that are defined nowhere."""
+    out = []
+    crate = name = None
+    for line in lines:
+        if line.startswith('## '):
+            named = re.search(r'`(\w+)`', line)
+            crate, name = (named.group(1) if named else None), None
+        elif line.startswith('### '):
+            named = re.search(r'`specs/([\w/]+)\.antt`', line)
+            name = named.group(1) if named else None
+        elif line.startswith('- ') and crate and name:
+            head, colon, words = line.partition(':')
+            kept = [word for word in re.findall(r'`([^`]+)`', head) if (crate, name, word) not in gone]
+            if not kept:
+                continue
+            if len(kept) < len(re.findall(r'`([^`]+)`', head)):
+                line = '- ' + ', '.join(f'`{word}`' for word in kept) + colon + words
+        out.append(line)
+    for crate, name, word in missing:
+        entry = f'- `{word}`: {comment_on(crate, name, word)}'
+        parts = [at for at, line in enumerate(out) if line.startswith('## ') and re.search(rf'`{crate}`', line)]
+        if not parts:
+            out += ['', f'## `{crate}`', '', f'### `specs/{name}.antt`', '', entry]
+            continue
+        end = next((at for at in range(parts[0] + 1, len(out)) if out[at].startswith('## ')), len(out))
+        files = [at for at in range(parts[0], end) if out[at].startswith('### ') and f'`specs/{name}.antt`' in out[at]]
+        if not files:
+            while not out[end - 1]:
+                end -= 1
+            out[end:end] = ['', f'### `specs/{name}.antt`', '', entry]
+            continue
+        last = files[0] + 1
+        for at in range(files[0] + 1, end):
+            if out[at].startswith('### '):
+                break
+            if out[at].startswith('- '):
+                last = at
+        out.insert(last + 1, entry)
+    return out
+
+
 def page():
     """The page's entries: ((crate, file, name), line); and lines that are out of place."""
     crate = name = None
@@ -161,6 +221,8 @@ def page():
                 if (crate, name, word) in entries:
                     faults.append(f'{where}: `{word}` stands twice')
                 entries[crate, name, word] = where
+            if line.endswith(': ?'):
+                faults.append(f'{where}: an entry without words')
     return entries, faults
 
 
@@ -170,6 +232,12 @@ def main():
     for crate in crates():
         for at, where, function, clause in cited(crate):
             needed.setdefault(at, (where, function, clause))
+    if sys.argv[1:] == ['--mend']:
+        gone = {at for at in entries if at[2] not in (defined(at[0], at[1]) or ())}
+        missing = [at for at in sorted(needed) if at not in entries]
+        PAGE.write_text('\n'.join(mended(PAGE.read_text().splitlines(), missing, gone)) + '\n')
+        print(f'definitions: {len(missing)} entries added, {len(gone)} names taken out')
+        return 0
     for (crate, name, word), (where, function, clause) in sorted(needed.items()):
         if (crate, name, word) not in entries:
             faults.append(f'{where}: {function}, {clause}: cites `{word}` of crates/{crate}/specs/{name}.antt, which the page lacks')
