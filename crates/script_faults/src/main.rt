@@ -1,10 +1,10 @@
-//! Prints what `read_script` answers to each script of a table, so that another reader of the language
-//! can be asked the same.
+//! Prints what `read_script` answers to each script of a table, so that another reader of the
+//! language can be asked the same.
 //!
 //! A line of the input is one script, spelled out: `\n`, `\r` and `\t` are a line feed, a carriage
-//! return and a tab, `\xHH` is the byte of these two digits, and `[N TEXT]` is N times the text. Its
-//! answer is one line: a fault's line and name, or for each application how many call lines it has and
-//! the entries, bytes and buffers that these may add to a run.
+//! return and a tab, `\xHH` is the byte of these two digits, and `[N TEXT]` is N times the text.
+//! Its answer is one line: a fault's line and name, or for each application how many call lines it
+//! has and the entries, bytes and buffers that these may add to a run.
 #![tactic(auto)]
 
 mod answers;

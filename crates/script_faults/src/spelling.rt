@@ -6,6 +6,9 @@ use script_words::text::first_word;
 use std::alloc::{AllocError, Global};
 
 /// The script that a line spells.
+///
+/// # Errors
+/// `AllocError` where memory runs out.
 pub fn spelled(alloc: Global, line: &[u8]) -> Result<Vec<u8>, AllocError> {
     let mut script = Vec::new(alloc);
     let mut repeated = false;
