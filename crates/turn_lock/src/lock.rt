@@ -95,12 +95,13 @@ impl<T: Historied> TurnLock<T> {
     {
         let mut place = seat.take_place();
         let ticket = self.board.draw(&mut place);
-        self.board.wait(rt, &mut place, ticket);
+        let looks = self.board.wait(rt, &mut place, ticket);
         let value = self.board.take(&mut place);
         Turn {
             place,
             value,
             marked: false,
+            looks,
         }
     }
 
@@ -120,6 +121,7 @@ impl<T: Historied> TurnLock<T> {
             mut place,
             value,
             marked,
+            looks: _,
         } = turn;
         let told = Snapshot::of(&value);
         self.board
