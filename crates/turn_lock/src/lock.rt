@@ -19,9 +19,11 @@ pub const MOST_SEATS: u32 = 16;
 
 /// A value that one seat at a time has, in the order in which they drew their tickets. It can be
 /// shared by threads where the value may move between them, and lives no longer than what the
-/// value borrows. It can't be dropped, only closed.
+/// value borrows. Where the value can be dropped the lock can be let go with it, at any time, and
+/// nothing is learnt then of the history; closing gives the value and its history.
 ///
 /// Contracts see which lock it is and how many seats can be split off.
+#[derive(Drop)]
 pub struct TurnLock<T: Historied> {
     board: Board<T>,
     seats: u32,
@@ -93,12 +95,13 @@ impl<T: Historied> TurnLock<T> {
     {
         let mut place = seat.take_place();
         let ticket = self.board.draw(&mut place);
-        self.board.wait(rt, &mut place, ticket);
+        let looks = self.board.wait(rt, &mut place, ticket);
         let value = self.board.take(&mut place);
         Turn {
             place,
             value,
             marked: false,
+            looks,
         }
     }
 
@@ -118,13 +121,28 @@ impl<T: Historied> TurnLock<T> {
             mut place,
             value,
             marked,
+            looks: _,
         } = turn;
         let told = Snapshot::of(&value);
         self.board
             .publish::<Brand>(&mut place, &told, u64::from(marked));
         self.board.give(&mut place, value);
-        self.board.pass(&mut place);
-        *seat = Seat::of(place);
+        let passed = self.board.pass(place);
+        *seat = Seat::of(self.board.wake(passed));
+    }
+
+    /// Sleeps while the history that was published last has so many entries, modulo 2^32, until
+    /// [`TurnLock::wake`] is called, and returns at once where it has another number. It may return
+    /// early. So whoever waits for a change takes a turn, reads the history's length, leaves, and
+    /// sleeps with that length; no turn should be out with who sleeps.
+    pub fn sleep<R: Wait>(&self, rt: &R, entries: u32) {
+        self.board.sleep_at_count(rt, entries);
+    }
+
+    /// Wakes all who sleep with [`TurnLock::sleep`]. Whoever made an entry calls it after `leave`,
+    /// which publishes it.
+    pub fn wake(&self) {
+        self.board.wake_at_count();
     }
 
     /// Takes a seat that ends into the main one, which keeps its entries and the longer of what

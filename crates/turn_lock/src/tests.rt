@@ -3,6 +3,8 @@ ghost use Rattle.std.specs.Prelude.{◌≡◌, ◌≤◌, ℕ, ◌++◌, List, [
 ghost use Rattle.std.specs.Prelude.{if◌then◌else◌};
 ghost use Rattle.turn_lock.specs.Seats.{view_of, IsReady};
 
+mod sleeping;
+
 use crate::{Historied, LockName, Seat, TurnLock};
 use fsw_base::AppNo;
 use std::alloc::{AllocError, Global};

@@ -17,6 +17,7 @@ pub struct Turn<T: Historied> {
     pub(crate) place: Place<Option<T>, View<T::Fixed, T::Event>>,
     pub(crate) value: T,
     pub(crate) marked: bool,
+    pub(crate) looks: u32,
 }
 
 impl<T: Historied> Model for Turn<T> {
@@ -34,6 +35,12 @@ impl<T: Historied> Model for Turn<T> {
 
 impl<T: Historied> Turn<T> {
     ghost use Rattle.turn_lock.specs.Lending.{LendsValue};
+
+    /// How often the seat looked until this turn came, for tests and for tuning: a seat that waits
+    /// long sleeps, and then looks no oftener than turns are passed on. No clause speaks of it.
+    pub fn looks(&self) -> u32 {
+        self.looks
+    }
 
     /// The value, to be looked at.
     pub fn value(&self) -> &T
