@@ -1,5 +1,5 @@
 -- Texts in pieces: what follows from one piece put after another.
-use Rattle.std.proofs.Common.{◌≡◌, ℕ, ◌+◌, ◌-◌, ◌≤◌, Bool, true, false, ◌⊎◌, inl, inr, List, [], ◌++◌, length, take, drop, Option, Some, None, refl, ap, sym, ◌∙◌, subst, arith, append_assoc, append-nil, length-drop}
+use Rattle.std.proofs.Common.{◌≡◌, ℕ, ◌+◌, ◌-◌, ◌≤◌, Bool, true, false, ◌⊎◌, inl, inr, List, [], ◌++◌, length, take, drop, Option, Some, None, Result, Ok, Err, OnOk, refl, ap, sym, ◌∙◌, subst, arith, append_assoc, append-nil, length-drop}
 use Rattle.std.specs.Option.{option_map}
 use Rattle.std.proofs.lemmas.List.{take-append-drop}
 use Rattle.std.proofs.Math.Seq.{take-add, take-length}
@@ -34,6 +34,11 @@ grew_more a {b} {c} i n xs first second =
 -- only a front of the text was written
 pub cut_at : (a b : Option (List ℕ)) (i : ℕ) (xs : List ℕ) → b ≡ option_map (λ before. before ++ take i xs) a → CutShort a b xs
 cut_at a b i xs grew = record { sent = take i xs; left = drop i xs; whole = sym (take-append-drop i xs); bytes = grew }
+
+-- two facts of an Ok give a third
+pub on_ok_both : {T E P Q R : Type 0} (r : Result T E) → (P → Q → R) → OnOk r P → OnOk r Q → OnOk r R
+on_ok_both (Ok x) both one other = both one other
+on_ok_both (Err e) both one other = tt
 
 -- whether the flag is set
 flag : (b : Bool) → (b ≡ true) ⊎ (b ≡ false)
