@@ -1,5 +1,5 @@
 //! The largest configuration.
-ghost use Rattle.std.specs.Prelude.{◌≡◌, ◌+◌, ◌*◌, ◌<◌, ◌≤◌, length};
+ghost use Rattle.std.specs.Prelude.{◌≡◌, ◌+◌, ◌*◌, ◌<◌, ◌≤◌, false, length, OnOk};
 ghost use Rattle.bus_words.specs.Bus.{route};
 ghost use Rattle.sb_calls.specs.Core.{state_of};
 
@@ -11,7 +11,7 @@ use crate::printing::print_title;
 use bucket_list::{Blank, Ledger, Steps};
 use bus_words::BusCall;
 use ccsds_msg::write_header;
-use fsw_base::{AppNo, Scope, Sink, WriteFault};
+use fsw_base::{AppNo, Scope, Sink, SinkGuard, WriteFault};
 use sb_calls::BusCore;
 use std::alloc::Global;
 use text_page::{Page, finish, put, put_number};
@@ -39,12 +39,13 @@ enum Filling {
 /// a message reaches that goes to as many as a message can, and one that goes to a single pipe.
 pub fn print_largest<L: Ledger, K: Sink>(
     alloc: Global,
-    sink: &mut K,
+    sink: &mut SinkGuard<'_, K>,
     blank: Blank,
 ) -> Result<(), Fail>
     requires name { blank.name ≡ L.name }
     requires parts { blank.parts ≡ L.parts }
     requires some_part { 0 < blank.parts }
+    requires none_failed { sink.old.failed ≡ false }
 {
     let mut steps = Steps::<L>::new(blank);
     let mut core = BusCore::new(alloc, &config_of(&LIMITS), budgets(16))?;
@@ -130,7 +131,13 @@ fn reached<L: Ledger>(core: &mut BusCore, id: u16, steps: &mut Steps<L>) -> u32
 }
 
 // Prints a figure as a line.
-fn print_figure<K: Sink>(name: &[u8], figure: u32, sink: &mut K) -> Result<(), WriteFault> {
+fn print_figure<K: Sink>(
+    name: &[u8],
+    figure: u32,
+    sink: &mut SinkGuard<'_, K>,
+) -> Result<(), WriteFault>
+    ensures { OnOk result (sink.new.failed ≡ false) }
+{
     let mut page = Page::new();
     put(sink, &mut page, name);
     put_number(sink, &mut page, figure);

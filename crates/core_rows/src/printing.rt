@@ -1,5 +1,5 @@
 //! Examples as text.
-ghost use Rattle.std.specs.Prelude.{◌≡◌, ◌<◌};
+ghost use Rattle.std.specs.Prelude.{◌≡◌, ◌<◌, false, OnOk};
 
 use crate::example::Example;
 use crate::fail::Fail;
@@ -7,7 +7,7 @@ use crate::opening::{budgets, config_of};
 use crate::playing::{MOST_BYTES, Played, play};
 use bucket_list::{Blank, Ledger, Steps};
 use bus_words::{Receipt, ReceiptList};
-use fsw_base::{AppNo, Sink, WriteFault};
+use fsw_base::{AppNo, Sink, SinkGuard, WriteFault};
 use run_report::write_report;
 use sb_calls::BusCore;
 use std::alloc::{AllocError, Global};
@@ -17,12 +17,14 @@ use text_page::write_text;
 pub fn print_example<L: Ledger, K: Sink>(
     alloc: Global,
     example: &Example,
-    sink: &mut K,
+    sink: &mut SinkGuard<'_, K>,
     blank: Blank,
 ) -> Result<(), Fail>
     requires name { blank.name ≡ L.name }
     requires parts { blank.parts ≡ L.parts }
     requires some_part { 0 < blank.parts }
+    requires none_failed { sink.old.failed ≡ false }
+    ensures { OnOk result (sink.new.failed ≡ false) }
 {
     let mut steps = Steps::<L>::new(blank);
     let mut core = BusCore::new(alloc, &config_of(example.limits), budgets(example.apps))?;
@@ -42,7 +44,10 @@ pub fn print_example<L: Ledger, K: Sink>(
 }
 
 /// Prints a title as a line.
-pub fn print_title<K: Sink>(title: &str, sink: &mut K) -> Result<(), WriteFault> {
+pub fn print_title<K: Sink>(title: &str, sink: &mut SinkGuard<'_, K>) -> Result<(), WriteFault>
+    requires { sink.old.failed ≡ false }
+    ensures { OnOk result (sink.new.failed ≡ false) }
+{
     write_text(sink, title.as_bytes())?;
     write_text(sink, b"\n")
 }

@@ -1,6 +1,7 @@
 pub mod Blocks
 pub mod Clean
 pub mod Events
+pub mod Guards
 pub mod Limits
 pub mod Memory
 pub mod Outside

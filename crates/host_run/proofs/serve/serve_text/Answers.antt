@@ -1,5 +1,5 @@
 use Rattle.app_script.proofs.RunRanges.{runs}
 use Rattle.host_run.proofs.serve.serve_text.Goals as goal
 
-pub serve_script-requires : goal.serve_script-requires
-serve_script-requires g c = runs c.args.text.now c.in-Ok.script c.in-Ok.ensures
+pub serve_script-requires-clause-ranges : goal.serve_script-requires-clause-ranges
+serve_script-requires-clause-ranges g c = runs c.args.text.now c.in-Ok.script c.in-Ok.ensures
