@@ -8,7 +8,7 @@
 //!            +---------------------------------------------------+
 //! ```
 ghost use Rattle.std.specs.Prelude.{◌≡◌, ℕ, ◌+◌, ◌-◌, ◌<◌, ◌≤◌, ◌↔◌, [], ◌∷◌, length, replicate, slice_set, drop, IsTrue, IsNone, IfOk, IfSome};
-ghost use Rattle.zero_copy.specs.Held.{Held, held_by, IsHeldBy, IsLetGo, without};
+ghost use Rattle.zero_copy.specs.Held.{Held, held_by, IsHeldBy, IsLetGo, AreApart, without};
 
 use bucket_list::{Ledger, Links, Steps};
 use fsw_base::AppNo;
@@ -67,6 +67,14 @@ impl HeldLists {
         })
     }
 
+    /// No descriptor is held twice, by one application or by two, and each that is held is below their number. Does
+    /// nothing.
+    pub fn recall_apart(&self)
+        ensures { AreApart self.now }
+    {
+        let _ = &self.counts;
+    }
+
     /// Puts a descriptor that no application holds to the front of an application's list. At most 8 steps.
     pub fn hold<L: Ledger>(&mut self, app: AppNo, desc: u32, steps: &mut Steps<L>)
         requires app { app ≤ length self.old.lists }
@@ -110,6 +118,7 @@ impl HeldLists {
         ensures first { IfSome result (λ desc. held_by self.old app ≡ desc ∷ held_by self.new app) }
         ensures after { self.new ≡ record self.old { lists = slice_set self.old.lists (app - 1) (drop 1 (held_by self.old app)) } }
         ensures let_go { IfSome result (IsLetGo self.new) }
+        ensures exists { IfSome result (λ desc. desc < self.new.descs) }
         ensures cost { steps.new ≤ steps.old + 8 }
     {
         let place = app.get() - 1;
