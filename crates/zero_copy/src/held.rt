@@ -7,7 +7,7 @@
 //!            |                                                   ^
 //!            +---------------------------------------------------+
 //! ```
-ghost use Rattle.std.specs.Prelude.{◌≡◌, ℕ, ◌+◌, ◌-◌, ◌<◌, ◌≤◌, ◌↔◌, [], ◌∷◌, length, replicate, slice_set, drop, IsTrue, IsNone, IfOk, IfSome};
+ghost use Rattle.std.specs.Prelude.{◌≡◌, ℕ, ◌+◌, ◌-◌, ◌^◌, ◌<◌, ◌≤◌, ◌↔◌, [], ◌∷◌, length, replicate, slice_set, drop, IsTrue, IsNone, IfOk, IfSome};
 ghost use Rattle.zero_copy.specs.Held.{Held, held_by, IsHeldBy, IsLetGo, AreApart, without};
 
 use bucket_list::{Ledger, Links, Steps};
@@ -47,13 +47,17 @@ impl Model for HeldLists {
 }
 
 impl HeldLists {
-    /// Empty lists for `apps` applications over descriptors 0 to `descs` - 1. No later call takes memory.
+    /// Empty lists for `apps` applications over descriptors 0 to `descs` - 1, together fewer than 2^32. No later call
+    /// takes memory.
+    ///
+    /// # Errors
+    ///
+    /// Out of memory.
     pub fn new(alloc: Global, apps: u32, descs: u32) -> Result<HeldLists, AllocError>
+        requires { descs + apps < 2 ^ 32 }
         ensures { IfOk result (λ held. held ≡ record { descs = descs; lists = replicate apps [] }) }
     {
-        let Some(places) = descs.checked_add(apps) else {
-            return Err(AllocError);
-        };
+        let places = descs + apps;
         let next = Links::to_themselves(alloc, places)?;
         let prev = Links::to_themselves(alloc, places)?;
         let counts = zeros(alloc, apps)?;
