@@ -4,6 +4,7 @@ pub mod Events
 pub mod Limits
 pub mod Memory
 pub mod Outside
+pub mod PoolAccounts
 pub mod ScriptFaults
 pub mod Starts
 pub mod Statuses
