@@ -6,10 +6,11 @@ use Rattle.std.proofs.lemmas.List.{length-set, length-replicate, get_or-replicat
 use Rattle.std.proofs.lemmas.List.Quantifiers.{position-Some}
 use Rattle.std.proofs.lemmas.List.Sums.{sum_by-cons, sum_by_push, get_or-le-sum_by}
 use Rattle.fsw_base.specs.Blocks.{class_of}
-use Rattle.es_pool.specs.Pool.{PoolState, Draws, Reuses, Cuts, DrawsFor, DrawsIf, fits, fits_if, fits_class, made_in, out_in, free_in, used_by, overhead, counted, class_at, given_back, is_out}
-use Rattle.es_pool.specs.Account.{Account, IsAccountOf, cost_of, has_room, has_room_if, has_room_for, after_draw, after_return}
-use Rattle.es_pool.specs.Runs.{Leaves}
-use Rattle.es_pool.specs.declared.calls.PoolCall.TheVariants.{Get}
+use Rattle.es_pool.specs.Pool.{PoolState, Draws, Reuses, Cuts, DrawsFor, DrawsIf, fits, fits_if, fits_class, made_in, out_in, free_in, used_by, class_at, given_back, is_out}
+use Rattle.fsw_base.specs.PoolAccounts.{Account, overhead, counted, cost_of, has_room, has_room_if, has_room_for, after_draw, after_request, after_request_if, after_return, after_refusal}
+use Rattle.es_pool.specs.Account.{IsAccountOf}
+use Rattle.es_pool.specs.Runs.{Leaves, after_call}
+use Rattle.es_pool.specs.declared.calls.PoolCall.TheVariants.{Get, Put}
 use Rattle.es_pool.specs.declared.blocks.CutBlock.{CutBlock}
 use Rattle.es_pool.proofs.Totals.{block, made-split, sum-change}
 use Rattle.es_pool.proofs.Accounts.{cost-set}
@@ -267,3 +268,20 @@ leaves_drawn old new size number e draws = subst (λ b. MatchBool b ((n : ℕ) �
 
 pub leaves_unchanged : (old new : PoolState) (size : ℕ) → (fits old size 1 ≡ true → false ≡ true) → new ≡ old → Leaves old (Get size) new
 leaves_unchanged old new size never e = subst (λ b. MatchBool b ((n : ℕ) × DrawsFor old new size n) (new ≡ old)) (sym (false_unless (fits old size 1) never)) e
+
+-- how the account moves, from what its own answer tells
+pub moved_drawn : (account after : Account) (size class : ℕ) → class_of size account.sizes ≡ Some class → has_room account size ≡ true → after ≡ after_draw account class → after ≡ after_request account size
+moved_drawn account after size class e room drawn =
+    let fits : has_room_for account class 1 ≡ true = sym (ap (has_room_if account) e) ∙ room in
+    drawn ∙ sym (ap (after_request_if account) e ∙ ap (λ t. cond t (after_draw account class) account) fits)
+
+pub moved_nothing : (account after : Account) (size : ℕ) → (has_room account size ≡ true → false ≡ true) → after ≡ account → after ≡ after_request account size
+moved_nothing account after size never e = e ∙ stays (class_of size account.sizes) (false_unless (has_room account size) never)
+  where
+    stays : (o : Option ℕ) → has_room_if account o ≡ false → account ≡ after_request_if account o
+    stays None none = refl
+    stays (Some class) none = sym (ap (λ t. cond t (after_draw account class) account) none)
+
+pub moved_back : (pool : PoolState) (account after : Account) (number class : ℕ) → is_out pool number ≡ true → class ≡ class_at pool number → after ≡ after_return account class → after ≡ after_call pool account (Put number)
+moved_back pool account after number class out e back =
+    back ∙ (ap (after_return account) e ∙ sym (ap (λ t. cond t (after_return account (class_at pool number)) (after_refusal account)) out))

@@ -6,7 +6,7 @@ ghost use Rattle.evs_events.specs.Views.{line_shown, counts_of};
 
 use crate::counts::EventCounts;
 use crate::filters::Registration;
-use crate::line::{LogLine, MAX_TEXT, StoredLine};
+use crate::line::{LogLine, MAX_TEXT};
 use crate::log::{EventLog, LOG_LINES, LogMode};
 use fsw_base::{AppNo, EventKind, EvsStatus, FilterList, MAX_APPS};
 use std::alloc::{AllocError, Global};
@@ -195,7 +195,7 @@ impl EventDesk {
         if text.len() > MAX_TEXT {
             self.cut = self.cut.saturating_add(1);
         }
-        if self.log.keep(StoredLine::new(app, id, kind, text)) {
+        if self.log.keep(app, id, kind, text) {
             self.lost = self.lost.saturating_add(1);
         }
     }

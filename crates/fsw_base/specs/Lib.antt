@@ -5,6 +5,7 @@ pub mod Guards
 pub mod Limits
 pub mod Memory
 pub mod Outside
+pub mod PoolAccounts
 pub mod ScriptFaults
 pub mod Starts
 pub mod Statuses
