@@ -17,14 +17,16 @@ class Case:
 
     def __init__(self, name, words=("lockstep",), notes=("",)):
         self.name, self.words, self.notes = name, list(words), list(notes)
-        self.script, self.status, self.report, self.sum = b"", 0, b"", None
+        self.script, self.status, self.report, self.sum = b"", 0, b"", ""
 
     def answer_with(self, status, report):
-        is_long = len(report) > LONGEST_REPORT
-        self.status, self.report, self.sum = status, b"" if is_long else report, sum_of(report) if is_long else None
+        self.status, self.report, self.sum = status, report, ""
+        if len(report) > LONGEST_REPORT:
+            self.report, self.sum = b"", sum_of(report)
 
     def is_answer(self, status, report):
-        return status == self.status and (sum_of(report) == self.sum if self.sum else report == self.report)
+        is_same = sum_of(report) == self.sum if self.sum else report == self.report
+        return status == self.status and is_same
 
     def text(self):
         """The case as its file has it."""
@@ -46,16 +48,17 @@ def spelled(text):
     last = lines.pop()
     found = []
     for line, same in itertools.groupby(lines):
-        count = len(list(same))
-        found += [f"{count}|{spelled_line(line)}"] if count > 2 else [f"|{spelled_line(line)}"] * count
+        count, text = len(list(same)), spelled_line(line)
+        found += [f"{count}|{text}"] if count > 2 else [f"|{text}"] * count
     return found + [f"|{spelled_line(last)}\\"] * bool(last)
 
 
 def spelled_line(line):
     """One line, in printable characters with no blank at its end; bytes that repeat are counted."""
-    line = re.sub(rb"[^ -\[\]-~]| $", lambda it: ESCAPES.get(it[0]) or b"\\x%02x" % it[0][0], line)
-    line = re.sub(rb"([ 0-9A-Za-z#!~])\1{31,}", lambda it: b"\\{%d:%c}" % (len(it[0]), it[1][0]), line)
-    return line.decode("ascii")
+    escape = lambda it: ESCAPES.get(it[0]) or b"\\x%02x" % it[0][0]
+    count = lambda it: b"\\{%d:%c}" % (len(it[0]), it[1][0])
+    line = re.sub(rb"[^ -\[\]-~]| $", escape, line)
+    return re.sub(rb"([ 0-9A-Za-z#!~])\1{31,}", count, line).decode("ascii")
 
 
 def unspelled(line):
@@ -95,7 +98,8 @@ def cases_of(path):
 
 
 def write_cases(path, head, cases):
-    path.write_text("".join(f"{line}\n" for line in head) + "".join(case.text() for case in cases), encoding="ascii")
+    lines = [*(f"{line}\n" for line in head), *(case.text() for case in cases)]
+    path.write_text("".join(lines), encoding="ascii")
 
 
 def files():

@@ -1,7 +1,8 @@
 """Proves the crates that the program is made of, several at a time, and builds it.
 
-How far it is stands in one line on standard error, which is kept up to date on a terminal; elsewhere there is a line for each
-crate. What the prover prints goes to a file. What is proved stays, so a build that was interrupted goes on where it was.
+How far it is stands in one line on standard error, which is kept up to date on a terminal;
+elsewhere there is a line for each crate. What the prover prints goes to a file. What is proved
+stays, so a build that was interrupted goes on where it was.
 """
 import fcntl
 import os
@@ -20,16 +21,24 @@ LOG = os.path.join(OUT, "build.log")
 BEGAN = os.path.join(OUT, "build.began")
 # What a proof takes of memory, in bytes, with some room.
 MEMORY = 3 << 30
+EXPECTED = "the first time takes some 12 minutes on four processors"
+NEXT = "./fsw lockstep < examples/first.fsw"
 
 
-def crates_in_order():
-    """The crates that the program is made of, each with those below it, in the order in which rt takes them up."""
+def libraries():
+    """The libraries that each crate uses, by crates.txt."""
     uses = {}
     with open(os.path.join(TOP, "crates.txt"), encoding="utf-8") as file:
         for line in file:
-            names, colon, libraries = line.partition("#")[0].partition(":")
+            names, colon, below = line.partition("#")[0].partition(":")
             if colon:
-                uses[names.split()[0]] = libraries.split()
+                uses[names.split()[0]] = below.split()
+    return uses
+
+
+def crates_in_order():
+    """The crates of the program, each with those below it, in the order in which rt takes them."""
+    uses = libraries()
 
     def below(name):
         found = {}
@@ -39,11 +48,12 @@ def crates_in_order():
         return list(found)
 
     top = os.path.basename(CRATE)
-    return {name: below(name) for name in sorted([*below(top), top], key=lambda name: len(below(name)))}
+    names = sorted([*below(top), top], key=lambda name: len(below(name)))
+    return {name: below(name) for name in names}
 
 
 def lanes():
-    """How many crates are proved at a time: as many as there are processors and memory, up to four."""
+    """How many crates are proved at a time: as many as processors and memory allow, up to four."""
     with open("/proc/meminfo", encoding="utf-8") as file:
         free = re.search(r"MemAvailable:\s+(\d+) kB", file.read())
     room = int(free[1]) * 1024 // MEMORY if free else 1
@@ -61,16 +71,16 @@ class Progress:
         seconds = int(time.monotonic() - self.began)
         return f"{seconds // 60}:{seconds % 60:02}"
 
-    def at_work(self):
-        """rt takes up the next crates in order, and one that stands on a crate that isn't proved yet waits."""
-        taken = [name for name in self.crates if name not in self.proved][: self.at_once]
-        return [name for name in taken if all(below in self.proved for below in self.crates[name])]
-
     def count(self):
         return f"{len(self.proved)} of {len(self.crates)} crates proved"
 
+    def at_work(self):
+        """The next crates in order; of them, those that wait for one below don't count."""
+        taken = [name for name in self.crates if name not in self.proved][: self.at_once]
+        return [name for name in taken if all(it in self.proved for it in self.crates[name])]
+
     def show(self, text):
-        """Puts the time and the text in the place of the line before them; nothing where standard error is no terminal."""
+        """Puts the time and the text in the place of the line before them, on a terminal."""
         line = f"fsw: {self.time()}, {text}"
         if self.is_terminal and line != self.shown:
             self.shown = line
@@ -93,15 +103,16 @@ class Progress:
         tell(text)
 
 
-def run(progress, words, script=subprocess.DEVNULL):
-    """Runs rt with these words, and its status; all that it prints is added to the log."""
+def run(words, script, look):
+    """The status of rt with these words; all that it prints is added to the log."""
     with open(LOG, "ab") as log, open(LOG, encoding="utf-8", errors="replace") as said:
         said.seek(0, os.SEEK_END)
         rt = subprocess.Popen(["rt", *words], cwd=CRATE, stdin=script, stdout=log, stderr=log)
         try:
             while rt.poll() is None:
                 time.sleep(0.2)
-                progress.look(said) if words[0] == "all" else progress.show("building the program")
+                look(said)
+            look(said)
         finally:
             rt.terminate()
             rt.wait()
@@ -109,16 +120,40 @@ def run(progress, words, script=subprocess.DEVNULL):
 
 
 def build(progress):
-    """Proves and builds all; the words that say what failed, or None."""
-    if run(progress, ["all", "check", "--jobs", str(progress.at_once)]):
+    """Proves and builds all; says what failed, or nothing."""
+    proof = ["all", "check", "--jobs", str(progress.at_once)]
+    if run(proof, subprocess.DEVNULL, progress.look):
         with open(LOG, encoding="utf-8", errors="replace") as log:
             failed = re.findall(r"^(\w+): failed \(\d+\)$", log.read(), re.M)
         return f"{', '.join(failed) or 'the sources'} could not be proved"
-    # rt builds a program in order to run it: it gets the crate's own example, whose report goes to the log.
+    # rt builds a program in order to run it, here on the crate's own example.
     with open(os.path.join(CRATE, "stdin"), "rb") as script:
-        if run(progress, ["run", "--", "lockstep"], script):
+        show = lambda _: progress.show("building the program")
+        if run(["run", "--", "lockstep"], script, show):
             return "the program could not be built"
-    return None
+    return ""
+
+
+def build_alone():
+    """Builds, where no other build is at work here; the status of the run."""
+    crates, at_once = crates_in_order(), lanes()
+    tell(f"proving {len(crates)} crates, {at_once} at a time; {EXPECTED}")
+    progress = Progress(crates, at_once)
+    open(LOG, "wb").close()
+    os.utime(BEGAN)
+    try:
+        failed = build(progress)
+    except KeyboardInterrupt:
+        so_far = f"interrupted at {progress.time()}, {progress.count()}"
+        progress.end(f"{so_far}: ./fsw build goes on from there")
+        return 128 + signal.SIGINT
+    if failed:
+        progress.end(f"{failed}: what the prover says is in {os.path.relpath(LOG)}")
+        return 1
+    # The program is as old as the build's beginning, so that a change meanwhile counts as newer.
+    os.utime(PROGRAM, ns=(os.stat(BEGAN).st_mtime_ns,) * 2)
+    progress.end(f"the program is proved and built, in {progress.time()}: {NEXT}")
+    return 0
 
 
 def main():
@@ -133,23 +168,7 @@ def main():
         except BlockingIOError:
             tell("another ./fsw build is at work here: wait for it to end")
             return 1
-        os.utime(BEGAN)
-        open(LOG, "wb").close()
-        progress = Progress(crates_in_order(), lanes())
-        crates = f"{len(progress.crates)} crates, {progress.at_once} at a time"
-        tell(f"proving {crates}, for the first time in some 12 minutes on four processors; an interrupted build goes on where it was")
-        try:
-            failed = build(progress)
-        except KeyboardInterrupt:
-            progress.end(f"interrupted after {progress.time()}, with {progress.count()}: ./fsw build goes on from there")
-            return 128 + signal.SIGINT
-        if failed:
-            progress.end(f"{failed}: what the prover says is in {os.path.relpath(LOG)}")
-            return 1
-        # The program is as old as the build's beginning, so that what was changed meanwhile counts as newer.
-        os.utime(PROGRAM, ns=(os.stat(BEGAN).st_mtime_ns,) * 2)
-        progress.end(f"the program is proved and built, after {progress.time()}: ./fsw lockstep < examples/first.fsw")
-        return 0
+        return build_alone()
 
 
 if __name__ == "__main__":

@@ -1,4 +1,4 @@
-"""What the helpers of ./fsw share: the places, what is told to the user, and the kit that the repository is proved with."""
+"""What the helpers of ./fsw share: the places, what users are told, and the kit to prove with."""
 import os
 import re
 import subprocess
@@ -22,11 +22,12 @@ def kit_of_readme():
 
 def stop_without_kit():
     """Ends the run where there is no rt, and warns where it is another kit's."""
-    wanted = kit_of_readme()
+    wanted = kit_of_readme() or "the kit that README names"
+    quiet = dict(stdin=subprocess.DEVNULL, capture_output=True, text=True)
     try:
-        run = subprocess.run(["rt", "version"], stdin=subprocess.DEVNULL, capture_output=True, text=True)
+        found = subprocess.run(["rt", "version"], **quiet).stdout.strip()
     except OSError:
-        tell(f"the command rt isn't on the PATH: install the Rattle kit{f', {wanted},' if wanted else ''} and put its rt there")
+        tell(f"rt isn't on the PATH: install the Rattle kit, {wanted}, and put its rt there")
         sys.exit(1)
-    if wanted and run.stdout.strip() != wanted:
-        tell(f"rt is of {run.stdout.strip() or 'an unknown kit'}, and this is proved with {wanted}: where it fails, take that kit")
+    if kit_of_readme() and found != wanted:
+        tell(f"rt is of {found or 'an unknown kit'}: where this fails, take {wanted}")
