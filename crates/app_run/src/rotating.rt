@@ -2,7 +2,6 @@
 ghost use Rattle.std.specs.Prelude.{◌≡◌, ◌+◌, ◌*◌, ◌<◌, ◌≤◌, ◌-◌, length, map, sum_by, All, IfOk, false, true, vec_len, vec_capacity, [], ◌++◌};
 ghost use Rattle.std.specs.List.{range_with_len};
 ghost use Rattle.sb_calls.specs.Core.{apps_of};
-ghost use Rattle.app_script.specs.Ranges.{IsInRange};
 ghost use Rattle.script_settings.specs.Accounts.{budget_of};
 ghost use Rattle.app_script.specs.Rotation.{rotation, rotations, enough};
 ghost use Rattle.app_script.specs.Told.{receipts_told};
@@ -38,7 +37,6 @@ pub struct Finished {
 /// # Errors
 /// Where memory runs out; then no application ran.
 pub fn lockstep(alloc: Global, script: &Script) -> Result<Finished, AllocError>
-    requires { IsInRange script.now }
     ensures history { IfOk result (λ finished. finished.bus.log.entries ≡ rotation script.now) }
     ensures limits { IfOk result (λ finished. finished.bus.limits ≡ script.now.limits) }
     ensures apps { IfOk result (λ finished. apps_of finished.bus ≡ length script.now.apps) }
@@ -60,13 +58,13 @@ struct Opened<'s> {
 
 // Takes all memory of a run.
 fn open(alloc: Global, script: &Script) -> Result<Opened<'_>, AllocError>
-    requires { IsInRange script.now }
     ensures script { IfOk result (λ run. run.script.now ≡ script.now) }
     ensures bus { IfOk result (λ run. run.bus ≡ opened script.now) }
     ensures runners { IfOk result (λ run. run.runners.items ≡ all_beginning script.now) }
     ensures receipts { IfOk result (λ run. run.receipts.items ≡ []) }
     ensures room { IfOk result (λ run. length script.now.apps ≤ vec_capacity run.receipts) }
 {
+    script.recall_ranges();
     let apps = script.apps() as usize;
     let budgets = budgets_of(alloc, script)?;
     let bus = BusCore::new(alloc, script.config(), &budgets)?;
@@ -117,7 +115,6 @@ fn budgets_of(alloc: Global, script: &Script) -> Result<Vec<Budget>, AllocError>
 
 // The applications, each before its first line.
 fn runners_of(alloc: Global, script: &Script) -> Result<Vec<Runner<'_>>, AllocError>
-    requires { IsInRange script.now }
     ensures { IfOk result (λ runners. runners.items ≡ all_beginning script.now) }
 {
     let mut runners = Vec::with_capacity(alloc, script.apps() as usize)?;

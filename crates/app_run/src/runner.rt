@@ -2,7 +2,6 @@
 ghost use Rattle.std.specs.Prelude.{◌≡◌, ◌<◌, ◌≤◌, ◌-◌, ◌+◌, ◌++◌, length, true, false, [], Some, None, All, IfOk};
 ghost use Rattle.std.specs.Option.{option_to_list};
 ghost use Rattle.app_script.specs.Script.{app_at};
-ghost use Rattle.app_script.specs.Ranges.{IsLineInRange};
 ghost use Rattle.bus_words.specs.Receipts.{receipt_in};
 ghost use Rattle.app_script.specs.Trace.{call_of};
 ghost use Rattle.app_script.specs.Told.{shown};
@@ -75,10 +74,10 @@ impl<'s> Runner<'s> {
     /// # Errors
     /// Where memory runs out.
     pub fn new(alloc: Global, script: &'s Script, app: AppNo) -> Result<Runner<'s>, AllocError>
-        requires known { app ≤ length script.now.apps }
-        requires ranges { All IsLineInRange (app_at script.now app).lines }
+        requires { app ≤ length script.now.apps }
         ensures { IfOk result (λ runner. runner ≡ beginning script.now app) }
     {
+        script.recall_ranges();
         let size = largest_message(script, app);
         Ok(Runner {
             script,

@@ -3,7 +3,7 @@ pub mod LineLemmas
 pub mod PartLemmas
 pub mod ReadLemmas
 pub mod ReadWalk
-pub mod RunLines
+pub mod InRange
 pub mod RunRanges
 pub mod ReadScripts
 pub mod PrintLemmas

@@ -1,9 +1,8 @@
 -- A script that a text gives is one that a text can be: its limits, its names and its call lines are in their ranges.
-use Rattle.std.proofs.Common.{◌≡◌, ℕ, ◌+◌, ◌<◌, ◌≤◌, Bool, true, false, cond, not, ◌&&◌, nat_le, nat_lt, eqb, List, [], ◌∷◌, ◌++◌, length, sum_by, Option, Some, None, Result, Ok, Err, refl, sym, ap, ◌∙◌, subst, arith, append_assoc, append-nil, codes}
+use Rattle.std.proofs.Common.{◌≡◌, ℕ, ◌+◌, ◌<◌, ◌≤◌, Bool, true, false, cond, not, ◌&&◌, nat_le, nat_lt, eqb, List, [], ◌∷◌, ◌++◌, length, Option, Some, None, Result, Ok, Err, refl, sym, ap, ◌∙◌, subst, arith, append_assoc, append-nil, codes}
 use Rattle.std.specs.List.{list_all, list_any, starts_with}
 use Rattle.std.proofs.lemmas.Bool.{leb-false}
 use Rattle.std.proofs.lemmas.List.{length-append}
-use Rattle.std.proofs.lemmas.List.Sums.{sum_by-cons}
 use Rattle.fsw_base.specs.Limits.{Limits, usual_limits}
 use Rattle.fsw_base.specs.Blocks.{are_block_sizes}
 use Rattle.fsw_base.specs.Starts.{is_start, are_count_starts}
@@ -27,15 +26,15 @@ use Rattle.app_script.specs.declared.forms.Form.{Form}
 use Rattle.app_script.specs.declared.forms.Form.TheVariants.{Script, Set, Sizes, Seq, App, Call}
 use Rattle.app_script.specs.Forms.{form_of, is_misplaced}
 use Rattle.script_settings.specs.Settings.{least, greatest, with_limit, is_among, limit_named, set_of, some_words, sizes_within, sizes_of, seq_of, is_app_name, app_of, script_of}
-use Rattle.script_settings.specs.Accounts.{account_of, charge_of, budget_of}
+use Rattle.script_settings.specs.Accounts.{account_of, charge_of}
 use Rattle.app_script.specs.Script.{Application, ScriptText}
 use Rattle.app_script.specs.ScriptSpelling.{limit_of}
-use Rattle.app_script.specs.ScriptRanges.{are_limits, have_new_names, is_application, all_calls, all_bytes, IsScript}
-use Rattle.app_script.specs.Ranges.{IsInRange}
+use Rattle.app_script.specs.ScriptRanges.{are_limits, have_new_names, is_application, IsScript}
 use Rattle.app_script.specs.Grammar.{Progress, opening, apps_of, after_set, after_sizes, after_seq, after_app, after_call, after_form, after_known, after_words, after_line, progress_of, grammar, built_script, ◌>=>◌}
 use Rattle.app_script.proofs.ScriptLemmas.{list_all_push, starts_push}
 use Rattle.app_script.proofs.ReadWalk.{progress_keeps}
-use Rattle.app_script.proofs.RunRanges.{grammar_in, built_in}
+use Rattle.app_script.proofs.RunRanges.{read_bounded, built_in}
+use Rattle.app_script.proofs.InRange.{all_calls_sum, all_bytes_sum}
 
 -- ---- limits
 
@@ -273,31 +272,26 @@ line_stands n s line so =
 
 -- ---- the whole text
 
-all_calls_sum : (apps : List Application) → all_calls apps ≡ sum_by (λ a. length a.lines) apps
-all_calls_sum [] = refl
-all_calls_sum (app ∷ apps) = ap (λ n. length app.lines + n) (all_calls_sum apps) ∙ sym (sum_by-cons (λ a. length a.lines) app apps)
-
-all_bytes_sum : (apps : List Application) → all_bytes apps ≡ sum_by (λ a. (budget_of a.lines).bytes) apps
-unfolding budget_of
-all_bytes_sum [] = refl
-all_bytes_sum (app ∷ apps) = ap (λ n. (account_of app.lines).bytes + n) (all_bytes_sum apps) ∙ sym (sum_by-cons (λ a. (budget_of a.lines).bytes) app apps)
-
 some_apps : (b : Bool) (done : List Application) (present : Application) → b ≡ true → 1 ≤ length (cond b (done ++ present ∷ []) done)
 some_apps true done present h = let longer = length-append done (present ∷ []) in omega arith
 some_apps false done present h = absurd cc
 
-made : (s : Progress) → Stands s → s.started ≡ true → IsInRange (record { limits = s.limits; apps = apps_of s }) → IsScript (record { limits = s.limits; apps = apps_of s })
-made s so started range =
+-- what a whole text is read as is a script that a text can be
+pub read_script_is : (bytes : List ℕ) (s : Progress) → progress_of bytes ≡ Ok s → IsScript (record { limits = s.limits; apps = apps_of s })
+read_script_is bytes s read =
+    let walked = progress_keeps Stands stands_opening line_stands bytes s read in
+    let so = walked.0 in
     let whole = whole_apps s so s.started refl in
-    let calls = range.calls in
-    let bytes = range.bytes in
+    let bounded = read_bounded bytes s read in
+    let calls = bounded.calls in
+    let bytes = bounded.bytes in
     let same_calls = all_calls_sum (apps_of s) in
     let same_bytes = all_bytes_sum (apps_of s) in
     record {
       limits = all_fit s.limits so.limits;
       sizes = so.sizes;
       starts = so.starts;
-      some = some_apps s.started s.done s.present started;
+      some = some_apps s.started s.done s.present walked.1;
       few = whole.few;
       names = whole.names;
       applications = whole.ready;
@@ -307,14 +301,13 @@ made s so started range =
 
 pub scripts : (bytes : List ℕ) (script : ScriptText) → grammar bytes ≡ Ok script → IsScript script
 unfolding grammar
-scripts bytes script e = decide (progress_of bytes) refl (grammar_in bytes script e) e
+scripts bytes script e = decide (progress_of bytes) refl e
   where
-    decide : (r : Result Progress ScriptFault) → progress_of bytes ≡ r → IsInRange script → (r >=> λ s. Ok (record { limits = s.limits; apps = apps_of s })) ≡ Ok script → IsScript script
-    decide (Ok s) so range h =
-        let walked = progress_keeps Stands stands_opening line_stands bytes s so in
+    decide : (r : Result Progress ScriptFault) → progress_of bytes ≡ r → (r >=> λ s. Ok (record { limits = s.limits; apps = apps_of s })) ≡ Ok script → IsScript script
+    decide (Ok s) so h =
         let same : record { limits = s.limits; apps = apps_of s } ≡ script = cc in
-        subst IsScript same (made s walked.0 walked.1 (subst IsInRange (sym same) range))
-    decide (Err fault) so range h = absurd cc
+        subst IsScript same (read_script_is bytes s so)
+    decide (Err fault) so h = absurd cc
 
 pub built : (bytes : List ℕ) (script : ScriptText) → built_script bytes ≡ Ok script → IsScript script
 built bytes script e = scripts bytes script (built_in bytes script e)

@@ -1,9 +1,8 @@
--- A script that a text gives is within the ranges of a run: what was read so far is, line by line.
-use Rattle.std.proofs.Common.{◌≡◌, ℕ, ◌+◌, ◌≤◌, Bool, true, false, cond, nat_le, nat_lt, List, [], ◌∷◌, ◌++◌, length, All, sum_by, Option, Some, None, Result, Ok, Err, refl, ap, subst, arith, eqb, codes}
+-- A script that a text gives has not too many call lines and charges: what was read so far has not, line by line.
+use Rattle.std.proofs.Common.{◌≡◌, ℕ, ◌+◌, ◌≤◌, Bool, true, false, cond, nat_le, nat_lt, List, [], ◌∷◌, ◌++◌, length, sum_by, Option, Some, None, Result, Ok, Err, refl, ap, arith, eqb, codes}
 use Rattle.std.specs.List.{list_any, list_all, starts_with}
 use Rattle.std.proofs.lemmas.Bool.{leb-false, ltb-false}
 use Rattle.std.proofs.lemmas.List.{length-append}
-use Rattle.std.proofs.lemmas.List.Elements.{All-nil, All-push}
 use Rattle.std.proofs.lemmas.List.Sums.{sum_by_push}
 use Rattle.fsw_base.specs.declared.script_faults.FaultKind.TheVariants.{LineTooLong, Misplaced, OutOfRange, Repeated, TooManyApps, TooManyCalls, TooManyBytes, NotYet}
 use Rattle.fsw_base.specs.declared.script_faults.ScriptFault.{ScriptFault}
@@ -11,7 +10,7 @@ use Rattle.script_words.specs.Text.{words_of, behind_word, is_text, is_same}
 use Rattle.script_words.specs.Counts.{Word}
 use Rattle.script_lines.specs.declared.line.Line.{Line}
 use Rattle.script_lines.specs.CallLines.{call_line_of}
-use Rattle.line_spelling.proofs.Holding.{Holds, then, any, refuse, either}
+use Rattle.line_spelling.proofs.Holding.{Holds, any, refuse, either}
 use Rattle.app_script.specs.declared.forms.Form.{Form}
 use Rattle.app_script.specs.declared.forms.Form.TheVariants.{Script, Set, Sizes, Seq, App, Call}
 use Rattle.app_script.specs.Forms.{form_of, is_misplaced}
@@ -19,9 +18,7 @@ use Rattle.script_settings.specs.Settings.{is_among, set_of, sizes_of, seq_of, a
 use Rattle.script_settings.specs.Accounts.{account_of, charge_of, budget_of}
 use Rattle.app_script.specs.Script.{Application, ScriptText}
 use Rattle.app_script.specs.Grammar.{Progress, opening, apps_of, after_set, after_sizes, after_seq, after_app, after_call, after_form, after_known, after_words, after_line, progress_of, grammar, unbuilt_line, built_script, ◌>=>◌}
-use Rattle.app_script.specs.Ranges.{IsLineInRange, IsInRange}
 use Rattle.app_script.proofs.ScriptLemmas.{account_of_push}
-use Rattle.app_script.proofs.RunLines.{call_in}
 use Rattle.app_script.proofs.ReadWalk.{progress_keeps}
 
 -- how many lines and bytes an application has
@@ -33,8 +30,6 @@ bytes_in a = (budget_of a.lines).bytes
 
 -- what was read so far is within the ranges
 record Kept (s : Progress) : Type 0 where
-  done : All (λ a. All IsLineInRange a.lines) s.done
-  present : All IsLineInRange s.present.lines
   calls : sum_by lines_in s.done + length s.present.lines ≤ s.calls
   few : s.calls ≤ 20000
   bytes : sum_by bytes_in s.done + bytes_in s.present ≤ s.charged
@@ -42,26 +37,25 @@ record Kept (s : Progress) : Type 0 where
 
 kept_opening : Kept opening
 unfolding budget_of account_of
-kept_opening = record { done = All-nil (λ a. All IsLineInRange a.lines); present = All-nil IsLineInRange; calls = omega arith; few = omega arith; bytes = omega arith; light = omega arith }
+kept_opening = record { calls = omega arith; few = omega arith; bytes = omega arith; light = omega arith }
 
 -- ---- configuration
 
 set_keeps : (n : ℕ) (s : Progress) (words : List Word) → Kept s → Holds Kept (after_set n s words)
 unfolding after_set
-set_keeps n s words kept = any Kept (set_of words) _ (λ set. refuse Kept (is_among set.0 s.named) Repeated _ (λ h. record { done = kept.done; present = kept.present; calls = kept.calls; few = kept.few; bytes = kept.bytes; light = kept.light }))
+set_keeps n s words kept = any Kept (set_of words) _ (λ set. refuse Kept (is_among set.0 s.named) Repeated _ (λ h. record { calls = kept.calls; few = kept.few; bytes = kept.bytes; light = kept.light }))
 
 sizes_keep : (n : ℕ) (s : Progress) (words : List Word) → Kept s → Holds Kept (after_sizes n s words)
 unfolding after_sizes
-sizes_keep n s words kept = any Kept (sizes_of words) _ (λ sizes. refuse Kept s.sized Repeated _ (λ h. record { done = kept.done; present = kept.present; calls = kept.calls; few = kept.few; bytes = kept.bytes; light = kept.light }))
+sizes_keep n s words kept = any Kept (sizes_of words) _ (λ sizes. refuse Kept s.sized Repeated _ (λ h. record { calls = kept.calls; few = kept.few; bytes = kept.bytes; light = kept.light }))
 
 seq_keeps : (s : Progress) (words : List Word) → Kept s → Holds Kept (after_seq s words)
 unfolding after_seq
-seq_keeps s words kept = any Kept (seq_of words) _ (λ start. refuse Kept (nat_le 16 (length s.limits.starts)) OutOfRange _ (λ h. refuse Kept (list_any (λ other. eqb other.0 start.0) s.limits.starts) Repeated _ (λ g. record { done = kept.done; present = kept.present; calls = kept.calls; few = kept.few; bytes = kept.bytes; light = kept.light })))
+seq_keeps s words kept = any Kept (seq_of words) _ (λ start. refuse Kept (nat_le 16 (length s.limits.starts)) OutOfRange _ (λ h. refuse Kept (list_any (λ other. eqb other.0 start.0) s.limits.starts) Repeated _ (λ g. record { calls = kept.calls; few = kept.few; bytes = kept.bytes; light = kept.light })))
 
 -- ---- applications
 
 record Whole (s : Progress) (apps : List Application) : Type 0 where
-  lines : All (λ a. All IsLineInRange a.lines) apps
   calls : sum_by lines_in apps ≤ s.calls
   bytes : sum_by bytes_in apps ≤ s.charged
 
@@ -71,11 +65,11 @@ whole_apps s kept true =
     let bytes = kept.bytes in
     let more = sum_by_push lines_in s.done s.present in
     let heavier = sum_by_push bytes_in s.done s.present in
-    record { lines = All-push (λ a. All IsLineInRange a.lines) s.done s.present kept.done kept.present; calls = omega arith; bytes = omega arith }
+    record { calls = omega arith; bytes = omega arith }
 whole_apps s kept false =
     let some = kept.calls in
     let bytes = kept.bytes in
-    record { lines = kept.done; calls = omega arith; bytes = omega arith }
+    record { calls = omega arith; bytes = omega arith }
 
 app_keeps : (s : Progress) (words : List Word) → Kept s → Holds Kept (after_app s words)
 unfolding after_app budget_of account_of
@@ -83,7 +77,7 @@ app_keeps s words kept =
     let whole = whole_apps s kept s.started in
     let some = whole.calls in
     let bytes = whole.bytes in
-    any Kept (app_of words) _ (λ name. refuse Kept (list_any (λ app. is_same app.name name) (apps_of s)) Repeated _ (λ h. refuse Kept (nat_le 16 (length (apps_of s))) TooManyApps _ (λ g. record { done = whole.lines; present = All-nil IsLineInRange; calls = omega arith; few = kept.few; bytes = omega arith; light = kept.light })))
+    any Kept (app_of words) _ (λ name. refuse Kept (list_any (λ app. is_same app.name name) (apps_of s)) Repeated _ (λ h. refuse Kept (nat_le 16 (length (apps_of s))) TooManyApps _ (λ g. record { calls = omega arith; few = kept.few; bytes = omega arith; light = kept.light })))
 
 -- ---- call lines
 
@@ -91,9 +85,9 @@ budget_push : (lines : List Line) (line : Line) → (budget_of (lines ++ line �
 unfolding budget_of
 budget_push lines line = ap (λ a. a.bytes) (account_of_push lines line)
 
-call_keeps : (n : ℕ) (s : Progress) (line : Line) → IsLineInRange line → Kept s → Holds Kept (after_call n s line)
+call_keeps : (n : ℕ) (s : Progress) (line : Line) → Kept s → Holds Kept (after_call n s line)
 unfolding after_call
-call_keeps n s line fits kept =
+call_keeps n s line kept =
     refuse Kept (nat_le 20000 s.calls) TooManyCalls _ (λ h. refuse Kept (nat_lt 16777216 (s.charged + charge_of (account_of s.present.lines) line)) TooManyBytes _ (λ g.
     let room = leb-false 20000 s.calls h in
     let light = ltb-false 16777216 (s.charged + charge_of (account_of s.present.lines) line) g in
@@ -101,7 +95,7 @@ call_keeps n s line fits kept =
     let heavier = budget_push s.present.lines line in
     let calls = kept.calls in
     let bytes = kept.bytes in
-    record { done = kept.done; present = All-push IsLineInRange s.present.lines line kept.present fits; calls = omega arith; few = omega arith; bytes = omega arith; light = omega arith }))
+    record { calls = omega arith; few = omega arith; bytes = omega arith; light = omega arith }))
 
 -- ---- lines
 
@@ -112,13 +106,13 @@ form_keeps n s Set rest kept = set_keeps n s (words_of rest) kept
 form_keeps n s Sizes rest kept = sizes_keep n s (words_of rest) kept
 form_keeps n s Seq rest kept = seq_keeps s (words_of rest) kept
 form_keeps n s App rest kept = app_keeps s (words_of rest) kept
-form_keeps n s (Call first) rest kept = then _ Kept (call_line_of first rest) (after_call n s) (call_in first rest) (λ line fits. call_keeps n s line fits kept)
+form_keeps n s (Call first) rest kept = any Kept (call_line_of first rest) (after_call n s) (λ line. call_keeps n s line kept)
 
 known_keeps : (n : ℕ) (s : Progress) (form : Option Form) (rest : List ℕ) → Kept s → Holds Kept (after_known n s form rest)
 unfolding after_known
 known_keeps n s None rest kept = tt
 known_keeps n s (Some form) rest kept =
-    refuse Kept (is_misplaced form s.begun s.started) Misplaced _ (λ h. form_keeps n (record s { begun = true }) form rest (record { done = kept.done; present = kept.present; calls = kept.calls; few = kept.few; bytes = kept.bytes; light = kept.light }))
+    refuse Kept (is_misplaced form s.begun s.started) Misplaced _ (λ h. form_keeps n (record s { begun = true }) form rest (record { calls = kept.calls; few = kept.few; bytes = kept.bytes; light = kept.light }))
 
 words_keep : (n : ℕ) (s : Progress) (words : List Word) (rest : List ℕ) → Kept s → Holds Kept (after_words n s words rest)
 unfolding after_words
@@ -131,22 +125,20 @@ line_keeps n s line kept = refuse Kept (nat_lt 1024 (length line)) LineTooLong _
 
 -- ---- the whole text
 
-pub grammar_in : (bytes : List ℕ) (script : ScriptText) → grammar bytes ≡ Ok script → IsInRange script
-unfolding grammar
-grammar_in bytes script e = decide (progress_of bytes) refl e
-  where
-    decide : (r : Result Progress ScriptFault) → progress_of bytes ≡ r → (r >=> λ s. Ok (record { limits = s.limits; apps = apps_of s })) ≡ Ok script → IsInRange script
-    decide (Ok s) so h =
-        let kept = (progress_keeps Kept kept_opening line_keeps bytes s so).0 in
-        let whole = whole_apps s kept s.started in
-        let same : record { limits = s.limits; apps = apps_of s } ≡ script = cc in
-        let few = kept.few in
-        let light = kept.light in
-        let calls = whole.calls in
-        let bytes = whole.bytes in
-        let made : IsInRange (record { limits = s.limits; apps = apps_of s }) = record { lines = whole.lines; calls = omega arith; bytes = omega arith } in
-        subst IsInRange same made
-    decide (Err fault) so h = absurd cc
+-- a script has at most so many call lines and charges
+pub record Bounded (script : ScriptText) : Type 0 where
+  pub calls : sum_by lines_in script.apps ≤ 20000
+  pub bytes : sum_by bytes_in script.apps ≤ 16777216
+
+pub read_bounded : (bytes : List ℕ) (s : Progress) → progress_of bytes ≡ Ok s → Bounded (record { limits = s.limits; apps = apps_of s })
+read_bounded bytes s so =
+    let kept = (progress_keeps Kept kept_opening line_keeps bytes s so).0 in
+    let whole = whole_apps s kept s.started in
+    let few = kept.few in
+    let light = kept.light in
+    let calls = whole.calls in
+    let bytes = whole.bytes in
+    record { calls = omega arith; bytes = omega arith }
 
 pub built_in : (bytes : List ℕ) (script : ScriptText) → built_script bytes ≡ Ok script → grammar bytes ≡ Ok script
 unfolding built_script
@@ -156,6 +148,3 @@ built_in bytes script e = decide (grammar bytes) (unbuilt_line bytes) e
     decide (Ok s) None h = h
     decide (Ok s) (Some number) h = absurd cc
     decide (Err fault) o h = absurd cc
-
-pub runs : (bytes : List ℕ) (script : ScriptText) → built_script bytes ≡ Ok script → IsInRange script
-runs bytes script e = grammar_in bytes script (built_in bytes script e)

@@ -39,9 +39,10 @@ pub fn rotations_merge()
     ensures merges { (script : ScriptText) → Merges script (rotation script) }
 {}
 
-/// What a text is read as is within the ranges of a run: its names, its messages, its lines and their charges.
+/// What a text is read as is in the ranges of `IsScript`; and all such scripts are within the bounds of a run:
+/// their names, their messages, their lines and their charges.
 pub fn read_scripts_are_in_range()
     ensures scripts { (bytes : List ℕ) (script : ScriptText) → grammar bytes ≡ Ok script → IsScript script }
     ensures built { (bytes : List ℕ) (script : ScriptText) → built_script bytes ≡ Ok script → IsScript script }
-    ensures runs { (bytes : List ℕ) (script : ScriptText) → built_script bytes ≡ Ok script → IsInRange script }
+    ensures runs { (script : ScriptText) → IsScript script → IsInRange script }
 {}

@@ -24,7 +24,9 @@ mod reading;
 mod script;
 
 pub use fail::ReadFail;
-pub use laws::{last_messages_stay, printed_scripts_read_back, rotations_merge};
+pub use laws::{
+    last_messages_stay, printed_scripts_read_back, read_scripts_are_in_range, rotations_merge,
+};
 pub use printing::print_script;
 pub use script::{Script, read_script};
 pub use script_lines::{BoxedRules, ByteText, Content, Line, MAX_RULES, Rule, RuleList};

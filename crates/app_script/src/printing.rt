@@ -1,5 +1,5 @@
 //! Printing a script.
-ghost use Rattle.std.specs.Prelude.{◌≡◌, ℕ, ◌≤◌, false, true, List, ◌∷◌, [], ◌++◌, map, OnOk, OnErr, codes, decimal};
+ghost use Rattle.std.specs.Prelude.{◌≡◌, ℕ, ◌≤◌, false, true, List, ◌∷◌, [], ◌++◌, length, map, Ok, OnOk, OnErr, codes, decimal};
 ghost use Rattle.std.specs.List.{flat_map};
 ghost use Rattle.fsw_base.specs.Limits.{usual_limits, limits_of};
 ghost use Rattle.fsw_base.specs.Blocks.{usual_sizes};
@@ -7,6 +7,7 @@ ghost use Rattle.fsw_base.specs.Outside.{Rose};
 ghost use Rattle.script_words.specs.Text.{is_same};
 ghost use Rattle.text_page.specs.Pieces.{Grew, CutShort, Puts};
 ghost use Rattle.line_spelling.specs.Spelling.{behind, line_text};
+ghost use Rattle.app_script.specs.Grammar.{grammar};
 ghost use Rattle.app_script.specs.ScriptSpelling.{limit_word, limit_of, set_lines_of, set_lines, sizes_lines, seq_text, app_lines, ended, spelled_script};
 
 use crate::app::App;
@@ -17,7 +18,8 @@ use script_settings::LimitName;
 use text_page::{Page, finish, put, put_hex_id, put_number};
 
 /// Writes the one spelling of a script: each setting that isn't the usual one, then the applications
-/// with their call lines, words with a space between each two and a line feed at each line's end.
+/// with their call lines, words with a space between each two and a line feed at each line's end. Where
+/// it has at most 1,048,576 bytes, as a text may, it is read as this script again.
 ///
 /// The sink is given the text in pages of 4096 bytes, of which it may take less at a time. No memory
 /// is taken. No write through this guard may have failed before.
@@ -35,7 +37,9 @@ pub fn print_script<K: Sink>(script: &Script, sink: &mut SinkGuard<'_, K>) -> Re
     ensures cause { OnErr result (Rose sink.old.faults sink.new.faults) }
     ensures never_falls { sink.old.faults ≤ sink.new.faults }
     ensures same_sink { sink.new.sink ≡ sink.old.sink }
+    ensures reads_back { OnOk result (length (spelled_script script.now) ≤ 1048576 → grammar (spelled_script script.now) ≡ Ok script.now) }
 {
+    script.recall_ranges();
     let config = script.config();
     let mut page = Page::new();
     put_limits(sink, &mut page, config);

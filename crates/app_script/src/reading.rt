@@ -6,6 +6,7 @@ ghost use Rattle.script_words.specs.Text.{is_same};
 ghost use Rattle.fsw_base.specs.Starts.{are_count_starts};
 ghost use Rattle.app_script.specs.Noted.{noted, is_built};
 ghost use Rattle.app_script.specs.Forms.{is_misplaced};
+ghost use Rattle.app_script.specs.ScriptRanges.{IsScript};
 
 use crate::app::App;
 use crate::forms::{Form, form_of, is_misplaced};
@@ -358,7 +359,8 @@ impl Reading {
 
     // The script that was read, where an application has begun.
     pub(crate) fn into_script(self) -> Result<Script, AllocError>
-        requires { IsTrue self.started }
+        requires text { IsScript (record { limits = self.limits; apps = apps_of self }) }
+        requires started { IsTrue self.started }
         ensures { IfOk result (λ script. script ≡ record { limits = self.limits; apps = apps_of self }) }
     {
         let Reading {

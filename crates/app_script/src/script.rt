@@ -1,6 +1,8 @@
 //! A script, and how it is read.
 ghost use Rattle.std.specs.Prelude.{◌≡◌, ◌-◌, ◌<◌, ◌≤◌, length, slice_get, Some, IfOk, IsTrue};
 ghost use Rattle.fsw_base.specs.Limits.{limits_of};
+ghost use Rattle.app_script.specs.Ranges.{IsInRange};
+ghost use Rattle.app_script.specs.ScriptRanges.{IsScript};
 ghost use Rattle.app_script.specs.Grammar.{after_lines, progress_of, grammar, built_script};
 ghost use Rattle.script_words.specs.Text.{lines_of};
 ghost use Rattle.app_script.specs.Whole.{located, GivesScript, MovesScript};
@@ -30,11 +32,11 @@ impl Model for Script {
 
     ghost Value = { ScriptText };
 
-    ghost use Rattle.app_script.specs.ScriptParts.{script_in, Counts};
+    ghost use Rattle.app_script.specs.ScriptParts.{script_in, Keeps};
 
     ghost view = { script_in };
 
-    ghost invariant = { Counts };
+    ghost invariant = { Keeps };
 }
 
 impl Script {
@@ -43,11 +45,19 @@ impl Script {
 
     // The script of what was read.
     pub(crate) fn new(config: Config, apps: Vec<App>) -> Script
-        requires some { 1 ≤ length apps.items }
-        requires few { length apps.items ≤ 16 }
+        requires { IsScript (record { limits = limits_of config; apps = apps.items }) }
         ensures { result ≡ record { limits = limits_of config; apps = apps.items } }
     {
         Script { config, apps }
+    }
+
+    /// Tells what is true of every script, and does nothing at run time: its limits, names and call lines
+    /// are in the ranges of a text, and all of it is within the bounds of a run.
+    pub fn recall_ranges(&self)
+        ensures text { IsScript self.now }
+        ensures run { IsInRange self.now }
+    {
+        let _ = &self.apps;
     }
 
     /// The limits that it configures.

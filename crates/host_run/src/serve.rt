@@ -1,7 +1,6 @@
 //! The top call: all that the program does.
 ghost use Rattle.std.specs.Prelude.{◌≡◌, ◌⊎◌, true, false};
 ghost use Rattle.app_script.specs.Grammar.{built_script};
-ghost use Rattle.app_script.specs.Ranges.{IsInRange};
 ghost use Rattle.host_run.specs.Audit.{GuardedAudit};
 ghost use Rattle.host_run.specs.Serve.{Headline, Lockstep, OtherWords, HasCauses, Completes, fed_by, made_by, fed_through, made_through, EndsInput, EndsScript, EndsRefused, EndsTelling, usage_text};
 ghost use Rattle.host_run.specs.Status.{is_read_fault, is_write_fault};
@@ -143,7 +142,6 @@ fn serve_script<K: Sink, A: Audit>(
     sink: &mut SinkGuard<'_, K>,
     audit: &mut AuditGuard<'_, A>,
 ) -> HostStatus
-    requires ranges { IsInRange script.now }
     requires none_failed { sink.old.failed ≡ false }
     requires untouched { sink.old.untouched ≡ true }
     ensures end { EndsScript result script.now (made_through sink.old audit.old) (made_through sink.new audit.new) }

@@ -17,7 +17,7 @@ mod printing;
 mod table_lines;
 mod words;
 
-pub use laws::printed_lines_read_back;
+pub use laws::{printed_lines_read_back, read_lines_are_readable};
 pub use printing::print_line;
 
 #[cfg(test)]

@@ -1,4 +1,4 @@
-use Rattle.std.proofs.Common.{◌∙◌, sym, subst, arith, List}
+use Rattle.std.proofs.Common.{◌∙◌, sym, subst, List}
 use Rattle.fsw_base.specs.declared.config.Budget.{Budget}
 use Rattle.fsw_base.specs.Limits.{limits_of}
 use Rattle.bus_words.specs.Log.{AreBudgets}
@@ -8,7 +8,7 @@ use Rattle.app_run.proofs.rotating.open.Goals as goal
 pub new-requires : goal.new-requires
 new-requires c =
     subst (λ (bs : List Budget). AreBudgets bs) (sym (c.deref.ensures.value ∙ c.in_ok-budgets.ensures))
-    (are-budgets c.args.script.now c.requires (omega (arith, c.apps-apps.ensures.count, c.apps-apps.ensures.some)) (omega (arith, c.apps-apps.ensures.count, c.apps-apps.ensures.few)))
+    (are-budgets c.args.script.now c.recall_ranges.ensures.run c.recall_ranges.ensures.text.some c.recall_ranges.ensures.text.few)
 
 pub returns-clause-bus : goal.returns-clause-bus
 returns-clause-bus c =

@@ -1,10 +1,11 @@
 use Rattle.std.proofs.Common.{ap, ◌∙◌}
-use Rattle.std.proofs.lemmas.Result.{on_err_weaker}
+use Rattle.std.proofs.lemmas.Result.{on_err_weaker, on_ok_weaker}
 use Rattle.std.specs.List.{flat_map}
 use Rattle.fsw_base.specs.Limits.{limits_of}
 use Rattle.text_page.proofs.Putting.{◌▸◌, on_ok_both, puts_as, puts_never_falls, puts_part, puts_rose, puts_whole}
 use Rattle.app_script.specs.Script.{ScriptText}
 use Rattle.app_script.specs.ScriptSpelling.{app_lines, ended, spelled_script}
+use Rattle.app_script.proofs.AppsBack.{scripts_back}
 use Rattle.app_script.proofs.PrintLemmas.{spelled}
 use Rattle.app_script.proofs.printing.print_script.Goals as goal
 
@@ -23,4 +24,5 @@ returns g c =
       cause = on_err_weaker c.finish.result (puts_rose c.requires all) c.finish.ensures.failed;
       never_falls = puts_never_falls c.requires all;
       same_sink = all.same_sink;
+      reads_back = on_ok_weaker c.finish.result (λ none short. scripts_back c.args.script.now c.recall_ranges.ensures.text short) c.finish.ensures.none_failed;
     }

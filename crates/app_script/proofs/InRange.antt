@@ -1,0 +1,69 @@
+-- A script that a text can be is within the bounds of a run.
+use Rattle.std.proofs.Common.{◌≡◌, ℕ, ◌+◌, ◌≤◌, Bool, true, ◌&&◌, not, nat_le, nat_lt, List, [], ◌∷◌, length, All, sum_by, ap, refl, sym, ◌∙◌, arith, codes}
+use Rattle.std.specs.List.{list_all}
+use Rattle.std.proofs.lemmas.Bool.{leb-true}
+use Rattle.std.proofs.lemmas.List.Elements.{All-nil, All-cons}
+use Rattle.std.proofs.lemmas.List.Sums.{sum_by-cons}
+use Rattle.script_words.specs.Text.{is_same}
+use Rattle.script_lines.specs.declared.line.Line.{Line}
+use Rattle.script_lines.specs.declared.line.Line.TheVariants.{Create, Find, Send, SendRaw}
+use Rattle.line_spelling.specs.Ranges.{is_visible, is_name, is_readable}
+use Rattle.line_spelling.proofs.Booleans.{and_first, and_second}
+use Rattle.script_settings.specs.Settings.{is_app_name}
+use Rattle.script_settings.specs.Accounts.{account_of, budget_of}
+use Rattle.app_script.specs.Script.{Application, ScriptText}
+use Rattle.app_script.specs.Ranges.{IsLineInRange, IsInRange}
+use Rattle.app_script.specs.ScriptRanges.{is_application, all_calls, all_bytes, IsScript}
+
+-- ---- lines
+
+name_short : (name : List ℕ) → is_name name ≡ true → length name ≤ 64
+name_short name h =
+    leb-true (length name) 64 (and_first (nat_le (length name) 64) (list_all is_visible name) (and_first (nat_le (length name) 64 && list_all is_visible name) (not (is_same name (codes "-"))) h))
+
+line_in : (line : Line) → is_readable line ≡ true → IsLineInRange line
+unfolding is_readable IsLineInRange
+line_in (Create pipe depth name) h = name_short name (and_second (nat_lt pipe 64 && nat_le depth 65535) (is_name name) h)
+line_in (Find pipe name) h = name_short name (and_second (nat_lt pipe 64) (is_name name) h)
+line_in (Send id size fill inc) h =
+    let sizes = and_first (nat_le id 65535 && nat_le 7 size && nat_le size 65542) (nat_le fill 255) h in (
+      leb-true 7 size (and_second (nat_le id 65535) (nat_le 7 size) (and_first (nat_le id 65535 && nat_le 7 size) (nat_le size 65542) sizes)),
+      leb-true size 65542 (and_second (nat_le id 65535 && nat_le 7 size) (nat_le size 65542) sizes),
+    )
+line_in (SendRaw bytes inc) h =
+    let short = leb-true (length bytes) 256 (and_second (nat_le 1 (length bytes)) (nat_le (length bytes) 256) (and_first (nat_le 1 (length bytes) && nat_le (length bytes) 256) (list_all (λ byte. nat_le byte 255) bytes) h)) in
+    omega arith
+line_in line h = tt
+
+lines_in : (lines : List Line) → list_all is_readable lines ≡ true → All IsLineInRange lines
+lines_in [] h = All-nil IsLineInRange
+lines_in (line ∷ lines) h =
+    All-cons IsLineInRange line lines (line_in line (and_first (is_readable line) (list_all is_readable lines) h)) (lines_in lines (and_second (is_readable line) (list_all is_readable lines) h))
+
+-- ---- applications
+
+abbrev HasLines : Application → Type 0
+HasLines a = All IsLineInRange a.lines
+
+apps_in : (apps : List Application) → list_all is_application apps ≡ true → All HasLines apps
+apps_in [] h = All-nil HasLines
+apps_in (app ∷ apps) h =
+    All-cons HasLines app apps (lines_in app.lines (and_second (is_app_name app.name) (list_all is_readable app.lines) (and_first (is_application app) (list_all is_application apps) h)))
+    (apps_in apps (and_second (is_application app) (list_all is_application apps) h))
+
+pub all_calls_sum : (apps : List Application) → all_calls apps ≡ sum_by (λ a. length a.lines) apps
+all_calls_sum [] = refl
+all_calls_sum (app ∷ apps) = ap (λ n. length app.lines + n) (all_calls_sum apps) ∙ sym (sum_by-cons (λ a. length a.lines) app apps)
+
+pub all_bytes_sum : (apps : List Application) → all_bytes apps ≡ sum_by (λ a. (budget_of a.lines).bytes) apps
+unfolding budget_of
+all_bytes_sum [] = refl
+all_bytes_sum (app ∷ apps) = ap (λ n. (account_of app.lines).bytes + n) (all_bytes_sum apps) ∙ sym (sum_by-cons (λ a. (budget_of a.lines).bytes) app apps)
+
+pub in_range : (script : ScriptText) → IsScript script → IsInRange script
+in_range script is =
+    let calls = is.calls in
+    let bytes = is.bytes in
+    let same_calls = all_calls_sum script.apps in
+    let same_bytes = all_bytes_sum script.apps in
+    record { lines = apps_in script.apps is.applications; calls = omega arith; bytes = omega arith }
