@@ -1,7 +1,7 @@
 use Rattle.std.proofs.Common.{subst, arith}
 use Rattle.pipe_table.specs.Table.{Pipes, IsRising}
 use Rattle.pipe_table.proofs.Order.{in_order}
-use Rattle.pipe_table.proofs.table.PipeTable.are_in_order.Goals as goal
+use Rattle.pipe_table.proofs.table.PipeTable.recall_order.Goals as goal
 
 pub returns : goal.returns
 returns c =

@@ -1,7 +1,7 @@
 use Rattle.std.proofs.Common.{refl}
 use Rattle.fsw_base.specs.Starts.{start_of}
 use Rattle.routing.proofs.Numbers.{cut_before, cut_on}
-use Rattle.routing.proofs.routes.counts_go_by_calls.Goals as goal
+use Rattle.routing.proofs.routes.recall_counts.Goals as goal
 
 pub returns : goal.returns
 returns c =
