@@ -1,7 +1,7 @@
 //! The log of the latest events (cFE Event Services, local event log).
 ghost use Rattle.std.specs.Prelude.{◌≡◌, ◌==◌, ◌<◌, ◌≤◌, not, [], length, slice_get, Some, IfOk};
-ghost use Rattle.evs_events.specs.Log.{Log, empty_log, is_full, event_line, kept, mode_number};
-ghost use Rattle.evs_events.specs.Views.{line_shown};
+ghost use Rattle.fsw_base.specs.EventLog.{Log, empty_log, is_full, event_line, kept};
+ghost use Rattle.evs_events.specs.Views.{line_shown, mode_number};
 
 use crate::line::{LogLine, MAX_TEXT, StoredLine};
 use circular_buffer::HeapCircularBuffer;
@@ -66,7 +66,8 @@ pub struct EventLog {
 
 impl Model for EventLog {
     ghost use Rattle.std.specs.Prelude.{◌≡◌};
-    ghost use Rattle.evs_events.specs.Log.{Log, mode_number};
+    ghost use Rattle.fsw_base.specs.EventLog.{Log};
+    ghost use Rattle.evs_events.specs.Views.{mode_number};
     ghost use Rattle.evs_events.specs.declared.log.TheConstants.{LOG_LINES};
 
     ghost Value = { Log };

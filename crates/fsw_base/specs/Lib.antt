@@ -1,5 +1,8 @@
 pub mod Blocks
 pub mod Clean
+pub mod EventDesk
+pub mod EventFilters
+pub mod EventLog
 pub mod Events
 pub mod Guards
 pub mod Limits

@@ -1,8 +1,6 @@
--- The log of the events that passed.
+-- The log of the events that passed (cFE Event Services, local event log).
 use Rattle.std.specs.Prelude.{ℕ, ◌==◌, nat_lt, Bool, List, [], ◌∷◌, ◌++◌, length, take, drop, if◌then◌else◌}
 use Rattle.fsw_base.specs.declared.events.EventKind.{EventKind}
-use Rattle.evs_events.specs.declared.log.LogMode.{LogMode}
-use Rattle.evs_events.specs.declared.log.LogMode.TheVariants.{Overwrite, Discard}
 
 pub record Line : Type 0 where
   -- the application's number, 0 for the services' own events
@@ -17,11 +15,6 @@ pub record Log : Type 0 where
   pub lines : List Line
   -- what a full log drops: its oldest line in mode 0, the new one in mode 1
   pub mode : ℕ
-
--- the number of a mode
-abbrev pub mode_number : LogMode → ℕ
-mode_number Overwrite = 0
-mode_number Discard = 1
 
 -- a log starts without lines, in mode 1
 abbrev pub empty_log : Log

@@ -3,13 +3,12 @@ use Rattle.std.specs.Prelude.{ℕ, ◌+◌, ◌-◌, min, Bool, List, [], replic
 use Rattle.fsw_base.specs.declared.events.EventKind.{EventKind}
 use Rattle.fsw_base.specs.declared.statuses.EvsStatus.{EvsStatus}
 use Rattle.fsw_base.specs.declared.statuses.EvsStatus.TheVariants.{AppNotRegistered, EvtNotRegistered}
-use Rattle.evs_events.specs.declared.filters.Filter.{Filter}
-use Rattle.evs_events.specs.Filters.{fresh_filters, passes, counted, has_filter, restarted}
-use Rattle.evs_events.specs.Log.{Log, empty_log, is_cut, event_line, is_full, kept}
+use Rattle.fsw_base.specs.EventFilters.{EventFilter, fresh_filters, passes, counted, has_filter, restarted}
+use Rattle.fsw_base.specs.EventLog.{Log, empty_log, is_cut, event_line, is_full, kept}
 
 pub record Desk : Type 0 where
   -- for each of the 16 applications, number 1 first, its filters; none where it isn't registered
-  pub registrations : List (Option (List Filter))
+  pub registrations : List (Option (List EventFilter))
   pub log : Log
   -- events that passed, the services' own too
   pub sent : ℕ
@@ -35,11 +34,11 @@ abbrev pub one_more_if : Bool → ℕ → ℕ
 one_more_if test count = if test then one_more count else count
 
 -- the filters of an application, none where it isn't registered
-abbrev pub filters_of : Desk → ℕ → Option (List Filter)
+abbrev pub filters_of : Desk → ℕ → Option (List EventFilter)
 filters_of desk app = slice_index_or desk.registrations (app - 1) None
 
 -- the desk with another registration of an application
-abbrev pub with_filters : Desk → ℕ → Option (List Filter) → Desk
+abbrev pub with_filters : Desk → ℕ → Option (List EventFilter) → Desk
 with_filters desk app filters = record desk { registrations = slice_set desk.registrations (app - 1) filters }
 
 -- an application registers with pairs of an event id and a mask, in place of what it registered before
@@ -68,14 +67,14 @@ abbrev pub refused_once : Desk → Desk
 refused_once desk = record desk { refused = one_more desk.refused }
 
 -- the filter for the event's id counts it, passed or not
-abbrev pub tested : Desk → ℕ → List Filter → ℕ → Desk
+abbrev pub tested : Desk → ℕ → List EventFilter → ℕ → Desk
 tested desk app filters id = with_filters desk app (Some (counted filters id))
 
 -- an application sends an event: refused where it isn't registered, else passed or held back by its filters
 unfoldable pub sent : Desk → ℕ → ℕ → EventKind → List ℕ → Desk
 sent desk app id kind text = by_filters (filters_of desk app)
   where
-    by_filters : Option (List Filter) → Desk
+    by_filters : Option (List EventFilter) → Desk
     by_filters None = refused_once desk
     by_filters (Some filters) =
         if passes filters id then passed (tested desk app filters id) app id kind text
@@ -85,7 +84,7 @@ sent desk app id kind text = by_filters (filters_of desk app)
 abbrev pub send_refusal : Desk → ℕ → Option EvsStatus
 send_refusal desk app = by_filters (filters_of desk app)
   where
-    by_filters : Option (List Filter) → Option EvsStatus
+    by_filters : Option (List EventFilter) → Option EvsStatus
     by_filters None = Some AppNotRegistered
     by_filters (Some filters) = None
 
@@ -93,7 +92,7 @@ send_refusal desk app = by_filters (filters_of desk app)
 abbrev pub reset_refusal : Desk → ℕ → ℕ → Option EvsStatus
 reset_refusal desk app id = by_filters (filters_of desk app)
   where
-    by_filters : Option (List Filter) → Option EvsStatus
+    by_filters : Option (List EventFilter) → Option EvsStatus
     by_filters None = Some AppNotRegistered
     by_filters (Some filters) = if has_filter filters id then None else Some EvtNotRegistered
 
@@ -101,7 +100,7 @@ reset_refusal desk app id = by_filters (filters_of desk app)
 unfoldable pub reset : Desk → ℕ → ℕ → Desk
 reset desk app id = by_filters (filters_of desk app)
   where
-    by_filters : Option (List Filter) → Desk
+    by_filters : Option (List EventFilter) → Desk
     by_filters None = refused_once desk
     by_filters (Some filters) =
         if has_filter filters id then with_filters desk app (Some (restarted filters id)) else refused_once desk
