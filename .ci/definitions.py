@@ -13,6 +13,7 @@ names that are defined nowhere; what it wrote is to be read, and put into plain 
 """
 import re
 import sys
+from collections import defaultdict
 from pathlib import Path
 
 TOP = Path(__file__).resolve().parent.parent
@@ -160,6 +161,51 @@ def comment_on(crate, name, word):
     return '?'
 
 
+def moved(lines, missing, gone):
+    """For names that stand in another file now: the entry that they have there, by place."""
+    to = defaultdict(list)
+    for crate, name, word in missing:
+        to[word].append((crate, name))
+    entries = []
+    crate = name = None
+    for line in lines:
+        if line.startswith('## '):
+            named = re.search(r'`(\w+)`', line)
+            crate, name = (named.group(1) if named else None), None
+        elif line.startswith('### '):
+            named = re.search(r'`specs/([\w/]+)\.antt`', line)
+            name = named.group(1) if named else None
+        elif line.startswith('- ') and crate and name:
+            head, colon, words = line.partition(':')
+            lost = [word for word in re.findall(r'`([^`]+)`', head) if (crate, name, word) in gone]
+            for place in sorted({to[word][0] for word in lost if len(to[word]) == 1}):
+                found = [word for word in lost if word in defined(*place)]
+                entries.append((place, found, '- ' + ', '.join(f'`{word}`' for word in found) + colon + words))
+    return entries
+
+
+def put(out, crate, name, entry):
+    """Puts an entry at the end of its file's, under headings of its own where there are none."""
+    parts = [at for at, line in enumerate(out) if line.startswith('## ') and re.search(rf'`{crate}`', line)]
+    if not parts:
+        out += ['', f'## `{crate}`', '', f'### `specs/{name}.antt`', '', entry]
+        return
+    end = next((at for at in range(parts[0] + 1, len(out)) if out[at].startswith('## ')), len(out))
+    files = [at for at in range(parts[0], end) if out[at].startswith('### ') and f'`specs/{name}.antt`' in out[at]]
+    if not files:
+        while not out[end - 1]:
+            end -= 1
+        out[end:end] = ['', f'### `specs/{name}.antt`', '', entry]
+        return
+    last = files[0] + 1
+    for at in range(files[0] + 1, end):
+        if out[at].startswith('### '):
+            break
+        if out[at].startswith('- '):
+            last = at
+    out.insert(last + 1, entry)
+
+
 def mended(lines, missing, gone):
     """The page's lines with an entry for each missing name, and without the names that are defined nowhere."""
     out = []
@@ -179,27 +225,16 @@ def mended(lines, missing, gone):
             if len(kept) < len(re.findall(r'`([^`]+)`', head)):
                 line = '- ' + ', '.join(f'`{word}`' for word in kept) + colon + words
         out.append(line)
+    told = set()
+    for (crate, name), words, entry in moved(lines, missing, gone):
+        put(out, crate, name, entry)
+        told |= {(crate, name, word) for word in words}
     for crate, name, word in missing:
-        entry = f'- `{word}`: {comment_on(crate, name, word)}'
-        parts = [at for at, line in enumerate(out) if line.startswith('## ') and re.search(rf'`{crate}`', line)]
-        if not parts:
-            out += ['', f'## `{crate}`', '', f'### `specs/{name}.antt`', '', entry]
-            continue
-        end = next((at for at in range(parts[0] + 1, len(out)) if out[at].startswith('## ')), len(out))
-        files = [at for at in range(parts[0], end) if out[at].startswith('### ') and f'`specs/{name}.antt`' in out[at]]
-        if not files:
-            while not out[end - 1]:
-                end -= 1
-            out[end:end] = ['', f'### `specs/{name}.antt`', '', entry]
-            continue
-        last = files[0] + 1
-        for at in range(files[0] + 1, end):
-            if out[at].startswith('### '):
-                break
-            if out[at].startswith('- '):
-                last = at
-        out.insert(last + 1, entry)
-    return out
+        if (crate, name, word) not in told:
+            put(out, crate, name, f'- `{word}`: {comment_on(crate, name, word)}')
+    # a heading under which nothing is left
+    return [line for at, line in enumerate(out) if not (line.startswith('### ') and not any(
+        one for one in out[at + 1:next((to for to in range(at + 1, len(out)) if out[to].startswith(('## ', '### '))), len(out))]))]
 
 
 def page():

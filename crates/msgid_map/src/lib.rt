@@ -5,7 +5,7 @@
 //!
 //! ```
 //! /// Two ids get a route each; one of them is looked up, and one that has none.
-//! fn routed(map: &mut IdMap) -> (Option<u32>, Option<u32>)
+//! fn two_routes(map: &mut IdMap) -> (Option<u32>, Option<u32>)
 //!     requires none { map.old.routes ≡ empty }
 //!     requires room { map.old.room ≡ 2 }
 //!     ensures { result ≡ (Some 1, None) }

@@ -11,7 +11,7 @@ mod answers;
 mod spelling;
 
 use crate::answers::print_answer;
-use crate::spelling::spelled;
+use crate::spelling::spelled_script;
 use app_script::read_script;
 use script_words::text::first_line;
 use std::io;
@@ -23,7 +23,7 @@ fn main(rt: HostRuntime) -> io::Result<()> {
     let mut rest = table.as_slice();
     while !rest.is_empty() {
         let (line, behind) = first_line(rest);
-        let text = spelled(rt.alloc(), line)?;
+        let text = spelled_script(rt.alloc(), line)?;
         print_answer(&rt, read_script(rt.alloc(), text.as_slice()))?;
         rest = behind;
     }

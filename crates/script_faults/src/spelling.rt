@@ -9,7 +9,7 @@ use std::alloc::{AllocError, Global};
 ///
 /// # Errors
 /// `AllocError` where memory runs out.
-pub fn spelled(alloc: Global, line: &[u8]) -> Result<Vec<u8>, AllocError> {
+pub fn spelled_script(alloc: Global, line: &[u8]) -> Result<Vec<u8>, AllocError> {
     let mut script = Vec::new(alloc);
     let mut repeated = false;
     for part in line.split(|&byte| byte == b'[' || byte == b']') {

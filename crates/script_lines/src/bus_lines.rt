@@ -131,7 +131,7 @@ fn limit(word: Option<&[u8]>) -> Result<u32, FaultKind>
 }
 
 #[tactic(auto, unfolding(crate::specs::BusLines::subscribed))]
-fn subscribed(id: u32, pipe: u32, limit: u32, scope: Scope) -> Result<Line, FaultKind>
+fn subscribe_within(id: u32, pipe: u32, limit: u32, scope: Scope) -> Result<Line, FaultKind>
     ensures { Reads (λ line. line) result (subscribed id pipe limit scope) }
 {
     let id = short_within(id)?;
@@ -153,7 +153,7 @@ fn sub(rest: &[u8]) -> Result<Line, FaultKind>
     let pipe = pipe(register)?;
     let limit = limit(waiting)?;
     let scope = scope(reach)?;
-    subscribed(id, pipe, limit, scope)
+    subscribe_within(id, pipe, limit, scope)
 }
 
 #[tactic(auto, unfolding(crate::specs::BusLines::unsub_of))]

@@ -107,7 +107,7 @@ fn filters(pairs: &[(u32, u32)]) -> Result<ArrayVec<(u16, u16), MAX_FILTERS>, Fa
 
 // The line that registers these filters.
 #[tactic(auto, unfolding(crate::specs::EventLines::registered))]
-fn registered(filters: &[(u16, u16)]) -> Result<Line, FaultKind>
+fn register_once(filters: &[(u16, u16)]) -> Result<Line, FaultKind>
     requires { length filters.now ≤ 8 }
     ensures { Reads (λ line. line) result (registered filters.now) }
 {
@@ -124,7 +124,7 @@ fn evreg(rest: &[u8]) -> Result<Line, FaultKind>
     few(8, rest)?;
     let pairs = pairs(rest)?;
     let filters = filters(pairs.as_slice())?;
-    registered(filters.as_slice())
+    register_once(filters.as_slice())
 }
 
 // The next two words, and the text behind them without the blanks round it.
@@ -172,7 +172,7 @@ fn text_within(alloc: Global, text: &[u8]) -> Result<ByteText, LineFail>
 }
 
 #[tactic(auto, unfolding(crate::specs::EventLines::evented))]
-fn evented(alloc: Global, id: u32, number: u32, text: &[u8]) -> Result<Line, LineFail>
+fn event_within(alloc: Global, id: u32, number: u32, text: &[u8]) -> Result<Line, LineFail>
     ensures { Gives (λ line. line) result (evented id number text.now) }
 {
     let id = short_within(id)?;
@@ -188,7 +188,7 @@ fn event(alloc: Global, rest: &[u8]) -> Result<Line, LineFail>
     let (id, type_word, text) = two_and_text(rest)?;
     let id = number(id)?;
     let type_number = number(type_word)?;
-    evented(alloc, id, type_number, text)
+    event_within(alloc, id, type_number, text)
 }
 
 #[tactic(auto, unfolding(crate::specs::EventLines::evreset_of))]

@@ -148,7 +148,7 @@ fn table_words(rest: &[u8]) -> Result<((&[u8], &[u8]), (&[u8], &[u8], &[u8])), F
 }
 
 #[tactic(auto, unfolding(crate::specs::TableLines::described))]
-fn described(
+fn register_within(
     alloc: Global,
     handle: u32,
     word: &[u8],
@@ -192,7 +192,7 @@ fn treg(alloc: Global, rest: &[u8]) -> Result<Line, LineFail>
     let size = number(size)?;
     let option = number(option)?;
     let triples = triples(rest)?;
-    described(alloc, handle, name, (size, option), triples.as_slice())
+    register_within(alloc, handle, name, (size, option), triples.as_slice())
 }
 
 #[tactic(auto, unfolding(crate::specs::TableLines::tshare_of))]
@@ -206,7 +206,7 @@ fn tshare(alloc: Global, rest: &[u8]) -> Result<Line, LineFail>
 }
 
 #[tactic(auto, unfolding(crate::specs::TableLines::placed))]
-fn placed(
+fn load_within(
     alloc: Global,
     handle: u32,
     place: u32,
@@ -229,7 +229,7 @@ fn load(alloc: Global, rest: &[u8]) -> Result<(u32, u32, Content), LineFail>
     let handle = table(register)?;
     let place = number(place)?;
     let filling = filling(word)?;
-    placed(alloc, handle, place, word, filling)
+    load_within(alloc, handle, place, word, filling)
 }
 
 // The line with this first word, from the words behind it.

@@ -33,7 +33,7 @@ impl ByteText {
     pub fn from_hex(alloc: Global, word: &[u8]) -> Result<ByteText, AllocError>
         ensures { IfOk result (λ text. text ≡ hex_bytes word.now) }
     {
-        let bytes = decoded(alloc, word)?;
+        let bytes = bytes_spelled(alloc, word)?;
         Ok(ByteText { bytes })
     }
 
@@ -46,7 +46,7 @@ impl ByteText {
 }
 
 // The bytes that hexadecimal digits spell, two digits a byte.
-fn decoded(alloc: Global, word: &[u8]) -> Result<Vec<u8>, AllocError>
+fn bytes_spelled(alloc: Global, word: &[u8]) -> Result<Vec<u8>, AllocError>
     ensures { IfOk result (λ bytes. bytes.items ≡ hex_bytes word.now) }
 {
     let mut bytes = Vec::with_capacity(alloc, word.len() / 2)?;

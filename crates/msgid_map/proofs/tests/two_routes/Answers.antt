@@ -1,6 +1,6 @@
 use Rattle.std.proofs.Common.{◌≡◌, ◌∙◌, ap, refl, rules, arith}
 use Rattle.std.specs.FinMap.{gets}
-use Rattle.msgid_map.proofs.tests.routed.Goals as goal
+use Rattle.msgid_map.proofs.tests.two_routes.Goals as goal
 
 pub insert-requires-clause-fresh : goal.insert-requires-clause-fresh
 insert-requires-clause-fresh c = grind (gets, rules)
