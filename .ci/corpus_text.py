@@ -55,10 +55,14 @@ def spelled(text):
 
 def spelled_line(line):
     """One line, in printable characters with no blank at its end; bytes that repeat are counted."""
-    escape = lambda it: ESCAPES.get(it[0]) or b"\\x%02x" % it[0][0]
-    count = lambda it: b"\\{%d:%c}" % (len(it[0]), it[1][0])
-    line = re.sub(rb"[^ -\[\]-~]| $", escape, line)
-    return re.sub(rb"([ 0-9A-Za-z#!~])\1{31,}", count, line).decode("ascii")
+
+    def spelling(found):
+        if found[1]:
+            return b"\\{%d:%c}" % (len(found[0]), found[1][0])
+        return ESCAPES.get(found[0]) or b"\\x%02x" % found[0][0]
+
+    # A run of one byte, a byte that can't be printed or is a backslash, and a blank at the end.
+    return re.sub(rb"([ 0-9A-Za-z#!~])\1{31,}|[^ -\[\]-~]| $", spelling, line).decode("ascii")
 
 
 def unspelled(line):
