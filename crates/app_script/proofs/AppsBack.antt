@@ -25,7 +25,6 @@ use Rattle.line_spelling.proofs.LinesBack.{reads_back}
 use Rattle.app_script.specs.declared.forms.Form.{Form}
 use Rattle.app_script.specs.declared.forms.Form.TheVariants.{Script, Set, Sizes, Seq, App, Call}
 use Rattle.app_script.specs.Forms.{call_form, form_of, is_misplaced}
-use Rattle.app_script.specs.Noted.{noted, is_built}
 use Rattle.app_script.specs.Script.{Application, ScriptText}
 use Rattle.script_settings.specs.Settings.{is_name_byte, is_app_name, app_of}
 use Rattle.script_settings.specs.Accounts.{account_of, charge_of, counted}
@@ -103,22 +102,22 @@ pub record Calling (limits : Limits) (front : List Application) (name : List ℕ
   pub counted : s.calls ≡ calls + length lines
   pub charged : s.charged ≡ bytes + (account_of lines).bytes
 
-call_line : (n : ℕ) (s : Progress) (limits : Limits) (front : List Application) (name : List ℕ) (calls bytes : ℕ) (lines : List Line) (line : Line) → Calling limits front name calls bytes lines s → is_readable line ≡ true
+call_line : (s : Progress) (limits : Limits) (front : List Application) (name : List ℕ) (calls bytes : ℕ) (lines : List Line) (line : Line) → Calling limits front name calls bytes lines s → is_readable line ≡ true
     → calls + length lines < 20000 → bytes + (account_of (lines ++ line ∷ [])).bytes ≤ 16777216
-    → (t : Progress) × (after_line n s (line_text line) ≡ Ok t) × Calling limits front name calls bytes (lines ++ line ∷ []) t
+    → (t : Progress) × (after_line s (line_text line) ≡ Ok t) × Calling limits front name calls bytes (lines ++ line ∷ []) t
 unfolding after_form after_call
-call_line n s limits front name calls bytes lines line now readable room budget =
+call_line s limits front name calls bytes lines line now readable room budget =
     let back = reads_back line readable in
     let placed : is_misplaced (Call back.word) s.begun s.started ≡ false = ap not now.started in
-    let step = known_line n s (line_text line) back.first back.others (Call back.word) back.short back.printed back.words (call_no_comment back.first back.word back.known) (call_known back.first back.word back.known) placed in
+    let step = known_line s (line_text line) back.first back.others (Call back.word) back.short back.printed back.words (call_no_comment back.first back.word back.known) (call_known back.first back.word back.known) placed in
     let here : s.present.lines ≡ lines = ap (λ (a : Application). a.lines) now.present in
     let more : (account_of (lines ++ line ∷ [])).bytes ≡ (account_of lines).bytes + charge_of (account_of lines) line = ap (λ a. a.bytes) (account_of_push lines line) in
     let charge : charge_of (account_of s.present.lines) line ≡ charge_of (account_of lines) line = ap (λ (l : List Line). charge_of (account_of l) line) here in
     let few : nat_le 20000 s.calls ≡ false = lt-leb 20000 s.calls (omega (arith, now.counted)) in
     let light : nat_lt 16777216 (s.charged + charge_of (account_of s.present.lines) line) ≡ false = le-ltb 16777216 (s.charged + charge_of (account_of s.present.lines) line) (omega (arith, now.charged)) in
-    let after : after_call n (record s { begun = true }) line ≡ Ok (record s { begun = true; present = record s.present { lines = s.present.lines ++ line ∷ [] }; calls = s.calls + 1; charged = s.charged + charge_of (account_of s.present.lines) line; unbuilt = noted (is_built line) n s.unbuilt }) = rw few (rw light refl) in (
-      (record s { begun = true; present = record s.present { lines = s.present.lines ++ line ∷ [] }; calls = s.calls + 1; charged = s.charged + charge_of (account_of s.present.lines) line; unbuilt = noted (is_built line) n s.unbuilt }),
-      step ∙ ap (λ r. r >>= after_call n (record s { begun = true })) back.reads ∙ after,
+    let after : after_call (record s { begun = true }) line ≡ Ok (record s { begun = true; present = record s.present { lines = s.present.lines ++ line ∷ [] }; calls = s.calls + 1; charged = s.charged + charge_of (account_of s.present.lines) line }) = rw few (rw light refl) in (
+      (record s { begun = true; present = record s.present { lines = s.present.lines ++ line ∷ [] }; calls = s.calls + 1; charged = s.charged + charge_of (account_of s.present.lines) line }),
+      step ∙ ap (λ r. r >>= after_call (record s { begun = true })) back.reads ∙ after,
       record {
         has = now.has;
         started = now.started;
@@ -129,7 +128,7 @@ call_line n s limits front name calls bytes lines line now readable room budget 
       },
     )
 
-account_grows : (front rest : List Line) → (account_of front).bytes ≤ (account_of (front ++ rest)).bytes
+pub account_grows : (front rest : List Line) → (account_of front).bytes ≤ (account_of (front ++ rest)).bytes
 account_grows front [] = omega (arith, ap (λ (l : List Line). (account_of l).bytes) (append-nil front))
 account_grows front (line ∷ rest) =
     let more = ap (λ a. a.bytes) (account_of_push front line) in
@@ -145,7 +144,7 @@ calls_lead (line ∷ rest) lines s limits front name calls bytes now readable fe
     let grows = account_grows (lines ++ line ∷ []) rest in
     leads_then s (line_text line ∷ []) (map line_text rest) (Calling limits front name calls bytes (lines ++ line ∷ [])) (Calling limits front name calls bytes (lines ++ line ∷ rest))
     (leads_one s (line_text line) (Calling limits front name calls bytes (lines ++ line ∷ []))
-    (λ n. call_line n s limits front name calls bytes lines line now (and_first (is_readable line) (list_all is_readable rest) readable)
+    (call_line s limits front name calls bytes lines line now (and_first (is_readable line) (list_all is_readable rest) readable)
     (omega (arith, length-append lines (line ∷ rest))) (omega (arith, ap (λ (l : List Line). (account_of l).bytes) whole))))
     (λ t after. subst (λ (l : List Line). Leads t (map line_text rest) (Calling limits front name calls bytes l)) whole
     (calls_lead rest (lines ++ line ∷ []) t limits front name calls bytes after (and_second (is_readable line) (list_all is_readable rest) readable)
@@ -198,17 +197,17 @@ app_name_fits name h =
       short = leb-true (length name) 19 (and_second (nat_le 1 (length name)) (nat_le (length name) 19) counts);
     }
 
-nothing_taken : (account_of []).bytes ≡ 0
+pub nothing_taken : (account_of []).bytes ≡ 0
 unfolding account_of
 nothing_taken = refl
 
-app_line : (n : ℕ) (s : Progress) (limits : Limits) (apps : List Application) (name : List ℕ) (calls bytes : ℕ) → Ready limits apps calls bytes s → is_app_name name ≡ true → length apps < 16 → list_any (λ other. is_same other.name name) apps ≡ false
-    → (t : Progress) × (after_line n s (spaced (codes "app" ∷ name ∷ [])) ≡ Ok t) × Calling limits apps name calls bytes [] t
+app_line : (s : Progress) (limits : Limits) (apps : List Application) (name : List ℕ) (calls bytes : ℕ) → Ready limits apps calls bytes s → is_app_name name ≡ true → length apps < 16 → list_any (λ other. is_same other.name name) apps ≡ false
+    → (t : Progress) × (after_line s (spaced (codes "app" ∷ name ∷ [])) ≡ Ok t) × Calling limits apps name calls bytes [] t
 unfolding after_form after_app
-app_line n s limits apps name calls bytes now valid few new =
+app_line s limits apps name calls bytes now valid few new =
     let are : AreWords 29 (codes "app" ∷ name ∷ []) = keyword (codes "app") refl refl ◃ app_name_fits name valid ◃ no_words in
     let spelled = spaced_line (codes "app") (name ∷ []) are (omega arith) in
-    let line = known_line n s (spaced (codes "app" ∷ name ∷ [])) (codes "app") (name ∷ []) App spelled.short spelled.printed spelled.words refl app_known refl in
+    let line = known_line s (spaced (codes "app" ∷ name ∷ [])) (codes "app") (name ∷ []) App spelled.short spelled.printed spelled.words refl app_known refl in
     let reads = app_name_reads name valid in
     let fresh : list_any (λ other. is_same other.name name) (apps_of s) ≡ false = ap (list_any (λ other. is_same other.name name)) now.read ∙ new in
     let room : nat_le 16 (length (apps_of s)) ≡ false = ap (λ (l : List Application). nat_le 16 (length l)) now.read ∙ lt-leb 16 (length apps) few in
@@ -230,7 +229,7 @@ app_leads : (s : Progress) (limits : Limits) (apps : List Application) (app : Ap
     → calls + length app.lines ≤ 20000 → bytes + (account_of app.lines).bytes ≤ 16777216 → Leads s (app_lines app) (Ready limits (apps ++ app ∷ []) (calls + length app.lines) (bytes + (account_of app.lines).bytes))
 app_leads s limits apps app calls bytes now valid few new room light =
     leads_then s (spaced (codes "app" ∷ app.name ∷ []) ∷ []) (map line_text app.lines) (Calling limits apps app.name calls bytes []) (Ready limits (apps ++ app ∷ []) (calls + length app.lines) (bytes + (account_of app.lines).bytes))
-    (leads_one s (spaced (codes "app" ∷ app.name ∷ [])) (Calling limits apps app.name calls bytes []) (λ n. app_line n s limits apps app.name calls bytes now (and_first (is_app_name app.name) (list_all is_readable app.lines) valid) few new))
+    (leads_one s (spaced (codes "app" ∷ app.name ∷ [])) (Calling limits apps app.name calls bytes []) (app_line s limits apps app.name calls bytes now (and_first (is_app_name app.name) (list_all is_readable app.lines) valid) few new))
     (λ t begun n.
     let lines = calls_lead app.lines [] t limits apps app.name calls bytes begun (and_second (is_app_name app.name) (list_all is_readable app.lines) valid) room light n in
     let end = lines.2 in (
@@ -312,14 +311,14 @@ script_leads script is =
     ))
 
 -- a line that was read is printed text
-line_is_text : (n : ℕ) (s : Progress) (line : List ℕ) (t : Progress) → after_line n s line ≡ Ok t → list_all is_text line ≡ true
+line_is_text : (s : Progress) (line : List ℕ) (t : Progress) → after_line s line ≡ Ok t → list_all is_text line ≡ true
 unfolding after_line
-line_is_text n s line t h =
+line_is_text s line t h =
     elim (list_all is_text line) as (λ b. list_all is_text line ≡ b → list_all is_text line ≡ true) [
       | true ↦ λ e. e
-      | false ↦ λ e. absurd (elim (nat_lt 1024 (length line)) as (λ long. cond long (Err LineTooLong) (cond (list_all is_text line) (after_words n s (words_of line) (behind_word line)) (Err BadByte)) ≡ Ok t → ⊥) [
+      | false ↦ λ e. absurd (elim (nat_lt 1024 (length line)) as (λ long. cond long (Err LineTooLong) (cond (list_all is_text line) (after_words s (words_of line) (behind_word line)) (Err BadByte)) ≡ Ok t → ⊥) [
         | true ↦ λ f. cc
-        | false ↦ λ f. let g : cond false (after_words n s (words_of line) (behind_word line)) (Err BadByte) ≡ Ok t = ap (λ b. cond b (after_words n s (words_of line) (behind_word line)) (Err BadByte)) (sym e) ∙ f in cc
+        | false ↦ λ f. let g : cond false (after_words s (words_of line) (behind_word line)) (Err BadByte) ≡ Ok t = ap (λ b. cond b (after_words s (words_of line) (behind_word line)) (Err BadByte)) (sym e) ∙ f in cc
       ] h)
     ] refl
 
@@ -327,18 +326,18 @@ lines_are_text : (lines : List (List ℕ)) (n : ℕ) (s t : Progress) → after_
 unfolding after_lines
 lines_are_text [] n s t h = refl
 lines_are_text (line ∷ lines) n s t h =
-    elim (after_line n s line) as (λ r. after_line n s line ≡ r → (at_line n r >=> λ u. after_lines (n + 1) u lines) ≡ Ok t → list_all (list_all is_text) (line ∷ lines) ≡ true) [
-      | Ok u ↦ λ e f. both (line_is_text n s line u e) (lines_are_text lines (n + 1) u t f)
+    elim (after_line s line) as (λ r. after_line s line ≡ r → (at_line n r >=> λ u. after_lines (n + 1) u lines) ≡ Ok t → list_all (list_all is_text) (line ∷ lines) ≡ true) [
+      | Ok u ↦ λ e f. both (line_is_text s line u e) (lines_are_text lines (n + 1) u t f)
       | Err fault ↦ λ e f. absurd cc
     ] refl h
 
-progress_back : (bytes : List ℕ) (lines : List (List ℕ)) (t : Progress) → length bytes ≤ 1048576 → lines_of bytes ≡ lines → after_lines 1 opening lines ≡ Ok t → t.started ≡ true → progress_of bytes ≡ Ok t
+pub progress_back : (bytes : List ℕ) (lines : List (List ℕ)) (t : Progress) → length bytes ≤ 1048576 → lines_of bytes ≡ lines → after_lines 1 opening lines ≡ Ok t → t.started ≡ true → progress_of bytes ≡ Ok t
 unfolding progress_of
 progress_back bytes lines t short again reads started =
     let size = le-ltb 1048576 (length bytes) short in
     rw (size, again, reads, started) refl
 
-grammar_back : (bytes : List ℕ) (t : Progress) (script : ScriptText) → progress_of bytes ≡ Ok t → t.limits ≡ script.limits → apps_of t ≡ script.apps → grammar bytes ≡ Ok script
+pub grammar_back : (bytes : List ℕ) (t : Progress) (script : ScriptText) → progress_of bytes ≡ Ok t → t.limits ≡ script.limits → apps_of t ≡ script.apps → grammar bytes ≡ Ok script
 unfolding grammar
 grammar_back bytes t script e has read = ap (λ r. r >=> λ s. Ok (record { limits = s.limits; apps = apps_of s })) e ∙ (λ i. Ok (record { limits = has i; apps = read i }))
 

@@ -10,6 +10,10 @@ pub mod PrintLemmas
 pub mod LinesAgain
 pub mod SettingsBack
 pub mod AppsBack
+pub mod ItemSteps
+pub mod ItemsTell
+pub mod ItemsPass
+pub mod LanguageLaw
 pub mod Owners
 pub mod LegalSteps
 pub mod LastMessages

@@ -3,7 +3,7 @@ use Rattle.std.proofs.Common.{◌≡◌, ℕ, Bool, false, List, refl}
 use Rattle.fsw_base.specs.declared.config.Scope.{Scope}
 use Rattle.script_lines.specs.declared.line.Line.{Line}
 use Rattle.script_lines.specs.declared.line.Line.TheVariants.{Create, Delete, SetOpts, GetOpts, Find, PipeName, Subscribe, Unsubscribe, Send, SendRaw, Receive, Pend, ShowPipe}
-use Rattle.app_script.specs.Noted.{is_built}
+use Rattle.app_script.specs.Built.{is_built}
 
 -- a line that is none of those built
 pub record IsLater (line : Line) : Type 0 where

@@ -70,7 +70,7 @@ after_append n s [] t ys h =
     ap (λ u. after_lines n u ys) same ∙ ap (λ m. after_lines m t ys) here
 after_append n s (x ∷ xs) t ys h =
     let here : n + 1 + length xs ≡ n + suc (length xs) = omega arith in
-    elim (after_line n s x) as (λ r. (at_line n r >=> λ u. after_lines (n + 1) u xs) ≡ Ok t → (at_line n r >=> λ u. after_lines (n + 1) u (xs ++ ys)) ≡ after_lines (n + suc (length xs)) t ys) [
+    elim (after_line s x) as (λ r. (at_line n r >=> λ u. after_lines (n + 1) u xs) ≡ Ok t → (at_line n r >=> λ u. after_lines (n + 1) u (xs ++ ys)) ≡ after_lines (n + suc (length xs)) t ys) [
       | Ok u ↦ λ e. after_append (n + 1) u xs t ys e ∙ ap (λ m. after_lines m t ys) here
       | Err fault ↦ λ e. absurd cc
     ] h
@@ -83,9 +83,9 @@ pub leads_none : (s : Progress) (p : Progress → Type 0) → p s → Leads s []
 unfolding after_lines
 leads_none s p h n = (s, refl, h)
 
-pub leads_one : (s : Progress) (line : List ℕ) (p : Progress → Type 0) → ((n : ℕ) → (t : Progress) × (after_line n s line ≡ Ok t) × p t) → Leads s (line ∷ []) p
+pub leads_one : (s : Progress) (line : List ℕ) (p : Progress → Type 0) → (t : Progress) × (after_line s line ≡ Ok t) × p t → Leads s (line ∷ []) p
 unfolding after_lines
-leads_one s line p step n = let a = step n in (a.0, ap (λ r. at_line n r >=> λ u. after_lines (n + 1) u []) a.1, a.2)
+leads_one s line p step n = (step.0, ap (λ r. at_line n r >=> λ u. after_lines (n + 1) u []) step.1, step.2)
 
 pub leads_then : (s : Progress) (xs ys : List (List ℕ)) (p q : Progress → Type 0) → Leads s xs p → ((t : Progress) → p t → Leads t ys q) → Leads s (xs ++ ys) q
 leads_then s xs ys p q first next n =
@@ -94,10 +94,10 @@ leads_then s xs ys p q first next n =
     (b.0, after_append n s xs a.0 ys a.1 ∙ b.1, b.2)
 
 -- a line whose first word is known
-pub known_line : (n : ℕ) (s : Progress) (text first : List ℕ) (others : List Word) (form : Form) → length text ≤ 1024 → list_all is_text text ≡ true → words_of text ≡ first ∷ others → starts_with (λ a b. eqb a b) first (codes "#") ≡ false
-    → form_of first ≡ Some form → is_misplaced form s.begun s.started ≡ false → after_line n s text ≡ after_form n (record s { begun = true }) form (behind_word text)
+pub known_line : (s : Progress) (text first : List ℕ) (others : List Word) (form : Form) → length text ≤ 1024 → list_all is_text text ≡ true → words_of text ≡ first ∷ others → starts_with (λ a b. eqb a b) first (codes "#") ≡ false
+    → form_of first ≡ Some form → is_misplaced form s.begun s.started ≡ false → after_line s text ≡ after_form (record s { begun = true }) form (behind_word text)
 unfolding after_line after_words after_known
-known_line n s text first others form short printed words hash known placed =
+known_line s text first others form short printed words hash known placed =
     let long = le-ltb 1024 (length text) short in
     rw (long, printed, words, hash, known, placed) refl
 

@@ -91,7 +91,7 @@ set_sizes limits Handles value = refl
 set_sizes limits TableMax value = refl
 set_sizes limits TablePool value = refl
 
-set_starts : (limits : Limits) (name : LimitName) (value : ℕ) → (with_limit limits name value).starts ≡ limits.starts
+pub set_starts : (limits : Limits) (name : LimitName) (value : ℕ) → (with_limit limits name value).starts ≡ limits.starts
 set_starts limits MsgIds value = refl
 set_starts limits Pipes value = refl
 set_starts limits Dests value = refl
@@ -158,27 +158,27 @@ stands_opening = record {
 }
 
 -- other limits
-limits_stand : (s : Progress) (begun : Bool) (limits : Limits) (named : List LimitName) (sized : Bool) (unbuilt : Option ℕ) → Stands s → ((name : LimitName) → is_limit limits name ≡ true) → are_block_sizes limits.sizes ≡ true
-    → are_count_starts limits.starts ≡ true → Stands (record s { begun = begun; limits = limits; named = named; sized = sized; unbuilt = unbuilt })
-limits_stand s begun limits named sized unbuilt so fit sizes starts =
+limits_stand : (s : Progress) (begun : Bool) (limits : Limits) (named : List LimitName) (sized : Bool) → Stands s → ((name : LimitName) → is_limit limits name ≡ true) → are_block_sizes limits.sizes ≡ true
+    → are_count_starts limits.starts ≡ true → Stands (record s { begun = begun; limits = limits; named = named; sized = sized })
+limits_stand s begun limits named sized so fit sizes starts =
     record { limits = fit; sizes = sizes; starts = starts; names = so.names; few = so.few; ready = so.ready; room = so.room; new = so.new; named = so.named; lines = so.lines }
 
-set_stands : (n : ℕ) (s : Progress) (words : List Word) → Stands s → Holds Stands (after_set n s words)
+set_stands : (s : Progress) (words : List Word) → Stands s → Holds Stands (after_set s words)
 unfolding after_set
-set_stands n s words so =
+set_stands s words so =
     then _ Stands (set_of words) _ (set_in words) (λ set h. refuse Stands (is_among set.0 s.named) Repeated _ (λ new.
-    limits_stand s s.begun (with_limit s.limits set.0 set.1) _ s.sized _ so (set_fits s.limits set.0 set.1 so.limits h) (ap are_block_sizes (set_sizes s.limits set.0 set.1) ∙ so.sizes) (ap are_count_starts (set_starts s.limits set.0 set.1) ∙ so.starts)))
+    limits_stand s s.begun (with_limit s.limits set.0 set.1) _ s.sized so (set_fits s.limits set.0 set.1 so.limits h) (ap are_block_sizes (set_sizes s.limits set.0 set.1) ∙ so.sizes) (ap are_count_starts (set_starts s.limits set.0 set.1) ∙ so.starts)))
 
-sizes_stand : (n : ℕ) (s : Progress) (words : List Word) → Stands s → Holds Stands (after_sizes n s words)
+sizes_stand : (s : Progress) (words : List Word) → Stands s → Holds Stands (after_sizes s words)
 unfolding after_sizes
-sizes_stand n s words so =
-    then _ Stands (sizes_of words) _ (sizes_in words) (λ sizes h. refuse Stands s.sized Repeated _ (λ new. limits_stand s s.begun (record s.limits { sizes = sizes }) s.named true _ so so.limits h so.starts))
+sizes_stand s words so =
+    then _ Stands (sizes_of words) _ (sizes_in words) (λ sizes h. refuse Stands s.sized Repeated _ (λ new. limits_stand s s.begun (record s.limits { sizes = sizes }) s.named true so so.limits h so.starts))
 
 seq_stands : (s : Progress) (words : List Word) → Stands s → Holds Stands (after_seq s words)
 unfolding after_seq
 seq_stands s words so =
     then _ Stands (seq_of words) _ (seq_in words) (λ start h. refuse Stands (nat_le 16 (length s.limits.starts)) OutOfRange _ (λ full. refuse Stands (list_any (λ other. eqb other.0 start.0) s.limits.starts) Repeated _ (λ new.
-    limits_stand s s.begun (record s.limits { starts = s.limits.starts ++ start ∷ [] }) s.named s.sized s.unbuilt so so.limits so.sizes
+    limits_stand s s.begun (record s.limits { starts = s.limits.starts ++ start ∷ [] }) s.named s.sized so so.limits so.sizes
     (starts_push s.limits.starts start so.starts (leb-false 16 (length s.limits.starts) full) h new))))
 
 -- ---- applications
@@ -226,9 +226,9 @@ app_stands s words so =
 
 -- ---- call lines
 
-call_stands : (n : ℕ) (s : Progress) (line : Line) → is_readable line ≡ true → Stands s → Holds Stands (after_call n s line)
+call_stands : (s : Progress) (line : Line) → is_readable line ≡ true → Stands s → Holds Stands (after_call s line)
 unfolding after_call
-call_stands n s line readable so =
+call_stands s line readable so =
     refuse Stands (nat_le 20000 s.calls) TooManyCalls _ (λ h. refuse Stands (nat_lt 16777216 (s.charged + charge_of (account_of s.present.lines) line)) TooManyBytes _ (λ g.
     record {
       limits = so.limits;
@@ -245,30 +245,30 @@ call_stands n s line readable so =
 
 -- ---- lines
 
-form_stands : (n : ℕ) (s : Progress) (form : Form) (rest : List ℕ) → list_all is_text rest ≡ true → Stands s → Holds Stands (after_form n s form rest)
+form_stands : (s : Progress) (form : Form) (rest : List ℕ) → list_all is_text rest ≡ true → Stands s → Holds Stands (after_form s form rest)
 unfolding after_form
-form_stands n s Script rest h so = any Stands (script_of (words_of rest)) _ (λ version. so)
-form_stands n s Set rest h so = set_stands n s (words_of rest) so
-form_stands n s Sizes rest h so = sizes_stand n s (words_of rest) so
-form_stands n s Seq rest h so = seq_stands s (words_of rest) so
-form_stands n s App rest h so = app_stands s (words_of rest) so
-form_stands n s (Call first) rest h so = then _ Stands (call_line_of first rest) (after_call n s) (call_readable first rest h) (λ line readable. call_stands n s line readable so)
+form_stands s Script rest h so = any Stands (script_of (words_of rest)) _ (λ version. so)
+form_stands s Set rest h so = set_stands s (words_of rest) so
+form_stands s Sizes rest h so = sizes_stand s (words_of rest) so
+form_stands s Seq rest h so = seq_stands s (words_of rest) so
+form_stands s App rest h so = app_stands s (words_of rest) so
+form_stands s (Call first) rest h so = then _ Stands (call_line_of first rest) (after_call s) (call_readable first rest h) (λ line readable. call_stands s line readable so)
 
-known_stands : (n : ℕ) (s : Progress) (form : Option Form) (rest : List ℕ) → list_all is_text rest ≡ true → Stands s → Holds Stands (after_known n s form rest)
+known_stands : (s : Progress) (form : Option Form) (rest : List ℕ) → list_all is_text rest ≡ true → Stands s → Holds Stands (after_known s form rest)
 unfolding after_known
-known_stands n s None rest h so = tt
-known_stands n s (Some form) rest h so =
-    refuse Stands (is_misplaced form s.begun s.started) Misplaced _ (λ placed. form_stands n (record s { begun = true }) form rest h (limits_stand s true s.limits s.named s.sized s.unbuilt so so.limits so.sizes so.starts))
+known_stands s None rest h so = tt
+known_stands s (Some form) rest h so =
+    refuse Stands (is_misplaced form s.begun s.started) Misplaced _ (λ placed. form_stands (record s { begun = true }) form rest h (limits_stand s true s.limits s.named s.sized so so.limits so.sizes so.starts))
 
-words_stand : (n : ℕ) (s : Progress) (words : List Word) (rest : List ℕ) → list_all is_text rest ≡ true → Stands s → Holds Stands (after_words n s words rest)
+words_stand : (s : Progress) (words : List Word) (rest : List ℕ) → list_all is_text rest ≡ true → Stands s → Holds Stands (after_words s words rest)
 unfolding after_words
-words_stand n s [] rest h so = so
-words_stand n s (first ∷ words) rest h so = either Stands (starts_with (λ a b. eqb a b) first (codes "#")) _ _ so (known_stands n s (form_of first) rest h so)
+words_stand s [] rest h so = so
+words_stand s (first ∷ words) rest h so = either Stands (starts_with (λ a b. eqb a b) first (codes "#")) _ _ so (known_stands s (form_of first) rest h so)
 
-line_stands : (n : ℕ) (s : Progress) (line : List ℕ) → Stands s → Holds Stands (after_line n s line)
+line_stands : (s : Progress) (line : List ℕ) → Stands s → Holds Stands (after_line s line)
 unfolding after_line
-line_stands n s line so =
-    refuse Stands (nat_lt 1024 (length line)) LineTooLong _ (λ short. accept Stands (list_all is_text line) _ BadByte (λ h. words_stand n s (words_of line) (behind_word line) (behind_is_text line h) so))
+line_stands s line so =
+    refuse Stands (nat_lt 1024 (length line)) LineTooLong _ (λ short. accept Stands (list_all is_text line) _ BadByte (λ h. words_stand s (words_of line) (behind_word line) (behind_is_text line h) so))
 
 -- ---- the whole text
 

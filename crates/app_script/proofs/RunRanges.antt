@@ -17,7 +17,8 @@ use Rattle.app_script.specs.Forms.{form_of, is_misplaced}
 use Rattle.script_settings.specs.Settings.{is_among, set_of, sizes_of, seq_of, app_of, script_of}
 use Rattle.script_settings.specs.Accounts.{account_of, charge_of, budget_of}
 use Rattle.app_script.specs.Script.{Application, ScriptText}
-use Rattle.app_script.specs.Grammar.{Progress, opening, apps_of, after_set, after_sizes, after_seq, after_app, after_call, after_form, after_known, after_words, after_line, progress_of, grammar, unbuilt_line, built_script, ◌>=>◌}
+use Rattle.app_script.specs.Grammar.{Progress, opening, apps_of, after_set, after_sizes, after_seq, after_app, after_call, after_form, after_known, after_words, after_line, progress_of, grammar, built_script, ◌>=>◌}
+use Rattle.app_script.specs.Built.{unbuilt_line}
 use Rattle.app_script.proofs.ScriptLemmas.{account_of_push}
 use Rattle.app_script.proofs.ReadWalk.{progress_keeps}
 
@@ -41,13 +42,13 @@ kept_opening = record { calls = omega arith; few = omega arith; bytes = omega ar
 
 -- ---- configuration
 
-set_keeps : (n : ℕ) (s : Progress) (words : List Word) → Kept s → Holds Kept (after_set n s words)
+set_keeps : (s : Progress) (words : List Word) → Kept s → Holds Kept (after_set s words)
 unfolding after_set
-set_keeps n s words kept = any Kept (set_of words) _ (λ set. refuse Kept (is_among set.0 s.named) Repeated _ (λ h. record { calls = kept.calls; few = kept.few; bytes = kept.bytes; light = kept.light }))
+set_keeps s words kept = any Kept (set_of words) _ (λ set. refuse Kept (is_among set.0 s.named) Repeated _ (λ h. record { calls = kept.calls; few = kept.few; bytes = kept.bytes; light = kept.light }))
 
-sizes_keep : (n : ℕ) (s : Progress) (words : List Word) → Kept s → Holds Kept (after_sizes n s words)
+sizes_keep : (s : Progress) (words : List Word) → Kept s → Holds Kept (after_sizes s words)
 unfolding after_sizes
-sizes_keep n s words kept = any Kept (sizes_of words) _ (λ sizes. refuse Kept s.sized Repeated _ (λ h. record { calls = kept.calls; few = kept.few; bytes = kept.bytes; light = kept.light }))
+sizes_keep s words kept = any Kept (sizes_of words) _ (λ sizes. refuse Kept s.sized Repeated _ (λ h. record { calls = kept.calls; few = kept.few; bytes = kept.bytes; light = kept.light }))
 
 seq_keeps : (s : Progress) (words : List Word) → Kept s → Holds Kept (after_seq s words)
 unfolding after_seq
@@ -85,9 +86,9 @@ budget_push : (lines : List Line) (line : Line) → (budget_of (lines ++ line �
 unfolding budget_of
 budget_push lines line = ap (λ a. a.bytes) (account_of_push lines line)
 
-call_keeps : (n : ℕ) (s : Progress) (line : Line) → Kept s → Holds Kept (after_call n s line)
+call_keeps : (s : Progress) (line : Line) → Kept s → Holds Kept (after_call s line)
 unfolding after_call
-call_keeps n s line kept =
+call_keeps s line kept =
     refuse Kept (nat_le 20000 s.calls) TooManyCalls _ (λ h. refuse Kept (nat_lt 16777216 (s.charged + charge_of (account_of s.present.lines) line)) TooManyBytes _ (λ g.
     let room = leb-false 20000 s.calls h in
     let light = ltb-false 16777216 (s.charged + charge_of (account_of s.present.lines) line) g in
@@ -99,29 +100,29 @@ call_keeps n s line kept =
 
 -- ---- lines
 
-form_keeps : (n : ℕ) (s : Progress) (form : Form) (rest : List ℕ) → Kept s → Holds Kept (after_form n s form rest)
+form_keeps : (s : Progress) (form : Form) (rest : List ℕ) → Kept s → Holds Kept (after_form s form rest)
 unfolding after_form
-form_keeps n s Script rest kept = any Kept (script_of (words_of rest)) _ (λ version. kept)
-form_keeps n s Set rest kept = set_keeps n s (words_of rest) kept
-form_keeps n s Sizes rest kept = sizes_keep n s (words_of rest) kept
-form_keeps n s Seq rest kept = seq_keeps s (words_of rest) kept
-form_keeps n s App rest kept = app_keeps s (words_of rest) kept
-form_keeps n s (Call first) rest kept = any Kept (call_line_of first rest) (after_call n s) (λ line. call_keeps n s line kept)
+form_keeps s Script rest kept = any Kept (script_of (words_of rest)) _ (λ version. kept)
+form_keeps s Set rest kept = set_keeps s (words_of rest) kept
+form_keeps s Sizes rest kept = sizes_keep s (words_of rest) kept
+form_keeps s Seq rest kept = seq_keeps s (words_of rest) kept
+form_keeps s App rest kept = app_keeps s (words_of rest) kept
+form_keeps s (Call first) rest kept = any Kept (call_line_of first rest) (after_call s) (λ line. call_keeps s line kept)
 
-known_keeps : (n : ℕ) (s : Progress) (form : Option Form) (rest : List ℕ) → Kept s → Holds Kept (after_known n s form rest)
+known_keeps : (s : Progress) (form : Option Form) (rest : List ℕ) → Kept s → Holds Kept (after_known s form rest)
 unfolding after_known
-known_keeps n s None rest kept = tt
-known_keeps n s (Some form) rest kept =
-    refuse Kept (is_misplaced form s.begun s.started) Misplaced _ (λ h. form_keeps n (record s { begun = true }) form rest (record { calls = kept.calls; few = kept.few; bytes = kept.bytes; light = kept.light }))
+known_keeps s None rest kept = tt
+known_keeps s (Some form) rest kept =
+    refuse Kept (is_misplaced form s.begun s.started) Misplaced _ (λ h. form_keeps (record s { begun = true }) form rest (record { calls = kept.calls; few = kept.few; bytes = kept.bytes; light = kept.light }))
 
-words_keep : (n : ℕ) (s : Progress) (words : List Word) (rest : List ℕ) → Kept s → Holds Kept (after_words n s words rest)
+words_keep : (s : Progress) (words : List Word) (rest : List ℕ) → Kept s → Holds Kept (after_words s words rest)
 unfolding after_words
-words_keep n s [] rest kept = kept
-words_keep n s (first ∷ words) rest kept = either Kept (starts_with (λ a b. eqb a b) first (codes "#")) _ _ kept (known_keeps n s (form_of first) rest kept)
+words_keep s [] rest kept = kept
+words_keep s (first ∷ words) rest kept = either Kept (starts_with (λ a b. eqb a b) first (codes "#")) _ _ kept (known_keeps s (form_of first) rest kept)
 
-line_keeps : (n : ℕ) (s : Progress) (line : List ℕ) → Kept s → Holds Kept (after_line n s line)
+line_keeps : (s : Progress) (line : List ℕ) → Kept s → Holds Kept (after_line s line)
 unfolding after_line
-line_keeps n s line kept = refuse Kept (nat_lt 1024 (length line)) LineTooLong _ (λ h. either Kept (list_all is_text line) _ _ (words_keep n s (words_of line) (behind_word line) kept) tt)
+line_keeps s line kept = refuse Kept (nat_lt 1024 (length line)) LineTooLong _ (λ h. either Kept (list_all is_text line) _ _ (words_keep s (words_of line) (behind_word line) kept) tt)
 
 -- ---- the whole text
 

@@ -22,8 +22,7 @@ use Rattle.script_settings.specs.declared.settings.LimitName.TheVariants.{MsgIds
 use Rattle.app_script.specs.declared.forms.Form.TheVariants.{Set, Sizes, Seq}
 use Rattle.app_script.specs.Forms.{form_of, is_misplaced}
 use Rattle.app_script.specs.Script.{Application, ScriptText}
-use Rattle.script_settings.specs.Settings.{limit_name, limit_number, least, greatest, with_limit, is_among, limit_named, set_of, some_words, sizes_within, sizes_of, seq_of, is_built_limit}
-use Rattle.app_script.specs.Noted.{noted}
+use Rattle.script_settings.specs.Settings.{limit_name, limit_number, least, greatest, with_limit, is_among, limit_named, set_of, some_words, sizes_within, sizes_of, seq_of}
 use Rattle.app_script.specs.Grammar.{Progress, opening, after_set, after_sizes, after_seq, after_form, after_line, after_lines}
 use Rattle.app_script.specs.ScriptSpelling.{limit_word, limit_of, all_limits, set_lines_of, set_lines, sizes_lines, seq_text}
 use Rattle.app_script.specs.ScriptRanges.{are_limits}
@@ -118,19 +117,19 @@ unfolding form_of
 set_known = refl
 
 -- a set line is read
-set_line : (n : ℕ) (s : Progress) (limits : Limits) (name : LimitName) (value : ℕ) → Configuring limits (limit_number name) s → nat_le (least name) value ≡ true → nat_le value (greatest name) ≡ true
-    → (t : Progress) × (after_line n s (spaced (codes "set" ∷ limit_word name ∷ decimal value ∷ [])) ≡ Ok t) × Configuring (with_limit limits name value) (limit_number name + 1) t
+set_line : (s : Progress) (limits : Limits) (name : LimitName) (value : ℕ) → Configuring limits (limit_number name) s → nat_le (least name) value ≡ true → nat_le value (greatest name) ≡ true
+    → (t : Progress) × (after_line s (spaced (codes "set" ∷ limit_word name ∷ decimal value ∷ [])) ≡ Ok t) × Configuring (with_limit limits name value) (limit_number name + 1) t
 unfolding after_form after_set
-set_line n s limits name value now from to =
+set_line s limits name value now from to =
     let are : AreWords 30 (codes "set" ∷ limit_word name ∷ decimal value ∷ []) = keyword (codes "set") refl refl ◃ name_fits name ◃ number_fits (greatest name) value to (greatest_small name) ◃ no_words in
     let spelled = spaced_line (codes "set") (limit_word name ∷ decimal value ∷ []) are (omega arith) in
     let text = spaced (codes "set" ∷ limit_word name ∷ decimal value ∷ []) in
-    let line = known_line n s (spaced (codes "set" ∷ limit_word name ∷ decimal value ∷ [])) (codes "set") (limit_word name ∷ decimal value ∷ []) Set spelled.short spelled.printed spelled.words refl set_known now.started in
+    let line = known_line s (spaced (codes "set" ∷ limit_word name ∷ decimal value ∷ [])) (codes "set") (limit_word name ∷ decimal value ∷ []) Set spelled.short spelled.printed spelled.words refl set_known now.started in
     let reads = set_reads name value from to in
     let fresh : is_among name s.named ≡ false = not_among name s.named now.named in
-    let after : after_set n (record s { begun = true }) (limit_word name ∷ decimal value ∷ []) ≡ Ok (record s { begun = true; limits = with_limit s.limits name value; named = s.named ++ name ∷ []; unbuilt = noted (is_built_limit name) n s.unbuilt }) = rw reads (rw fresh refl) in (
-      (record s { begun = true; limits = with_limit s.limits name value; named = s.named ++ name ∷ []; unbuilt = noted (is_built_limit name) n s.unbuilt }),
-      line ∙ ap (after_set n (record s { begun = true })) spelled.back ∙ after,
+    let after : after_set (record s { begun = true }) (limit_word name ∷ decimal value ∷ []) ≡ Ok (record s { begun = true; limits = with_limit s.limits name value; named = s.named ++ name ∷ [] }) = rw reads (rw fresh refl) in (
+      (record s { begun = true; limits = with_limit s.limits name value; named = s.named ++ name ∷ [] }),
+      line ∙ ap (after_set (record s { begun = true })) spelled.back ∙ after,
       record {
         has = ap (λ l. with_limit l name value) now.has;
         named = all_append (λ other. ltb (limit_number other) (limit_number name + 1)) s.named (name ∷ []) (all_weaker (λ other. ltb (limit_number other) (limit_number name)) (λ other. ltb (limit_number other) (limit_number name + 1)) (below_next (limit_number name)) s.named now.named)
@@ -161,7 +160,7 @@ set_leads s limits name value now usual range =
             charged = now.charged;
           })
       | false ↦ λ e. leads_one s (spaced (codes "set" ∷ limit_word name ∷ decimal value ∷ [])) (Configuring (with_limit limits name value) (limit_number name + 1))
-          (λ n. set_line n s limits name value now (and_first (nat_le (least name) value) (nat_le value (greatest name)) range) (and_second (nat_le (least name) value) (nat_le value (greatest name)) range))
+          (set_line s limits name value now (and_first (nat_le (least name) value) (nat_le value (greatest name)) range) (and_second (nat_le (least name) value) (nat_le value (greatest name)) range))
     ] refl
 
 -- ---- all limits
@@ -335,18 +334,18 @@ sizes_known : form_of (codes "sizes") ≡ Some Sizes
 unfolding form_of
 sizes_known = refl
 
-sizes_line : (n : ℕ) (s : Progress) (limits : Limits) (sizes : List ℕ) → Configuring limits 11 s → are_block_sizes sizes ≡ true
-    → (t : Progress) × (after_line n s (spaced (codes "sizes" ∷ map decimal sizes)) ≡ Ok t) × Starting (record limits { sizes = sizes }) t
+sizes_line : (s : Progress) (limits : Limits) (sizes : List ℕ) → Configuring limits 11 s → are_block_sizes sizes ≡ true
+    → (t : Progress) × (after_line s (spaced (codes "sizes" ∷ map decimal sizes)) ≡ Ok t) × Starting (record limits { sizes = sizes }) t
 unfolding after_form after_sizes
-sizes_line n s limits sizes now h =
+sizes_line s limits sizes now h =
     let are : AreWords 196 (codes "sizes" ∷ map decimal sizes) = keyword (codes "sizes") refl refl ◃ elements_fit (λ size. nat_le size 80000) decimal 10 size_fits sizes 17 (leb-true (length sizes) 17 (few_of sizes h)) (small_of sizes h) in
     let spelled = spaced_line (codes "sizes") (map decimal sizes) are (omega arith) in
-    let line = known_line n s (spaced (codes "sizes" ∷ map decimal sizes)) (codes "sizes") (map decimal sizes) Sizes spelled.short spelled.printed spelled.words refl sizes_known now.started in
+    let line = known_line s (spaced (codes "sizes" ∷ map decimal sizes)) (codes "sizes") (map decimal sizes) Sizes spelled.short spelled.printed spelled.words refl sizes_known now.started in
     let reads = sizes_read sizes h in
     let fresh = now.sized in
-    let after : after_sizes n (record s { begun = true }) (map decimal sizes) ≡ Ok (record s { begun = true; limits = record s.limits { sizes = sizes }; sized = true; unbuilt = noted false n s.unbuilt }) = rw reads (rw fresh refl) in (
-      (record s { begun = true; limits = record s.limits { sizes = sizes }; sized = true; unbuilt = noted false n s.unbuilt }),
-      line ∙ ap (after_sizes n (record s { begun = true })) spelled.back ∙ after,
+    let after : after_sizes (record s { begun = true }) (map decimal sizes) ≡ Ok (record s { begun = true; limits = record s.limits { sizes = sizes }; sized = true }) = rw reads (rw fresh refl) in (
+      (record s { begun = true; limits = record s.limits { sizes = sizes }; sized = true }),
+      line ∙ ap (after_sizes (record s { begun = true })) spelled.back ∙ after,
       record {
         has = ap (λ (l : Limits). record l { sizes = sizes }) now.has;
         started = now.started;
@@ -369,7 +368,7 @@ sizes_lead s limits sizes now h =
             calls = now.calls;
             charged = now.charged;
           })
-      | false ↦ λ e. leads_one s (spaced (codes "sizes" ∷ map decimal sizes)) (Starting (record limits { sizes = sizes })) (λ n. sizes_line n s (record limits { sizes = usual_sizes }) sizes now h)
+      | false ↦ λ e. leads_one s (spaced (codes "sizes" ∷ map decimal sizes)) (Starting (record limits { sizes = sizes })) (sizes_line s (record limits { sizes = usual_sizes }) sizes now h)
     ] refl
 
 -- ---- starts
@@ -420,16 +419,16 @@ all_behind : {X : Type 0} (p : X → Bool) (xs ys : List X) → list_all p (xs +
 all_behind p [] ys h = h
 all_behind p (x ∷ xs) ys h = all_behind p xs ys (and_second (p x) (list_all p (xs ++ ys)) h)
 
-seq_line : (n : ℕ) (s : Progress) (limits : Limits) (front : List (ℕ × ℕ)) (start : ℕ × ℕ) → Starting (record limits { starts = front }) s → is_start start ≡ true → length front < 16 → list_any (λ other. eqb other.0 start.0) front ≡ false
-    → (t : Progress) × (after_line n s (seq_text start) ≡ Ok t) × Starting (record limits { starts = front ++ start ∷ [] }) t
+seq_line : (s : Progress) (limits : Limits) (front : List (ℕ × ℕ)) (start : ℕ × ℕ) → Starting (record limits { starts = front }) s → is_start start ≡ true → length front < 16 → list_any (λ other. eqb other.0 start.0) front ≡ false
+    → (t : Progress) × (after_line s (seq_text start) ≡ Ok t) × Starting (record limits { starts = front ++ start ∷ [] }) t
 unfolding after_form after_seq
-seq_line n s limits front start now valid short new =
+seq_line s limits front start now valid short new =
     let id_small = and_second (nat_le 1 start.0) (nat_le start.0 8191) (and_first (nat_le 1 start.0 && nat_le start.0 8191) (nat_le start.1 16383) valid) in
     let bound = leb-true start.0 8191 id_small in
     let count = and_second (nat_le 1 start.0 && nat_le start.0 8191) (nat_le start.1 16383) valid in
     let are : AreWords 27 (codes "seq" ∷ hex_id start.0 ∷ decimal start.1 ∷ []) = keyword (codes "seq") refl refl ◃ id_fits start.0 (le-leb start.0 65535 (omega arith)) ◃ number_fits 16383 start.1 count refl ◃ no_words in
     let spelled = spaced_line (codes "seq") (hex_id start.0 ∷ decimal start.1 ∷ []) are (omega arith) in
-    let line = known_line n s (seq_text start) (codes "seq") (hex_id start.0 ∷ decimal start.1 ∷ []) Seq spelled.short spelled.printed spelled.words refl seq_known now.started in
+    let line = known_line s (seq_text start) (codes "seq") (hex_id start.0 ∷ decimal start.1 ∷ []) Seq spelled.short spelled.printed spelled.words refl seq_known now.started in
     let reads = seq_reads start valid in
     let same : s.limits.starts ≡ front = ap (λ (l : Limits). l.starts) now.has in
     let room : nat_le 16 (length s.limits.starts) ≡ false = ap (λ (l : List (ℕ × ℕ)). nat_le 16 (length l)) same ∙ lt-leb 16 (length front) short in
@@ -457,7 +456,7 @@ starts_lead (start ∷ rest) front s limits now h =
     let new = distinct_cut front start rest (and_second (nat_le (length (front ++ start ∷ rest)) 16 && list_all is_start (front ++ start ∷ rest)) (are_distinct_ids (front ++ start ∷ rest)) h) in
     let whole : (front ++ start ∷ []) ++ rest ≡ front ++ start ∷ rest = append_assoc front (start ∷ []) rest in
     leads_then s (seq_text start ∷ []) (map seq_text rest) (Starting (record limits { starts = front ++ start ∷ [] })) (Starting (record limits { starts = front ++ start ∷ rest }))
-    (leads_one s (seq_text start) (Starting (record limits { starts = front ++ start ∷ [] })) (λ n. seq_line n s limits front start now valid (omega (arith, length-append front (start ∷ rest))) new))
+    (leads_one s (seq_text start) (Starting (record limits { starts = front ++ start ∷ [] })) (seq_line s limits front start now valid (omega (arith, length-append front (start ∷ rest))) new))
     (λ t now. subst (λ (l : List (ℕ × ℕ)). Leads t (map seq_text rest) (Starting (record limits { starts = l }))) whole (starts_lead rest (front ++ start ∷ []) t limits now (ap are_count_starts whole ∙ h)))
 
 -- ---- all settings

@@ -13,9 +13,9 @@ use Rattle.script_words.specs.Readings.{◌>>=◌}
 use Rattle.script_words.specs.Text.{lines_of, words_of, behind_word, is_text, is_same}
 use Rattle.script_words.specs.Counts.{Word}
 use Rattle.app_script.specs.Forms.{form_of, is_misplaced}
-use Rattle.app_script.specs.Noted.{noted, is_built}
+use Rattle.app_script.specs.Built.{unbuilt_line}
 use Rattle.script_lines.specs.CallLines.{call_line_of}
-use Rattle.script_settings.specs.Settings.{with_limit, is_among, set_of, sizes_of, seq_of, app_of, script_of, is_built_limit}
+use Rattle.script_settings.specs.Settings.{with_limit, is_among, set_of, sizes_of, seq_of, app_of, script_of}
 use Rattle.script_settings.specs.Accounts.{charge_of, account_of}
 use Rattle.app_script.specs.Script.{Application, ScriptText}
 
@@ -34,8 +34,6 @@ pub record Progress : Type 0 where
   -- the call lines so far, and the sum of their charges
   pub calls : ℕ
   pub charged : ℕ
-  -- the first line that the program doesn't run yet
-  pub unbuilt : Option ℕ
 
 -- before the first line
 abbrev pub opening : Progress
@@ -49,24 +47,22 @@ opening = record {
   present = record { name = []; lines = [] };
   calls = 0;
   charged = 0;
-  unbuilt = None;
 }
 
 -- ---- configuration
 
-unfoldable pub after_set : ℕ → Progress → List Word → Result Progress FaultKind
-after_set number s words = set_of words >>= λ set.
+unfoldable pub after_set : Progress → List Word → Result Progress FaultKind
+after_set s words = set_of words >>= λ set.
     if is_among set.0 s.named then Err Repeated
     else Ok (record s {
       limits = with_limit s.limits set.0 set.1;
       named = s.named ++ set.0 ∷ [];
-      unbuilt = noted (is_built_limit set.0) number s.unbuilt;
     })
 
-unfoldable pub after_sizes : ℕ → Progress → List Word → Result Progress FaultKind
-after_sizes number s words = sizes_of words >>= λ sizes.
+unfoldable pub after_sizes : Progress → List Word → Result Progress FaultKind
+after_sizes s words = sizes_of words >>= λ sizes.
     if s.sized then Err Repeated
-    else Ok (record s { limits = record s.limits { sizes = sizes }; sized = true; unbuilt = noted false number s.unbuilt })
+    else Ok (record s { limits = record s.limits { sizes = sizes }; sized = true })
 
 unfoldable pub after_seq : Progress → List Word → Result Progress FaultKind
 after_seq s words = seq_of words >>= λ start.
@@ -89,8 +85,8 @@ after_app s words = app_of words >>= λ name.
 -- ---- call lines
 
 -- one call line more, where the script may have it
-unfoldable pub after_call : ℕ → Progress → Line → Result Progress FaultKind
-after_call number s line =
+unfoldable pub after_call : Progress → Line → Result Progress FaultKind
+after_call s line =
     let charge = charge_of (account_of s.present.lines) line in
     if nat_le 20000 s.calls then Err TooManyCalls
     else (if nat_lt 16777216 (s.charged + charge) then Err TooManyBytes
@@ -98,37 +94,36 @@ after_call number s line =
       present = record s.present { lines = s.present.lines ++ line ∷ [] };
       calls = s.calls + 1;
       charged = s.charged + charge;
-      unbuilt = noted (is_built line) number s.unbuilt;
     }))
 
 -- ---- lines
 
 -- a line of this form, from the line behind its first word
-unfoldable pub after_form : ℕ → Progress → Form → List ℕ → Result Progress FaultKind
-after_form number s Script rest = script_of (words_of rest) >>= λ version. Ok s
-after_form number s Set rest = after_set number s (words_of rest)
-after_form number s Sizes rest = after_sizes number s (words_of rest)
-after_form number s Seq rest = after_seq s (words_of rest)
-after_form number s App rest = after_app s (words_of rest)
-after_form number s (Call first) rest = call_line_of first rest >>= after_call number s
+unfoldable pub after_form : Progress → Form → List ℕ → Result Progress FaultKind
+after_form s Script rest = script_of (words_of rest) >>= λ version. Ok s
+after_form s Set rest = after_set s (words_of rest)
+after_form s Sizes rest = after_sizes s (words_of rest)
+after_form s Seq rest = after_seq s (words_of rest)
+after_form s App rest = after_app s (words_of rest)
+after_form s (Call first) rest = call_line_of first rest >>= after_call s
 
 -- a line with this first word
-unfoldable pub after_known : ℕ → Progress → Option Form → List ℕ → Result Progress FaultKind
-after_known number s None rest = Err UnknownWord
-after_known number s (Some form) rest =
+unfoldable pub after_known : Progress → Option Form → List ℕ → Result Progress FaultKind
+after_known s None rest = Err UnknownWord
+after_known s (Some form) rest =
     if is_misplaced form s.begun s.started then Err Misplaced
-    else after_form number (record s { begun = true }) form rest
+    else after_form (record s { begun = true }) form rest
 
-unfoldable pub after_words : ℕ → Progress → List Word → List ℕ → Result Progress FaultKind
-after_words number s [] rest = Ok s
-after_words number s (first ∷ words) rest =
-    if starts_with (λ a b. a == b) first (codes "#") then Ok s else after_known number s (form_of first) rest
+unfoldable pub after_words : Progress → List Word → List ℕ → Result Progress FaultKind
+after_words s [] rest = Ok s
+after_words s (first ∷ words) rest =
+    if starts_with (λ a b. a == b) first (codes "#") then Ok s else after_known s (form_of first) rest
 
 -- a line: skipped where it has no word or begins with a hash sign
-unfoldable pub after_line : ℕ → Progress → List ℕ → Result Progress FaultKind
-after_line number s line =
+unfoldable pub after_line : Progress → List ℕ → Result Progress FaultKind
+after_line s line =
     if nat_lt 1024 (length line) then Err LineTooLong
-    else (if list_all is_text line then after_words number s (words_of line) (behind_word line) else Err BadByte)
+    else (if list_all is_text line then after_words s (words_of line) (behind_word line) else Err BadByte)
 
 -- a fault of the line with this number
 abbrev pub at_line : {A : Type 0} → ℕ → Result A FaultKind → Result A ScriptFault
@@ -143,7 +138,7 @@ abbrev pub ◌>=>◌ : {A B : Type 0} → Result A ScriptFault → (A → Result
 -- the lines from one number on
 unfoldable pub after_lines : ℕ → Progress → List (List ℕ) → Result Progress ScriptFault
 after_lines number s [] = Ok s
-after_lines number s (line ∷ lines) = at_line number (after_line number s line) >=> λ t. after_lines (number + 1) t lines
+after_lines number s (line ∷ lines) = at_line number (after_line s line) >=> λ t. after_lines (number + 1) t lines
 
 -- a fault of the whole script
 abbrev pub whole_fault : FaultKind → ScriptFault
@@ -158,10 +153,6 @@ progress_of bytes =
 -- The script that the bytes are, or the first fault.
 unfoldable pub grammar : List ℕ → Result ScriptText ScriptFault
 grammar bytes = progress_of bytes >=> λ s. Ok (record { limits = s.limits; apps = apps_of s })
-
--- the first line that isn't built yet, of bytes that are a script
-unfoldable pub unbuilt_line : List ℕ → Option ℕ
-unbuilt_line bytes = elim (progress_of bytes) [ Ok s ↦ s.unbuilt | Err fault ↦ None ]
 
 -- What this program reads: a script whose lines are all built.
 unfoldable pub built_script : List ℕ → Result ScriptText ScriptFault

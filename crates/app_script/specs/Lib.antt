@@ -1,10 +1,12 @@
 pub mod Forms
-pub mod Noted
+pub mod Items
+pub mod Built
 pub mod Script
 pub mod ScriptSpelling
 pub mod ScriptRanges
 pub mod Ranges
 pub mod Grammar
+pub mod Language
 pub mod Moves
 pub mod Whole
 pub mod AppParts

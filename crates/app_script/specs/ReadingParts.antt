@@ -17,7 +17,6 @@ progress_in a = record {
   present = a.present;
   calls = a.calls;
   charged = a.charged;
-  unbuilt = a.unbuilt;
 }
 
 -- the counts are within what a script may have

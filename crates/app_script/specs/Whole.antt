@@ -22,6 +22,6 @@ GivesScript (Ok x) reading = reading ≡ Ok x
 GivesScript (Err failure) reading = FailsAs failure reading
 
 -- what was read is this reading afterwards, unless memory ran out
-abbrev pub MovesScript : {Y : Type 0} → Result (Unit {0}) ReadFail → Y → Result Y ScriptFault → Type 0
+abbrev pub MovesScript : {X Y : Type 0} → Result X ReadFail → Y → Result Y ScriptFault → Type 0
 MovesScript (Ok x) new reading = reading ≡ Ok new
 MovesScript (Err failure) new reading = FailsAs failure reading

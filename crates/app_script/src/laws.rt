@@ -7,6 +7,7 @@ ghost use Rattle.bus_words.specs.Bus.{standing_of};
 ghost use Rattle.bus_words.specs.Machine.{state_after, step, may_call, IsLegal};
 ghost use Rattle.bus_words.specs.Receipts.{receipt_in};
 ghost use Rattle.app_script.specs.Grammar.{grammar, built_script};
+ghost use Rattle.app_script.specs.Language.{IsText};
 ghost use Rattle.app_script.specs.Ranges.{IsInRange};
 ghost use Rattle.app_script.specs.Rotation.{before_all, enough, rotation, rotations};
 ghost use Rattle.app_script.specs.Script.{ScriptText};
@@ -17,6 +18,14 @@ ghost use Rattle.app_script.specs.Trace.{Merges};
 /// The spelling of every script that a text can be is read as that script, where a text may be so long.
 pub fn printed_scripts_read_back()
     ensures { (script : ScriptText) → IsScript script → length (spelled_script script) ≤ 1048576 → grammar (spelled_script script) ≡ Ok script }
+{}
+
+/// The language of scripts in a reader's words: a text is read as a script exactly where it is one of plain
+/// lines that tell, without the skipped ones, perhaps the version, then the configuration, each setting
+/// once, and then one to sixteen applications, each with its call lines, not too many of them.
+pub fn texts_are_scripts()
+    ensures read { (text : List ℕ) (script : ScriptText) → grammar text ≡ Ok script → IsText text script }
+    ensures accepted { (text : List ℕ) (script : ScriptText) → IsText text script → grammar text ≡ Ok script }
 {}
 
 /// What an application tells of a pipe's last message changes by its own calls alone: an entry of another

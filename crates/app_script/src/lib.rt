@@ -26,6 +26,7 @@ mod script;
 pub use fail::ReadFail;
 pub use laws::{
     last_messages_stay, printed_scripts_read_back, read_scripts_are_in_range, rotations_merge,
+    texts_are_scripts,
 };
 pub use printing::print_script;
 pub use script::{Script, read_script};

@@ -4,7 +4,7 @@ ghost use Rattle.std.specs.List.{list_any};
 ghost use Rattle.std.specs.Prelude.{◌==◌};
 ghost use Rattle.script_words.specs.Text.{is_same};
 ghost use Rattle.fsw_base.specs.Starts.{are_count_starts};
-ghost use Rattle.app_script.specs.Noted.{noted, is_built};
+ghost use Rattle.app_script.specs.Built.{is_built};
 ghost use Rattle.app_script.specs.Forms.{is_misplaced};
 ghost use Rattle.app_script.specs.ScriptRanges.{IsScript};
 
@@ -52,8 +52,6 @@ pub(crate) struct Reading {
     // The call lines so far, and the sum of their charges.
     calls: u32,
     charged: u32,
-    // The first line that isn't built yet.
-    unbuilt: Option<u32>,
 }
 
 impl Model for Reading {
@@ -69,7 +67,7 @@ impl Model for Reading {
 }
 
 // Whether the program runs a line already.
-#[tactic(auto, unfolding(crate::specs::Noted::is_built))]
+#[tactic(auto, unfolding(crate::specs::Built::is_built))]
 fn is_built(line: &Line) -> bool
     ensures { result ≡ is_built line.now }
 {
@@ -88,16 +86,6 @@ fn is_built(line: &Line) -> bool
         Line::Pend { .. } => true,
         Line::ShowPipe { .. } => true,
         _ => false,
-    }
-}
-
-// The first line that isn't built yet, where this one may be it.
-fn noted(built: bool, number: u32, unbuilt: Option<u32>) -> Option<u32>
-    ensures { result ≡ noted built number unbuilt }
-{
-    match unbuilt {
-        Some(first) => Some(first),
-        None => { if built { None } else { Some(number) } }
     }
 }
 
@@ -129,6 +117,9 @@ fn are_named(apps: &[App], name: &[u8]) -> bool
 impl Reading {
     ghost use Rattle.app_script.specs.Moves.{Moves};
     ghost use Rattle.app_script.specs.Grammar.{opening, after_set, after_sizes, after_seq, apps_of, after_app, after_call, after_form, after_known, after_words, after_line};
+    ghost use Rattle.app_script.specs.Built.{is_built_reading, is_built_line};
+    ghost use Rattle.app_script.specs.Items.{item_of, item_known};
+    ghost use Rattle.app_script.specs.declared.forms.Form.TheVariants as form;
     ghost use Rattle.script_words.specs.Text.{words_of, behind_word};
 
     // Nothing was read yet.
@@ -148,14 +139,14 @@ impl Reading {
             present: App::new(alloc, name),
             calls: 0,
             charged: 0,
-            unbuilt: None,
         }
     }
 
-    // set NAME VALUE
-    #[tactic(auto, unfolding(crate::specs::Grammar::after_set))]
-    fn set(&mut self, number: u32, rest: &[u8]) -> Result<(), LineFail>
-        ensures { Moves result self.new (after_set number self.old (words_of rest.now)) }
+    // set NAME VALUE; and whether the limit is built
+    #[tactic(auto, unfolding(crate::specs::Grammar::after_set, crate::specs::Items::item_of))]
+    fn set(&mut self, rest: &[u8]) -> Result<bool, LineFail>
+        ensures read { Moves result self.new (after_set self.old (words_of rest.now)) }
+        ensures built { IfOk result (λ built. built ≡ is_built_reading (item_of form.Set rest.now)) }
     {
         let (name, value) = set(rest)?;
         if is_among(name, self.named.as_slice()) {
@@ -163,14 +154,14 @@ impl Reading {
         }
         self.named.push(name)?;
         put_limit(&mut self.config, name, value);
-        self.unbuilt = noted(is_built_limit(name), number, self.unbuilt);
-        Ok(())
+        Ok(is_built_limit(name))
     }
 
     // sizes S1 S2 ..
-    #[tactic(auto, unfolding(crate::specs::Grammar::after_sizes))]
-    fn sizes(&mut self, number: u32, rest: &[u8]) -> Result<(), LineFail>
-        ensures { Moves result self.new (after_sizes number self.old (words_of rest.now)) }
+    #[tactic(auto, unfolding(crate::specs::Grammar::after_sizes, crate::specs::Items::item_of))]
+    fn sizes(&mut self, rest: &[u8]) -> Result<bool, LineFail>
+        ensures read { Moves result self.new (after_sizes self.old (words_of rest.now)) }
+        ensures built { IfOk result (λ built. built ≡ is_built_reading (item_of form.Sizes rest.now)) }
     {
         let sizes = sizes(rest)?;
         if self.sized {
@@ -178,8 +169,7 @@ impl Reading {
         }
         self.config.sizes = sizes;
         self.sized = true;
-        self.unbuilt = noted(false, number, self.unbuilt);
-        Ok(())
+        Ok(false)
     }
 
     // seq ID COUNT
@@ -242,10 +232,11 @@ impl Reading {
         Ok(())
     }
 
-    // One call line more.
+    // One call line more; and whether it is built.
     #[tactic(auto, using(crate::proofs::ScriptLemmas::account_of_push), unfolding(crate::specs::Grammar::after_call))]
-    fn call(&mut self, number: u32, line: Line) -> Result<(), LineFail>
-        ensures { Moves result self.new (after_call number self.old line) }
+    fn call(&mut self, line: Line) -> Result<bool, LineFail>
+        ensures read { Moves result self.new (after_call self.old line) }
+        ensures built { IfOk result (λ built. built ≡ is_built line) }
     {
         if self.calls >= MAX_CALLS {
             return Err(LineFail::Fault(FaultKind::TooManyCalls));
@@ -254,31 +245,37 @@ impl Reading {
         if charge > MAX_CHARGE - self.charged as usize {
             return Err(LineFail::Fault(FaultKind::TooManyBytes));
         }
-        let unbuilt = noted(is_built(&line), number, self.unbuilt);
+        let built = is_built(&line);
         self.present.push(line, charge as u32)?;
         self.calls += 1;
         self.charged += charge as u32;
-        self.unbuilt = unbuilt;
-        Ok(())
+        Ok(built)
     }
 
-    // A line of this form, from the line behind its first word.
-    #[tactic(auto, unfolding(crate::specs::Grammar::after_form))]
-    fn form(&mut self, alloc: Global, number: u32, form: Form, rest: &[u8]) -> Result<(), LineFail>
-        ensures { Moves result self.new (after_form number self.old form rest.now) }
+    // A line of this form, from the line behind its first word; and whether it is built.
+    #[tactic(auto, unfolding(crate::specs::Grammar::after_form, crate::specs::Items::item_of))]
+    fn form(&mut self, alloc: Global, form: Form, rest: &[u8]) -> Result<bool, LineFail>
+        ensures read { Moves result self.new (after_form self.old form rest.now) }
+        ensures built { IfOk result (λ built. built ≡ is_built_reading (item_of form rest.now)) }
     {
         match form {
             Form::Script => {
                 let _ = version(rest)?;
-                Ok(())
+                Ok(true)
             }
-            Form::Set => self.set(number, rest),
-            Form::Sizes => self.sizes(number, rest),
-            Form::Seq => self.seq(rest),
-            Form::App => self.app(alloc, rest),
+            Form::Set => self.set(rest),
+            Form::Sizes => self.sizes(rest),
+            Form::Seq => {
+                self.seq(rest)?;
+                Ok(true)
+            }
+            Form::App => {
+                self.app(alloc, rest)?;
+                Ok(true)
+            }
             Form::Call(first) => {
                 let line = call_line(alloc, first, rest)?;
-                self.call(number, line)
+                self.call(line)
             }
         }
     }
@@ -295,11 +292,11 @@ impl Reading {
     fn known(
         &mut self,
         alloc: Global,
-        number: u32,
         form: Option<Form>,
         rest: &[u8],
-    ) -> Result<(), LineFail>
-        ensures { Moves result self.new (after_known number self.old form rest.now) }
+    ) -> Result<bool, LineFail>
+        ensures read { Moves result self.new (after_known self.old form rest.now) }
+        ensures built { IfOk result (λ built. built ≡ is_built_reading (item_known form rest.now)) }
     {
         match form {
             None => Err(LineFail::Fault(FaultKind::UnknownWord)),
@@ -308,31 +305,33 @@ impl Reading {
                     return Err(LineFail::Fault(FaultKind::Misplaced));
                 }
                 self.begun = true;
-                self.form(alloc, number, form, rest)
+                self.form(alloc, form, rest)
             }
         }
     }
 
     // A line's words; a line without one, or whose first begins with a hash sign, is skipped.
-    #[tactic(auto, unfolding(crate::specs::Grammar::after_words))]
-    fn words(&mut self, alloc: Global, number: u32, line: &[u8]) -> Result<(), LineFail>
-        ensures { Moves result self.new (after_words number self.old (words_of line.now) (behind_word line.now)) }
+    #[tactic(auto, unfolding(crate::specs::Grammar::after_words, crate::specs::Built::is_built_line, crate::specs::Items::is_skipped, crate::specs::Items::item_in))]
+    fn words(&mut self, alloc: Global, line: &[u8]) -> Result<bool, LineFail>
+        ensures read { Moves result self.new (after_words self.old (words_of line.now) (behind_word line.now)) }
+        ensures built { IfOk result (λ built. built ≡ is_built_line (words_of line.now) (behind_word line.now)) }
     {
         match first_word(line) {
-            None => Ok(()),
+            None => Ok(true),
             Some((first, rest)) => {
                 if first.starts_with(b"#") {
-                    return Ok(());
+                    return Ok(true);
                 }
-                self.known(alloc, number, form_of(first), rest)
+                self.known(alloc, form_of(first), rest)
             }
         }
     }
 
-    // The next line.
+    // The next line; and whether it is built.
     #[tactic(auto, unfolding(crate::specs::Grammar::after_line))]
-    pub(crate) fn line(&mut self, alloc: Global, number: u32, line: &[u8]) -> Result<(), LineFail>
-        ensures { Moves result self.new (after_line number self.old line.now) }
+    pub(crate) fn line(&mut self, alloc: Global, line: &[u8]) -> Result<bool, LineFail>
+        ensures read { Moves result self.new (after_line self.old line.now) }
+        ensures built { IfOk result (λ built. built ≡ is_built_line (words_of line.now) (behind_word line.now)) }
     {
         if line.len() > MAX_LINE {
             return Err(LineFail::Fault(FaultKind::LineTooLong));
@@ -340,7 +339,7 @@ impl Reading {
         if !is_text(line) {
             return Err(LineFail::Fault(FaultKind::BadByte));
         }
-        self.words(alloc, number, line)
+        self.words(alloc, line)
     }
 
     // Whether an application has begun.
@@ -348,13 +347,6 @@ impl Reading {
         ensures { result ≡ self.now.started }
     {
         self.started
-    }
-
-    // The first line that isn't built yet.
-    pub(crate) fn unbuilt(&self) -> Option<u32>
-        ensures { result ≡ self.now.unbuilt }
-    {
-        self.unbuilt
     }
 
     // The script that was read, where an application has begun.
@@ -374,7 +366,6 @@ impl Reading {
             present,
             calls: _,
             charged: _,
-            unbuilt: _,
         } = self;
         let mut config = config;
         let mut apps = done;

@@ -1,9 +1,10 @@
 //! A script, and how it is read.
-ghost use Rattle.std.specs.Prelude.{◌≡◌, ◌-◌, ◌<◌, ◌≤◌, length, slice_get, Some, IfOk, IsTrue};
+ghost use Rattle.std.specs.Prelude.{◌≡◌, ◌-◌, ◌<◌, ◌≤◌, length, slice_get, Some, IfOk, OnOk, IsTrue};
 ghost use Rattle.fsw_base.specs.Limits.{limits_of};
 ghost use Rattle.app_script.specs.Ranges.{IsInRange};
 ghost use Rattle.app_script.specs.ScriptRanges.{IsScript};
-ghost use Rattle.app_script.specs.Grammar.{after_lines, progress_of, grammar, built_script};
+ghost use Rattle.app_script.specs.Built.{unbuilt_line, noted};
+ghost use Rattle.app_script.specs.Grammar.{opening, after_lines, progress_of, grammar, built_script};
 ghost use Rattle.script_words.specs.Text.{lines_of};
 ghost use Rattle.app_script.specs.Whole.{located, GivesScript, MovesScript};
 
@@ -133,30 +134,49 @@ fn located(number: u32, failure: LineFail) -> ReadFail
     }
 }
 
-// Reads line by line.
-fn read_lines(alloc: Global, reading: &mut Reading, bytes: &[u8]) -> Result<(), ReadFail>
+// The first line that isn't built yet, where this one may be it.
+fn noted(built: bool, number: u32, unbuilt: Option<u32>) -> Option<u32>
+    ensures { result ≡ noted built number unbuilt }
+{
+    match unbuilt {
+        Some(first) => Some(first),
+        None => { if built { None } else { Some(number) } }
+    }
+}
+
+// Reads line by line; and tells the first line that isn't built yet.
+fn read_lines(
+    alloc: Global,
+    reading: &mut Reading,
+    bytes: &[u8],
+) -> Result<Option<u32>, ReadFail>
     requires { length bytes.now ≤ 1048576 }
-    ensures { MovesScript result reading.new (after_lines 1 reading.old (lines_of bytes.now)) }
+    ensures read { MovesScript result reading.new (after_lines 1 reading.old (lines_of bytes.now)) }
+    ensures unbuilt { IfOk result (λ unbuilt. unbuilt ≡ unbuilt_line bytes.now) }
 {
     let mut rest = bytes;
     let mut number = 1;
+    let mut unbuilt = None;
     while !rest.is_empty() {
         let (line, behind) = first_line(rest);
-        match reading.line(alloc, number, line) {
-            Ok(()) => {}
+        match reading.line(alloc, line) {
+            Ok(built) => unbuilt = noted(built, number, unbuilt),
             Err(failure) => return Err(located(number, failure)),
         }
         number += 1;
         rest = behind;
     }
-    Ok(())
+    Ok(unbuilt)
 }
 
-// Reads all lines.
+// Reads all lines, into a reading that is as it was opened; and tells the first line that isn't built
+// yet.
 #[tactic(auto, unfolding(crate::specs::Grammar::progress_of))]
-fn read_all(alloc: Global, bytes: &[u8]) -> Result<Reading, ReadFail>
-    ensures script { GivesScript result (progress_of bytes.now) }
-    ensures started { IfOk result (λ reading. IsTrue reading.started) }
+fn read_all(alloc: Global, reading: &mut Reading, bytes: &[u8]) -> Result<Option<u32>, ReadFail>
+    requires { reading.old ≡ opening }
+    ensures script { MovesScript result reading.new (progress_of bytes.now) }
+    ensures started { OnOk result (IsTrue reading.new.started) }
+    ensures unbuilt { IfOk result (λ unbuilt. unbuilt ≡ unbuilt_line bytes.now) }
 {
     if bytes.len() > MAX_SCRIPT {
         return Err(ReadFail::Fault(ScriptFault {
@@ -164,11 +184,9 @@ fn read_all(alloc: Global, bytes: &[u8]) -> Result<Reading, ReadFail>
             kind: FaultKind::TooLarge,
         }));
     }
-    let nobody = ByteText::new(alloc, &[])?;
-    let mut reading = Reading::new(alloc, nobody);
-    read_lines(alloc, &mut reading, bytes)?;
+    let unbuilt = read_lines(alloc, reading, bytes)?;
     if reading.has_started() {
-        Ok(reading)
+        Ok(unbuilt)
     } else {
         Err(ReadFail::Fault(ScriptFault {
             line: 0,
@@ -184,12 +202,13 @@ fn read_all(alloc: Global, bytes: &[u8]) -> Result<Reading, ReadFail>
 /// where the bytes are a script, at the first line that this program doesn't run yet.
 ///
 /// One pass over the bytes, and memory in proportion to them.
-#[tactic(auto, unfolding(crate::specs::Grammar::grammar, crate::specs::Grammar::unbuilt_line, crate::specs::Grammar::built_script))]
+#[tactic(auto, unfolding(crate::specs::Grammar::grammar, crate::specs::Grammar::built_script))]
 pub fn read_script(alloc: Global, bytes: &[u8]) -> Result<Script, ReadFail>
     ensures { GivesScript result (built_script bytes.now) }
 {
-    let reading = read_all(alloc, bytes)?;
-    match reading.unbuilt() {
+    let nobody = ByteText::new(alloc, &[])?;
+    let mut reading = Reading::new(alloc, nobody);
+    match read_all(alloc, &mut reading, bytes)? {
         Some(line) => Err(ReadFail::Fault(ScriptFault {
             line,
             kind: FaultKind::NotYet,

@@ -2,7 +2,8 @@
 use Rattle.std.proofs.Common.{◌≡◌, ℕ, ◌≤◌, nat_lt, Bool, true, false, cond, List, length, Option, Some, None, Result, Ok, Err, refl, subst}
 use Rattle.std.proofs.lemmas.Bool.{ltb-false}
 use Rattle.fsw_base.specs.declared.script_faults.ScriptFault.{ScriptFault}
-use Rattle.app_script.specs.Grammar.{◌>=>◌, progress_of, grammar, unbuilt_line, built_script}
+use Rattle.app_script.specs.Grammar.{◌>=>◌, progress_of, grammar, built_script}
+use Rattle.app_script.specs.Built.{unbuilt_line}
 use Rattle.app_script.specs.Script.{ScriptText}
 
 -- what was read, if it was, has this property

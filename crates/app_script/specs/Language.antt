@@ -1,0 +1,80 @@
+-- The language of scripts, as it is told to those who write them: which lines a script has, and in which order.
+use Rattle.std.specs.Prelude.{◌≡◌, ℕ, ◌+◌, ◌≤◌, ◌==◌, ◌&&◌, not, nat_le, Bool, true, false, List, [], ◌∷◌, ◌++◌, length, map, filter, fold, Result, Ok, IsTrue, if◌then◌else◌}
+use Rattle.std.specs.List.{list_all, list_any, flat_map}
+use Rattle.fsw_base.specs.declared.script_faults.FaultKind.{FaultKind}
+use Rattle.fsw_base.specs.Limits.{Limits, usual_limits}
+use Rattle.script_words.specs.Text.{lines_of, words_of, behind_word, is_text}
+use Rattle.script_settings.specs.Settings.{limit_number, with_limit}
+use Rattle.app_script.specs.Items.{Setting, Limit, Sizes, Start, Item, Version, Configures, Begins, Calls, is_skipped, item_in}
+use Rattle.app_script.specs.Script.{Application, ScriptText}
+use Rattle.app_script.specs.ScriptRanges.{have_new_names, all_calls, all_bytes}
+
+-- ---- lines
+
+-- at most 1024 bytes, each printable or a tab
+abbrev pub is_plain : List ℕ → Bool
+is_plain line = nat_le (length line) 1024 && list_all is_text line
+
+-- the lines that aren't skipped: not the empty ones and the comments
+abbrev pub told_among : List (List ℕ) → List (List ℕ)
+told_among lines = filter (λ line. not (is_skipped (words_of line))) lines
+
+-- what a line tells
+abbrev pub item_on : List ℕ → Result Item FaultKind
+item_on line = item_in (words_of line) (behind_word line)
+
+-- ---- configuration
+
+-- the limits with one setting more
+abbrev pub with_setting : Limits → Setting → Limits
+with_setting limits (Limit name value) = with_limit limits name value
+with_setting limits (Sizes sizes) = record limits { sizes = sizes }
+with_setting limits (Start id count) = record limits { starts = limits.starts ++ (id, count) ∷ [] }
+
+-- what settings make of the usual limits
+abbrev pub configured : List Setting → Limits
+configured settings = fold with_setting usual_limits settings
+
+-- settings of the same thing: of one limit, of the block sizes, of the count of one message id
+abbrev pub is_same_setting : Setting → Setting → Bool
+is_same_setting (Limit one value) (Limit other to) = limit_number one == limit_number other
+is_same_setting (Sizes sizes) (Sizes others) = true
+is_same_setting (Start id count) (Start other from) = id == other
+is_same_setting one other = false
+
+-- each of these settings is none of those before it
+abbrev pub are_new_settings : List Setting → List Setting → Bool
+are_new_settings before [] = true
+are_new_settings before (setting ∷ settings) =
+    not (list_any (λ other. is_same_setting other setting) before) && are_new_settings (before ++ setting ∷ []) settings
+
+-- ---- a whole script
+
+-- an application: its name, then its call lines
+abbrev pub app_items : Application → List Item
+app_items app = Begins app.name ∷ map Calls app.lines
+
+-- a script: the version of the language, where it is told; the configuration; then one application after another
+abbrev pub script_items : Bool → List Setting → List Application → List Item
+script_items versioned settings apps = (if versioned then (Version ∷ []) else []) ++ map Configures settings ++ flat_map app_items apps
+
+-- The text is this script.
+pub record IsText (text : List ℕ) (script : ScriptText) : Type 0 where
+  -- a text of plain lines
+  pub size : length text ≤ 1048576
+  pub plain : IsTrue (list_all is_plain (lines_of text))
+  -- its lines, without those that are skipped, tell a script in this order
+  pub versioned : Bool
+  pub settings : List Setting
+  pub order : map item_on (told_among (lines_of text)) ≡ map Ok (script_items versioned settings script.apps)
+  -- each setting is given once, and at most 16 counts
+  pub limits : script.limits ≡ configured settings
+  pub once : IsTrue (are_new_settings [] settings)
+  pub starts : length script.limits.starts ≤ 16
+  -- one to 16 applications, each with a name of its own
+  pub some : 1 ≤ length script.apps
+  pub few : length script.apps ≤ 16
+  pub names : IsTrue (have_new_names [] script.apps)
+  -- not too many call lines, nor too heavy ones
+  pub calls : all_calls script.apps ≤ 20000
+  pub charges : all_bytes script.apps ≤ 16777216
