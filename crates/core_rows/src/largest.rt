@@ -35,8 +35,12 @@ enum Filling {
     Dests,
 }
 
-/// Fills a bus of 16 applications, each time with one more than it takes, and prints how many it took; then how many pipes
-/// a message reaches that goes to as many as a message can, and one that goes to a single pipe.
+/// Fills a bus of 16 applications, each time with one more than it takes, and prints how many it
+/// took; then how many pipes a message reaches that goes to as many as a message can, and one that
+/// goes to a single pipe.
+///
+/// # Errors
+/// `Memory` where there is none for the bus; `Write` where the sink fails.
 pub fn print_largest<L: Ledger, K: Sink>(
     alloc: Global,
     sink: &mut SinkGuard<'_, K>,
@@ -111,10 +115,11 @@ fn subscription(id: u16, pipe: u32) -> BusCall<'static> {
     }
 }
 
-/// Has the first application send a message of this id; how many pipes it reached. An id of at most 64 destinations takes at
-/// most 32 + 4 * 64 steps, whatever else is there.
+/// Has the first application send a message of this id; how many pipes it reached. An id of at most
+/// 64 destinations takes at most 32 + 4 * 64 steps, whatever else is there.
 fn reached<L: Ledger>(core: &mut BusCore, id: u16, steps: &mut Steps<L>) -> u32
-    ensures cost { length (route (state_of core.old).subscriptions id) ≤ 64 → steps.new ≤ steps.old + (32 + 4 * 64) }
+    ensures cost { length (route (state_of core.old).subscriptions id) ≤ 64
+        → steps.new ≤ steps.old + (32 + 4 * 64) }
 {
     let mut message = [0, 0, 0, 0, 0, 0, 0, 1];
     write_header(&mut message, id, 0);

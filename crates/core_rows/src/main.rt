@@ -1,9 +1,11 @@
-//! Plays worked examples on the calls of the software bus, and prints the report of each, so that an executable model of
-//! the bus can be asked the same. Scripts and their runner have no part in it.
+//! Plays worked examples on the calls of the software bus, and prints the report of each, so that
+//! an executable model of the bus can be asked the same. Scripts and their runner have no part in
+//! it.
 //!
-//! An example is its title and a report: each call with its answer, then each receipt. A call that its application may not
-//! make now is told on a line of its own, and isn't made. Behind the examples comes the largest configuration: how many
-//! calls were accepted as it filled, and how many pipes two sends reached.
+//! An example is its title and a report: each call with its answer, then each receipt. A call that
+//! its application may not make now is told on a line of its own, and isn't made. Behind the
+//! examples comes the largest configuration: how many calls were accepted as it filled, and how
+//! many pipes two sends reached.
 #![tactic(auto)]
 
 mod example;

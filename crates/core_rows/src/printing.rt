@@ -13,7 +13,11 @@ use sb_calls::BusCore;
 use std::alloc::{AllocError, Global};
 use text_page::write_text;
 
-/// Plays an example and prints its title and its report. The bus's memory is taken before the first step.
+/// Plays an example and prints its title and its report. The bus's memory is taken before the first
+/// step.
+///
+/// # Errors
+/// `Memory` where there is none for the bus or what is seen; `Write` where the sink fails.
 pub fn print_example<L: Ledger, K: Sink>(
     alloc: Global,
     example: &Example,
@@ -44,6 +48,9 @@ pub fn print_example<L: Ledger, K: Sink>(
 }
 
 /// Prints a title as a line.
+///
+/// # Errors
+/// The sink's fault, where it fails.
 pub fn print_title<K: Sink>(title: &str, sink: &mut SinkGuard<'_, K>) -> Result<(), WriteFault>
     requires { sink.old.failed ≡ false }
     ensures { OnOk result (sink.new.failed ≡ false) }

@@ -42,7 +42,9 @@ pub enum BusWord {
     Pend,
 }
 
-ghost use Rattle.script_lines.specs.BusLines.{pipe_alone, create_of, opts_of, find_of, limit_of, subscribed, sub_of, unsub_of, sent, send_of, hex_word, sendraw_of, bus_line_of, bus_word};
+ghost use Rattle.script_lines.specs.BusLines.{pipe_alone, create_of, opts_of, find_of, limit_of};
+ghost use Rattle.script_lines.specs.BusLines.{subscribed, sub_of, unsub_of, sent, send_of};
+ghost use Rattle.script_lines.specs.BusLines.{hex_word, sendraw_of, bus_line_of, bus_word};
 
 // The word as the first one of such a line.
 #[tactic(auto, unfolding(crate::specs::BusLines::bus_word))]

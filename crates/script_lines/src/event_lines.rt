@@ -3,7 +3,9 @@ ghost use Rattle.std.specs.Prelude.{◌≡◌, ◌≤◌, length};
 ghost use Rattle.script_words.specs.Readings.{Reads, Gives};
 ghost use Rattle.script_words.specs.Text.{words_of};
 ghost use Rattle.script_words.specs.Lists.{each};
-ghost use Rattle.script_lines.specs.EventLines.{pair_word, filter_of, registered, evreg_of, two_and_text, kind_of, text_of, evented, event_of, evreset_of, logmode_of, event_line_of, event_word};
+ghost use Rattle.script_lines.specs.EventLines.{pair_word, filter_of, registered, evreg_of};
+ghost use Rattle.script_lines.specs.EventLines.{two_and_text, kind_of, text_of, evented, event_of};
+ghost use Rattle.script_lines.specs.EventLines.{evreset_of, logmode_of, event_line_of, event_word};
 
 use crate::line::Line;
 use arrayvec::ArrayVec;

@@ -9,7 +9,7 @@ use std::alloc::{AllocError, Global};
 use std::sync::Wait;
 use turn_lock::{Seat, TurnLock};
 
-// Takes a turn and does nothing in it.
+/// Takes a turn and does nothing in it.
 fn idle_turn<R: Wait>(rt: &R, lock: &TurnLock<Visits>, seat: &mut Seat<usize, u64>)
     requires seat { IsReady seat.old lock.now.name }
     ensures seat { IsReady seat.new lock.now.name }
@@ -20,7 +20,7 @@ fn idle_turn<R: Wait>(rt: &R, lock: &TurnLock<Visits>, seat: &mut Seat<usize, u6
     lock.leave(seat, turn);
 }
 
-// Takes so many turns.
+/// Takes so many turns.
 fn idle_turns<R: Wait>(rt: &R, lock: &TurnLock<Visits>, seat: &mut Seat<usize, u64>, turns: u64)
     requires seat { IsReady seat.old lock.now.name }
     ensures seat { IsReady seat.new lock.now.name }
@@ -32,7 +32,7 @@ fn idle_turns<R: Wait>(rt: &R, lock: &TurnLock<Visits>, seat: &mut Seat<usize, u
     }
 }
 
-// Takes a turn and notes a visit in it, if there is room.
+/// Takes a turn and notes a visit in it, if there is room.
 fn note_turn<R: Wait>(
     rt: &R,
     lock: &TurnLock<Visits>,
@@ -44,8 +44,8 @@ fn note_turn<R: Wait>(
     requires app { (view_of seat.old).app ≡ app }
     ensures seat { IsReady seat.new lock.now.name }
     ensures app { (view_of seat.new).app ≡ app }
-    ensures mine { (view_of seat.new).mine ≡ (view_of seat.old).mine ++
-        (if result then (app, number) ∷ [] else []) }
+    ensures mine { (view_of seat.new).mine ≡ (view_of seat.old).mine
+        ++ (if result then (app, number) ∷ [] else []) }
 {
     let mut turn = lock.enter(rt, seat);
     if turn.value_mut().note(app, number) {
@@ -61,7 +61,7 @@ fn note_turn<R: Wait>(
 /// closes the lock, and answers the visits noted.
 ///
 /// # Errors
-/// `AllocError` where memory runs out.
+/// `AllocError` where there is no memory for the visits or the lock.
 pub fn take_turns<R: Wait>(rt: &R, alloc: Global, turns: u64) -> Result<Visits, AllocError> {
     let visits = Visits::with_room(alloc, 1)?;
     let (lock, mut main) = TurnLock::new(alloc, visits, 1)?;

@@ -1,9 +1,11 @@
 //! The lock's three words and its slot, and a method for each kind of atomic step.
-ghost use Rattle.std.specs.Prelude.{◌≡◌, ◌≢◌, ℕ, ◌<◌, ◌%◌, ◌+◌, List, [], ◌∷◌, length, Contains, IfOk, Some, None};
+ghost use Rattle.std.specs.Prelude.{◌≡◌, ◌≢◌, ℕ, ◌<◌, ◌%◌, ◌+◌, List, [], ◌∷◌, length, Contains};
+ghost use Rattle.std.specs.Prelude.{IfOk, Some, None};
 ghost use Rattle.turn_lock.specs.Rule.{wrap};
 ghost use Rattle.turn_lock.specs.Seats.{AllJoined};
 ghost use Rattle.turn_lock.specs.Views.{main_view, seat_view, with_app, joined_view};
-ghost use Rattle.turn_lock.specs.Steps.{Draws, IsServed, Looks, Publishes, Passes, Meets, Grows, Stays, Closes};
+ghost use Rattle.turn_lock.specs.Steps.{Draws, IsServed, Looks, Publishes, Passes, Meets, Grows};
+ghost use Rattle.turn_lock.specs.Steps.{Stays, Closes};
 ghost use Rattle.turn_lock.specs.declared.view.Stage.TheVariants.{Main, Away, Waits, Has};
 
 use crate::historied::Historied;
@@ -66,7 +68,9 @@ impl<T: Historied> Board<T> {
     where
         T: Drop,
         requires { T.history value ≡ [] }
-        ensures { IfOk result (λ r. (r.1.table_id ≡ r.0.table.shared.table_id) × (r.1.me ≡ (main_view (T.fixed value) [], []))) }
+        ensures { IfOk result
+            (λ r. (r.1.table_id ≡ r.0.table.shared.table_id)
+            × (r.1.me ≡ (main_view (T.fixed value) [], []))) }
     {
         let about = Snapshot::of(&value);
         let mut slots: Vec<Option<T>> = Vec::new(alloc);
@@ -81,10 +85,12 @@ impl<T: Historied> Board<T> {
     pub(crate) fn split<N: Naming>(&self, main: &mut Place<T>, app: u32) -> Place<T>
         requires app { app ≡ N.app }
         requires table { main.old.table_id ≡ self.now.table.shared.table_id }
-        requires main { (main.old.me.0.stage ≡ Main) × (length main.old.me.0.apps < 16) × ¬ (Contains main.old.me.0.apps N.app) }
+        requires main { (main.old.me.0.stage ≡ Main) × (length main.old.me.0.apps < 16)
+            × ¬ (Contains main.old.me.0.apps N.app) }
         ensures place { Stays main.old main.new }
         ensures main { main.new.me ≡ (with_app main.old.me.0 N.app, main.old.me.1) }
-        ensures new { (result.table_id ≡ main.old.table_id) × (result.me ≡ (seat_view main.old.me.0 N.app, [])) }
+        ensures new { (result.table_id ≡ main.old.table_id)
+            × (result.me ≡ (seat_view main.old.me.0 N.app, [])) }
     {
         self.table.shared.split_seat::<Cut<N>>(main)
     }
@@ -99,7 +105,8 @@ impl<T: Historied> Board<T> {
         self.table.shared.fetch_add::<Draw>(place, TICKET, 1)
     }
 
-    /// Reads which ticket is served, modulo 2^64. Where it is this place's, the slot is out with it.
+    /// Reads which ticket is served, modulo 2^64. Where it is this place's, the slot is out with
+    /// it.
     fn look(&self, place: &mut Place<T>) -> u64
         requires table { place.old.table_id ≡ self.now.table.shared.table_id }
         requires waits { (place.old.me.0.stage ≡ Waits) × (place.old.me.1 ≡ []) }
@@ -113,7 +120,8 @@ impl<T: Historied> Board<T> {
     /// enough sleeps until a turn is passed on, and then looks once more.
     pub(crate) fn wait<R: Wait>(&self, rt: &R, place: &mut Place<T>, ticket: u64) -> u32
         requires table { place.old.table_id ≡ self.now.table.shared.table_id }
-        requires waits { (place.old.me.0.stage ≡ Waits) × (place.old.me.1 ≡ []) × (place.old.me.0.ticket % wrap ≡ ticket) }
+        requires waits { (place.old.me.0.stage ≡ Waits) × (place.old.me.1 ≡ [])
+            × (place.old.me.0.ticket % wrap ≡ ticket) }
         ensures place { Stays place.old place.new }
         ensures served { IsServed T.fixed T.history place.old.me place.new.me }
     {
@@ -146,7 +154,8 @@ impl<T: Historied> Board<T> {
         requires table { place.old.table_id ≡ self.now.table.shared.table_id }
         requires full { (x : T) × (place.old.me.1 ≡ (0, Some x) ∷ []) }
         ensures place { Stays place.old place.new }
-        ensures taken { (place.old.me.1 ≡ (0, Some result) ∷ []) × (place.new.me ≡ (place.old.me.0, (0, None) ∷ [])) }
+        ensures taken { (place.old.me.1 ≡ (0, Some result) ∷ [])
+            × (place.new.me ≡ (place.old.me.0, (0, None) ∷ [])) }
     {
         match self.table.shared.exchange(place, VALUE, None) {
             Some(value) => value,
@@ -191,7 +200,8 @@ impl<T: Historied> Board<T> {
     pub(crate) fn pass(&self, mut place: Place<T>) -> Passed<T>
         requires table { place.table_id ≡ self.now.table.shared.table_id }
         requires served { place.me.0.stage ≡ Has }
-        requires full { (x : T) × (place.me.1 ≡ (0, Some x) ∷ []) × (T.history x ≡ place.me.0.seen) × (Some (T.fixed x) ≡ place.me.0.fixed) }
+        requires full { (x : T) × (place.me.1 ≡ (0, Some x) ∷ []) × (T.history x ≡ place.me.0.seen)
+            × (Some (T.fixed x) ≡ place.me.0.fixed) }
         ensures place { Stays place result.place }
         ensures passed { Passes place.me result.place.me }
         ensures next { result.next ≡ (place.me.0.ticket + 1) % wrap }
@@ -229,7 +239,8 @@ impl<T: Historied> Board<T> {
 
     /// Takes an ended place into the main one, with what it made and had seen.
     pub(crate) fn glue(&self, main: &mut Place<T>, other: Place<T>)
-        requires table { (main.old.table_id ≡ self.now.table.shared.table_id) × (other.table_id ≡ self.now.table.shared.table_id) }
+        requires table { (main.old.table_id ≡ self.now.table.shared.table_id)
+            × (other.table_id ≡ self.now.table.shared.table_id) }
         requires main { main.old.me.0.stage ≡ Main }
         requires other { (other.me.0.stage ≡ Away) × (other.me.1 ≡ []) }
         ensures place { Stays main.old main.new }

@@ -1,8 +1,10 @@
 //! The lock: a value that goes from seat to seat, in the order of the tickets.
-ghost use Rattle.std.specs.Prelude.{◌≡◌, ℕ, ◌≤◌, ◌<◌, ◌++◌, [], ◌∷◌, length, true, false, All, Contains, IfOk, Some};
+ghost use Rattle.std.specs.Prelude.{◌≡◌, ℕ, ◌≤◌, ◌<◌, ◌++◌, [], ◌∷◌, length, true, false, All};
+ghost use Rattle.std.specs.Prelude.{Contains, IfOk, Some};
 ghost use mathlib.Core.List.{IsPrefix};
 ghost use Rattle.turn_lock.specs.Views.{entries_of, main_view, seat_view, with_app};
-ghost use Rattle.turn_lock.specs.Seats.{view_of, entered_view, left_view, IsOut, IsMain, IsReady, AddsOne, KeepsLonger, AllJoined};
+ghost use Rattle.turn_lock.specs.Seats.{view_of, entered_view, left_view, IsOut, IsMain, IsReady};
+ghost use Rattle.turn_lock.specs.Seats.{AddsOne, KeepsLonger, AllJoined};
 
 use crate::board::Board;
 use crate::historied::Historied;
@@ -25,7 +27,9 @@ pub const MOST_SEATS: u32 = 16;
 /// Contracts see which lock it is and how many seats can be split off.
 #[derive(Drop)]
 pub struct TurnLock<T: Historied> {
+    /// The words and the slot.
     board: Board<T>,
+    /// How many seats can be split off.
     seats: u32,
 }
 
@@ -45,6 +49,7 @@ impl<T: Historied> TurnLock<T> {
     /// A lock that holds this value, whose history is empty, and its main seat. At most `seats`
     /// seats can be split off, 1 to [`MOST_SEATS`]. It is the one call that takes memory.
     ///
+    /// # Errors
     /// `AllocError` where there is no memory; the value is dropped then.
     pub fn new(
         alloc: Global,
@@ -90,7 +95,8 @@ impl<T: Historied> TurnLock<T> {
         ensures unmarked { result.marked ≡ false }
         ensures opening { Some (T.fixed result.value) ≡ (view_of seat.old).fixed }
         ensures extends { IsPrefix (view_of seat.old).seen (T.history result.value) }
-        ensures mine { entries_of (view_of seat.old).app (T.history result.value) ≡ (view_of seat.old).mine }
+        ensures mine { entries_of (view_of seat.old).app (T.history result.value)
+            ≡ (view_of seat.old).mine }
         ensures view { result.view ≡ entered_view (view_of seat.old) (T.history result.value) }
     {
         let mut place = seat.take_place();
@@ -151,8 +157,10 @@ impl<T: Historied> TurnLock<T> {
         requires main { IsMain main.old self.now.name }
         requires seat { IsReady seat self.now.name }
         ensures main { IsMain main.new self.now.name }
-        ensures seen { KeepsLonger (view_of main.old).seen (view_of seat).seen (view_of main.new).seen }
-        ensures ended { (view_of main.new).ended ≡ (view_of main.old).ended ++ ((view_of seat).app, (view_of seat).mine) ∷ [] }
+        ensures seen { KeepsLonger (view_of main.old).seen (view_of seat).seen
+            (view_of main.new).seen }
+        ensures ended { (view_of main.new).ended ≡ (view_of main.old).ended
+            ++ ((view_of seat).app, (view_of seat).mine) ∷ [] }
         ensures apps { (view_of main.new).apps ≡ (view_of main.old).apps }
         ensures opening { (view_of main.new).fixed ≡ (view_of main.old).fixed }
     {
@@ -171,7 +179,8 @@ impl<T: Historied> TurnLock<T> {
         ensures opening { Some (T.fixed result) ≡ (view_of main).fixed }
         ensures extends { IsPrefix (view_of main).seen (T.history result) }
         ensures ended { All (λ e. entries_of e.0 (T.history result) ≡ e.1) (view_of main).ended }
-        ensures others { (app : ℕ) → ¬ (Contains (view_of main).apps app) → entries_of app (T.history result) ≡ [] }
+        ensures others { (app : ℕ) → ¬ (Contains (view_of main).apps app)
+            → entries_of app (T.history result) ≡ [] }
     {
         let TurnLock { board, seats: _ } = self;
         board.close(main.into_place())

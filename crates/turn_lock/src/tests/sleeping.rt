@@ -21,10 +21,7 @@ const TURNS: u32 = 4000;
 type Opened<'r> = (TurnLock<Pad<'r>>, Seat<usize, u8>, Seat<usize, u8>);
 
 /// A lock over no pairs, and seats for applications 1 and 2.
-fn open<'r>(
-    alloc: Global,
-    bytes: &'r mut [u8],
-) -> Result<Opened<'r>, AllocError>
+fn open<'r>(alloc: Global, bytes: &'r mut [u8]) -> Result<Opened<'r>, AllocError>
     ensures one { IfOk result (λ r. IsReady r.1 r.0.name × ((view_of r.1).app ≡ 1)) }
     ensures two { IfOk result (λ r. IsReady r.2 r.0.name × ((view_of r.2).app ≡ 2)) }
 {
@@ -117,11 +114,7 @@ fn looks_behind<'r, B: LockName, R: Wait + Clock>(
 }
 
 /// One thread has a long turn, and another waits for its own meanwhile: how often it looked.
-fn looks_in_a_long_turn<
-    'r,
-    B: LockName + Send + Sync,
-    R: Threads + Wait + Clock + Sync,
->(
+fn looks_in_a_long_turn<'r, B: LockName + Send + Sync, R: Threads + Wait + Clock + Sync>(
     rt: &R,
     lock: &TurnLock<Pad<'r>>,
     one: Seat<usize, u8>,
@@ -174,7 +167,7 @@ fn entries_in_a_turn<'r, R: Wait>(
     ensures seat { IsReady seat.new lock.now.name }
 {
     let turn = lock.enter(rt, seat);
-    let entries = turn.value().pairs.len() as u32;
+    let entries = turn.value().pairs.len().min(PAIRS) as u32;
     lock.leave(seat, turn);
     entries
 }
@@ -196,11 +189,7 @@ fn add_and_wake<'r, B: LockName, R: Wait + Clock>(
 }
 
 /// One thread sleeps until the history has an entry, which another makes: how many turns it took.
-fn turns_beside_an_entry<
-    'r,
-    B: LockName + Send + Sync,
-    R: Threads + Wait + Clock + Sync,
->(
+fn turns_beside_an_entry<'r, B: LockName + Send + Sync, R: Threads + Wait + Clock + Sync>(
     rt: &R,
     lock: &TurnLock<Pad<'r>>,
     one: Seat<usize, u8>,
