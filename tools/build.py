@@ -111,14 +111,17 @@ def run(words, script, look):
     """The status of rt with these words; all that it prints is added to the log."""
     with open(LOG, "ab") as log, open(LOG, encoding="utf-8", errors="replace") as said:
         said.seek(0, os.SEEK_END)
-        rt = subprocess.Popen(["rt", *words], cwd=CRATE, stdin=script, stdout=log, stderr=log)
+        # In a session of its own, so that all of it ends where this ends.
+        how = dict(stdin=script, stdout=log, stderr=log, start_new_session=True)
+        rt = subprocess.Popen(["rt", *words], cwd=CRATE, **how)
         try:
             while rt.poll() is None:
                 time.sleep(0.2)
                 look(said)
             look(said)
         finally:
-            rt.terminate()
+            if rt.poll() is None:
+                os.killpg(rt.pid, signal.SIGTERM)
             rt.wait()
         return rt.returncode
 
@@ -162,7 +165,7 @@ def build_alone():
 
 def main():
     stop_without_kit()
-    # rt ends with this program, however it is told to end.
+    # Told to end otherwise than by Ctrl-C, it ends rt too.
     for number in (signal.SIGTERM, signal.SIGHUP):
         signal.signal(number, lambda number, _: sys.exit(128 + number))
     os.makedirs(OUT, exist_ok=True)
