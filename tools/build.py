@@ -21,7 +21,7 @@ LOG = os.path.join(OUT, "build.log")
 BEGAN = os.path.join(OUT, "build.began")
 # What a proof takes of memory, in bytes, with some room.
 MEMORY = 3 << 30
-EXPECTED = "the first time takes some 12 minutes on four processors"
+EXPECTED = "the first time takes 15 to 20 minutes on four processors"
 NEXT = "./fsw lockstep < examples/first.fsw"
 
 
@@ -66,6 +66,7 @@ class Progress:
     def __init__(self, crates, at_once):
         self.crates, self.at_once, self.proved, self.shown = crates, at_once, [], ""
         self.began, self.is_terminal = time.monotonic(), sys.stderr.isatty()
+        self.waits = False
 
     def time(self):
         seconds = int(time.monotonic() - self.began)
@@ -75,9 +76,10 @@ class Progress:
         return f"{len(self.proved)} of {len(self.crates)} crates proved"
 
     def at_work(self):
-        """The next crates in order; of them, those that wait for one below don't count."""
+        """The next crates in order, but those that wait for one below."""
         taken = [name for name in self.crates if name not in self.proved][: self.at_once]
-        return [name for name in taken if all(it in self.proved for it in self.crates[name])]
+        names = [name for name in taken if all(it in self.proved for it in self.crates[name])]
+        return "waiting for another rt" if self.waits else ", ".join(names) or "the last lines"
 
     def show(self, text):
         """Puts the time and the text in the place of the line before them, on a terminal."""
@@ -90,12 +92,14 @@ class Progress:
 
     def look(self, log):
         """Reads on in what rt prints, where a crate that has ended begins with its name."""
-        for name in re.findall(r"^== (\w+)$", log.read(), re.M):
+        said = log.read()
+        self.waits = "waiting for" in said if said else self.waits
+        for name in re.findall(r"^== (\w+)$", said, re.M):
             if name in self.crates and name not in self.proved:
                 self.proved.append(name)
                 if not self.is_terminal:
                     tell(f"{self.time()}, {self.count()}: {name}")
-        self.show(f"{self.count()}, now {', '.join(self.at_work()) or 'the last lines'}")
+        self.show(f"{self.count()}, now {self.at_work()}")
 
     def end(self, text):
         if self.is_terminal:
@@ -107,14 +111,17 @@ def run(words, script, look):
     """The status of rt with these words; all that it prints is added to the log."""
     with open(LOG, "ab") as log, open(LOG, encoding="utf-8", errors="replace") as said:
         said.seek(0, os.SEEK_END)
-        rt = subprocess.Popen(["rt", *words], cwd=CRATE, stdin=script, stdout=log, stderr=log)
+        # In a session of its own, so that all of it ends where this ends.
+        how = dict(stdin=script, stdout=log, stderr=log, start_new_session=True)
+        rt = subprocess.Popen(["rt", *words], cwd=CRATE, **how)
         try:
             while rt.poll() is None:
                 time.sleep(0.2)
                 look(said)
             look(said)
         finally:
-            rt.terminate()
+            if rt.poll() is None:
+                os.killpg(rt.pid, signal.SIGTERM)
             rt.wait()
         return rt.returncode
 
@@ -158,7 +165,7 @@ def build_alone():
 
 def main():
     stop_without_kit()
-    # rt ends with this program, however it is told to end.
+    # Told to end otherwise than by Ctrl-C, it ends rt too.
     for number in (signal.SIGTERM, signal.SIGHUP):
         signal.signal(number, lambda number, _: sys.exit(128 + number))
     os.makedirs(OUT, exist_ok=True)
