@@ -29,7 +29,7 @@ tell-requires-clause-answered g c =
 pub subscribe-requires-clause-first : goal.subscribe-requires-clause-first
 subscribe-requires-clause-first g c =
     let a = c.self.inside in
-    let why = from_core a c.args.self.now c.self.view_is c.self.invariant (λ limits s. subscribe_cause limits s c.args.app c.args.id c.args.pipe) None (sym c.subscribe_cause.ensures ∙ c.in_default.is) in
+    let why = from_core a c.args.self.now c.self.view_is c.self.invariant (λ limits history s. subscribe_cause limits s c.args.app c.args.id c.args.pipe) None (sym c.subscribe_cause.ensures ∙ c.in_default.is) in
     let fresh = sym c.is_subscribed-there.ensures.is ∙ c.if-there.false in
     let free = is_free (limits_of a.config) (means a) c.args.app c.args.id c.args.pipe why fresh in
     id_first c.args.id free.valid
@@ -37,7 +37,7 @@ subscribe-requires-clause-first g c =
 pub subscribe-requires-clause-last : goal.subscribe-requires-clause-last
 subscribe-requires-clause-last g c =
     let a = c.self.inside in
-    let why = from_core a c.args.self.now c.self.view_is c.self.invariant (λ limits s. subscribe_cause limits s c.args.app c.args.id c.args.pipe) None (sym c.subscribe_cause.ensures ∙ c.in_default.is) in
+    let why = from_core a c.args.self.now c.self.view_is c.self.invariant (λ limits history s. subscribe_cause limits s c.args.app c.args.id c.args.pipe) None (sym c.subscribe_cause.ensures ∙ c.in_default.is) in
     let fresh = sym c.is_subscribed-there.ensures.is ∙ c.if-there.false in
     let free = is_free (limits_of a.config) (means a) c.args.app c.args.id c.args.pipe why fresh in
     id_last c.args.id free.valid
@@ -45,7 +45,7 @@ subscribe-requires-clause-last g c =
 pub subscribe-requires-clause-live : goal.subscribe-requires-clause-live
 subscribe-requires-clause-live g c =
     let a = c.self.inside in
-    let why = from_core a c.args.self.now c.self.view_is c.self.invariant (λ limits s. subscribe_cause limits s c.args.app c.args.id c.args.pipe) None (sym c.subscribe_cause.ensures ∙ c.in_default.is) in
+    let why = from_core a c.args.self.now c.self.view_is c.self.invariant (λ limits history s. subscribe_cause limits s c.args.app c.args.id c.args.pipe) None (sym c.subscribe_cause.ensures ∙ c.in_default.is) in
     let fresh = sym c.is_subscribed-there.ensures.is ∙ c.if-there.false in
     let free = is_free (limits_of a.config) (means a) c.args.app c.args.id c.args.pipe why fresh in
     live_owned a.tables.pipes c.args.app c.args.pipe (sym (owns-rows (kept_in a.journal.entries a.sends.items) a.tables.pipes c.args.app c.args.pipe) ∙ free.own)
@@ -53,7 +53,7 @@ subscribe-requires-clause-live g c =
 pub subscribe-requires-clause-way : goal.subscribe-requires-clause-way
 subscribe-requires-clause-way g c =
     let a = c.self.inside in
-    let why = from_core a c.args.self.now c.self.view_is c.self.invariant (λ limits s. subscribe_cause limits s c.args.app c.args.id c.args.pipe) None (sym c.subscribe_cause.ensures ∙ c.in_default.is) in
+    let why = from_core a c.args.self.now c.self.view_is c.self.invariant (λ limits history s. subscribe_cause limits s c.args.app c.args.id c.args.pipe) None (sym c.subscribe_cause.ensures ∙ c.in_default.is) in
     let fresh = sym c.is_subscribed-there.ensures.is ∙ c.if-there.false in
     let free = is_free (limits_of a.config) (means a) c.args.app c.args.id c.args.pipe why fresh in
     λ lacks.
@@ -65,7 +65,7 @@ subscribe-requires-clause-way g c =
 pub subscribe-requires-clause-dests : goal.subscribe-requires-clause-dests
 subscribe-requires-clause-dests g c =
     let a = c.self.inside in
-    let why = from_core a c.args.self.now c.self.view_is c.self.invariant (λ limits s. subscribe_cause limits s c.args.app c.args.id c.args.pipe) None (sym c.subscribe_cause.ensures ∙ c.in_default.is) in
+    let why = from_core a c.args.self.now c.self.view_is c.self.invariant (λ limits history s. subscribe_cause limits s c.args.app c.args.id c.args.pipe) None (sym c.subscribe_cause.ensures ∙ c.in_default.is) in
     let fresh = sym c.is_subscribed-there.ensures.is ∙ c.if-there.false in
     let free = is_free (limits_of a.config) (means a) c.args.app c.args.id c.args.pipe why fresh in
     let most = ap (λ (r : Room). r.dests) c.self.invariant.keeps.room in
@@ -74,7 +74,7 @@ subscribe-requires-clause-dests g c =
 pub invariant_of-self : goal.invariant_of-self
 invariant_of-self g c =
     let a = c.self.inside in
-    let why = from_core a c.args.self.now c.self.view_is c.self.invariant (λ limits s. subscribe_cause limits s c.args.app c.args.id c.args.pipe) None (sym c.subscribe_cause.ensures ∙ c.in_default.is) in
+    let why = from_core a c.args.self.now c.self.view_is c.self.invariant (λ limits history s. subscribe_cause limits s c.args.app c.args.id c.args.pipe) None (sym c.subscribe_cause.ensures ∙ c.in_default.is) in
     let fresh = sym c.is_subscribed-there.ensures.is ∙ c.if-there.false in
     subscribed_stands a c.subscribe.new.self c.push.new.self c.args.self.now c.args.app c.args.id c.args.pipe c.args.limit c.args.scope
     (record { is = c.self.view_is; stands = c.self.invariant; may = c.requires.may }) why fresh c.subscribe.ensures.after c.push.ensures
@@ -82,7 +82,7 @@ invariant_of-self g c =
 pub returns-clause-does : goal.returns-clause-does
 returns-clause-does g c =
     let a = c.self.inside in
-    let why = from_core a c.args.self.now c.self.view_is c.self.invariant (λ limits s. subscribe_cause limits s c.args.app c.args.id c.args.pipe) None (sym c.subscribe_cause.ensures ∙ c.in_default.is) in
+    let why = from_core a c.args.self.now c.self.view_is c.self.invariant (λ limits history s. subscribe_cause limits s c.args.app c.args.id c.args.pipe) None (sym c.subscribe_cause.ensures ∙ c.in_default.is) in
     let fresh = sym c.is_subscribed-there.ensures.is ∙ c.if-there.false in
     subscribed_does a c.subscribe.new.self c.push.new.self c.args.self.now c.args.app c.args.id c.args.pipe c.args.limit c.args.scope
     (record { is = c.self.view_is; stands = c.self.invariant; may = c.requires.may }) why fresh c.subscribe.ensures.after c.push.ensures
