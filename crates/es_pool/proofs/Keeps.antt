@@ -1,14 +1,14 @@
 -- What a pool keeps beside its blocks stays true where a block is drawn, cut or given back.
-use Rattle.std.proofs.Common.{◌≡◌, ◌≢◌, ℕ, ◌+◌, ◌-◌, ◌*◌, ◌<◌, ◌≤◌, ◌^◌, ◌&&◌, ◌⊎◌, inl, inr, zero, suc, Bool, true, false, not, cond, eqb, leb, List, [], ◌∷◌, ◌++◌, length, get_or, set, drop, sum_by, refl, ap, sym, subst, ◌∙◌, arith}
+use Rattle.std.proofs.Common.{◌≡◌, ℕ, ◌+◌, ◌-◌, ◌*◌, ◌<◌, ◌≤◌, ◌&&◌, ◌⊎◌, inl, inr, zero, suc, Bool, true, false, not, cond, eqb, leb, List, [], ◌∷◌, ◌++◌, length, get_or, set, drop, sum_by, refl, ap, sym, subst, ◌∙◌, arith}
 use Rattle.std.proofs.lemmas.Bool.{cases_eq, cases_lt}
 use Rattle.std.proofs.lemmas.Bool.Decides.{nat_tests}
 use Rattle.std.proofs.lemmas.List.{get_or_default, get_or_past, get_or_push, get_or-set_same, get_or-set_other, get_or_append_left, length-set, length_push}
-use Rattle.std.proofs.lemmas.List.Sums.{sum_by-cons, sum_by_push, count_by-le-length}
+use Rattle.std.proofs.lemmas.List.Sums.{sum_by_push, count_by-le-length}
 use Rattle.bucket_list.specs.Lists.{Listed, listed_at, times_in, times}
 use Rattle.bucket_list.proofs.Counts.{times_in-cons, loose_from_each}
 use Rattle.fsw_base.specs.PoolAccounts.{overhead}
 use Rattle.es_pool.specs.Pool.{PoolState, made_in, out_in, free_in, used_by, in_use_by, out_among, fits_class}
-use Rattle.es_pool.specs.Kept.{IsKept, is_free_in, free_mark}
+use Rattle.es_pool.specs.Kept.{IsKept, free_mark}
 use Rattle.es_pool.specs.declared.blocks.CutBlock.{CutBlock}
 use Rattle.es_pool.proofs.Totals.{block, made-split, sum-change, in_use-le-used, made_few, used-ge}
 use Rattle.es_pool.proofs.Marks.{free_from_mark, mark_out, mark_free, mark-set_other, mark-push}

@@ -1,8 +1,7 @@
 -- The account of a pool follows its draws and returns, and there is room in one where there is room in the other.
-use Rattle.std.proofs.Common.{◌≡◌, ℕ, ◌+◌, ◌-◌, ◌*◌, ◌<◌, ◌≤◌, ◌&&◌, ◌⊎◌, inl, inr, zero, suc, max, Bool, true, false, not, cond, eqb, leb, Option, Some, None, List, [], ◌∷◌, ◌++◌, length, get_or, set, replicate, sum_by, MatchBool, refl, ap, sym, subst, ◌∙◌, arith}
+use Rattle.std.proofs.Common.{◌≡◌, ℕ, ◌+◌, ◌-◌, ◌*◌, ◌<◌, ◌≤◌, ◌&&◌, ◌⊎◌, inl, inr, suc, max, Bool, true, false, not, cond, eqb, leb, Option, Some, None, List, [], ◌∷◌, ◌++◌, length, get_or, set, replicate, sum_by, MatchBool, refl, ap, sym, subst, ◌∙◌, arith}
 use Rattle.std.proofs.lemmas.Bool.{cases_eq}
-use Rattle.std.proofs.lemmas.Bool.Decides.{nat_tests}
-use Rattle.std.proofs.lemmas.List.{length-set, length-replicate, get_or-replicate, get_or_default, get_or-set_same, get_or-set_other, set-get_or}
+use Rattle.std.proofs.lemmas.List.{length-set, length-replicate, get_or-replicate, get_or_default, get_or-set_same, get_or-set_other}
 use Rattle.std.proofs.lemmas.List.Quantifiers.{position-Some}
 use Rattle.std.proofs.lemmas.List.Sums.{sum_by-cons, sum_by_push, get_or-le-sum_by}
 use Rattle.fsw_base.specs.Blocks.{class_of}
@@ -274,13 +273,6 @@ pub moved_drawn : (account after : Account) (size class : ℕ) → class_of size
 moved_drawn account after size class e room drawn =
     let fits : has_room_for account class 1 ≡ true = sym (ap (has_room_if account) e) ∙ room in
     drawn ∙ sym (ap (after_request_if account) e ∙ ap (λ t. cond t (after_draw account class) account) fits)
-
-pub moved_nothing : (account after : Account) (size : ℕ) → (has_room account size ≡ true → false ≡ true) → after ≡ account → after ≡ after_request account size
-moved_nothing account after size never e = e ∙ stays (class_of size account.sizes) (false_unless (has_room account size) never)
-  where
-    stays : (o : Option ℕ) → has_room_if account o ≡ false → account ≡ after_request_if account o
-    stays None none = refl
-    stays (Some class) none = sym (ap (λ t. cond t (after_draw account class) account) none)
 
 pub moved_back : (pool : PoolState) (account after : Account) (number class : ℕ) → is_out pool number ≡ true → class ≡ class_at pool number → after ≡ after_return account class → after ≡ after_call pool account (Put number)
 moved_back pool account after number class out e back =

@@ -1,7 +1,6 @@
 -- A pool and its account, kept beside it on paper.
 use Rattle.std.specs.Prelude.{◌≡◌, ℕ, ◌<◌, true, length, slice_index, slice_index_or}
 use Rattle.fsw_base.specs.PoolAccounts.{Account}
-use Rattle.es_pool.specs.declared.blocks.CutBlock.{CutBlock}
 use Rattle.es_pool.specs.Pool.{PoolState, made_in, out_in}
 
 -- an account is that of a pool

@@ -1,6 +1,6 @@
 -- A memory pool's account, by block size: blocks have no numbers here, and no list of free ones is kept. What was made of a
 -- size is the greatest number of blocks of it that were ever out at once (cFE Executive Services, memory pools).
-use Rattle.std.specs.Prelude.{◌≡◌, ℕ, ◌+◌, ◌-◌, ◌*◌, ◌^◌, ◌<◌, ◌≤◌, min, max, nat_le, Bool, true, false, if◌then◌else◌, List, [], ◌∷◌, length, slice_index, slice_set, Option, Some, None, IsTrue}
+use Rattle.std.specs.Prelude.{◌≡◌, ℕ, ◌+◌, ◌-◌, ◌*◌, ◌^◌, ◌<◌, ◌≤◌, min, max, nat_le, Bool, false, if◌then◌else◌, List, [], ◌∷◌, length, slice_index, slice_set, Option, Some, None, IsTrue}
 use Rattle.fsw_base.specs.Blocks.{are_block_sizes, class_of}
 
 -- what cutting a block costs beyond its size, in bytes

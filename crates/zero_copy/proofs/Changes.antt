@@ -1,5 +1,5 @@
 -- The held lists kept by a hold and a letting go, and what they leave.
-use Rattle.std.proofs.Common.{◌≡◌, ℕ, ◌+◌, ◌-◌, ◌<◌, ◌≤◌, ◌^◌, ◌⊎◌, inl, inr, zero, suc, Bool, true, false, not, cond, eqb, List, [], ◌∷◌, length, get_or, set, drop, replicate, refl, ap, sym, subst, ◌∙◌, arith}
+use Rattle.std.proofs.Common.{◌≡◌, ℕ, ◌+◌, ◌-◌, ◌<◌, ◌≤◌, ◌^◌, ◌⊎◌, inl, inr, zero, suc, Bool, true, false, cond, eqb, List, [], ◌∷◌, length, get_or, set, drop, replicate, refl, ap, sym, subst, ◌∙◌, arith}
 use Rattle.std.specs.List.{range_with_len}
 use Rattle.std.proofs.lemmas.Bool.{cases_eq, cases_lt}
 use Rattle.std.proofs.lemmas.Bool.Decides.{nat_tests}
@@ -9,10 +9,9 @@ use Rattle.std.proofs.lemmas.List.Sums.{count_by-le-length}
 use Rattle.bucket_list.specs.Lists.{times_in, times}
 use Rattle.bucket_list.specs.Chains.{chain}
 use Rattle.bucket_list.proofs.Counts.{times_in-cons, times_in-le-times, length_few, loose_from_each, once_from_each}
-use Rattle.bucket_list.proofs.Chains.{length-chain}
 use Rattle.zero_copy.specs.Held.{AreApart, without}
 use Rattle.zero_copy.specs.Rings.{Linked, rings, owner_mark, AreHeld}
-use Rattle.zero_copy.proofs.Links.{next_else, prev_else, chain_linked, prev_in, next_in, linked_without, linked_front, length_without, times_without, without_first, first_in, after_first, once_behind}
+use Rattle.zero_copy.proofs.Links.{next_else, prev_else, chain_linked, prev_in, next_in, linked_without, linked_front, length_without, times_without, without_first, after_first, once_behind}
 
 -- as many rings as counts, and each the chain behind its anchor
 pub length-rings : (next : List ℕ) (anchor : ℕ) (counts : List ℕ) → length (rings next anchor counts) ≡ length counts

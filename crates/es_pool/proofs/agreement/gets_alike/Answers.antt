@@ -1,6 +1,6 @@
 use Rattle.std.proofs.Common.{◌∙◌, sym, refl}
 use Rattle.std.proofs.lemmas.Bool.{false≢true}
-use Rattle.es_pool.proofs.Law.{room_alike, draws_alike, leaves_drawn, leaves_unchanged, moved_drawn, moved_nothing}
+use Rattle.es_pool.proofs.Law.{room_alike, draws_alike, leaves_drawn, leaves_unchanged, moved_drawn}
 use Rattle.es_pool.proofs.agreement.gets_alike.Goals as goal
 
 pub returns-in-Ok-get-clause-account : goal.returns-in-Ok-get-clause-account

@@ -1,5 +1,5 @@
 use Rattle.std.proofs.Common.{refl}
-use Rattle.es_pool.proofs.Law.{returns_alike, some_out, moved_back}
+use Rattle.es_pool.proofs.Law.{returns_alike, moved_back}
 use Rattle.es_pool.proofs.agreement.puts_alike.Goals as goal
 
 pub returns-in-Some-clause-account : goal.returns-in-Some-clause-account

@@ -1,13 +1,12 @@
 use Rattle.std.proofs.Common.{refl, ℕ, ◌≡◌, ◌∙◌, ◌+◌, ◌-◌, ◌<◌, ◌≤◌, List, true, length, set, get_or, subst, sym, ap, arith}
 use Rattle.std.proofs.lemmas.List.{get_or_read}
 use Rattle.std.specs.Vec.{vec_capacity}
-use Rattle.bucket_list.specs.Lists.{Listed}
-use Rattle.es_pool.specs.Pool.{PoolState, fits_class, free_in, is_out, out_among, rest_of}
+use Rattle.es_pool.specs.Pool.{PoolState, fits_class, free_in, out_among, rest_of}
 use Rattle.es_pool.specs.Fields.{state_of}
 use Rattle.fsw_base.specs.PoolAccounts.{overhead}
 use Rattle.es_pool.specs.declared.blocks.CutBlock.{CutBlock}
 use Rattle.es_pool.proofs.Totals.{block}
-use Rattle.es_pool.proofs.Keeps.{Cut, cut, kept_at, cut_sufficed}
+use Rattle.es_pool.proofs.Keeps.{cut, kept_at, cut_sufficed}
 use Rattle.es_pool.proofs.pool.Pool.cut.Goals as goal
 
 pub add_node-block-requires : goal.add_node-block-requires

@@ -1,4 +1,4 @@
-use Rattle.std.proofs.Common.{◌≡◌, ◌+◌, ◌-◌, ◌*◌, ◌<◌, ◌≤◌, ◌^◌, ◌∙◌, length, get_or, ap, arith}
+use Rattle.std.proofs.Common.{◌+◌, ◌<◌, ◌∙◌, length, get_or, ap, arith}
 use Rattle.fsw_base.specs.PoolAccounts.{overhead}
 use Rattle.es_pool.specs.Pool.{fits_class, used_by, out_in, free_in, made_in}
 use Rattle.es_pool.proofs.Sizes.{size_small, product_small, fits_read}

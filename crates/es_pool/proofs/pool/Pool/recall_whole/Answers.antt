@@ -1,8 +1,7 @@
-use Rattle.std.proofs.Common.{◌≡◌, ◌+◌, ◌*◌, ◌≤◌, ◌<◌, length, get_or, ap, arith, subst}
+use Rattle.std.proofs.Common.{◌+◌, length, get_or, arith, subst}
 use Rattle.std.proofs.lemmas.Nat.{le-div}
 use Rattle.fsw_base.specs.PoolAccounts.{overhead}
-use Rattle.es_pool.specs.Pool.{PoolState, IsWhole}
-use Rattle.es_pool.specs.Fields.{state_of}
+use Rattle.es_pool.specs.Pool.{IsWhole}
 use Rattle.es_pool.proofs.Totals.{used-ge}
 use Rattle.es_pool.proofs.pool.Pool.recall_whole.Goals as goal
 

@@ -1,11 +1,10 @@
-use Rattle.std.proofs.Common.{◌≡◌, ℕ, ◌+◌, ◌<◌, ◌≤◌, ◌^◌, ◌∙◌, Bool, true, false, length, get_or, set, sym, refl, subst, ap, arith}
+use Rattle.std.proofs.Common.{ℕ, ◌+◌, ◌<◌, ◌∙◌, true, false, length, get_or, set, sym, subst, ap, arith}
 use Rattle.std.proofs.lemmas.List.{get_or_default}
-use Rattle.fsw_base.specs.PoolAccounts.{counted}
 use Rattle.es_pool.specs.Pool.{PoolState, Draws, Reuses}
 use Rattle.es_pool.specs.Fields.{state_of}
 use Rattle.es_pool.specs.declared.blocks.CutBlock.{CutBlock}
 use Rattle.es_pool.proofs.Totals.{block}
-use Rattle.es_pool.proofs.Keeps.{Reused, reused_read}
+use Rattle.es_pool.proofs.Keeps.{reused_read}
 use Rattle.es_pool.proofs.pool.Pool.reuse.Goals as goal
 
 pub overflow_add-self : goal.overflow_add-self

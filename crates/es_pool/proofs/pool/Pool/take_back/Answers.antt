@@ -1,4 +1,4 @@
-use Rattle.std.proofs.Common.{◌≡◌, ◌∙◌, ◌+◌, ◌-◌, ◌≤◌, true, false, get_or, set, refl, ap, arith}
+use Rattle.std.proofs.Common.{◌≡◌, ◌∙◌, ◌-◌, true, false, set, refl, ap, arith}
 use Rattle.std.proofs.lemmas.List.{get_or_read}
 use Rattle.es_pool.specs.Pool.{PoolState, is_out}
 use Rattle.es_pool.specs.Fields.{state_of}

@@ -1,4 +1,4 @@
-use Rattle.std.proofs.Common.{◌≡◌, ◌+◌, List, ℕ, ap, refl}
+use Rattle.std.proofs.Common.{◌+◌, ap, refl}
 use Rattle.zero_copy.specs.Held.{Held}
 use Rattle.zero_copy.proofs.Changes.{held_new}
 use Rattle.zero_copy.proofs.held.HeldLists.new.Goals as goal

@@ -1,4 +1,4 @@
-use Rattle.std.proofs.Common.{◌≡◌, ◌+◌, ◌-◌, ◌<◌, ◌≤◌, ◌∙◌, ◌∷◌, [], List, ℕ, Bool, true, false, length, get_or, set, drop, refl, sym, subst, ap, arith}
+use Rattle.std.proofs.Common.{◌≡◌, ◌+◌, ◌-◌, ◌<◌, ◌≤◌, ◌∙◌, ◌∷◌, [], length, get_or, set, drop, refl, sym, subst, ap, arith}
 use Rattle.std.proofs.lemmas.List.{get_or_read, get_or-set_same, set-get_or, nil_from_length}
 use Rattle.bucket_list.specs.Lists.{times_in}
 use Rattle.bucket_list.proofs.Linked.{empty_or_not}
