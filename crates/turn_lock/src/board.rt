@@ -196,7 +196,20 @@ impl<T: Historied> Board<T> {
         }
     }
 
-    /// Serves the next ticket, with the slot home again. Nobody is woken yet.
+    /// Serves the next ticket, with the slot home again, and answers the one served before.
+    fn serve_next(&self, place: &mut Place<T>) -> u64
+        requires table { place.old.table_id ≡ self.now.table.shared.table_id }
+        requires served { place.old.me.0.stage ≡ Has }
+        requires full { (x : T) × (place.old.me.1 ≡ (0, Some x) ∷ [])
+            × (T.history x ≡ place.old.me.0.seen) × (Some (T.fixed x) ≡ place.old.me.0.fixed) }
+        ensures place { Stays place.old place.new }
+        ensures passed { Passes place.old.me place.new.me }
+        ensures before { result ≡ place.old.me.0.ticket % wrap }
+    {
+        self.table.shared.fetch_add::<Pass>(place, SERVING, 1)
+    }
+
+    /// Passes the turn on to the next ticket, with the slot home again. Nobody is woken yet.
     pub(crate) fn pass(&self, mut place: Place<T>) -> Passed<T>
         requires table { place.table_id ≡ self.now.table.shared.table_id }
         requires served { place.me.0.stage ≡ Has }
@@ -206,7 +219,7 @@ impl<T: Historied> Board<T> {
         ensures passed { Passes place.me result.place.me }
         ensures next { result.next ≡ (place.me.0.ticket + 1) % wrap }
     {
-        let served = self.table.shared.fetch_add::<Pass>(&mut place, SERVING, 1);
+        let served = self.serve_next(&mut place);
         Passed {
             place,
             next: served.wrapping_add(1),

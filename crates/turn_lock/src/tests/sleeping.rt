@@ -165,6 +165,7 @@ fn entries_in_a_turn<'r, R: Wait>(
 ) -> u32
     requires seat { IsReady seat.old lock.now.name }
     ensures seat { IsReady seat.new lock.now.name }
+    ensures app { (view_of seat.new).app ≡ (view_of seat.old).app }
 {
     let turn = lock.enter(rt, seat);
     let entries = turn.value().pairs.len().min(PAIRS) as u32;
