@@ -24,6 +24,7 @@ use Rattle.script_runs.specs.Told.{receipts_told, seen_from, told}
 use Rattle.script_runs.specs.Trace.{first_registers}
 use Rattle.script_runs.proofs.Merged.{rotation-ends}
 use Rattle.app_run.specs.Lines.{line_bytes, entries_due, bytes_due}
+use Rattle.app_run.specs.Openings.{budgets_for, opened}
 use Rattle.app_run.specs.Rounds.{all_beginning, all_going, AreNumbered, AllStand, AllTold, HasTold, Rotates, RotatesTimes, told_on}
 use Rattle.app_run.specs.Runners.{Progress, beginning, standing_for}
 use Rattle.app_run.specs.Turns.{so_far, Stands}
@@ -86,14 +87,6 @@ unfolding budget_of account_of
 budget-bytes lines = omega (arith, bytes-in no_calls lines)
 
 -- The bus as it opens. --
-
--- each application's budget
-abbrev pub budgets_for : ScriptText → List Budget
-budgets_for script = map (λ a. budget_of a.lines) script.apps
-
--- the bus before the first call
-abbrev pub opened : ScriptText → Core
-opened script = record { limits = script.limits; log = record { entries = []; left = allowances (budgets_for script) } }
 
 pub apps-opened : (script : ScriptText) → apps_of (opened script) ≡ length script.apps
 apps-opened script =

@@ -102,7 +102,7 @@ along-told (sub ∷ subs) sending s = refl
 settles-transmit : (limits : Limits) (history : List Entry) (s : State) (app : ℕ) (bytes : List ℕ) (inc : Bool) → standing_of s app ≡ Active →
     Settles app (step limits history s app (calls.Transmit bytes inc)).0 (step limits history s app (calls.Transmit bytes inc)).1 None
 settles-transmit limits history s app bytes inc active =
-    settles-decided limits history s app (calls.Transmit bytes inc) (cause limits s app (calls.Transmit bytes inc)) (λ status. refl)
+    settles-decided limits history s app (calls.Transmit bytes inc) (cause limits history s app (calls.Transmit bytes inc)) (λ status. refl)
     (along (route s.subscriptions (message_id bytes)) _ s) (along-told (route s.subscriptions (message_id bytes)) _ s) active
 
 -- a receive that may wait
@@ -131,30 +131,30 @@ pub settles-line : (limits : Limits) (history : List Entry) (s : State) (app : �
     SettlesLine limits history s app pipes line (call_of pipes line)
 unfolding call_of pipe_waited_for
 settles-line limits history s app pipes (Create pipe depth name) active =
-    settles-decided limits history s app (calls.Create depth name) (cause limits s app (calls.Create depth name)) (λ status. refl) refl refl active
+    settles-decided limits history s app (calls.Create depth name) (cause limits history s app (calls.Create depth name)) (λ status. refl) refl refl active
 settles-line limits history s app pipes (Delete pipe) active =
-    settles-decided limits history s app (calls.Delete _) (cause limits s app (calls.Delete (slice_index pipes pipe))) (λ status. refl) refl refl active
+    settles-decided limits history s app (calls.Delete _) (cause limits history s app (calls.Delete (slice_index pipes pipe))) (λ status. refl) refl refl active
 settles-line limits history s app pipes (SetOpts pipe bits) active =
-    settles-decided limits history s app (calls.SetOpts _ bits) (cause limits s app (calls.SetOpts (slice_index pipes pipe) bits)) (λ status. refl) refl refl active
+    settles-decided limits history s app (calls.SetOpts _ bits) (cause limits history s app (calls.SetOpts (slice_index pipes pipe) bits)) (λ status. refl) refl refl active
 settles-line limits history s app pipes (GetOpts pipe) active =
-    settles-decided limits history s app (calls.GetOpts _) (cause limits s app (calls.GetOpts (slice_index pipes pipe))) (λ status. refl) refl refl active
+    settles-decided limits history s app (calls.GetOpts _) (cause limits history s app (calls.GetOpts (slice_index pipes pipe))) (λ status. refl) refl refl active
 settles-line limits history s app pipes (Find pipe name) active =
-    settles-decided limits history s app (calls.Find name) (cause limits s app (calls.Find name)) (λ status. refl) refl refl active
+    settles-decided limits history s app (calls.Find name) (cause limits history s app (calls.Find name)) (λ status. refl) refl refl active
 settles-line limits history s app pipes (PipeName pipe) active =
-    settles-decided limits history s app (calls.PipeName _) (cause limits s app (calls.PipeName (slice_index pipes pipe))) (λ status. refl) refl refl active
+    settles-decided limits history s app (calls.PipeName _) (cause limits history s app (calls.PipeName (slice_index pipes pipe))) (λ status. refl) refl refl active
 settles-line limits history s app pipes (Subscribe id pipe limit scope) active =
     let at = slice_index pipes pipe in
-    settles-decided limits history s app (calls.Subscribe id at limit scope) (cause limits s app (calls.Subscribe id at limit scope)) (λ status. refl)
+    settles-decided limits history s app (calls.Subscribe id at limit scope) (cause limits history s app (calls.Subscribe id at limit scope)) (λ status. refl)
     (either (is_subscribed s.subscriptions id at) s _ refl) refl active
 settles-line limits history s app pipes (Unsubscribe id pipe) active =
-    settles-decided limits history s app (calls.Unsubscribe id _) (cause limits s app (calls.Unsubscribe id (slice_index pipes pipe))) (λ status. refl) refl refl active
+    settles-decided limits history s app (calls.Unsubscribe id _) (cause limits history s app (calls.Unsubscribe id (slice_index pipes pipe))) (λ status. refl) refl refl active
 settles-line limits history s app pipes (Send id size fill inc) active = settles-transmit limits history s app _ inc active
 settles-line limits history s app pipes (SendRaw bytes inc) active = settles-transmit limits history s app bytes inc active
 settles-line limits history s app pipes (Receive pipe) active =
     let at = slice_index pipes pipe in
-    settles-decided limits history s app (calls.Receive at) (cause limits s app (calls.Receive at)) (refused-receive s at) refl refl active
+    settles-decided limits history s app (calls.Receive at) (cause limits history s app (calls.Receive at)) (refused-receive s at) refl refl active
 settles-line limits history s app pipes (Pend pipe) active =
-    settles-pend limits history s app pipe pipes (cause limits s app (calls.Pend (slice_index pipes pipe))) active
+    settles-pend limits history s app pipe pipes (cause limits history s app (calls.Pend (slice_index pipes pipe))) active
 settles-line limits history s app pipes line active = tt
 
 -- a look that finds a message, or that none can come

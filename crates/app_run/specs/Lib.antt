@@ -1,5 +1,6 @@
 pub mod Callers
 pub mod Lines
+pub mod Openings
 pub mod Received
 pub mod Runners
 pub mod RunnerParts

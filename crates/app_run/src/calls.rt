@@ -18,56 +18,89 @@ pub trait Calls {
     ghost caller: { Self → Caller };
 
     /// Makes a pipe that holds up to `depth` messages, and answers its number.
+    ///
+    /// # Errors
+    /// As `BusCore::create_pipe`.
     fn create_pipe(&mut self, depth: u32, name: &[u8]) -> Result<u32, SbStatus>
         requires { MayCallBus (caller self.old) (Call.Create depth name.now) }
         ensures { Answers (caller self.old) (caller self.new) (Call.Create depth name.now) (created result) };
 
     /// Ends a pipe.
+    ///
+    /// # Errors
+    /// As `BusCore::delete_pipe`.
     fn delete_pipe(&mut self, pipe: u32) -> Result<(), SbStatus>
         requires { MayCallBus (caller self.old) (Call.Delete pipe) }
         ensures { Answers (caller self.old) (caller self.new) (Call.Delete pipe) (done result) };
 
     /// Sets a pipe's option bits.
+    ///
+    /// # Errors
+    /// As `BusCore::set_opts`.
     fn set_opts(&mut self, pipe: u32, bits: u8) -> Result<(), SbStatus>
         requires { MayCallBus (caller self.old) (Call.SetOpts pipe bits) }
         ensures { Answers (caller self.old) (caller self.new) (Call.SetOpts pipe bits) (done result) };
 
     /// Answers a pipe's option bits.
+    ///
+    /// # Errors
+    /// As `BusCore::get_opts`.
     fn get_opts(&mut self, pipe: u32) -> Result<u8, SbStatus>
         requires { MayCallBus (caller self.old) (Call.GetOpts pipe) }
         ensures { Answers (caller self.old) (caller self.new) (Call.GetOpts pipe) (bits_told result) };
 
     /// Answers the number of the pipe of this name.
+    ///
+    /// # Errors
+    /// As `BusCore::find_pipe`.
     fn find_pipe(&mut self, name: &[u8]) -> Result<u32, SbStatus>
         requires { MayCallBus (caller self.old) (Call.Find name.now) }
         ensures { Answers (caller self.old) (caller self.new) (Call.Find name.now) (found result) };
 
     /// Answers a pipe's name.
+    ///
+    /// # Errors
+    /// As `BusCore::pipe_name`.
     fn pipe_name(&mut self, pipe: u32) -> Result<PipeText, SbStatus>
         requires { MayCallBus (caller self.old) (Call.PipeName pipe) }
         ensures { Answers (caller self.old) (caller self.new) (Call.PipeName pipe) (named result) };
 
     /// Has messages of this id queued on the pipe, up to `limit` of them at once.
+    ///
+    /// # Errors
+    /// As `BusCore::subscribe`.
     fn subscribe(&mut self, id: u16, pipe: u32, limit: u32, scope: Scope) -> Result<(), SbStatus>
         requires { MayCallBus (caller self.old) (Call.Subscribe id pipe limit scope) }
         ensures { Answers (caller self.old) (caller self.new) (Call.Subscribe id pipe limit scope) (done result) };
 
     /// Has no more messages of this id queued on the pipe.
+    ///
+    /// # Errors
+    /// As `BusCore::unsubscribe`.
     fn unsubscribe(&mut self, id: u16, pipe: u32) -> Result<(), SbStatus>
         requires { MayCallBus (caller self.old) (Call.Unsubscribe id pipe) }
         ensures { Answers (caller self.old) (caller self.new) (Call.Unsubscribe id pipe) (done result) };
 
     /// Sends a message; `inc` gives it the id's next sequence count.
+    ///
+    /// # Errors
+    /// As `BusCore::transmit`.
     fn transmit(&mut self, bytes: &[u8], inc: bool) -> Result<Sent, SbStatus>
         requires { MayCallBus (caller self.old) (Call.Transmit bytes.now inc) }
         ensures { Answers (caller self.old) (caller self.new) (Call.Transmit bytes.now inc) (sent result) };
 
     /// Takes the pipe's oldest message, and answers its number.
+    ///
+    /// # Errors
+    /// As `BusCore::receive`.
     fn receive(&mut self, pipe: u32) -> Result<u32, SbStatus>
         requires { MayCallBus (caller self.old) (Call.Receive pipe) }
         ensures { Answers (caller self.old) (caller self.new) (Call.Receive pipe) (got result) };
 
     /// Takes the pipe's oldest message, or waits for one.
+    ///
+    /// # Errors
+    /// As `BusCore::pend`.
     fn pend(&mut self, pipe: u32) -> Result<Pended, SbStatus>
         requires { MayCallBus (caller self.old) (Call.Pend pipe) }
         ensures { Answers (caller self.old) (caller self.new) (Call.Pend pipe) (pended result) };

@@ -10,7 +10,9 @@ use sb_calls::{BusCore, Pended, Sent};
 /// The calls of one application straight on the bus's core.
 #[derive(Drop)]
 pub struct CoreCalls<'c, L: Ledger> {
+    // The core that answers.
     core: &'c mut BusCore,
+    // Who calls.
     app: AppNo,
     // The steps that its calls take; told to nobody here.
     steps: &'c mut Steps<L>,

@@ -6,6 +6,7 @@ ghost use Rattle.script_settings.specs.Accounts.{budget_of};
 ghost use Rattle.script_runs.specs.Rotation.{rotation, rotations, enough};
 ghost use Rattle.script_runs.specs.Told.{receipts_told};
 ghost use Rattle.app_script.specs.Script.{ScriptText};
+ghost use Rattle.app_run.specs.Openings.{opened};
 ghost use Rattle.app_run.specs.Turns.{so_far, Stands};
 ghost use Rattle.app_run.specs.Rounds.{all_beginning, all_going, AllStand, AllTold, MovesOn, Rotates, RotatesTimes};
 
@@ -41,17 +42,64 @@ pub fn lockstep(alloc: Global, script: &Script) -> Result<Finished, AllocError>
     ensures apps { IfOk result (λ finished. apps_of finished.bus ≡ length script.now.apps) }
     ensures receipts { IfOk result (λ finished. map (λ list. list.receipts) finished.receipts.items ≡ map (receipts_told script.now (rotation script.now)) (range_with_len 1 (length script.now.apps))) }
 {
+    Ok(run(open(alloc, script)?))
+}
+
+// A run before its first call. It holds all memory that it takes.
+struct Opened<'s> {
+    script: &'s Script,
+    // Nothing was asked of it yet.
+    bus: BusCore,
+    // Each before its first line.
+    runners: Vec<Runner<'s>>,
+    // Empty, with room for the receipts of each application.
+    receipts: Vec<ReceiptList>,
+}
+
+// Takes all memory of a run.
+fn open(alloc: Global, script: &Script) -> Result<Opened<'_>, AllocError>
+    ensures script { IfOk result (λ run. run.script.now ≡ script.now) }
+    ensures bus { IfOk result (λ run. run.bus ≡ opened script.now) }
+    ensures runners { IfOk result (λ run. run.runners.items ≡ all_beginning script.now) }
+    ensures receipts { IfOk result (λ run. run.receipts.items ≡ []) }
+    ensures room { IfOk result (λ run. length script.now.apps ≤ vec_capacity run.receipts) }
+{
     script.recall_ranges();
     let apps = script.apps() as usize;
     let budgets = budgets_of(alloc, script)?;
-    let mut bus = BusCore::new(alloc, script.config(), &budgets)?;
-    let mut runners = runners_of(alloc, script)?;
+    let bus = BusCore::new(alloc, script.config(), &budgets)?;
+    let runners = runners_of(alloc, script)?;
     let receipts = Vec::with_capacity(alloc, apps)?;
+    Ok(Opened {
+        script,
+        bus,
+        runners,
+        receipts,
+    })
+}
+
+// Makes all calls of a run. Having no allocator, it takes no memory.
+fn run(run: Opened<'_>) -> Finished
+    requires bus { run.bus ≡ opened run.script.now }
+    requires runners { run.runners.items ≡ all_beginning run.script.now }
+    requires receipts { run.receipts.items ≡ [] }
+    requires room { length run.script.now.apps ≤ vec_capacity run.receipts }
+    ensures history { result.bus.log.entries ≡ rotation run.entry.script.now }
+    ensures limits { result.bus.limits ≡ run.entry.script.now.limits }
+    ensures apps { apps_of result.bus ≡ length run.entry.script.now.apps }
+    ensures receipts { map (λ list. list.receipts) result.receipts.items ≡ map (receipts_told run.entry.script.now (rotation run.entry.script.now)) (range_with_len 1 (length run.entry.script.now.apps)) }
+{
+    let Opened {
+        script,
+        mut bus,
+        mut runners,
+        receipts,
+    } = run;
     run_counted::<Brand>(&mut bus, &mut runners, rotations_of(script), Blank::new(1));
-    Ok(Finished {
+    Finished {
         bus,
         receipts: receipts_of(runners, receipts),
-    })
+    }
 }
 
 // What each application may add to the run.

@@ -10,8 +10,11 @@ use std::marker::Model;
 /// An application: its name, its call lines in order, and what they take.
 #[derive(Drop)]
 pub(crate) struct App {
+    // Its name.
     name: ByteText,
+    // Its call lines, in order.
     lines: Vec<Line>,
+    // What these lines take.
     account: Account,
 }
 

@@ -8,11 +8,17 @@ use script_words::text::is_same;
 /// The form of a line.
 #[derive(Clone, Copy)]
 pub(crate) enum Form {
+    /// `script`
     Script,
+    /// `set`
     Set,
+    /// `sizes`
     Sizes,
+    /// `seq`
     Seq,
+    /// `app`
     App,
+    /// A call line, by its first word.
     Call(CallWord),
 }
 

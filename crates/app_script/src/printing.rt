@@ -1,5 +1,5 @@
 //! Printing a script.
-ghost use Rattle.std.specs.Prelude.{◌≡◌, ℕ, ◌≤◌, List, ◌∷◌, [], ◌++◌, length, map, Ok, OnOk, OnErr, codes, decimal};
+ghost use Rattle.std.specs.Prelude.{◌≡◌, ℕ, ◌≤◌, false, true, List, ◌∷◌, [], ◌++◌, length, map, Ok, OnOk, OnErr, codes, decimal};
 ghost use Rattle.std.specs.List.{flat_map};
 ghost use Rattle.fsw_base.specs.Limits.{usual_limits, limits_of};
 ghost use Rattle.fsw_base.specs.Blocks.{usual_sizes};
@@ -12,7 +12,7 @@ ghost use Rattle.app_script.specs.ScriptSpelling.{limit_word, limit_of, set_line
 
 use crate::app::App;
 use crate::script::Script;
-use fsw_base::{BlockSizes, Config, CountStarts, Sink, WriteFault};
+use fsw_base::{BlockSizes, Config, CountStarts, Sink, SinkGuard, WriteFault};
 use line_spelling::print_line;
 use script_settings::LimitName;
 use text_page::{Page, finish, put, put_hex_id, put_number};
@@ -22,14 +22,21 @@ use text_page::{Page, finish, put, put_hex_id, put_number};
 /// it has at most 1,048,576 bytes, as a text may, it is read as this script again.
 ///
 /// The sink is given the text in pages of 4096 bytes, of which it may take less at a time. No memory
-/// is taken. `WriteFault` comes only where the sink's count of faults rose in this call (or stands at
-/// its last value); the sink then has a front of the text, and after the failed write nothing more is
-/// written.
-pub fn print_script<K: Sink>(script: &Script, sink: &mut K) -> Result<(), WriteFault>
-    ensures ok { OnOk result (Grew (K.written sink.old) (K.written sink.new) (spelled_script script.now)) }
-    ensures err { OnErr result (CutShort (K.written sink.old) (K.written sink.new) (spelled_script script.now)) }
-    ensures cause { OnErr result (Rose (K.faults sink.old) (K.faults sink.new)) }
-    ensures never_falls { K.faults sink.old ≤ K.faults sink.new }
+/// is taken. No write through this guard may have failed before.
+///
+/// # Errors
+/// `WriteFault` only where a write failed, so that the sink's count of faults rose in this call (or
+/// stands at its last value); the sink then has a front of the text, and after the failed write nothing
+/// more is written.
+pub fn print_script<K: Sink>(script: &Script, sink: &mut SinkGuard<'_, K>) -> Result<(), WriteFault>
+    requires { sink.old.failed ≡ false }
+    ensures ok { OnOk result (Grew sink.old.written sink.new.written (spelled_script script.now)) }
+    ensures none_failed { OnOk result (sink.new.failed ≡ false) }
+    ensures err { OnErr result (CutShort sink.old.written sink.new.written (spelled_script script.now)) }
+    ensures failed { OnErr result (sink.new.failed ≡ true) }
+    ensures cause { OnErr result (Rose sink.old.faults sink.new.faults) }
+    ensures never_falls { sink.old.faults ≤ sink.new.faults }
+    ensures same_sink { sink.new.sink ≡ sink.old.sink }
     ensures reads_back { OnOk result (length (spelled_script script.now) ≤ 1048576 → grammar (spelled_script script.now) ≡ Ok script.now) }
 {
     script.recall_ranges();
@@ -43,8 +50,8 @@ pub fn print_script<K: Sink>(script: &Script, sink: &mut K) -> Result<(), WriteF
 }
 
 // Puts the lines of the limits that aren't the usual ones.
-fn put_limits<K: Sink>(sink: &mut K, page: &mut Page, config: &Config)
-    ensures { Puts K.written K.faults sink.old sink.new page.old page.new (ended (set_lines (limits_of config.now))) }
+fn put_limits<K: Sink>(sink: &mut SinkGuard<'_, K>, page: &mut Page, config: &Config)
+    ensures { Puts sink.old sink.new page.old page.new (ended (set_lines (limits_of config.now))) }
 {
     put_limit(sink, page, LimitName::MsgIds, config.msgids);
     put_limit(sink, page, LimitName::Pipes, config.pipes);
@@ -60,8 +67,8 @@ fn put_limits<K: Sink>(sink: &mut K, page: &mut Page, config: &Config)
 }
 
 // Puts the line of a limit, where it isn't the usual one.
-fn put_limit<K: Sink>(sink: &mut K, page: &mut Page, name: LimitName, value: u32)
-    ensures { Puts K.written K.faults sink.old sink.new page.old page.new (ended (set_lines_of name value)) }
+fn put_limit<K: Sink>(sink: &mut SinkGuard<'_, K>, page: &mut Page, name: LimitName, value: u32)
+    ensures { Puts sink.old sink.new page.old page.new (ended (set_lines_of name value)) }
 {
     if value != usual_limit(name) {
         put(sink, page, b"set ");
@@ -111,8 +118,8 @@ fn limit_word(name: LimitName) -> &'static [u8]
 }
 
 // Puts the line of the block sizes, where they aren't the usual ones.
-fn put_sizes<K: Sink>(sink: &mut K, page: &mut Page, sizes: &BlockSizes)
-    ensures { Puts K.written K.faults sink.old sink.new page.old page.new (ended (sizes_lines sizes.now)) }
+fn put_sizes<K: Sink>(sink: &mut SinkGuard<'_, K>, page: &mut Page, sizes: &BlockSizes)
+    ensures { Puts sink.old sink.new page.old page.new (ended (sizes_lines sizes.now)) }
 {
     if !are_usual(sizes) {
         put(sink, page, b"sizes");
@@ -138,8 +145,8 @@ fn are_usual(sizes: &BlockSizes) -> bool
 }
 
 // Puts block sizes, each behind a space.
-fn put_each_size<K: Sink>(sink: &mut K, page: &mut Page, sizes: &BlockSizes)
-    ensures { Puts K.written K.faults sink.old sink.new page.old page.new (behind (map decimal sizes.now)) }
+fn put_each_size<K: Sink>(sink: &mut SinkGuard<'_, K>, page: &mut Page, sizes: &BlockSizes)
+    ensures { Puts sink.old sink.new page.old page.new (behind (map decimal sizes.now)) }
 {
     for i in 0..sizes.count() {
         put(sink, page, b" ");
@@ -148,8 +155,8 @@ fn put_each_size<K: Sink>(sink: &mut K, page: &mut Page, sizes: &BlockSizes)
 }
 
 // Puts the lines of the starts of counts.
-fn put_starts<K: Sink>(sink: &mut K, page: &mut Page, starts: &CountStarts)
-    ensures { Puts K.written K.faults sink.old sink.new page.old page.new (ended (map seq_text starts.now)) }
+fn put_starts<K: Sink>(sink: &mut SinkGuard<'_, K>, page: &mut Page, starts: &CountStarts)
+    ensures { Puts sink.old sink.new page.old page.new (ended (map seq_text starts.now)) }
 {
     for i in 0..starts.count() {
         put_start(sink, page, starts.at(i));
@@ -157,8 +164,8 @@ fn put_starts<K: Sink>(sink: &mut K, page: &mut Page, starts: &CountStarts)
 }
 
 // Puts the line of a count's start.
-fn put_start<K: Sink>(sink: &mut K, page: &mut Page, start: (u16, u16))
-    ensures { Puts K.written K.faults sink.old sink.new page.old page.new (seq_text start ++ codes "\n") }
+fn put_start<K: Sink>(sink: &mut SinkGuard<'_, K>, page: &mut Page, start: (u16, u16))
+    ensures { Puts sink.old sink.new page.old page.new (seq_text start ++ codes "\n") }
 {
     put(sink, page, b"seq ");
     put_hex_id(sink, page, start.0);
@@ -168,8 +175,8 @@ fn put_start<K: Sink>(sink: &mut K, page: &mut Page, start: (u16, u16))
 }
 
 // Puts the lines of the applications.
-fn put_applications<K: Sink>(sink: &mut K, page: &mut Page, apps: &[App])
-    ensures { Puts K.written K.faults sink.old sink.new page.old page.new (ended (flat_map app_lines apps.now)) }
+fn put_applications<K: Sink>(sink: &mut SinkGuard<'_, K>, page: &mut Page, apps: &[App])
+    ensures { Puts sink.old sink.new page.old page.new (ended (flat_map app_lines apps.now)) }
 {
     for app in apps {
         put_application(sink, page, app);
@@ -177,8 +184,8 @@ fn put_applications<K: Sink>(sink: &mut K, page: &mut Page, apps: &[App])
 }
 
 // Puts the lines of an application.
-fn put_application<K: Sink>(sink: &mut K, page: &mut Page, app: &App)
-    ensures { Puts K.written K.faults sink.old sink.new page.old page.new (ended (app_lines app.now)) }
+fn put_application<K: Sink>(sink: &mut SinkGuard<'_, K>, page: &mut Page, app: &App)
+    ensures { Puts sink.old sink.new page.old page.new (ended (app_lines app.now)) }
 {
     put(sink, page, b"app ");
     put(sink, page, app.name());
@@ -187,8 +194,8 @@ fn put_application<K: Sink>(sink: &mut K, page: &mut Page, app: &App)
 }
 
 // Puts the call lines of an application.
-fn put_lines<K: Sink>(sink: &mut K, page: &mut Page, app: &App)
-    ensures { Puts K.written K.faults sink.old sink.new page.old page.new (ended (map line_text app.now.lines)) }
+fn put_lines<K: Sink>(sink: &mut SinkGuard<'_, K>, page: &mut Page, app: &App)
+    ensures { Puts sink.old sink.new page.old page.new (ended (map line_text app.now.lines)) }
 {
     for i in 0..app.lines() {
         print_line(sink, page, app.line(i));

@@ -1,6 +1,6 @@
 //! A script on its happy path, and one with a fault.
 use crate::{ReadFail, print_script, read_script};
-use fsw_base::MemSink;
+use fsw_base::{MemSink, SinkGuard};
 use std::alloc::Global;
 use std::test::Fail;
 
@@ -44,7 +44,10 @@ fn printed_script_is_read_again(rt: HostRuntime) -> Result<(), Fail> {
     for spelling in [text.as_slice(), printed] {
         let mut sink = MemSink::new(rt.alloc(), 200, 200, &[])?;
         if let Ok(script) = read_script(rt.alloc(), spelling) {
-            assert_eq!(rt; print_script(&script, &mut sink), Ok(()));
+            assert_eq!(rt;
+                print_script(&script, &mut SinkGuard::new(&mut sink)),
+                Ok(())
+            );
         }
         assert_eq!(rt; sink.written(), printed);
     }

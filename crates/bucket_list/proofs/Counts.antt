@@ -1,7 +1,8 @@
 -- How often a node stands in a list, or in all of them.
-use Rattle.std.proofs.Common.{◌≡◌, ◌+◌, ◌<◌, ◌≤◌, ℕ, suc, refl, true, false, cond, eqb, List, [], ◌∷◌, length, get_or, set, ap, arith}
+use Rattle.std.proofs.Common.{◌≡◌, ◌+◌, ◌<◌, ◌≤◌, ◌⊎◌, inl, inr, ℕ, suc, refl, true, false, cond, eqb, List, [], ◌∷◌, length, get_or, set, ap, arith}
 use Rattle.std.specs.List.{IsDistinct, AllByRecursion, list_any}
 use Rattle.std.proofs.lemmas.List.Sums.{sum_by-cons, sum_by-set, get_or-le-sum_by}
+use Rattle.std.proofs.lemmas.Bool.{cases_lt}
 use Rattle.std.proofs.lemmas.Bool.Decides.{nat_tests}
 use Rattle.std.proofs.lemmas.Map.Steps.{length-le_from_distinct_below}
 use Rattle.bucket_list.specs.Lists.{times_in, times}
@@ -60,3 +61,22 @@ pub loose_from_each : (lists : List (List ℕ)) (node : ℕ) → ((list : ℕ) �
 loose_from_each [] node none = refl
 loose_from_each (nodes ∷ lists) node none =
     omega (arith, sum_by-cons (λ ns. times_in ns node) nodes lists, none 0 (omega arith), loose_from_each lists node (λ list h. none (suc list) (omega (arith, h))))
+
+-- a node that stands once in each list at most, and in no other list than one, stands once in all of them at most
+pub once_from_each : (lists : List (List ℕ)) (node : ℕ) → ((list : ℕ) → list < length lists → times_in (get_or lists list []) node ≤ 1)
+    → ((list other : ℕ) → list < length lists → other < length lists → 0 < times_in (get_or lists list []) node → (other ≡ list → ⊥) → times_in (get_or lists other []) node ≡ 0)
+    → times lists node ≤ 1
+once_from_each [] node once alone = omega arith
+once_from_each (nodes ∷ lists) node once alone =
+    by_cases (cases_lt 0 (times_in nodes node))
+    (once_from_each lists node (λ list h. once (suc list) (omega (arith, h)))
+    (λ list other h ho some ne. alone (suc list) (suc other) (omega (arith, h)) (omega (arith, ho)) some (λ e. ne (omega (arith, e)))))
+  where
+    all : times (nodes ∷ lists) node ≡ times_in nodes node + times lists node
+    all = sum_by-cons (λ ns. times_in ns node) nodes lists
+
+    by_cases : (0 < times_in nodes node) ⊎ (times_in nodes node ≤ 0) → times lists node ≤ 1 → times (nodes ∷ lists) node ≤ 1
+    by_cases (inl here) later =
+        let none = loose_from_each lists node (λ list h. alone 0 (suc list) (omega arith) (omega (arith, h)) here (λ e. omega (arith, e))) in
+        omega (arith, all, none, once 0 (omega arith))
+    by_cases (inr none) later = omega (arith, all, none, later)

@@ -1,5 +1,5 @@
 -- Lists of numbered nodes, as their user sees them.
-use Rattle.std.specs.Prelude.{◌≡◌, ◌==◌, ℕ, List, [], slice_index_or, sum_by, count_by}
+use Rattle.std.specs.Prelude.{◌≡◌, ◌==◌, ◌≤◌, ℕ, List, [], slice_index_or, sum_by, count_by}
 
 -- how many nodes there is room for, how many there are, and the node numbers of each list, front first
 pub record Listed : Type 0 where
@@ -22,3 +22,8 @@ times lists node = sum_by (λ nodes. times_in nodes node) lists
 -- a node is in no list
 abbrev pub IsLoose : Listed → ℕ → Type 0
 IsLoose s node = times s.lists node ≡ 0
+
+-- no node stands twice, neither in one list nor in two, and each that stands in a list exists
+pub record AreApart (s : Listed) : Type 0 where
+  pub once : (node : ℕ) → times s.lists node ≤ 1
+  pub exist : (node : ℕ) → s.nodes ≤ node → IsLoose s node

@@ -13,6 +13,7 @@ use std::sync::ledger::Ledger;
 /// its links here counts them all.
 #[derive(Drop)]
 pub struct Links {
+    // The numbers, by place.
     places: Vec<u32>,
 }
 
@@ -24,6 +25,9 @@ impl Model for Links {
 
 impl Links {
     /// A row of `count` places, with 0 at each. No later call takes memory.
+    ///
+    /// # Errors
+    /// `AllocError` where memory runs out.
     pub fn new(alloc: Global, count: u32) -> Result<Links, AllocError>
         ensures { IfOk result (λ links. links ≡ replicate count 0) }
     {
@@ -33,6 +37,9 @@ impl Links {
     }
 
     /// A row of `count` places, each linked to itself. No later call takes memory.
+    ///
+    /// # Errors
+    /// `AllocError` where memory runs out.
     pub fn to_themselves(alloc: Global, count: u32) -> Result<Links, AllocError>
         ensures { IfOk result (λ links. links ≡ range_with_len 0 count) }
     {
@@ -65,6 +72,9 @@ impl Links {
 }
 
 /// A list of `count` zeros.
+///
+/// # Errors
+/// `AllocError` where memory runs out.
 pub fn zeros(alloc: Global, count: u32) -> Result<Vec<u32>, AllocError>
     ensures { IfOk result (λ numbers. numbers.items ≡ replicate count 0) }
 {

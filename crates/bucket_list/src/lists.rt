@@ -1,6 +1,6 @@
 //! The lists.
 ghost use Rattle.std.specs.Prelude.{◌≡◌, ℕ, ◌+◌, ◌<◌, ◌≤◌, [], ◌∷◌, length, replicate, slice_set, drop, IsNone, IfOk, IfSome, ◌↔◌};
-ghost use Rattle.bucket_list.specs.Lists.{Listed, listed_at, IsLoose};
+ghost use Rattle.bucket_list.specs.Lists.{Listed, listed_at, IsLoose, AreApart};
 
 use crate::links::{Links, zeros};
 use crate::steps::Steps;
@@ -51,6 +51,13 @@ impl Lists {
             counts,
             nodes: 0,
         })
+    }
+
+    /// No node stands in two lists or twice in one, and each node in a list exists. Does nothing.
+    pub fn recall_apart(&self)
+        ensures { AreApart self.now }
+    {
+        let _ = &self.links;
     }
 
     /// A further node, in no list. Nodes are numbered 0, 1, 2 and so on.

@@ -36,12 +36,9 @@ pub route_seen : (subs : Subscribed) (id : ℕ) → route (map sub_in subs.live)
 route_seen subs id = filter-map (λ s. eqb s.id id) sub_in subs.live
 
 -- an id without a route has no subscription
-pub no_route : (subs : Subscribed) (routing : Routing) (id : ℕ) → AreRouted subs routing → route_of routing.routes id ≡ None → route (map sub_in subs.live) id ≡ []
-no_route subs routing id routed none = route_seen subs id ∙ ap (map sub_in) (each subs.live routed.ways)
+pub none_of_id : (subs : Subscribed) (routing : Routing) (id : ℕ) → AreRouted subs routing → route_of routing.routes id ≡ None → of_id id subs ≡ []
+none_of_id subs routing id routed none = each subs.live routed.ways
   where
-    Has : Subscription → Type 0
-    Has s = is_some (route_of routing.routes s.id) ≡ true
-
     each : (live : List Subscription) → All (λ s. is_some (route_of routing.routes s.id) ≡ true) live → filter (λ s. eqb s.id id) live ≡ []
     each [] all = refl
     each (s ∷ live) all =
@@ -53,10 +50,13 @@ no_route subs routing id routed none = route_seen subs id ∙ ap (map sub_in) (e
             let no : false ≡ true = ap is_some (sym none) ∙ ap (λ n. is_some (route_of routing.routes n)) (sym same) ∙ All-head (λ t. is_some (route_of routing.routes t.id) ≡ true) s live all in
             absurd (cc (no))
 
+pub no_route : (subs : Subscribed) (routing : Routing) (id : ℕ) → AreRouted subs routing → route_of routing.routes id ≡ None → route (map sub_in subs.live) id ≡ []
+no_route subs routing id routed none = route_seen subs id ∙ ap (map sub_in) (none_of_id subs routing id routed none)
+
 -- Live subscriptions. --
 
 -- a live subscription is found by its slot and number
-each_found : (below : ℕ) (live : List Subscription) → Rises (λ s. s.number) below live → All (λ s. find (goes_by (number_of s)) live ≡ Some s) live
+pub each_found : (below : ℕ) (live : List Subscription) → Rises (λ s. s.number) below live → All (λ s. find (goes_by (number_of s)) live ≡ Some s) live
 each_found below [] rises = All-nil (λ s. find (goes_by (number_of s)) [] ≡ Some s)
 each_found below (x ∷ xs) rises =
     All-cons (λ s. find (goes_by (number_of s)) (x ∷ xs) ≡ Some s) x xs
@@ -84,10 +84,10 @@ found_now first subs s same live = by_found (live_at subs (number_of s)) refl se
 
 -- What is left. --
 
-left_more : {X : Type 0} (k : ℕ) (xs : List X) (x : X) (rest : List X) → drop k xs ≡ x ∷ rest → rest ≡ drop (k + 1) xs
+pub left_more : {X : Type 0} (k : ℕ) (xs : List X) (x : X) (rest : List X) → drop k xs ≡ x ∷ rest → rest ≡ drop (k + 1) xs
 left_more k xs x rest is = ap (drop 1) (sym is) ∙ drop-drop 1 k xs
 
-first_left : (k : ℕ) (dests : List Dest) (dest : Dest) → Some dest ≡ first_dest (drop k dests) → drop k dests ≡ dest ∷ drop (k + 1) dests
+pub first_left : (k : ℕ) (dests : List Dest) (dest : Dest) → Some dest ≡ first_dest (drop k dests) → drop k dests ≡ dest ∷ drop (k + 1) dests
 first_left k dests dest is = by_left (drop k dests) refl is
   where
     by_left : (left : List Dest) → drop k dests ≡ left → Some dest ≡ first_dest left → drop k dests ≡ dest ∷ drop (k + 1) dests
@@ -95,6 +95,10 @@ first_left k dests dest is = by_left (drop k dests) refl is
     by_left (d ∷ rest) here some =
         let same : d ≡ dest = cc (some) in
         here ∙ ap (λ l. d ∷ l) (left_more k dests d rest here) ∙ ap (λ e. e ∷ drop (k + 1) dests) same
+
+-- where a node stands
+pub stands_at : (k : ℕ) (dests : List Dest) (dest : Dest) → Some dest ≡ first_dest (drop k dests) → dests ≡ take k dests ++ dest ∷ drop (k + 1) dests
+stands_at k dests dest is = sym (take-append-drop k dests) ∙ ap (λ l. take k dests ++ l) (first_left k dests dest is)
 
 -- So many destinations are done: what is left of them, with the pipes as they are, comes to what the whole does with the
 -- pipes as they were.
@@ -142,7 +146,7 @@ module _ (old : Pipes) (first : Subscribed) (routing : Routing) (id way sender n
 
     -- where the node stands
     pub stands : dests_at routing way ≡ take k (dests_at routing way) ++ (node, sub) ∷ drop (k + 1) (dests_at routing way)
-    stands = sym (take-append-drop k (dests_at routing way)) ∙ ap (λ l. take k (dests_at routing way) ++ l) left
+    stands = stands_at k (dests_at routing way) (node, sub) walked.at_is
 
     -- the subscription whose turn it is
     due : (s : Subscription) × (drop k (of_id id first) ≡ s ∷ drop (k + 1) (of_id id first)) × (number_of s ≡ sub)

@@ -11,11 +11,11 @@ use Rattle.std.proofs.lemmas.List.Elements.{All-nil, All-cons, All-head, All-tai
 use Rattle.fsw_base.proofs.Lists.{list_any-map}
 use Rattle.subscriptions.specs.declared.words.SubNo.{SubNo}
 use Rattle.subscriptions.specs.declared.words.SubRow.{SubRow}
-use Rattle.subscriptions.specs.Subs.{Subscription, Subscribed, row_of, number_of, goes_by, live_at, without, ties, IsRising}
+use Rattle.subscriptions.specs.Subs.{Subscription, Subscribed, row_of, number_of, goes_by, live_at, without, IsRising}
 use Rattle.routing.specs.Dests.{Dest, is_sub, has_sub}
 use Rattle.routing.specs.Dests as dests
 use Rattle.routing.specs.Routing.{Route, Routing, fresh_route, route_at, dests_at, route_from, route_of, with_dests}
-use Rattle.bus_tables.specs.Tied.{AreRouted, of_id, way_in, ways_of}
+use Rattle.bus_tables.specs.Tied.{AreRouted, of_id, way_in, ways_of, ties}
 use Rattle.bus_tables.proofs.EndingsLists.{with_implied, found_all, found_passes, found_filtered, none_passes, filter_whole, filter_shorter, filters_commute, filter_within, count_filtered}
 
 -- Numbers of live subscriptions. --

@@ -12,3 +12,4 @@ mod Counting
 mod Makings
 mod MakingsRouted
 mod Readers
+mod FirstOf

@@ -16,11 +16,11 @@ use Rattle.fsw_base.specs.declared.statuses.SbStatus.TheVariants.{MaxDestsMet}
 use Rattle.bus_words.specs.Bus as bus
 use Rattle.pipe_queue.specs.declared.item.Item.{Item}
 use Rattle.pipe_table.specs.Table.{Pipes, PipeRow, pipe_row}
-use Rattle.subscriptions.specs.Subs.{Subscription, Subscribed, number_of, ties}
+use Rattle.subscriptions.specs.Subs.{Subscription, Subscribed, number_of}
 use Rattle.routing.specs.Dests.{Dest}
 use Rattle.routing.specs.Routing.{Route, Routing, fresh_route, route_at, dests_at, route_from, route_of, with_dests}
 use Rattle.bus_tables.specs.Rows.{Row, RouteRow, with_route}
-use Rattle.bus_tables.specs.Tied.{row_in, sub_in, way_in, tables_in, of_id, waiting_at, IsCounted, IsOf, IsQueued, AreQueued, AreRouted}
+use Rattle.bus_tables.specs.Tied.{row_in, sub_in, way_in, tables_in, of_id, waiting_at, IsCounted, IsOf, IsQueued, AreQueued, AreRouted, ties}
 use Rattle.bus_tables.proofs.Readers.{way_there}
 use Rattle.bus_tables.proofs.Counting.{found, route_from-set}
 

@@ -1,6 +1,6 @@
 -- How the three tables belong together: what waits on the pipes is counted at its subscriptions, and the destinations of an
 -- id are its subscriptions.
-use Rattle.std.specs.Prelude.{◌≡◌, ℕ, ◌≤◌, ◌==◌, true, List, [], map, filter, count_by, Some, is_some}
+use Rattle.std.specs.Prelude.{◌≡◌, ℕ, ◌≤◌, ◌==◌, ◌&&◌, Bool, true, List, [], map, filter, find, count_by, Option, Some, is_some}
 use Rattle.std.specs.List.{All}
 use Rattle.std.specs.Option.{option_map}
 use Rattle.bus_words.specs.Bus.{Subscription}
@@ -8,6 +8,7 @@ use Rattle.pipe_queue.specs.declared.item.Item.{Item}
 use Rattle.pipe_table.specs.Table.{Pipes, PipeRow, pipe_row}
 use Rattle.routing.specs.Routing.{Route, Routing, route_of, dests_at}
 use Rattle.subscriptions.specs.Subs as subs
+use Rattle.subscriptions.specs.declared.words.SubNo.{SubNo}
 use Rattle.bus_tables.specs.declared.tables.ItemRow.{ItemRow}
 use Rattle.bus_tables.specs.Rows.{Row, RouteRow}
 use Rattle.bus_tables.specs.Tables.{Tables}
@@ -78,6 +79,14 @@ pub record AreQueued (rows : List PipeRow) (subscribed : subs.Subscribed) : Type
 
 -- Subscriptions and routes. --
 
+-- whether a live subscription ties this id to this pipe
+abbrev pub ties : ℕ → ℕ → subs.Subscription → Bool
+ties id pipe s = s.id == id && s.pipe == pipe
+
+-- the first live subscription that ties this id to this pipe
+abbrev pub first_of : subs.Subscribed → ℕ → ℕ → Option SubNo
+first_of subscribed id pipe = option_map subs.number_of (find (ties id pipe) subscribed.live)
+
 -- the live subscriptions of an id, in order of number
 abbrev pub of_id : ℕ → subs.Subscribed → List subs.Subscription
 of_id id subscribed = filter (λ s. s.id == id) subscribed.live
@@ -86,7 +95,7 @@ of_id id subscribed = filter (λ s. s.id == id) subscribed.live
 pub record AreRouted (subscribed : subs.Subscribed) (routing : Routing) : Type 0 where
   pub dests : (id route : ℕ) → route_of routing.routes id ≡ Some route → map (λ dest. dest.1) (dests_at routing route) ≡ map subs.number_of (of_id id subscribed)
   pub ways : All (λ s. is_some (route_of routing.routes s.id) ≡ true) subscribed.live
-  pub once : (id pipe : ℕ) → count_by (subs.ties id pipe) subscribed.live ≤ 1
+  pub once : (id pipe : ℕ) → count_by (ties id pipe) subscribed.live ≤ 1
 
 -- what is always true of the three
 pub record AreTied (pipes : Pipes) (subscribed : subs.Subscribed) (routing : Routing) : Type 0 where

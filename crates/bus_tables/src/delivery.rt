@@ -35,7 +35,7 @@ pub(crate) fn along<L: Ledger>(
     ensures cost { steps.new ≤ steps.old + 2 * length (route (map sub_in subs.old.live) id) + 2 }
 {
     // Does nothing; the proof learns of it that no two subscriptions have one number.
-    subs.are_in_order();
+    subs.recall_order();
     let Some(route) = routes.route_of(id) else {
         return 0;
     };
@@ -64,8 +64,8 @@ fn offer(pipes: &mut PipeTable, subs: &mut Subs, sub: SubNo, sender: AppNo, numb
     ensures queued { AreQueued pipes.new.live subs.new }
 {
     // Do nothing; the proof learns of them that no two pipes, and no two subscriptions, have one number.
-    pipes.are_in_order();
-    subs.are_in_order();
+    pipes.recall_order();
+    subs.recall_order();
     let pipe = subs.at(sub).pipe;
     if pipes.ignores(pipe, sender) || subs.admit(sub) == Verdict::OverLimit {
         return 0;

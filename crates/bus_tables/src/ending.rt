@@ -24,7 +24,7 @@ pub(crate) fn end_subscription<L: Ledger>(
     ensures cost { ForSome (live_at subs.old sub) (λ s. steps.new ≤ steps.old + length (of_id s.id subs.old) + 8) }
 {
     // Does nothing; the proof learns of it that no two subscriptions have one number.
-    subs.are_in_order();
+    subs.recall_order();
     let id = subs.at(sub).id;
     if let Some(route) = routes.route_of(id) {
         routes.remove_dest(route, sub, steps);
@@ -47,7 +47,7 @@ pub(crate) fn end_of_pipe<L: Ledger>(
 {
     while let Some(sub) = subs.any_of_pipe(pipe) {
         // As above: the one that ends is the only one of its number.
-        subs.are_in_order();
+        subs.recall_order();
         end_subscription(subs, routes, sub, steps);
     }
 }

@@ -28,6 +28,7 @@
 mod delivery;
 mod ending;
 mod making;
+mod pairs;
 mod tables;
 #[cfg(test)]
 mod tests;

@@ -12,6 +12,7 @@ ghost use Rattle.bus_tables.specs.Tables.{opened, IsRising};
 use crate::delivery::along;
 use crate::ending::{end_of_pipe, end_subscription};
 use crate::making::{item_row, route_for};
+use crate::pairs::first_of;
 use bucket_list::{Ledger, Steps};
 use bus_words::PipeText;
 use fsw_base::{AppNo, Config, Scope};
@@ -122,11 +123,13 @@ impl BusTables {
         item_row(self.pipes.last(number))
     }
 
-    /// Whether the pipe is subscribed to the id. Looks at the id's subscriptions alone.
-    pub fn is_subscribed(&self, id: u16, pipe: u32) -> bool
-        ensures { result ≡ is_subscribed self.now.subscriptions id pipe }
+    /// Whether the pipe is subscribed to the id. Goes along the id's subscriptions alone: at most 2 steps for each, and 2
+    /// more.
+    pub fn is_subscribed<L: Ledger>(&self, id: u16, pipe: u32, steps: &mut Steps<L>) -> bool
+        ensures is { result ≡ is_subscribed self.now.subscriptions id pipe }
+        ensures cost { steps.new ≤ steps.old + 2 * length (route self.now.subscriptions id) + 2 }
     {
-        self.subs.find(id, pipe).is_some()
+        first_of(&self.subs, &self.routes, id, pipe, steps).is_some()
     }
 
     /// Whether the id has a route. Takes a constant time.
@@ -154,10 +157,10 @@ impl BusTables {
     }
 
     /// The live pipes stand in order of number. Does nothing.
-    pub fn are_in_order(&self)
+    pub fn recall_order(&self)
         ensures { IsRising 0 self.now.pipes }
     {
-        self.pipes.are_in_order();
+        self.pipes.recall_order();
     }
 
     /// Creates a pipe that holds up to `depth` messages, and answers its number: one more than were created.
@@ -203,7 +206,7 @@ impl BusTables {
     {
         while let Some(number) = self.first_of(app) {
             // Does nothing; the proof learns of it that no other pipe has this number.
-            self.are_in_order();
+            self.recall_order();
             self.delete_pipe(number, steps);
         }
     }
@@ -256,15 +259,15 @@ impl BusTables {
         let _ = self.routes.add_dest(route, sub, steps);
     }
 
-    /// Ends the pipe's subscription to the id; no effect where it has none. Looks at the id's subscriptions alone: a step
-    /// for each, and at most 8 more.
+    /// Ends the pipe's subscription to the id; no effect where it has none. Goes along the id's subscriptions alone: at
+    /// most 3 steps for each, and 10 more.
     pub fn unsubscribe<L: Ledger>(&mut self, id: u16, pipe: u32, steps: &mut Steps<L>)
         ensures after { self.new ≡ record self.old { subscriptions = filter (λ sub. not (sub.id == id && sub.pipe == pipe)) self.old.subscriptions } }
-        ensures cost { steps.new ≤ steps.old + length (route self.old.subscriptions id) + 8 }
+        ensures cost { steps.new ≤ steps.old + 3 * length (route self.old.subscriptions id) + 10 }
     {
         // Does nothing; the proof learns of it that no two subscriptions have one number.
-        self.subs.are_in_order();
-        if let Some(sub) = self.subs.find(id, pipe) {
+        self.subs.recall_order();
+        if let Some(sub) = first_of(&self.subs, &self.routes, id, pipe, steps) {
             end_subscription(&mut self.subs, &mut self.routes, sub, steps);
         }
     }

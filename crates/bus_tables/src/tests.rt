@@ -87,7 +87,7 @@ fn come_and_go<L: Ledger, R: Abort>(
     };
     assert_eq!(rt; tables.last(app, first), Some(item));
     tables.unsubscribe(0x0801, first, &mut steps);
-    assert!(rt; !tables.is_subscribed(0x0801, first));
+    assert!(rt; !tables.is_subscribed(0x0801, first, &mut steps));
     assert_eq!(rt; tables.dests_of(0x0801), 1);
     tables.delete_pipe(second, &mut steps);
     assert_eq!(rt; tables.dests_of(0x0801), 0);

@@ -78,7 +78,7 @@ does-receive_refused limits history s p a own app pipe NoMessage alike is = goes
 does-receive_refused limits history s p a own app pipe BufferInvalid alike is = goes_by own p s.subscriptions_made s.pipes s.subscriptions a alike
 
 does-refused : (limits : Limits) (history : List Entry) (s : State) (p : ℕ) (a : Alone) (own : ℕ → ℕ) (app : ℕ) (call : Call) (status : SbStatus) →
-    Stand own p s a → cause limits s app call ≡ Some status → Does limits history s p a app call (Sb status, refused_state s call status)
+    Stand own p s a → cause limits history s app call ≡ Some status → Does limits history s p a app call (Sb status, refused_state s call status)
 does-refused limits history s p a own app (Create depth name) status alike is = goes_by own p s.subscriptions_made s.pipes s.subscriptions a alike
 does-refused limits history s p a own app (Delete pipe) status alike is = goes_by own p s.subscriptions_made s.pipes s.subscriptions a alike
 does-refused limits history s p a own app (SetOpts pipe bits) status alike is = goes_by own p s.subscriptions_made s.pipes s.subscriptions a alike
@@ -169,7 +169,7 @@ does-accepted limits history s p a own app (Look pipe) ordered alike enters = do
 does-accepted limits history s p a own app End ordered alike enters = goes-end own p s.subscriptions_made s.pipes_created app s.pipes s.subscriptions a ordered.numbered.pipes alike
 
 does-decided : (limits : Limits) (history : List Entry) (s : State) (p : ℕ) (a : Alone) (own : ℕ → ℕ) (app : ℕ) (call : Call) (why : Option SbStatus) →
-    cause limits s app call ≡ why → AreOrdered s → Stand own p s a → IsTrue (makes_entry call ((decided limits history s app call why).0)) →
+    cause limits history s app call ≡ why → AreOrdered s → Stand own p s a → IsTrue (makes_entry call ((decided limits history s app call why).0)) →
     Does limits history s p a app call (decided limits history s app call why)
 does-decided limits history s p a own app call (Some status) is ordered alike enters = does-refused limits history s p a own app call status alike is
 does-decided limits history s p a own app call None is ordered alike enters = does-accepted limits history s p a own app call ordered alike enters
@@ -180,7 +180,7 @@ does-step : (limits : Limits) (history : List Entry) (s : State) (p : ℕ) (a : 
     Goes p (inputs_of limits history s p e) (gets_from p e) ((step limits history s e.app e.call).1).subscriptions_made ((step limits history s e.app e.call).1).pipes ((step limits history s e.app e.call).1).subscriptions a
 does-step limits history s p a own e ordered alike answered enters =
     subst (λ (x : BusAnswer). IsTrue (makes_entry e.call x) → Does limits history s p a e.app e.call (x, (step limits history s e.app e.call).1)) (sym answered)
-    (does-decided limits history s p a own e.app e.call (cause limits s e.app e.call) refl ordered alike) enters
+    (does-decided limits history s p a own e.app e.call (cause limits history s e.app e.call) refl ordered alike) enters
 
 AreOrdered-step : (limits : Limits) (history : List Entry) (s : State) (e : Entry) → AreOrdered s → AreOrdered ((step limits history s e.app e.call).1)
 AreOrdered-step limits history s e ordered = record {
@@ -314,7 +314,7 @@ gave-look limits history s p app pipe =
       | false ↦ λ some gets. gave_got s.pipes p pipe some gets
     ] refl
 
-gave-accepted : (limits : Limits) (history : List Entry) (s : State) (p app : ℕ) (call : Call) → cause limits s app call ≡ None → Gave p app call (accept limits history s app call)
+gave-accepted : (limits : Limits) (history : List Entry) (s : State) (p app : ℕ) (call : Call) → cause limits history s app call ≡ None → Gave p app call (accept limits history s app call)
 gave-accepted limits history s p app (Create depth name) none gets = absurd (true≢false (sym gets))
 gave-accepted limits history s p app (Delete pipe) none gets = absurd (true≢false (sym gets))
 gave-accepted limits history s p app (SetOpts pipe bits) none gets = absurd (true≢false (sym gets))
@@ -329,7 +329,7 @@ gave-accepted limits history s p app (Pend pipe) none gets = gave-pend limits hi
 gave-accepted limits history s p app (Look pipe) none gets = gave-look limits history s p app pipe gets
 gave-accepted limits history s p app End none gets = absurd (true≢false (sym gets))
 
-gave-decided : (limits : Limits) (history : List Entry) (s : State) (p app : ℕ) (call : Call) (why : Option SbStatus) → cause limits s app call ≡ why → Gave p app call (decided limits history s app call why)
+gave-decided : (limits : Limits) (history : List Entry) (s : State) (p app : ℕ) (call : Call) (why : Option SbStatus) → cause limits history s app call ≡ why → Gave p app call (decided limits history s app call why)
 gave-decided limits history s p app call (Some status) is = gave-refused s p app call status
 gave-decided limits history s p app call None is = gave-accepted limits history s p app call is
 
@@ -337,7 +337,7 @@ gave-decided limits history s p app call None is = gave-accepted limits history 
 gave-step : (limits : Limits) (history : List Entry) (s : State) (p : ℕ) (e : Entry) → e.answer ≡ (step limits history s e.app e.call).0 → gets_from p e ≡ true →
     (message : Received) × (e.answer ≡ Got message.number) × (newest_on ((step limits history s e.app e.call).1).pipes p ≡ message ∷ [])
 gave-step limits history s p e answered =
-    subst (λ (x : BusAnswer). Gave p e.app e.call (x, (step limits history s e.app e.call).1)) (sym answered) (gave-decided limits history s p e.app e.call (cause limits s e.app e.call) refl)
+    subst (λ (x : BusAnswer). Gave p e.app e.call (x, (step limits history s e.app e.call).1)) (sym answered) (gave-decided limits history s p e.app e.call (cause limits history s e.app e.call) refl)
 
 -- an entry gives this message, from where a history goes on
 record GivesFrom (limits : Limits) (history : List Entry) (s : State) (p : ℕ) (a : Alone) (es : List Entry) (e : Entry) (message : Received) : Type 0 where

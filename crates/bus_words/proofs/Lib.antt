@@ -1,3 +1,4 @@
+pub mod Acts
 pub mod Alike
 pub mod Bounds
 pub mod Finds

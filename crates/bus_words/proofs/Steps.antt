@@ -53,7 +53,7 @@ refused_receive F s pipe BufAlocErr same receives = same
 refused_receive F s pipe NoMessage same receives = receives
 refused_receive F s pipe BufferInvalid same receives = same
 
-after_refusal : (F : State → Type 0) (s : State) (call : Call) (status : SbStatus) → F s → ((pipe : ℕ) → F (received s pipe)) → F (refused_state s call status)
+pub after_refusal : (F : State → Type 0) (s : State) (call : Call) (status : SbStatus) → F s → ((pipe : ℕ) → F (received s pipe)) → F (refused_state s call status)
 after_refusal F s (Create depth name) status same receives = same
 after_refusal F s (Delete pipe) status same receives = same
 after_refusal F s (SetOpts pipe bits) status same receives = same
@@ -76,12 +76,12 @@ after_send : (F : State → Type 0) (s : State) (sending : Sending) (subs : List
 after_send F s sending [] same sends = same
 after_send F s sending (sub ∷ subs) same sends = sends
 
-after_choice : (F : State → Type 0) (test : Bool) (one other : State) → F one → F other → F (if test then one else other)
+pub after_choice : (F : State → Type 0) (test : Bool) (one other : State) → F one → F other → F (if test then one else other)
 after_choice F true one other first second = first
 after_choice F false one other first second = second
 
 after_accepted : (F : State → Type 0) (limits : Limits) (history : List Entry) (s : State) (app : ℕ) (call : Call) →
-    cause limits s app call ≡ None → Keeps F limits s app → F ((accept limits history s app call).1)
+    cause limits history s app call ≡ None → Keeps F limits s app → F ((accept limits history s app call).1)
 after_accepted F limits history s app (Create depth name) none keeps = keeps.creates depth name none
 after_accepted F limits history s app (Delete pipe) none keeps = keeps.deletes pipe none
 after_accepted F limits history s app (SetOpts pipe bits) none keeps = keeps.sets pipe bits none
@@ -104,14 +104,14 @@ after_accepted F limits history s app (Look pipe) none keeps =
 after_accepted F limits history s app End none keeps = keeps.ends
 
 after_decided : (F : State → Type 0) (limits : Limits) (history : List Entry) (s : State) (app : ℕ) (call : Call) (why : Option SbStatus) →
-    cause limits s app call ≡ why → Keeps F limits s app → F ((decided limits history s app call why).1)
+    cause limits history s app call ≡ why → Keeps F limits s app → F ((decided limits history s app call why).1)
 after_decided F limits history s app call (Some status) is keeps = after_refusal F s call status keeps.same keeps.receives
 after_decided F limits history s app call None is keeps = after_accepted F limits history s app call is keeps
 
 -- what each change keeps holds after a step
 pub after_step : (F : State → Type 0) (limits : Limits) (history : List Entry) (s : State) (app : ℕ) (call : Call) →
     Keeps F limits s app → F ((step limits history s app call).1)
-after_step F limits history s app call keeps = after_decided F limits history s app call (cause limits s app call) refl keeps
+after_step F limits history s app call keeps = after_decided F limits history s app call (cause limits history s app call) refl keeps
 
 -- what each step keeps holds after more entries
 pub state_from-keeps : (F : State → Type 0) (limits : Limits) →

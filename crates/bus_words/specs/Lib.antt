@@ -1,3 +1,4 @@
+pub mod Acts
 pub mod Alone
 pub mod Bus
 pub mod Entries

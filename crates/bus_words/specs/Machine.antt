@@ -25,9 +25,22 @@ counts_for id call answer = false
 abbrev pub next_count : Limits → List Entry → ℕ → ℕ
 next_count limits history id = (start_of limits.starts id + count_by (λ e. counts_for id e.call e.answer) history + 1) % 16384
 
--- the message as it is delivered: with the next count where the send asks for it, else as given
+-- What a call sees beside the bus's own state. All else that a later definition reads off a history has its place here.
+pub record Reads : Type 0 where
+  -- the count that the next send of an id gets
+  pub next : ℕ → ℕ
+
+-- what a call sees after a history
+abbrev pub reads_after : Limits → List Entry → Reads
+reads_after limits history = record { next = next_count limits history }
+
+-- the message as it is delivered: with its id's next count where the send asks for it, else as given
+abbrev pub stamped : Reads → List ℕ → Bool → List ℕ
+stamped reads bytes inc = if inc then with_count bytes (reads.next (message_id bytes)) else bytes
+
+-- the message as it is delivered after a history
 abbrev pub delivered : Limits → List Entry → List ℕ → Bool → List ℕ
-delivered limits history bytes inc = if inc then with_count bytes (next_count limits history (message_id bytes)) else bytes
+delivered limits history bytes inc = stamped (reads_after limits history) bytes inc
 
 -- Refusals. Each call has its own, in the order in which they are tried. --
 
@@ -77,20 +90,24 @@ receive_cause s app pipe =
     (refused_if (is_empty s.pipes pipe) NoMessage None)
 
 -- the first refusal whose condition holds
-abbrev pub cause : Limits → State → ℕ → Call → Option SbStatus
-cause limits s app (Create depth name) = create_cause limits s depth name
-cause limits s app (Delete pipe) = unowned_cause s app pipe
-cause limits s app (SetOpts pipe bits) = set_opts_cause s app pipe bits
-cause limits s app (GetOpts pipe) = dead_cause s pipe
-cause limits s app (Find name) = find_cause s name
-cause limits s app (PipeName pipe) = dead_cause s pipe
-cause limits s app (Subscribe id pipe limit scope) = subscribe_cause limits s app id pipe
-cause limits s app (Unsubscribe id pipe) = unsubscribe_cause s app id pipe
-cause limits s app (Transmit bytes inc) = transmit_cause limits s bytes
-cause limits s app (Receive pipe) = receive_cause s app pipe
-cause limits s app (Pend pipe) = unowned_cause s app pipe
-cause limits s app (Look pipe) = None
-cause limits s app End = None
+abbrev pub cause_with : Reads → Limits → State → ℕ → Call → Option SbStatus
+cause_with reads limits s app (Create depth name) = create_cause limits s depth name
+cause_with reads limits s app (Delete pipe) = unowned_cause s app pipe
+cause_with reads limits s app (SetOpts pipe bits) = set_opts_cause s app pipe bits
+cause_with reads limits s app (GetOpts pipe) = dead_cause s pipe
+cause_with reads limits s app (Find name) = find_cause s name
+cause_with reads limits s app (PipeName pipe) = dead_cause s pipe
+cause_with reads limits s app (Subscribe id pipe limit scope) = subscribe_cause limits s app id pipe
+cause_with reads limits s app (Unsubscribe id pipe) = unsubscribe_cause s app id pipe
+cause_with reads limits s app (Transmit bytes inc) = transmit_cause limits s bytes
+cause_with reads limits s app (Receive pipe) = receive_cause s app pipe
+cause_with reads limits s app (Pend pipe) = unowned_cause s app pipe
+cause_with reads limits s app (Look pipe) = None
+cause_with reads limits s app End = None
+
+-- the first refusal after a history
+abbrev pub cause : Limits → List Entry → State → ℕ → Call → Option SbStatus
+cause limits history s app call = cause_with (reads_after limits history) limits s app call
 
 -- What a call that isn't refused answers and changes. --
 
@@ -146,10 +163,10 @@ sent_along (sub ∷ subs) sending s = (
   record s { pipes = deliver sending (sub ∷ subs) s.pipes; numbers_given = sending.number },
 )
 
-abbrev pub transmitted : Limits → List Entry → State → ℕ → List ℕ → Bool → BusAnswer × State
-transmitted limits history s app bytes inc =
+abbrev pub transmitted : Reads → State → ℕ → List ℕ → Bool → BusAnswer × State
+transmitted reads s app bytes inc =
     sent_along (route s.subscriptions (message_id bytes))
-    (record { sender = app; number = s.numbers_given + 1; asked = length bytes; message = delivered limits history bytes inc }) s
+    (record { sender = app; number = s.numbers_given + 1; asked = length bytes; message = stamped reads bytes inc }) s
 
 -- the number of the oldest message that is queued on the pipe
 abbrev pub oldest_number : List Pipe → ℕ → ℕ
@@ -187,20 +204,24 @@ ended s app = record s {
   standings = slice_set s.standings (app - 1) Ended;
 }
 
+abbrev pub accept_with : Reads → Limits → State → ℕ → Call → BusAnswer × State
+accept_with reads limits s app (Create depth name) = created s app depth name
+accept_with reads limits s app (Delete pipe) = (Done, deleted s pipe)
+accept_with reads limits s app (SetOpts pipe bits) = (Done, record s { pipes = with_pipe (with_bits bits) pipe s.pipes })
+accept_with reads limits s app (GetOpts pipe) = (Number (bits_of s.pipes pipe), s)
+accept_with reads limits s app (Find name) = (Number (number_of s.pipes name), s)
+accept_with reads limits s app (PipeName pipe) = (Name (name_of s.pipes pipe), s)
+accept_with reads limits s app (Subscribe id pipe limit scope) = subscribed s id pipe limit scope
+accept_with reads limits s app (Unsubscribe id pipe) = (Done, unsubscribed s id pipe)
+accept_with reads limits s app (Transmit bytes inc) = transmitted reads s app bytes inc
+accept_with reads limits s app (Receive pipe) = (Got (oldest_number s.pipes pipe), received s pipe)
+accept_with reads limits s app (Pend pipe) = (pended_answer s app pipe, pended s app pipe)
+accept_with reads limits s app (Look pipe) = (pended_answer s app pipe, looked s app pipe)
+accept_with reads limits s app End = (Done, ended s app)
+
+-- what a call that isn't refused answers and changes after a history
 abbrev pub accept : Limits → List Entry → State → ℕ → Call → BusAnswer × State
-accept limits history s app (Create depth name) = created s app depth name
-accept limits history s app (Delete pipe) = (Done, deleted s pipe)
-accept limits history s app (SetOpts pipe bits) = (Done, record s { pipes = with_pipe (with_bits bits) pipe s.pipes })
-accept limits history s app (GetOpts pipe) = (Number (bits_of s.pipes pipe), s)
-accept limits history s app (Find name) = (Number (number_of s.pipes name), s)
-accept limits history s app (PipeName pipe) = (Name (name_of s.pipes pipe), s)
-accept limits history s app (Subscribe id pipe limit scope) = subscribed s id pipe limit scope
-accept limits history s app (Unsubscribe id pipe) = (Done, unsubscribed s id pipe)
-accept limits history s app (Transmit bytes inc) = transmitted limits history s app bytes inc
-accept limits history s app (Receive pipe) = (Got (oldest_number s.pipes pipe), received s pipe)
-accept limits history s app (Pend pipe) = (pended_answer s app pipe, pended s app pipe)
-accept limits history s app (Look pipe) = (pended_answer s app pipe, looked s app pipe)
-accept limits history s app End = (Done, ended s app)
+accept limits history s app call = accept_with (reads_after limits history) limits s app call
 
 -- A refused call changes nothing, but that a receive that finds no message has released the last one.
 abbrev pub refused_state : State → Call → SbStatus → State
@@ -209,13 +230,20 @@ refused_state s call status = s
 
 -- Steps and histories. --
 
+abbrev pub decided_with : Reads → Limits → State → ℕ → Call → Option SbStatus → BusAnswer × State
+decided_with reads limits s app call (Some status) = (Sb status, refused_state s call status)
+decided_with reads limits s app call None = accept_with reads limits s app call
+
 abbrev pub decided : Limits → List Entry → State → ℕ → Call → Option SbStatus → BusAnswer × State
-decided limits history s app call (Some status) = (Sb status, refused_state s call status)
-decided limits history s app call None = accept limits history s app call
+decided limits history s app call why = decided_with (reads_after limits history) limits s app call why
+
+-- what the call answers where it sees this beside the bus, and the bus afterwards
+abbrev pub step_with : Reads → Limits → State → ℕ → Call → BusAnswer × State
+step_with reads limits s app call = decided_with reads limits s app call (cause_with reads limits s app call)
 
 -- what the call answers after this history, and the bus afterwards
 abbrev pub step : Limits → List Entry → State → ℕ → Call → BusAnswer × State
-step limits history s app call = decided limits history s app call (cause limits s app call)
+step limits history s app call = step_with (reads_after limits history) limits s app call
 
 -- the bus after the entries that follow a history
 abbrev pub state_from : Limits → List Entry → State → List Entry → State

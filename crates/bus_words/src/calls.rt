@@ -9,57 +9,76 @@ use fsw_base::{AppNo, SbStatus, Scope};
 pub enum BusCall<'a> {
     /// Makes a pipe that holds up to `depth` messages.
     Create {
+        /// How many messages it holds at most.
         depth: u32,
+        /// Its name.
         name: &'a [u8],
     },
     /// Ends a pipe.
     Delete {
+        /// The pipe's number.
         pipe: u32,
     },
     /// Sets a pipe's option bits.
     SetOpts {
+        /// The pipe's number.
         pipe: u32,
+        /// The option bits: 0x01, or 0.
         bits: u8,
     },
     /// Asks for a pipe's option bits.
     GetOpts {
+        /// The pipe's number.
         pipe: u32,
     },
     /// Asks for the number of the pipe of this name.
     Find {
+        /// The name looked for.
         name: &'a [u8],
     },
     /// Asks for a pipe's name.
     PipeName {
+        /// The pipe's number.
         pipe: u32,
     },
     /// Has messages of this id queued on the pipe, up to `limit` of them at once.
     Subscribe {
+        /// The message id.
         id: u16,
+        /// The pipe's number.
         pipe: u32,
+        /// How many messages of the subscription may wait at once.
         limit: u32,
+        /// Global or local; kept, with no other effect.
         scope: Scope,
     },
     /// Has no more messages of this id queued on the pipe.
     Unsubscribe {
+        /// The message id.
         id: u16,
+        /// The pipe's number.
         pipe: u32,
     },
     /// Sends a message; `inc` gives it the id's next sequence count.
     Transmit {
+        /// The packet, with its header.
         bytes: &'a [u8],
+        /// Whether it gets the id's next sequence count.
         inc: bool,
     },
     /// Takes the pipe's oldest message.
     Receive {
+        /// The pipe's number.
         pipe: u32,
     },
     /// Takes the pipe's oldest message, or waits for one.
     Pend {
+        /// The pipe's number.
         pipe: u32,
     },
     /// Looks again, while the application waits on the pipe.
     Look {
+        /// The pipe's number.
         pipe: u32,
     },
     /// The application's last call.
@@ -76,7 +95,12 @@ pub enum BusAnswer {
     /// The name asked for.
     Name(PipeText),
     /// The number of the message sent and of the pipes that it reached; both 0 where nobody subscribes.
-    Sent { number: u32, reached: u32 },
+    Sent {
+        /// The number of the message, from 1; 0 where nobody subscribes.
+        number: u32,
+        /// How many pipes it reached.
+        reached: u32,
+    },
     /// The number of the message received.
     Got(u32),
     /// No message is there, and none can come: every other application has ended or waits on an

@@ -9,57 +9,76 @@ use std::collections::LinkedList;
 pub enum Call {
     /// Makes a pipe.
     Create {
+        /// How many messages it holds at most.
         depth: u32,
+        /// Its name.
         name: LinkedList<u8>,
     },
     /// Ends a pipe.
     Delete {
+        /// The pipe's number.
         pipe: u32,
     },
     /// Sets a pipe's option bits.
     SetOpts {
+        /// The pipe's number.
         pipe: u32,
+        /// The option bits: 0x01, or 0.
         bits: u8,
     },
     /// Asks for a pipe's option bits.
     GetOpts {
+        /// The pipe's number.
         pipe: u32,
     },
     /// Finds a pipe by its name.
     Find {
+        /// The name looked for.
         name: LinkedList<u8>,
     },
     /// Asks for a pipe's name.
     PipeName {
+        /// The pipe's number.
         pipe: u32,
     },
     /// Subscribes a pipe to a message id.
     Subscribe {
+        /// The message id.
         id: u16,
+        /// The pipe's number.
         pipe: u32,
+        /// How many messages of the subscription may wait at once.
         limit: u32,
+        /// Global or local; kept, with no other effect.
         scope: Scope,
     },
     /// Ends a pipe's subscription to a message id.
     Unsubscribe {
+        /// The message id.
         id: u16,
+        /// The pipe's number.
         pipe: u32,
     },
     /// Sends a message.
     Transmit {
+        /// The packet, with its header.
         bytes: LinkedList<u8>,
+        /// Whether it gets the id's next sequence count.
         inc: bool,
     },
     /// Receives on a pipe.
     Receive {
+        /// The pipe's number.
         pipe: u32,
     },
     /// Receives on a pipe, or waits.
     Pend {
+        /// The pipe's number.
         pipe: u32,
     },
     /// Looks again, while waiting on a pipe.
     Look {
+        /// The pipe's number.
         pipe: u32,
     },
     /// Ends the application.

@@ -5,7 +5,7 @@ ghost use Rattle.bus_words.specs.Entries.{call_of, entry_of, call_bytes};
 ghost use Rattle.bus_words.specs.Rows.{IsStored, bytes_of, call_in, call_end};
 
 use crate::calls::{BusAnswer, BusCall, BusEntry};
-use fsw_base::{AppNo, Budget, Scope};
+use fsw_base::{AppNo, Budget, Scope, extend_reserved};
 use std::alloc::{AllocError, Global};
 use std::marker::Model;
 
@@ -241,7 +241,7 @@ fn stored(bytes: &mut Vec<u8>, call: BusCall<'_>) -> RowCall
     requires room { vec_len bytes.old + call_bytes (call_of call) ≤ vec_capacity bytes.old }
     requires few { vec_len bytes.old + call_bytes (call_of call) < 2 ^ 32 }
     ensures stored { IsStored bytes.old.items bytes.new.items (call_of call.entry) result }
-    ensures capacity { vec_capacity bytes.old ≤ vec_capacity bytes.new }
+    ensures capacity { vec_capacity bytes.new ≡ vec_capacity bytes.old }
 {
     match call {
         BusCall::Create { depth, name } => RowCall::Create {
@@ -286,11 +286,11 @@ fn put(bytes: &mut Vec<u8>, text: &[u8]) -> Span
     requires room { vec_len bytes.old + length text.now ≤ vec_capacity bytes.old }
     requires few { vec_len bytes.old + length text.now < 2 ^ 32 }
     ensures items { bytes.new.items ≡ bytes.old.items ++ text.now }
-    ensures capacity { vec_capacity bytes.old ≤ vec_capacity bytes.new }
+    ensures capacity { vec_capacity bytes.new ≡ vec_capacity bytes.old }
     ensures span { result ≡ record { start = vec_len bytes.old; len = length text.now } }
 {
     let start = bytes.len() as u32;
-    let _ = bytes.extend_from_slice(text);
+    extend_reserved(bytes, text);
     Span {
         start,
         len: text.len() as u32,

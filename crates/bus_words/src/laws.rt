@@ -1,9 +1,11 @@
 //! What holds of every history of the bus, whoever kept it.
 ghost use Rattle.std.specs.Prelude.{◌≡◌, ℕ, List, [], ◌∷◌, ◌++◌, true, IsTrue};
 ghost use Rattle.fsw_base.specs.Limits.{Limits};
+ghost use Rattle.bus_words.specs.declared.history.Call.{Call};
 ghost use Rattle.bus_words.specs.declared.history.Entry.{Entry};
 ghost use Rattle.bus_words.specs.Bus.{opening, standing_of};
-ghost use Rattle.bus_words.specs.Machine.{step, state_after, may_call, makes_entry, IsLegal};
+ghost use Rattle.bus_words.specs.Machine.{reads_after, cause, cause_with, step, state_after, may_call, makes_entry, IsLegal};
+ghost use Rattle.bus_words.specs.Acts.{AreAlike, act, reads_in, whole_after, whole_of};
 ghost use Rattle.bus_words.specs.Runs.{callers, stepped, Follows};
 ghost use Rattle.bus_words.specs.Alone.{Received, Gives, unmade, solo_receipts, cut, gets_from, receipts};
 
@@ -32,4 +34,24 @@ pub fn pipes_stand_alone()
         IsLegal limits apps history → IsLegal others many another →
         cut limits apps p history ≡ cut others many p another →
         receipts limits apps p history ≡ receipts others many p another }
+{}
+
+/// No history need be kept: the bus with its next counts is enough by itself. Folding a legal history
+/// gives this state; what a call sees there and why it is refused is what the history says; and it
+/// answers, and leaves, what it answers and leaves after the history.
+pub fn states_are_enough()
+    ensures folds { (limits : Limits) (apps : ℕ) (history : List Entry) → IsLegal limits apps history →
+        whole_after limits apps history ≡ whole_of limits history (state_after limits apps history) }
+    ensures reads { (limits : Limits) (apps : ℕ) (history : List Entry) → IsLegal limits apps history →
+        AreAlike (reads_in (whole_after limits apps history)) (reads_after limits history) (state_after limits apps history) }
+    ensures causes { (limits : Limits) (apps : ℕ) (history : List Entry) (app : ℕ) (call : Call) → IsLegal limits apps history →
+        cause_with (reads_in (whole_after limits apps history)) limits (whole_after limits apps history).bus app call
+        ≡ cause limits history (state_after limits apps history) app call }
+    ensures acts { (limits : Limits) (apps : ℕ) (history : List Entry) (app : ℕ) (call : Call) → IsLegal limits apps history →
+        act limits (whole_after limits apps history) app call
+        ≡ (
+          (step limits history (state_after limits apps history) app call).0,
+          whole_of limits (history ++ record { app = app; call = call; answer = (step limits history (state_after limits apps history) app call).0 } ∷ [])
+              ((step limits history (state_after limits apps history) app call).1),
+        ) }
 {}

@@ -60,15 +60,21 @@ impl Head {
 pub enum Receipt {
     /// Nothing was there.
     Nothing,
-    /// A message: the pipe's number, the send number, the packet's id, sequence count and size in
-    /// bytes, the sum of all its bytes, and its first bytes.
+    /// A message.
     Message {
+        /// The pipe's number.
         pipe: u32,
+        /// The send number.
         number: u32,
+        /// The packet's message id.
         id: u16,
+        /// Its sequence count, 0 to 16383.
         count: u16,
+        /// Its size in bytes.
         size: u32,
+        /// The sum of all its bytes.
         sum: u32,
+        /// Its first bytes.
         head: Head,
     },
 }
@@ -123,6 +129,9 @@ impl Model for ReceiptList {
 
 impl ReceiptList {
     /// An empty list with room for so many receipts.
+    ///
+    /// # Errors
+    /// `AllocError` where memory runs out.
     pub fn new(alloc: Global, room: u32) -> Result<ReceiptList, AllocError>
         ensures { IfOk result (λ list. list ≡ record { receipts = []; room = room }) }
     {

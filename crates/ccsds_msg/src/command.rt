@@ -8,8 +8,8 @@ use crate::reading::id_of;
 /// The function code of a command, 0 to 127. It is the low 7 bits of the byte behind the primary
 /// header.
 ///
-/// `None` exactly where there are fewer than 7 bytes, the packet is no command, or it has no secondary
-/// header.
+/// `None` exactly where there are fewer than 7 bytes, the packet is no command, or it has no
+/// secondary header.
 pub fn function_code(bytes: &[u8]) -> Option<u8>
     ensures { result ≡ function_code_of bytes.now }
 {

@@ -1,8 +1,8 @@
 //! The primary header of space packets (CCSDS 133.0-B-2, section 4.1), read and written in place in
 //! a slice of bytes. A packet's message id is its first 16 bits, as the cFE Software Bus uses it.
 //!
-//! Every reader answers the header's fields exactly, every writer changes its field alone, and bytes
-//! are refused exactly where they are no message.
+//! Every reader answers the header's fields exactly, every writer changes its field alone, and
+//! bytes are refused exactly where they are no message.
 //!
 //! The caller below is proved, in `tests.rt`.
 //!
@@ -13,7 +13,8 @@
 //!     requires most { length packet.old ≤ 65542 }
 //!     requires count { count < 16384 }
 //!     ensures {
-//!         header_of packet.new ≡ record { id = 0x0801; flags = 3; count = count; size = length packet.old }
+//!         header_of packet.new
+//!             ≡ record { id = 0x0801; flags = 3; count = count; size = length packet.old }
 //!     }
 //! {
 //!     write_header(packet, 0x0801, 0);

@@ -18,7 +18,8 @@ pub struct Header {
 pub enum MsgFault {
     /// There are fewer than 7 bytes, the least that a packet has.
     Short,
-    /// The header says another size than there are bytes; at [`front`](crate::front), a greater one.
+    /// The header says another size than there are bytes; at [`front`](crate::front), a greater
+    /// one.
     Length {
         /// The size in bytes that the header says.
         said: u32,

@@ -1,6 +1,7 @@
 //! Reading a packet's header.
 ghost use Rattle.std.specs.Prelude.{◌≡◌, ◌<◌, ◌≤◌, ◌^◌, length};
-ghost use Rattle.ccsds_msg.specs.Message.{message_id, message_flags, message_count, message_size, header_of, header_or_fault, fault, front_fault, id_fault};
+ghost use Rattle.ccsds_msg.specs.Message.{message_id, message_flags, message_count, message_size};
+ghost use Rattle.ccsds_msg.specs.Message.{header_of, header_or_fault, fault, front_fault, id_fault};
 
 use crate::packet::{Header, MsgFault};
 use byteorder::{BigEndian, ByteOrder};
@@ -11,8 +12,8 @@ const LEAST_SIZE: usize = 7;
 /// Reads the header of bytes that are to be one whole message.
 ///
 /// # Errors
-/// `Short` for fewer than 7 bytes, `Length` where the header says another size than there are bytes,
-/// `BadId` where the message id is not 1 to 0x1FFF; the first of these that applies.
+/// `Short` for fewer than 7 bytes, `Length` where the header says another size than there are
+/// bytes, `BadId` where the message id is not 1 to 0x1FFF; the first of these that applies.
 #[tactic(auto, unfolding(crate::specs::Message::fault))]
 pub fn read_header(bytes: &[u8]) -> Result<Header, MsgFault>
     requires { length bytes.now < 2 ^ 32 }

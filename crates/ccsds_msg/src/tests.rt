@@ -79,7 +79,8 @@ fn stamp(packet: &mut [u8], count: u16)
     requires least { 7 ≤ length packet.old }
     requires most { length packet.old ≤ 65542 }
     requires count { count < 16384 }
-    ensures { header_of packet.new ≡ record { id = 0x0801; flags = 3; count = count; size = length packet.old } }
+    ensures { header_of packet.new
+        ≡ record { id = 0x0801; flags = 3; count = count; size = length packet.old } }
 {
     write_header(packet, 0x0801, 0);
     set_count(packet, count);

@@ -1,6 +1,7 @@
 //! Writing a packet's header.
 ghost use Rattle.std.specs.Prelude.{◌≡◌, ◌<◌, ◌≤◌, ◌++◌, length, drop, IsTrue};
-ghost use Rattle.ccsds_msg.specs.Message.{with_count, header_bytes, header_of, is_valid_id, IsMessage};
+ghost use Rattle.ccsds_msg.specs.Message.{with_count, header_bytes, header_of, is_valid_id};
+ghost use Rattle.ccsds_msg.specs.Message.{IsMessage};
 
 use byteorder::{BigEndian, ByteOrder};
 
@@ -26,7 +27,8 @@ pub fn write_header(bytes: &mut [u8], id: u16, count: u16)
     requires most { length bytes.old ≤ 65542 }
     requires count { count < 16384 }
     ensures bytes { bytes.new ≡ header_bytes id count (length bytes.old) ++ drop 6 bytes.old }
-    ensures fields { header_of bytes.new ≡ record { id = id; flags = 3; count = count; size = length bytes.old } }
+    ensures fields { header_of bytes.new
+        ≡ record { id = id; flags = 3; count = count; size = length bytes.old } }
     ensures message { IsTrue (is_valid_id id) → IsMessage bytes.new }
     ensures rest { drop 6 bytes.new ≡ drop 6 bytes.old }
 {

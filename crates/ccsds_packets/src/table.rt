@@ -7,13 +7,16 @@ use std::alloc::{AllocError, Global};
 use std::fmt::Write;
 use std::io;
 
-/// Telemetry and commands (0x1000), each without and with a secondary header (0x0800), and each of the
-/// APIDs 0, 1 and 0x7FF.
+/// Telemetry and commands (0x1000), each without and with a secondary header (0x0800), and each of
+/// the APIDs 0, 1 and 0x7FF.
 pub const IDS: [u16; 12] = [
     0x0000, 0x0001, 0x07FF, 0x0800, 0x0801, 0x0FFF, 0x1000, 0x1001, 0x17FF, 0x1800, 0x1801, 0x1FFF,
 ];
 
 /// Prints the slice as a packet of this id, with each of the three counts.
+///
+/// # Errors
+/// The fault of the first print that fails, or of a want of memory for a line.
 pub fn print_counts(rt: &impl Print, alloc: Global, id: u16, packet: &mut [u8]) -> io::Result<()>
     requires least { 7 ≤ length packet.old }
     requires most { length packet.old ≤ 65542 }
@@ -26,13 +29,14 @@ pub fn print_counts(rt: &impl Print, alloc: Global, id: u16, packet: &mut [u8]) 
     println!(rt; "{}", hexadecimal(alloc, packet)?)
 }
 
-/// Makes the slice a packet of this id and count. The header is first written with another count, so
-/// that both calls show in what is printed.
+/// Makes the slice a packet of this id and count. The header is first written with another count,
+/// so that both calls show in what is printed.
 fn make_packet(packet: &mut [u8], id: u16, count: u16)
     requires least { 7 ≤ length packet.old }
     requires most { length packet.old ≤ 65542 }
     requires count { count < 16384 }
-    ensures fields { header_of packet.new ≡ record { id = id; flags = 3; count = count; size = length packet.old } }
+    ensures fields { header_of packet.new
+        ≡ record { id = id; flags = 3; count = count; size = length packet.old } }
     ensures rest { drop 6 packet.new ≡ drop 6 packet.old }
 {
     write_header(packet, id, 16383 - count);

@@ -29,7 +29,8 @@ pub enum Limit {
 /// An application's number, and what it does.
 pub type Step = (u32, Act);
 
-/// What an application does: a call of the bus, or a look at a receipt. A pipe stands by its number.
+/// What an application does: a call of the bus, or a look at a receipt. A pipe stands by its
+/// number.
 pub enum Act {
     /// Makes a pipe of this depth and name.
     Create(u32, &'static [u8]),

@@ -1,5 +1,5 @@
 //! The largest configuration.
-ghost use Rattle.std.specs.Prelude.{◌≡◌, ◌+◌, ◌*◌, ◌<◌, ◌≤◌, length};
+ghost use Rattle.std.specs.Prelude.{◌≡◌, ◌+◌, ◌*◌, ◌<◌, ◌≤◌, false, length, OnOk};
 ghost use Rattle.bus_words.specs.Bus.{route};
 ghost use Rattle.sb_calls.specs.Core.{state_of};
 
@@ -11,7 +11,7 @@ use crate::printing::print_title;
 use bucket_list::{Blank, Ledger, Steps};
 use bus_words::BusCall;
 use ccsds_msg::write_header;
-use fsw_base::{AppNo, Scope, Sink, WriteFault};
+use fsw_base::{AppNo, Scope, Sink, SinkGuard, WriteFault};
 use sb_calls::BusCore;
 use std::alloc::Global;
 use text_page::{Page, finish, put, put_number};
@@ -35,16 +35,21 @@ enum Filling {
     Dests,
 }
 
-/// Fills a bus of 16 applications, each time with one more than it takes, and prints how many it took; then how many pipes
-/// a message reaches that goes to as many as a message can, and one that goes to a single pipe.
+/// Fills a bus of 16 applications, each time with one more than it takes, and prints how many it
+/// took; then how many pipes a message reaches that goes to as many as a message can, and one that
+/// goes to a single pipe.
+///
+/// # Errors
+/// `Memory` where there is none for the bus; `Write` where the sink fails.
 pub fn print_largest<L: Ledger, K: Sink>(
     alloc: Global,
-    sink: &mut K,
+    sink: &mut SinkGuard<'_, K>,
     blank: Blank,
 ) -> Result<(), Fail>
     requires name { blank.name ≡ L.name }
     requires parts { blank.parts ≡ L.parts }
     requires some_part { 0 < blank.parts }
+    requires none_failed { sink.old.failed ≡ false }
 {
     let mut steps = Steps::<L>::new(blank);
     let mut core = BusCore::new(alloc, &config_of(&LIMITS), budgets(16))?;
@@ -110,10 +115,11 @@ fn subscription(id: u16, pipe: u32) -> BusCall<'static> {
     }
 }
 
-/// Has the first application send a message of this id; how many pipes it reached. An id of at most 64 destinations takes at
-/// most 32 + 4 * 64 steps, whatever else is there.
+/// Has the first application send a message of this id; how many pipes it reached. An id of at most
+/// 64 destinations takes at most 32 + 4 * 64 steps, whatever else is there.
 fn reached<L: Ledger>(core: &mut BusCore, id: u16, steps: &mut Steps<L>) -> u32
-    ensures cost { length (route (state_of core.old).subscriptions id) ≤ 64 → steps.new ≤ steps.old + (32 + 4 * 64) }
+    ensures cost { length (route (state_of core.old).subscriptions id) ≤ 64
+        → steps.new ≤ steps.old + (32 + 4 * 64) }
 {
     let mut message = [0, 0, 0, 0, 0, 0, 0, 1];
     write_header(&mut message, id, 0);
@@ -130,7 +136,13 @@ fn reached<L: Ledger>(core: &mut BusCore, id: u16, steps: &mut Steps<L>) -> u32
 }
 
 // Prints a figure as a line.
-fn print_figure<K: Sink>(name: &[u8], figure: u32, sink: &mut K) -> Result<(), WriteFault> {
+fn print_figure<K: Sink>(
+    name: &[u8],
+    figure: u32,
+    sink: &mut SinkGuard<'_, K>,
+) -> Result<(), WriteFault>
+    ensures { OnOk result (sink.new.failed ≡ false) }
+{
     let mut page = Page::new();
     put(sink, &mut page, name);
     put_number(sink, &mut page, figure);

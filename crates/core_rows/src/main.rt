@@ -1,9 +1,11 @@
-//! Plays worked examples on the calls of the software bus, and prints the report of each, so that an executable model of
-//! the bus can be asked the same. Scripts and their runner have no part in it.
+//! Plays worked examples on the calls of the software bus, and prints the report of each, so that
+//! an executable model of the bus can be asked the same. Scripts and their runner have no part in
+//! it.
 //!
-//! An example is its title and a report: each call with its answer, then each receipt. A call that its application may not
-//! make now is told on a line of its own, and isn't made. Behind the examples comes the largest configuration: how many
-//! calls were accepted as it filled, and how many pipes two sends reached.
+//! An example is its title and a report: each call with its answer, then each receipt. A call that
+//! its application may not make now is told on a line of its own, and isn't made. Behind the
+//! examples comes the largest configuration: how many calls were accepted as it filled, and how
+//! many pipes two sends reached.
 #![tactic(auto)]
 
 mod example;
@@ -19,11 +21,12 @@ use crate::fail::Fail;
 use crate::largest::print_largest;
 use crate::printing::print_example;
 use bucket_list::Blank;
-use fsw_base::StdSink;
+use fsw_base::{SinkGuard, StdSink};
 use std::marker::Brand;
 
 fn main(rt: HostRuntime) -> Result<(), Fail> {
-    let mut sink = StdSink::new(rt.stdout());
+    let mut output = StdSink::new(rt.stdout());
+    let mut sink = SinkGuard::new(&mut output);
     for example in &EXAMPLES {
         print_example::<Brand, StdSink>(rt.alloc(), example, &mut sink, Blank::new(1))?;
     }

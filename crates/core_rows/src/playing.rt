@@ -117,8 +117,8 @@ fn call_of<'b>(act: &Act, buffer: &'b mut [u8]) -> Option<BusCall<'b>> {
     })
 }
 
-// A message of this id and size, made at the buffer's front. No bytes, which every bus refuses, for a size that no message
-// has or the buffer hasn't.
+// A message of this id and size, made at the buffer's front. No bytes, which every bus refuses, for
+// a size that no message has or the buffer hasn't.
 fn message_in(buffer: &mut [u8], id: u16, size: u32, fill: u8) -> &[u8] {
     let size = size as usize;
     if size < 7 || MOST_BYTES < size || buffer.len() < size {
@@ -148,8 +148,8 @@ fn shown(core: &BusCore, app: AppNo, act: &Act) -> Played {
     }
 }
 
-// What a call that was made left to tell. A receive lets the pipe's last message go, so there is one behind it only where
-// the receive got it.
+// What a call that was made left to tell. A receive lets the pipe's last message go, so there is
+// one behind it only where the receive got it.
 fn received(core: &BusCore, app: AppNo, act: &Act) -> Played {
     let receipt = match act {
         Act::Receive(pipe) | Act::Pend(pipe) | Act::Look(pipe) => core.last_receipt(app, *pipe),

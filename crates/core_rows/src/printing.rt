@@ -1,5 +1,5 @@
 //! Examples as text.
-ghost use Rattle.std.specs.Prelude.{◌≡◌, ◌<◌};
+ghost use Rattle.std.specs.Prelude.{◌≡◌, ◌<◌, false, OnOk};
 
 use crate::example::Example;
 use crate::fail::Fail;
@@ -7,22 +7,28 @@ use crate::opening::{budgets, config_of};
 use crate::playing::{MOST_BYTES, Played, play};
 use bucket_list::{Blank, Ledger, Steps};
 use bus_words::{Receipt, ReceiptList};
-use fsw_base::{AppNo, Sink, WriteFault};
+use fsw_base::{AppNo, Sink, SinkGuard, WriteFault};
 use run_report::write_report;
 use sb_calls::BusCore;
 use std::alloc::{AllocError, Global};
 use text_page::write_text;
 
-/// Plays an example and prints its title and its report. The bus's memory is taken before the first step.
+/// Plays an example and prints its title and its report. The bus's memory is taken before the first
+/// step.
+///
+/// # Errors
+/// `Memory` where there is none for the bus or what is seen; `Write` where the sink fails.
 pub fn print_example<L: Ledger, K: Sink>(
     alloc: Global,
     example: &Example,
-    sink: &mut K,
+    sink: &mut SinkGuard<'_, K>,
     blank: Blank,
 ) -> Result<(), Fail>
     requires name { blank.name ≡ L.name }
     requires parts { blank.parts ≡ L.parts }
     requires some_part { 0 < blank.parts }
+    requires none_failed { sink.old.failed ≡ false }
+    ensures { OnOk result (sink.new.failed ≡ false) }
 {
     let mut steps = Steps::<L>::new(blank);
     let mut core = BusCore::new(alloc, &config_of(example.limits), budgets(example.apps))?;
@@ -42,7 +48,13 @@ pub fn print_example<L: Ledger, K: Sink>(
 }
 
 /// Prints a title as a line.
-pub fn print_title<K: Sink>(title: &str, sink: &mut K) -> Result<(), WriteFault> {
+///
+/// # Errors
+/// The sink's fault, where it fails.
+pub fn print_title<K: Sink>(title: &str, sink: &mut SinkGuard<'_, K>) -> Result<(), WriteFault>
+    requires { sink.old.failed ≡ false }
+    ensures { OnOk result (sink.new.failed ≡ false) }
+{
     write_text(sink, title.as_bytes())?;
     write_text(sink, b"\n")
 }

@@ -1,11 +1,10 @@
 -- The cost of what an account has made, and an account's balance after a draw.
-use Rattle.std.proofs.Common.{◌≡◌, ℕ, ◌+◌, ◌-◌, ◌*◌, ◌<◌, ◌≤◌, ◌^◌, ◌⊎◌, inl, inr, zero, suc, max, true, leb, List, [], ◌∷◌, length, get_or, set, drop, replicate, refl, ap, sym, subst, ◌∙◌, arith}
+use Rattle.std.proofs.Common.{◌≡◌, ℕ, ◌+◌, ◌-◌, ◌*◌, ◌<◌, ◌≤◌, ◌⊎◌, inl, inr, zero, suc, max, true, leb, List, [], ◌∷◌, length, get_or, set, drop, replicate, refl, ap, ◌∙◌, arith}
 use Rattle.std.proofs.lemmas.Bool.{cases_eq}
 use Rattle.std.proofs.lemmas.Bool.Decides.{nat_tests}
 use Rattle.std.proofs.lemmas.List.{length-set, length-replicate, get_or-replicate, get_or-set_same, get_or-set_other}
 use Rattle.fsw_base.specs.Blocks.{are_block_sizes}
-use Rattle.es_pool.specs.Pool.{overhead, counted}
-use Rattle.es_pool.specs.Account.{Account, cost_of, has_room_for, after_draw, IsBalanced}
+use Rattle.fsw_base.specs.PoolAccounts.{Account, overhead, cost_of, has_room_for, IsBalanced}
 
 -- what one class took is part of the whole
 pub cost-get : (made sizes : List ℕ) (class : ℕ) → length made ≡ length sizes → class < length made → get_or made class 0 * (get_or sizes class 0 + overhead) ≤ cost_of made sizes
@@ -39,7 +38,7 @@ cost_none (suc n) [] = refl
 cost_none (suc n) (size ∷ sizes) = omega (arith, cost_none n sizes)
 
 -- the greater of two counts costs what the first did, and what the second is past it
-max_cost : (m x k : ℕ) → max m x * k ≡ m * k + k * (x - m)
+pub max_cost : (m x k : ℕ) → max m x * k ≡ m * k + k * (x - m)
 max_cost m x k = ap (λ n. n * k) greater ∙ spread m (x - m)
   where
     greater : max m x ≡ m + (x - m)

@@ -1,13 +1,14 @@
 -- What a pool keeps beside its blocks stays true where a block is drawn, cut or given back.
-use Rattle.std.proofs.Common.{◌≡◌, ◌≢◌, ℕ, ◌+◌, ◌-◌, ◌*◌, ◌<◌, ◌≤◌, ◌^◌, ◌&&◌, ◌⊎◌, inl, inr, zero, suc, Bool, true, false, not, cond, eqb, leb, List, [], ◌∷◌, ◌++◌, length, get_or, set, drop, sum_by, refl, ap, sym, subst, ◌∙◌, arith}
+use Rattle.std.proofs.Common.{◌≡◌, ℕ, ◌+◌, ◌-◌, ◌*◌, ◌<◌, ◌≤◌, ◌&&◌, ◌⊎◌, inl, inr, zero, suc, Bool, true, false, not, cond, eqb, leb, List, [], ◌∷◌, ◌++◌, length, get_or, set, drop, sum_by, refl, ap, sym, subst, ◌∙◌, arith}
 use Rattle.std.proofs.lemmas.Bool.{cases_eq, cases_lt}
 use Rattle.std.proofs.lemmas.Bool.Decides.{nat_tests}
 use Rattle.std.proofs.lemmas.List.{get_or_default, get_or_past, get_or_push, get_or-set_same, get_or-set_other, get_or_append_left, length-set, length_push}
-use Rattle.std.proofs.lemmas.List.Sums.{sum_by-cons, sum_by_push}
+use Rattle.std.proofs.lemmas.List.Sums.{sum_by_push, count_by-le-length}
 use Rattle.bucket_list.specs.Lists.{Listed, listed_at, times_in, times}
 use Rattle.bucket_list.proofs.Counts.{times_in-cons, loose_from_each}
-use Rattle.es_pool.specs.Pool.{PoolState, made_in, out_in, free_in, used_by, in_use_by, fits_class, overhead}
-use Rattle.es_pool.specs.Kept.{IsKept, is_free_in, free_mark}
+use Rattle.fsw_base.specs.PoolAccounts.{overhead}
+use Rattle.es_pool.specs.Pool.{PoolState, made_in, out_in, free_in, used_by, in_use_by, out_among, fits_class}
+use Rattle.es_pool.specs.Kept.{IsKept, free_mark}
 use Rattle.es_pool.specs.declared.blocks.CutBlock.{CutBlock}
 use Rattle.es_pool.proofs.Totals.{block, made-split, sum-change, in_use-le-used, made_few, used-ge}
 use Rattle.es_pool.proofs.Marks.{free_from_mark, mark_out, mark_free, mark-set_other, mark-push}
@@ -154,12 +155,27 @@ and_no : (t : Bool) → cond {A = ℕ} (t && false) 1 0 ≡ 0
 and_no true = refl
 and_no false = refl
 
+-- no more blocks are out than were cut, and no more were cut than there are bytes
+pub out_few : (blocks : List CutBlock) → out_among blocks ≤ length blocks
+out_few blocks = count_by-le-length (λ b. b.out) blocks
+
+blocks_few : (pool : PoolState) (rest in_use : ℕ) (made : List ℕ) (free : Listed) (capacity : ℕ) → IsKept pool rest in_use made free capacity → length pool.blocks ≤ pool.most
+blocks_few pool rest in_use made free capacity k =
+    few (length pool.blocks) (get_or pool.sizes 0 0) (used_by pool.sizes pool.blocks) (used-ge pool.sizes pool.blocks k.sizes_fit k.classes) (omega (arith, k.adds_up, k.within))
+  where
+    few : (n least used : ℕ) → n * (least + overhead) ≤ used → used ≤ pool.most → n ≤ pool.most
+    few n least used fill within =
+        let some : n * (least + overhead) ≡ n * least + n * overhead = omega arith in
+        omega (arith, some, fill, within)
+
 -- a draw of a free block
 pub record Reused (pool : PoolState) (rest in_use : ℕ) (made : List ℕ) (free : Listed) (capacity class number size requests : ℕ) : Type 0 where
   pub kept : IsKept (record pool { blocks = set pool.blocks number (block class true); requests = requests }) rest (in_use + size) made free capacity
   pub within : number < length pool.blocks
   pub was_free : get_or pool.blocks number (block class true) ≡ block class false
   pub fits : in_use + size ≤ pool.bytes
+  pub out : out_among (set pool.blocks number (block class true)) ≡ out_among pool.blocks + 1
+  pub out_fits : out_among pool.blocks + 1 ≤ pool.most
 
 reused : (pool : PoolState) (rest in_use : ℕ) (made : List ℕ) (free : Listed) (capacity class number requests : ℕ) (tail : List ℕ)
     → IsKept pool rest in_use made free capacity → class < length pool.sizes → listed_at free class ≡ number ∷ tail
@@ -179,6 +195,7 @@ reused pool rest in_use made free capacity class number requests tail k h e =
     let in_use' : in_use_by sizes after ≡ in_use_by sizes blocks + size = omega (arith, change (λ b. cond b.out (get_or sizes b.class 0) 0)) in
     let made' : (i : ℕ) → made_in after i ≡ made_in blocks i = λ i. omega (arith, change (λ b. cond (eqb b.class i) 1 0)) in
     let free' : (i : ℕ) → free_in after i + cond (eqb class i) 1 0 ≡ free_in blocks i = λ i. omega (arith, change (λ b. cond (eqb b.class i && not b.out) 1 0), and_yes (eqb class i), and_no (eqb class i)) in
+    let out' : out_among after ≡ out_among blocks + 1 = omega (arith, change (λ b. cond b.out 1 0)) in
     let lists : class < length free.lists = omega (arith, h, k.lists_all) in
     let long : length after ≡ length blocks = length-set blocks number (block class true) in
     record {
@@ -200,6 +217,8 @@ reused pool rest in_use made free capacity class number requests tail k h e =
       within = was.0;
       was_free = was.1;
       fits = omega (arith, k.in_use_is, in_use', in_use-le-used sizes after, used, k.adds_up);
+      out = out';
+      out_fits = omega (arith, out', out_few after, long, blocks_few pool rest in_use made free capacity k);
     }
 
 -- the same at what the code read
@@ -221,6 +240,8 @@ pub record Cut (pool : PoolState) (rest in_use : ℕ) (made : List ℕ) (free : 
   pub enough : size + overhead ≤ rest
   pub in_use_fits : in_use + size ≤ pool.bytes
   pub made_fits : count + 1 ≤ pool.most
+  pub out : out_among (pool.blocks ++ block class true ∷ []) ≡ out_among pool.blocks + 1
+  pub out_fits : out_among pool.blocks + 1 ≤ pool.most
 
 made-cut : (made : List ℕ) (blocks : List CutBlock) (class i : ℕ) → class < length made → get_or made i 0 ≡ made_in blocks i → get_or (set made class (made_in blocks class + 1)) i 0 ≡ made_in (blocks ++ block class true ∷ []) i
 made-cut made blocks class i h e = by_cases (cases_eq i class)
@@ -298,13 +319,23 @@ cut pool rest in_use made free capacity class count size requests k h none fits 
       space = space;
       enough = omega (arith, within, k.adds_up, e_size);
       in_use_fits = omega (arith, k.in_use_is, in_use', in_use-le-used sizes after, used, within, e_size);
-      made_fits = few (length blocks) (get_or sizes 0 0) (used_by sizes blocks) fill (omega (arith, count_is, made_few blocks class)) (omega (arith, within, k.within));
+      made_fits = few (length blocks) (get_or sizes 0 0) (used_by sizes blocks) count fill (omega (arith, count_is, made_few blocks class)) (omega (arith, within, k.within));
+      out = push (λ b. cond b.out 1 0);
+      out_fits = few (length blocks) (get_or sizes 0 0) (used_by sizes blocks) (out_among blocks) fill (out_few blocks) (omega (arith, within, k.within));
     }
   where
-    few : (n least used : ℕ) → n * (least + overhead) ≤ used → count ≤ n → used + overhead ≤ pool.most → count + 1 ≤ pool.most
-    few n least used fill le within =
-        let some : n * (least + overhead) ≡ n * least + n * overhead = omega arith in
-        omega (arith, some, fill, le, within)
+    few : (n least used some : ℕ) → n * (least + overhead) ≤ used → some ≤ n → used + overhead ≤ pool.most → some + 1 ≤ pool.most
+    few n least used some fill le within =
+        let spread : n * (least + overhead) ≡ n * least + n * overhead = omega arith in
+        omega (arith, spread, fill, le, within)
+
+-- the rest sufficed for the block that was cut
+pub cut_sufficed : (old : PoolState) (blocks : List CutBlock) (class number size rest : ℕ) → blocks ≡ old.blocks ++ block class true ∷ [] → number ≡ length old.blocks
+    → used_by old.sizes old.blocks + rest ≡ old.bytes → size ≡ get_or old.sizes class 0 → size + overhead ≤ rest
+    → get_or old.sizes (get_or blocks number (block 0 true)).class 0 + overhead ≤ old.bytes - used_by old.sizes old.blocks
+cut_sufficed old blocks class number size rest e e_number adds_up e_size enough =
+    let last : get_or blocks number (block 0 true) ≡ block class true = ap (λ bs. get_or bs number (block 0 true)) e ∙ get_or_push old.blocks (block class true) (block 0 true) number (sym e_number) in
+    omega (arith, ap (λ (b : CutBlock). get_or old.sizes b.class 0) last, adds_up, e_size, enough)
 
 -- a block that comes back
 pub record Back (pool : PoolState) (rest in_use : ℕ) (made : List ℕ) (free : Listed) (capacity class number size : ℕ) : Type 0 where
@@ -315,6 +346,7 @@ pub record Back (pool : PoolState) (rest in_use : ℕ) (made : List ℕ) (free :
   pub in_sizes : class < length pool.sizes
   pub enough : size ≤ in_use
   pub class_is : (get_or pool.blocks number (block 0 true)).class ≡ class
+  pub out : out_among (set pool.blocks number (block class false)) + 1 ≡ out_among pool.blocks
 
 pub inside_from_out : (blocks : List CutBlock) (number : ℕ) → (get_or blocks number (block 0 false)).out ≡ true → number < length blocks
 inside_from_out blocks number e = by_cases (cases_lt number (length blocks))
@@ -367,6 +399,7 @@ back pool rest in_use made free capacity class number size k out e_class e_size 
       in_sizes = h;
       enough = omega (arith, k.in_use_is, in_use', e_size);
       class_is = sym e_class;
+      out = omega (arith, change (λ b. cond b.out 1 0));
     }
 
 -- the same facts of a pool, of lists and of room that are equal

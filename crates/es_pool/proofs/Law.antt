@@ -1,15 +1,15 @@
 -- The account of a pool follows its draws and returns, and there is room in one where there is room in the other.
-use Rattle.std.proofs.Common.{◌≡◌, ℕ, ◌+◌, ◌-◌, ◌*◌, ◌<◌, ◌≤◌, ◌&&◌, ◌⊎◌, inl, inr, zero, suc, max, Bool, true, false, not, cond, eqb, leb, Option, Some, None, List, [], ◌∷◌, ◌++◌, length, get_or, set, replicate, sum_by, MatchBool, refl, ap, sym, subst, ◌∙◌, arith}
+use Rattle.std.proofs.Common.{◌≡◌, ℕ, ◌+◌, ◌-◌, ◌*◌, ◌<◌, ◌≤◌, ◌&&◌, ◌⊎◌, inl, inr, suc, max, Bool, true, false, not, cond, eqb, leb, Option, Some, None, List, [], ◌∷◌, ◌++◌, length, get_or, set, replicate, sum_by, MatchBool, refl, ap, sym, subst, ◌∙◌, arith}
 use Rattle.std.proofs.lemmas.Bool.{cases_eq}
-use Rattle.std.proofs.lemmas.Bool.Decides.{nat_tests}
-use Rattle.std.proofs.lemmas.List.{length-set, length-replicate, get_or-replicate, get_or_default, get_or-set_same, get_or-set_other, set-get_or}
+use Rattle.std.proofs.lemmas.List.{length-set, length-replicate, get_or-replicate, get_or_default, get_or-set_same, get_or-set_other}
 use Rattle.std.proofs.lemmas.List.Quantifiers.{position-Some}
 use Rattle.std.proofs.lemmas.List.Sums.{sum_by-cons, sum_by_push, get_or-le-sum_by}
 use Rattle.fsw_base.specs.Blocks.{class_of}
-use Rattle.es_pool.specs.Pool.{PoolState, Draws, Reuses, Cuts, DrawsFor, DrawsIf, fits, fits_if, fits_class, made_in, out_in, free_in, used_by, overhead, counted, class_at, given_back, is_out}
-use Rattle.es_pool.specs.Account.{Account, IsAccountOf, cost_of, has_room, has_room_if, has_room_for, after_draw, after_return}
-use Rattle.es_pool.specs.Runs.{Leaves}
-use Rattle.es_pool.specs.declared.calls.PoolCall.TheVariants.{Get}
+use Rattle.es_pool.specs.Pool.{PoolState, Draws, Reuses, Cuts, DrawsFor, DrawsIf, fits, fits_if, fits_class, made_in, out_in, free_in, used_by, class_at, given_back, is_out}
+use Rattle.fsw_base.specs.PoolAccounts.{Account, overhead, counted, cost_of, has_room, has_room_if, has_room_for, after_draw, after_request, after_request_if, after_return, after_refusal}
+use Rattle.es_pool.specs.Account.{IsAccountOf}
+use Rattle.es_pool.specs.Runs.{Leaves, after_call}
+use Rattle.es_pool.specs.declared.calls.PoolCall.TheVariants.{Get, Put}
 use Rattle.es_pool.specs.declared.blocks.CutBlock.{CutBlock}
 use Rattle.es_pool.proofs.Totals.{block, made-split, sum-change}
 use Rattle.es_pool.proofs.Accounts.{cost-set}
@@ -267,3 +267,13 @@ leaves_drawn old new size number e draws = subst (λ b. MatchBool b ((n : ℕ) �
 
 pub leaves_unchanged : (old new : PoolState) (size : ℕ) → (fits old size 1 ≡ true → false ≡ true) → new ≡ old → Leaves old (Get size) new
 leaves_unchanged old new size never e = subst (λ b. MatchBool b ((n : ℕ) × DrawsFor old new size n) (new ≡ old)) (sym (false_unless (fits old size 1) never)) e
+
+-- how the account moves, from what its own answer tells
+pub moved_drawn : (account after : Account) (size class : ℕ) → class_of size account.sizes ≡ Some class → has_room account size ≡ true → after ≡ after_draw account class → after ≡ after_request account size
+moved_drawn account after size class e room drawn =
+    let fits : has_room_for account class 1 ≡ true = sym (ap (has_room_if account) e) ∙ room in
+    drawn ∙ sym (ap (after_request_if account) e ∙ ap (λ t. cond t (after_draw account class) account) fits)
+
+pub moved_back : (pool : PoolState) (account after : Account) (number class : ℕ) → is_out pool number ≡ true → class ≡ class_at pool number → after ≡ after_return account class → after ≡ after_call pool account (Put number)
+moved_back pool account after number class out e back =
+    back ∙ (ap (after_return account) e ∙ sym (ap (λ t. cond t (after_return account (class_at pool number)) (after_refusal account)) out))

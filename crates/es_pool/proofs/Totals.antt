@@ -1,10 +1,10 @@
 -- The totals over the blocks, and what a change of one block or a further one does to them.
-use Rattle.std.proofs.Common.{◌≡◌, ℕ, ◌+◌, ◌*◌, ◌<◌, ◌≤◌, ◌&&◌, zero, suc, Bool, true, false, not, cond, eqb, List, [], ◌∷◌, ◌++◌, length, get_or, set, sum_by, count_by, refl, ap, sym, ◌∙◌, arith}
+use Rattle.std.proofs.Common.{◌≡◌, ℕ, ◌+◌, ◌*◌, ◌<◌, ◌≤◌, ◌&&◌, suc, Bool, true, false, not, cond, eqb, List, [], ◌∷◌, length, get_or, set, sum_by, refl, ap, sym, ◌∙◌, arith}
 use Rattle.std.proofs.lemmas.Bool.Decides.{nat_tests}
-use Rattle.std.proofs.lemmas.List.{get_or_default}
-use Rattle.std.proofs.lemmas.List.Sums.{sum_by-cons, sum_by-set, sum_by_push, count_by-le-length}
+use Rattle.std.proofs.lemmas.List.Sums.{sum_by-cons, sum_by-set, count_by-le-length}
 use Rattle.fsw_base.specs.Blocks.{are_block_sizes}
-use Rattle.es_pool.specs.Pool.{made_in, out_in, free_in, used_by, in_use_by, overhead}
+use Rattle.fsw_base.specs.PoolAccounts.{overhead}
+use Rattle.es_pool.specs.Pool.{made_in, out_in, free_in, used_by, in_use_by}
 use Rattle.es_pool.specs.declared.blocks.CutBlock.{CutBlock}
 use Rattle.es_pool.proofs.Sizes.{size_least}
 

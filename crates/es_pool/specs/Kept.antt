@@ -3,7 +3,8 @@ use Rattle.std.specs.Prelude.{◌≡◌, ◌==◌, ◌&&◌, ℕ, ◌+◌, ◌*�
 use Rattle.bucket_list.specs.Lists.{Listed, listed_at, times_in}
 use Rattle.fsw_base.specs.Blocks.{are_block_sizes}
 use Rattle.es_pool.specs.declared.blocks.CutBlock.{CutBlock}
-use Rattle.es_pool.specs.Pool.{PoolState, made_in, free_in, used_by, in_use_by, overhead}
+use Rattle.fsw_base.specs.PoolAccounts.{overhead}
+use Rattle.es_pool.specs.Pool.{PoolState, made_in, free_in, used_by, in_use_by}
 
 -- a block is a free one of a class
 abbrev pub is_free_in : ℕ → CutBlock → Bool

@@ -1,5 +1,5 @@
 -- What the fields of a plain pool stand for.
-use Rattle.es_pool.specs.Account.{Account, IsBalanced}
+use Rattle.fsw_base.specs.PoolAccounts.{Account, IsBalanced}
 use Rattle.es_pool.specs.declared.plain.PlainPool.TheInside.{Inside}
 
 abbrev pub account_of : Inside → Account

@@ -1,6 +1,7 @@
 -- A memory pool as its user sees it: the blocks cut so far, and what can still be drawn.
-use Rattle.std.specs.Prelude.{◌≡◌, ◌==◌, ◌&&◌, ℕ, ◌+◌, ◌-◌, ◌*◌, ◌^◌, ◌<◌, min, nat_le, Bool, true, false, not, if◌then◌else◌, List, ◌∷◌, [], ◌++◌, length, slice_index, slice_index_or, slice_set, sum_by, count_by, Option, Some, None, option_and_then}
-use Rattle.fsw_base.specs.Blocks.{class_of}
+use Rattle.std.specs.Prelude.{◌≡◌, ◌==◌, ◌&&◌, ℕ, ◌+◌, ◌-◌, ◌*◌, ◌/◌, ◌<◌, ◌≤◌, nat_le, Bool, true, false, not, if◌then◌else◌, List, ◌∷◌, [], ◌++◌, length, slice_index, slice_index_or, slice_set, sum_by, count_by, Option, Some, None, IsTrue}
+use Rattle.fsw_base.specs.PoolAccounts.{counted, overhead}
+use Rattle.fsw_base.specs.Blocks.{are_block_sizes, class_of}
 use Rattle.es_pool.specs.declared.blocks.CutBlock.{CutBlock}
 
 -- the pool's bytes and the most that they can be set to, its block sizes, the blocks cut so far in order of cutting, so
@@ -12,14 +13,6 @@ pub record PoolState : Type 0 where
   pub blocks : List CutBlock
   pub requests : ℕ
   pub errors : ℕ
-
--- a count goes up by one, and stops at the largest number of 32 bits
-abbrev pub counted : ℕ → ℕ
-counted n = min (n + 1) (2 ^ 32 - 1)
-
--- what cutting a block costs beyond its size, in bytes
-abbrev pub overhead : ℕ
-overhead = 16
 
 -- how many blocks of a class were cut
 abbrev pub made_in : List CutBlock → ℕ → ℕ
@@ -90,6 +83,10 @@ DrawsIf old new number (Some class) = Draws old new class number
 abbrev pub DrawsFor : PoolState → PoolState → ℕ → ℕ → Type 0
 DrawsFor old new size number = DrawsIf old new number (class_of size old.sizes)
 
+-- how many blocks are out
+abbrev pub out_among : List CutBlock → ℕ
+out_among blocks = count_by (λ block. block.out) blocks
+
 -- the class of a block
 abbrev pub class_at : PoolState → ℕ → ℕ
 class_at pool number = (slice_index_or pool.blocks number (record { class = 0; out = true })).class
@@ -97,3 +94,20 @@ class_at pool number = (slice_index_or pool.blocks number (record { class = 0; o
 -- a block that was out is free in its own class
 abbrev pub given_back : PoolState → ℕ → PoolState
 given_back pool number = record pool { blocks = slice_set pool.blocks number (record { class = class_at pool number; out = false }) }
+
+-- the size of a block
+abbrev pub size_at : PoolState → ℕ → ℕ
+size_at pool number = slice_index pool.sizes (class_at pool number)
+
+-- how many blocks can ever be cut: the most bytes, divided by what the smallest block costs
+abbrev pub most_cut : PoolState → ℕ
+most_cut pool = pool.most / (slice_index pool.sizes 0 + overhead)
+
+-- what is always true of a pool: its sizes rise, what was cut is paid for by its bytes, each block has one of the sizes, and
+-- no more blocks were cut than ever can be
+pub record IsWhole (pool : PoolState) : Type 0 where
+  pub sizes_fit : IsTrue (are_block_sizes pool.sizes)
+  pub within : pool.bytes ≤ pool.most
+  pub paid : used_by pool.sizes pool.blocks ≤ pool.bytes
+  pub classes : (number : ℕ) → number < length pool.blocks → class_at pool number < length pool.sizes
+  pub few : length pool.blocks ≤ most_cut pool

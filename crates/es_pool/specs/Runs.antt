@@ -1,6 +1,7 @@
--- What calls leave of a pool, one after another.
-use Rattle.std.specs.Prelude.{◌≡◌, ℕ, MatchBool, List, [], ◌∷◌}
-use Rattle.es_pool.specs.Pool.{PoolState, fits, DrawsFor, is_out, given_back, counted}
+-- What calls leave of a pool and of its account, one after another.
+use Rattle.std.specs.Prelude.{◌≡◌, ℕ, MatchBool, if◌then◌else◌, List, [], ◌∷◌}
+use Rattle.fsw_base.specs.PoolAccounts.{Account, counted, after_request, after_return, after_refusal}
+use Rattle.es_pool.specs.Pool.{PoolState, fits, DrawsFor, is_out, class_at, given_back}
 use Rattle.es_pool.specs.declared.calls.PoolCall.{PoolCall}
 use Rattle.es_pool.specs.declared.calls.PoolCall.TheVariants.{Get, Put}
 
@@ -10,7 +11,14 @@ abbrev pub Leaves : PoolState → PoolCall → PoolState → Type 0
 Leaves old (Get size) new = MatchBool (fits old size 1) ((block : ℕ) × DrawsFor old new size block) (new ≡ old)
 Leaves old (Put block) new = MatchBool (is_out old block) (new ≡ given_back old block) (new ≡ record old { errors = counted old.errors })
 
--- the calls in order lead from one state to the other
-abbrev pub LeadTo : PoolState → List PoolCall → PoolState → Type 0
-LeadTo old [] new = new ≡ old
-LeadTo old (call ∷ calls) new = (next : PoolState) × (Leaves old call next × LeadTo next calls new)
+-- what the account does at a call of the pool: a request is one by its size, and a block that is out comes back with the
+-- class that it has in the pool; the return of any other is counted
+abbrev pub after_call : PoolState → Account → PoolCall → Account
+after_call pool account (Get size) = after_request account size
+after_call pool account (Put block) = if is_out pool block then after_return account (class_at pool block) else after_refusal account
+
+-- the calls in order lead a pool and its account from one state to the other
+abbrev pub LeadTo : PoolState → Account → List PoolCall → PoolState → Account → Type 0
+LeadTo old account [] new after = (new ≡ old) × (after ≡ account)
+LeadTo old account (call ∷ calls) new after =
+    (next : PoolState) × ((between : Account) × (Leaves old call next × ((between ≡ after_call old account call) × LeadTo next between calls new after)))

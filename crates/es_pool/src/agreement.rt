@@ -1,7 +1,7 @@
 //! The pool and the plain pool give the same answers, whatever the calls.
 ghost use Rattle.std.specs.Prelude.{◌≡◌, ◌+◌, ◌*◌, ◌≤◌, [], true, length, IfOk};
 ghost use Rattle.es_pool.specs.Account.{IsAccountOf};
-ghost use Rattle.es_pool.specs.Runs.{Leaves, LeadTo};
+ghost use Rattle.es_pool.specs.Runs.{Leaves, LeadTo, after_call};
 
 use crate::blocks::BlockNo;
 use crate::calls::PoolCall;
@@ -26,8 +26,9 @@ pub fn pool_and_plain(
 }
 
 /// Makes the calls on both pools, in order, and answers whether the two gave the same answer and then showed the same
-/// figures at each of them. They always do: whatever the calls, the pool is led as its own contract says, and the plain
-/// pool's account is that of the pool. At most 8 steps a call.
+/// figures at each of them. They always do: whatever the calls, the pool is led as its own contract says, the plain pool's
+/// account moves by its own calls, a return with the class that its block has, and it stays the account of the pool. At
+/// most 8 steps a call.
 pub fn agree<L: Ledger>(
     pool: &mut Pool,
     plain: &mut PlainPool,
@@ -36,7 +37,7 @@ pub fn agree<L: Ledger>(
 ) -> bool
     requires { IsAccountOf pool.old plain.old }
     ensures alike { result ≡ true }
-    ensures run { LeadTo pool.old calls.now pool.new }
+    ensures run { LeadTo pool.old plain.old calls.now pool.new plain.new }
     ensures account { IsAccountOf pool.new plain.new }
     ensures cost { steps.new ≤ steps.old + 8 * length calls.now }
 {
@@ -58,6 +59,7 @@ fn is_alike<L: Ledger>(
     requires { IsAccountOf pool.old plain.old }
     ensures alike { result ≡ true }
     ensures run { Leaves pool.old call pool.new }
+    ensures moved { plain.new ≡ after_call pool.old plain.old call }
     ensures account { IsAccountOf pool.new plain.new }
     ensures cost { steps.new ≤ steps.old + 8 }
 {
@@ -78,6 +80,7 @@ fn gets_alike<L: Ledger>(
     requires { IsAccountOf pool.old plain.old }
     ensures alike { result ≡ true }
     ensures run { Leaves pool.old (PoolCall.Get size) pool.new }
+    ensures moved { plain.new ≡ after_call pool.old plain.old (PoolCall.Get size) }
     ensures account { IsAccountOf pool.new plain.new }
     ensures cost { steps.new ≤ steps.old + 8 }
 {
@@ -103,6 +106,7 @@ fn puts_alike<L: Ledger>(
     requires { IsAccountOf pool.old plain.old }
     ensures alike { result ≡ true }
     ensures run { Leaves pool.old (PoolCall.Put block) pool.new }
+    ensures moved { plain.new ≡ after_call pool.old plain.old (PoolCall.Put block) }
     ensures account { IsAccountOf pool.new plain.new }
     ensures cost { steps.new ≤ steps.old + 8 }
 {

@@ -31,6 +31,9 @@ pub struct ClassStats {
 }
 
 /// A list of `count` zeros.
+///
+/// # Errors
+/// `AllocError` where memory runs out.
 pub fn zeros(alloc: Global, count: u32) -> Result<Vec<u32>, AllocError>
     ensures { IfOk result (λ numbers. numbers.items ≡ replicate count 0) }
 {

@@ -21,6 +21,7 @@
 mod agreement;
 mod blocks;
 mod calls;
+mod laws;
 mod plain;
 mod pool;
 #[cfg(test)]
@@ -29,5 +30,6 @@ mod tests;
 pub use agreement::{agree, pool_and_plain};
 pub use blocks::{BlockNo, ClassStats, CutBlock, OVERHEAD};
 pub use calls::PoolCall;
+pub use laws::draws_take_room_one_by_one;
 pub use plain::PlainPool;
 pub use pool::Pool;

@@ -1,8 +1,7 @@
 //! A plain, slow pool: the account alone, as one would write it on paper. The pool is measured against it.
 ghost use Rattle.std.specs.Prelude.{◌≡◌, ℕ, ◌+◌, ◌<◌, ◌≤◌, ◌^◌, ◌-◌, ◌↔◌, Some, length, slice_index, replicate, IsTrue, IsOk, IfOk, IfErr, OnErr};
 ghost use Rattle.fsw_base.specs.Blocks.{class_of};
-ghost use Rattle.es_pool.specs.Pool.{counted};
-ghost use Rattle.es_pool.specs.Account.{Account, cost_of, has_room, has_room_for, after_draw, after_return};
+ghost use Rattle.fsw_base.specs.PoolAccounts.{Account, cost_of, has_room, has_room_for, after_draw, after_return, after_refusal};
 
 use crate::blocks::{OVERHEAD, zeros};
 use fsw_base::{BlockSizes, EsStatus, PoolStats};
@@ -28,7 +27,7 @@ pub struct PlainPool {
 }
 
 impl Model for PlainPool {
-    ghost use Rattle.es_pool.specs.Account.{Account};
+    ghost use Rattle.fsw_base.specs.PoolAccounts.{Account};
 
     ghost Value = { Account };
 
@@ -89,7 +88,7 @@ impl PlainPool {
 
     /// Counts one refused put.
     pub fn count_error(&mut self)
-        ensures { self.new ≡ record self.old { errors = counted self.old.errors } }
+        ensures { self.new ≡ after_refusal self.old }
     {
         self.errors = self.errors.saturating_add(1);
     }

@@ -1,6 +1,7 @@
 //! The pool.
 ghost use Rattle.std.specs.Prelude.{◌≡◌, ℕ, ◌+◌, ◌<◌, ◌≤◌, ◌↔◌, [], ◌∷◌, ◌++◌, true, false, length, slice_index, slice_index_or, slice_set, IsTrue, IsSome, IfSome, IsOk, IfOk, IfErr, OnOk, OnErr};
-ghost use Rattle.es_pool.specs.Pool.{PoolState, fits, fits_class, DrawsFor, Draws, counted, made_in, free_in, in_use_by, rest_of, is_out, is_free, class_at, given_back};
+ghost use Rattle.fsw_base.specs.PoolAccounts.{counted, overhead};
+ghost use Rattle.es_pool.specs.Pool.{PoolState, IsWhole, fits, fits_class, DrawsFor, Draws, made_in, free_in, in_use_by, out_among, rest_of, is_out, is_free, class_at, size_at, most_cut, given_back};
 
 use crate::blocks::{BlockNo, ClassStats, CutBlock, OVERHEAD, zeros};
 use bucket_list::{Ledger, Lists, Steps};
@@ -24,6 +25,8 @@ pub struct Pool {
     rest: u32,
     /// The sizes of the blocks that are out, added up.
     in_use: u32,
+    /// How many blocks are out.
+    out: u32,
     /// How many blocks were drawn; it stops at the largest number.
     requests: u32,
     /// How many puts were refused; it stops at the largest number.
@@ -64,6 +67,7 @@ impl Pool {
             bytes,
             rest: bytes,
             in_use: 0,
+            out: 0,
             requests: 0,
             errors: 0,
             blocks,
@@ -102,6 +106,7 @@ impl Pool {
         ensures drawn { IfOk result (DrawsFor self.old self.new size) }
         ensures was_not_out { IfOk result (λ block. is_out self.old block ≡ false) }
         ensures is_out { IfOk result (λ block. is_out self.new block ≡ true) }
+        ensures rest_sufficed { IfOk result (λ block. length self.old.blocks ≤ block → size_at self.new block + overhead ≤ rest_of self.old) }
         ensures unchanged { OnErr result (self.new ≡ self.old) }
         ensures cost { steps.new ≤ steps.old + 8 }
     {
@@ -196,6 +201,36 @@ impl Pool {
         self.in_use
     }
 
+    /// How many blocks are out. Takes a constant time.
+    pub fn blocks_in_use(&self) -> u32
+        ensures { result ≡ out_among self.now.blocks }
+    {
+        self.out
+    }
+
+    /// The size of a block that was cut, in bytes.
+    pub fn size_of(&self, block: BlockNo) -> u32
+        requires { block < length self.now.blocks }
+        ensures { result ≡ size_at self.now block }
+    {
+        self.sizes.at(self.blocks[block as usize].class)
+    }
+
+    /// How many blocks can ever be cut.
+    pub fn most_blocks(&self) -> u32
+        ensures { result ≡ most_cut self.now }
+    {
+        self.most / (self.sizes.at(0) + OVERHEAD)
+    }
+
+    /// What was cut is paid for by the pool's bytes, each block has one of the sizes, and no more blocks were cut than
+    /// ever can be. Does nothing.
+    pub fn recall_whole(&self)
+        ensures { IsWhole self.now }
+    {
+        let _ = &self.blocks;
+    }
+
     // Whether `count` blocks of a class can be drawn.
     fn fits_class(&self, class: u32, count: u32) -> bool
         requires { class < length self.now.sizes }
@@ -212,12 +247,14 @@ impl Pool {
         requires some { 0 < free_in self.old.blocks class }
         ensures drawn { Draws self.old self.new class result }
         ensures was_not_out { is_out self.old result ≡ false }
+        ensures was_cut { result < length self.old.blocks }
         ensures cost { steps.new ≤ steps.old + 4 }
     {
         match self.free.pop(class, steps) {
             Some(block) => {
                 self.blocks[block as usize] = CutBlock { class, out: true };
                 self.in_use += self.sizes.at(class);
+                self.out += 1;
                 self.requests = self.requests.saturating_add(1);
                 block
             }
@@ -232,6 +269,7 @@ impl Pool {
         requires fits { IsTrue (fits_class self.old class 1) }
         ensures drawn { Draws self.old self.new class result }
         ensures was_not_out { is_out self.old result ≡ false }
+        ensures rest_sufficed { size_at self.new result + overhead ≤ rest_of self.old }
     {
         let size = self.sizes.at(class);
         let block = self.free.add_node();
@@ -239,6 +277,7 @@ impl Pool {
         self.made[class as usize] += 1;
         self.rest -= size + OVERHEAD;
         self.in_use += size;
+        self.out += 1;
         self.requests = self.requests.saturating_add(1);
         block
     }
@@ -252,6 +291,7 @@ impl Pool {
         let class = self.blocks[block as usize].class;
         self.blocks[block as usize] = CutBlock { class, out: false };
         self.in_use -= self.sizes.at(class);
+        self.out -= 1;
         self.free.push(class, block, steps);
     }
 }

@@ -1,4 +1,1 @@
-pub mod Desk
-pub mod Filters
-pub mod Log
 pub mod Views

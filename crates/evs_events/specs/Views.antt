@@ -1,8 +1,11 @@
--- What a caller is shown of a desk.
-use Rattle.evs_events.specs.Log.{Line}
-use Rattle.evs_events.specs.Desk.{Desk}
+-- What a caller is shown of a desk, and the number of a mode.
+use Rattle.std.specs.Prelude.{ℕ}
+use Rattle.fsw_base.specs.EventDesk.{Desk}
+use Rattle.fsw_base.specs.EventLog.{Line}
 use Rattle.evs_events.specs.declared.line.LogLine.{LogLine}
 use Rattle.evs_events.specs.declared.counts.EventCounts.{EventCounts}
+use Rattle.evs_events.specs.declared.log.LogMode.{LogMode}
+use Rattle.evs_events.specs.declared.log.LogMode.TheVariants.{Overwrite, Discard}
 
 -- the line that is shown
 abbrev pub line_shown : LogLine → Line
@@ -18,3 +21,8 @@ counts_of desk = record {
   lost = desk.lost;
   mode = desk.log.mode;
 }
+
+-- the number of a mode
+abbrev pub mode_number : LogMode → ℕ
+mode_number Overwrite = 0
+mode_number Discard = 1

@@ -1,12 +1,12 @@
 //! The event desk.
 ghost use Rattle.std.specs.Prelude.{◌≡◌, ◌-◌, ◌<◌, ◌≤◌, length, slice_get, Some, IfOk};
 ghost use Rattle.std.specs.Result.{result_err};
-ghost use Rattle.evs_events.specs.Desk.{Desk, new_desk, registered, unregistered, passed, sent, served, send_refusal, reset_refusal, reset, refused_once, with_mode, cleared};
+ghost use Rattle.fsw_base.specs.EventDesk.{Desk, new_desk, registered, unregistered, passed, sent, served, send_refusal, reset_refusal, reset, refused_once, with_mode, cleared};
 ghost use Rattle.evs_events.specs.Views.{line_shown, counts_of};
 
 use crate::counts::EventCounts;
 use crate::filters::Registration;
-use crate::line::{LogLine, MAX_TEXT, StoredLine};
+use crate::line::{LogLine, MAX_TEXT};
 use crate::log::{EventLog, LOG_LINES, LogMode};
 use fsw_base::{AppNo, EventKind, EvsStatus, FilterList, MAX_APPS};
 use std::alloc::{AllocError, Global};
@@ -34,7 +34,7 @@ pub struct EventDesk {
 }
 
 impl Model for EventDesk {
-    ghost use Rattle.evs_events.specs.Desk.{Desk};
+    ghost use Rattle.fsw_base.specs.EventDesk.{Desk};
 
     ghost Value = { Desk };
 
@@ -79,7 +79,7 @@ impl EventDesk {
     /// may have any length. Passed or not, the filter counts it.
     ///
     /// AppNotRegistered exactly where the application isn't registered; the refusal is counted.
-    #[tactic(auto, unfolding(crate::specs::Desk::sent))]
+    #[tactic(auto, unfolding(fsw_base::specs::EventDesk::sent))]
     pub fn send(
         &mut self,
         app: AppNo,
@@ -114,7 +114,7 @@ impl EventDesk {
     ///
     /// AppNotRegistered exactly where the application isn't registered; else EvtNotRegistered exactly
     /// where none of its filters is for this id. A refusal is counted.
-    #[tactic(auto, unfolding(crate::specs::Desk::reset))]
+    #[tactic(auto, unfolding(fsw_base::specs::EventDesk::reset))]
     pub fn reset_filter(&mut self, app: AppNo, id: u16) -> Result<(), EvsStatus>
         ensures refusal { result_err result ≡ reset_refusal self.old app id }
         ensures desk { self.new ≡ reset self.old app id }
@@ -187,7 +187,7 @@ impl EventDesk {
     }
 
     // Logs and counts an event that passes.
-    #[tactic(auto, unfolding(crate::specs::Desk::passed))]
+    #[tactic(auto, unfolding(fsw_base::specs::EventDesk::passed))]
     fn pass(&mut self, app: u32, id: u16, kind: EventKind, text: &[u8])
         ensures { self.new ≡ passed self.old app id kind text.now }
     {
@@ -195,7 +195,7 @@ impl EventDesk {
         if text.len() > MAX_TEXT {
             self.cut = self.cut.saturating_add(1);
         }
-        if self.log.keep(StoredLine::new(app, id, kind, text)) {
+        if self.log.keep(app, id, kind, text) {
             self.lost = self.lost.saturating_add(1);
         }
     }

@@ -1,6 +1,6 @@
 //! The filters with which an application registered (cFE Event Services, event filtering).
 ghost use Rattle.std.specs.Prelude.{◌≡◌, ◌-◌};
-ghost use Rattle.evs_events.specs.Filters.{fresh_filters, is_open, has_filter, passes, after_event, counted, after_reset, restarted};
+ghost use Rattle.fsw_base.specs.EventFilters.{fresh_filters, is_open, has_filter, passes, after_event, counted, after_reset, restarted};
 
 use arrayvec::ArrayVec;
 use fsw_base::{FilterList, MAX_FILTERS};
@@ -9,12 +9,22 @@ use std::marker::Model;
 /// A filter for one event id: an event passes where the count AND the mask is 0.
 #[derive(Clone, Copy, Default)]
 pub struct Filter {
-    /// The event id.
-    pub id: u16,
-    /// Ones where the count must have zeros for an event to pass.
-    pub mask: u16,
-    /// The events of this id since the registration or the last reset, passed or not; stops at 65535.
-    pub count: u16,
+    // The event id.
+    id: u16,
+    // Ones where the count must have zeros for an event to pass.
+    mask: u16,
+    // The events of this id since the registration or the last reset, passed or not; stops at 65535.
+    count: u16,
+}
+
+impl Model for Filter {
+    ghost use Rattle.fsw_base.specs.EventFilters.{EventFilter};
+
+    ghost Value = { EventFilter };
+
+    ghost view = { λ f. record { id = f.id; mask = f.mask; count = f.count } };
+
+    ghost inverse = { λ f. record { id = f.id; mask = f.mask; count = f.count } };
 }
 
 impl Filter {
@@ -53,9 +63,9 @@ pub struct Registration {
 
 impl Model for Registration {
     ghost use Rattle.std.specs.Prelude.{List};
-    ghost use Rattle.evs_events.specs.declared.filters.Filter.{Filter};
+    ghost use Rattle.fsw_base.specs.EventFilters.{EventFilter};
 
-    ghost Value = { List Filter };
+    ghost Value = { List EventFilter };
 
     ghost view = { λ r. r.filters.items };
 }

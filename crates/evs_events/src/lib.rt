@@ -2,7 +2,7 @@
 //! for events and with which filters, a log of the latest events, and counts of what became of
 //! them. Applications are numbered 1 to 16; the services' own events have number 0.
 //!
-//! Each call answers and leaves exactly what the definitions of `specs/Desk.antt` say, and no call
+//! Each call answers and leaves exactly what the definitions of `EventDesk.antt` (of `fsw_base`) say, and no call
 //! takes memory once the desk is made.
 //!
 //! The caller below is proved, in `tests.rt`.

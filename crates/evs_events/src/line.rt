@@ -1,6 +1,6 @@
 //! A line of the event log.
 ghost use Rattle.std.specs.Prelude.{◌≡◌, ◌≤◌, length, take};
-ghost use Rattle.evs_events.specs.Log.{event_line};
+ghost use Rattle.fsw_base.specs.EventLog.{event_line};
 ghost use Rattle.evs_events.specs.Views.{line_shown};
 
 use arrayvec::ArrayVec;
@@ -34,7 +34,7 @@ pub struct StoredLine {
 }
 
 impl Model for StoredLine {
-    ghost use Rattle.evs_events.specs.Log.{Line};
+    ghost use Rattle.fsw_base.specs.EventLog.{Line};
 
     ghost Value = { Line };
 

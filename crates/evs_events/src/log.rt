@@ -1,10 +1,11 @@
 //! The log of the latest events (cFE Event Services, local event log).
-ghost use Rattle.std.specs.Prelude.{◌≡◌, ◌<◌, ◌≤◌, [], length, slice_get, Some, IfOk};
-ghost use Rattle.evs_events.specs.Log.{Log, empty_log, is_full, kept, mode_number};
-ghost use Rattle.evs_events.specs.Views.{line_shown};
+ghost use Rattle.std.specs.Prelude.{◌≡◌, ◌==◌, ◌<◌, ◌≤◌, not, [], length, slice_get, Some, IfOk};
+ghost use Rattle.fsw_base.specs.EventLog.{Log, empty_log, is_full, event_line, kept};
+ghost use Rattle.evs_events.specs.Views.{line_shown, mode_number};
 
 use crate::line::{LogLine, MAX_TEXT, StoredLine};
 use circular_buffer::HeapCircularBuffer;
+use fsw_base::EventKind;
 use std::alloc::{AllocError, Global};
 use std::marker::Model;
 
@@ -43,6 +44,16 @@ impl LogMode {
             LogMode::Discard => 1,
         }
     }
+
+    // Whether a full log drops the new line.
+    fn drops_new(self) -> bool
+        ensures { result ≡ not (mode_number self == 0) }
+    {
+        match self {
+            LogMode::Overwrite => false,
+            LogMode::Discard => true,
+        }
+    }
 }
 
 /// The latest events that passed, at most [`LOG_LINES`].
@@ -55,7 +66,8 @@ pub struct EventLog {
 
 impl Model for EventLog {
     ghost use Rattle.std.specs.Prelude.{◌≡◌};
-    ghost use Rattle.evs_events.specs.Log.{Log, mode_number};
+    ghost use Rattle.fsw_base.specs.EventLog.{Log};
+    ghost use Rattle.evs_events.specs.Views.{mode_number};
     ghost use Rattle.evs_events.specs.declared.log.TheConstants.{LOG_LINES};
 
     ghost Value = { Log };
@@ -77,21 +89,17 @@ impl EventLog {
         })
     }
 
-    /// Takes the line last, and answers whether the log was full: then it drops its oldest line in
-    /// mode 0, and the new one in mode 1.
-    pub fn keep(&mut self, line: StoredLine) -> bool
+    /// Takes the line of an event last, and answers whether the log was full: then it drops its
+    /// oldest line in mode 0, and the new one in mode 1. A line that is dropped is never made.
+    pub fn keep(&mut self, app: u32, id: u16, kind: EventKind, text: &[u8]) -> bool
         ensures full { result ≡ is_full self.old }
-        ensures log { self.new ≡ kept self.old line }
+        ensures log { self.new ≡ kept self.old (event_line app id kind text.now) }
     {
         let was_full = self.lines.len() == LOG_LINES;
-        match self.mode {
-            LogMode::Overwrite => {
-                let _ = self.lines.push_back(line);
-            }
-            LogMode::Discard => {
-                let _ = self.lines.try_push_back(line);
-            }
+        if was_full && self.mode.drops_new() {
+            return true;
         }
+        let _ = self.lines.push_back(StoredLine::new(app, id, kind, text));
         was_full
     }
 

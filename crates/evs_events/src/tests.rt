@@ -1,6 +1,6 @@
 //! Small runs of the desk, with the numbers, lines and answers that they must give.
 ghost use Rattle.std.specs.Prelude.{◌≡◌, codes};
-ghost use Rattle.evs_events.specs.Desk.{registered, served};
+ghost use Rattle.fsw_base.specs.EventDesk.{registered, served};
 
 use crate::{EventCounts, EventDesk, LogLine};
 use fsw_base::{AppNo, EventKind, EvsStatus, FilterList};

@@ -1,9 +1,14 @@
 pub mod Blocks
 pub mod Clean
+pub mod EventDesk
+pub mod EventFilters
+pub mod EventLog
 pub mod Events
+pub mod Guards
 pub mod Limits
 pub mod Memory
 pub mod Outside
+pub mod PoolAccounts
 pub mod ScriptFaults
 pub mod Starts
 pub mod Statuses

@@ -2,7 +2,7 @@
 //! small value types, and the traits through which the core meets the outside.
 //!
 //! It promises that each type keeps its range, and that a source or a sink tells a failure only
-//! where its count of faults rose.
+//! where its count of faults rose. Behind a guard nothing is asked of them any more after a failure.
 //!
 //! ```text
 //! let app = AppNo::try_new(3).unwrap();       // applications are numbered 1 to 16
@@ -16,8 +16,10 @@ mod blocks;
 mod clean;
 mod config;
 mod events;
+mod guards;
 mod memory;
 mod outside;
+mod reserved;
 mod script_faults;
 mod standard;
 mod starts;
@@ -28,8 +30,10 @@ pub use blocks::{BlockSizes, MAX_BLOCK_SIZE, MAX_BLOCK_SIZES};
 pub use clean::{CleanSink, CleanSource};
 pub use config::{Budget, BusStats, Config, PoolStats, Scope};
 pub use events::{EventKind, FilterList, MAX_FILTERS};
+pub use guards::{SinkGuard, SourceGuard};
 pub use memory::{MemSink, MemSource};
 pub use outside::{Gate, OpenGate, ReadAnswer, Sink, Source, WriteAnswer};
+pub use reserved::extend_reserved;
 pub use script_faults::{FaultKind, ScriptFault, WriteFault};
 pub use standard::{StdSink, StdSource};
 pub use starts::{CountStarts, MAX_STARTS};

@@ -4,6 +4,7 @@ ghost use Rattle.fsw_base.specs.Outside.{Reads, Writes, Rose};
 ghost use Rattle.fsw_base.specs.Memory.{Supply, Store, read_answer, after_read, write_answer, after_write, is_listed};
 
 use crate::outside::{ReadAnswer, Sink, Source, WriteAnswer};
+use crate::reserved::extend_reserved;
 use std::alloc::{AllocError, Global};
 use std::marker::Model;
 
@@ -152,7 +153,7 @@ impl Sink for MemSink<'_> {
             self.faults = self.faults.saturating_add(1);
             return WriteAnswer::Failed;
         }
-        let _ = self.written.extend_from_slice(&bytes[..count]);
+        extend_reserved(&mut self.written, &bytes[..count]);
         self.room -= count;
         WriteAnswer::Took(count)
     }

@@ -4,7 +4,7 @@ ghost use Rattle.std.specs.Prelude.{◌+◌, ◌-◌, ◌^◌, None, min};
 use crate::outside::{ReadAnswer, Sink, Source, WriteAnswer};
 use std::io::{Read, Stdin, Stdout, Write};
 
-/// Standard input. It doesn't tell its bytes.
+/// Standard input. It doesn't tell its bytes, so nothing is claimed of what it holds.
 #[derive(Drop)]
 pub struct StdSource {
     input: Stdin,
@@ -35,7 +35,7 @@ impl Source for StdSource {
     }
 }
 
-/// Standard output. It doesn't tell its bytes.
+/// Standard output. It doesn't tell its bytes, so nothing is claimed of what it received.
 #[derive(Drop)]
 pub struct StdSink {
     output: Stdout,

@@ -1,4 +1,7 @@
-use crate::{MemSink, ReadAnswer, Sink, Source, StdSink, StdSource, WriteAnswer};
+use crate::{
+    MemSink, MemSource, ReadAnswer, Sink, SinkGuard, Source, SourceGuard, StdSink, StdSource,
+    WriteAnswer,
+};
 use std::test::Fail;
 
 #[test]
@@ -24,4 +27,26 @@ fn standard_output_takes_bytes(rt: HostRuntime) -> Result<(), Fail> {
     let mut sink = StdSink::new(rt.stdout());
     assert_eq!(rt; sink.write(b"taken\n"), WriteAnswer::Took(6));
     Ok(())
+}
+
+#[test]
+fn guarded_sink_is_given_back_with_what_was_written(rt: HostRuntime) -> Result<(), Fail> {
+    let mut sink = MemSink::new(rt.alloc(), 8, 3, &[2])?;
+    let mut guard = SinkGuard::new(&mut sink);
+    assert_eq!(rt; guard.write(b"flight"), WriteAnswer::Took(3));
+    assert!(rt; !guard.has_failed());
+    assert_eq!(rt; guard.write(b"ght"), WriteAnswer::Failed);
+    assert!(rt; guard.has_failed());
+    assert_eq!(rt; guard.into_inner().written(), b"fli".as_slice());
+    Ok(())
+}
+
+#[test]
+fn guarded_source_is_given_back_with_what_is_left(rt: HostRuntime) {
+    let mut source = MemSource::new(b"abc", 2, &[]);
+    let mut guard = SourceGuard::new(&mut source);
+    let mut buf = [0; 8];
+    assert_eq!(rt; guard.read(&mut buf), ReadAnswer::Got(2));
+    assert_eq!(rt; guard.into_inner().read(&mut buf), ReadAnswer::Got(1));
+    assert_eq!(rt; buf[0], b'c');
 }

@@ -1,4 +1,5 @@
 -- What an audit was shown, where it tells.
+use base.Fml.{GName}
 use Rattle.std.specs.Prelude.{◌≡◌, ◌⊎◌, List, [], ◌∷◌, ◌++◌, Option, None}
 use Rattle.std.specs.Option.{option_map}
 use Rattle.bus_words.specs.declared.history.Entry.{Entry}
@@ -6,3 +7,8 @@ use Rattle.bus_words.specs.declared.history.Entry.{Entry}
 -- the history was put behind those shown before, or nothing is told from now on
 abbrev pub IsShown : Option (List (List Entry)) → Option (List (List Entry)) → List Entry → Type 0
 IsShown old new history = (new ≡ option_map (λ shown. shown ++ history ∷ []) old) ⊎ (new ≡ None)
+
+-- An audit behind a guard: which audit it is, and the histories that it was shown, where it tells them.
+pub record GuardedAudit : Type 0 where
+  pub audit : GName
+  pub shown : Option (List (List Entry))

@@ -1,5 +1,5 @@
 -- What reading a source to its end does to the bytes left, where these are told, and to its count of faults.
-use Rattle.std.specs.Prelude.{◌≡◌, ℕ, ◌+◌, ◌≤◌, List, [], ◌++◌, length, Option, IfSome}
+use Rattle.std.specs.Prelude.{◌≡◌, ℕ, ◌+◌, ◌≤◌, Bool, true, false, List, [], ◌++◌, length, Option, IfSome}
 use Rattle.std.specs.Option.{option_map}
 use Rattle.fsw_base.specs.Outside.{Rose, IsCountOf}
 use Rattle.fsw_base.specs.declared.outside.ReadAnswer.{ReadAnswer}
@@ -43,6 +43,13 @@ HasCause (Whole v) before now = before ≤ now
 HasCause TooLarge before now = before ≤ now
 HasCause Fault before now = (before ≤ now) × Rose before now
 HasCause NoMemory before now = now ≡ before
+
+-- whether reading tells that the source failed
+abbrev pub is_fault : Reading → Bool
+is_fault (Whole v) = false
+is_fault TooLarge = false
+is_fault Fault = true
+is_fault NoMemory = false
 
 -- what one read adds to the bytes kept, of which so many more are asked for
 abbrev pub Adds : ReadAnswer → ℕ → List ℕ → List ℕ → Option (List ℕ) → Type 0

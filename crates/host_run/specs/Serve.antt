@@ -1,6 +1,7 @@
 -- What the program does: what it reads, what it writes and what it shows an audit, by how it ended.
 use Rattle.std.specs.Prelude.{◌≡◌, ◌⊎◌, ℕ, List, ◌++◌, length, map, codes, decimal, Option, Some, Result, Ok, Err}
 use Rattle.std.specs.List.{range_with_len}
+use Rattle.fsw_base.specs.Guards.{GuardedSink, GuardedSource}
 use Rattle.fsw_base.specs.Outside.{Rose}
 use Rattle.fsw_base.specs.ScriptFaults.{fault_name}
 use Rattle.fsw_base.specs.declared.script_faults.FaultKind.TheVariants.{TooLarge}
@@ -14,7 +15,7 @@ use Rattle.script_runs.specs.Rotation.{rotation}
 use Rattle.app_script.specs.Script.{ScriptText}
 use Rattle.script_runs.specs.Told.{receipts_told}
 use Rattle.script_runs.specs.Trace.{Merges}
-use Rattle.host_run.specs.Audit.{IsShown}
+use Rattle.host_run.specs.Audit.{IsShown, GuardedAudit}
 use Rattle.host_run.specs.Input.{IsWhole, IsTooLarge, IsPartRead}
 use Rattle.host_run.specs.declared.status.HostStatus.{HostStatus}
 use Rattle.host_run.specs.declared.status.HostStatus.TheVariants as status
@@ -50,6 +51,10 @@ pub record Fed : Type 0 where
 abbrev pub fed_by : {S : Type 0} → (S → Option (List ℕ)) → (S → ℕ) → S → Fed
 fed_by left faults source = record { left = left source; faults = faults source }
 
+-- a source as it is behind its guard
+abbrev pub fed_through : GuardedSource → Fed
+fed_through source = record { left = source.left; faults = source.faults }
+
 -- What the program made: the bytes written, where they are told, the count of the sink's faults, and the histories that
 -- an audit was shown, where it tells them.
 pub record Made : Type 0 where
@@ -60,6 +65,10 @@ pub record Made : Type 0 where
 -- a sink and an audit as they are, by what their traits tell
 abbrev pub made_by : {K A : Type 0} → (K → Option (List ℕ)) → (K → ℕ) → (A → Option (List (List Entry))) → K → A → Made
 made_by written faults shown sink audit = record { written = written sink; faults = faults sink; shown = shown audit }
+
+-- a sink and an audit as they are behind their guards
+abbrev pub made_through : GuardedSink → GuardedAudit → Made
+made_through sink audit = record { written = sink.written; faults = sink.faults; shown = audit.shown }
 
 -- nothing was written or shown
 abbrev pub MakesNothing : Made → Made → Type 0

@@ -1,5 +1,5 @@
--- The numbers with which the program ends.
-use Rattle.std.specs.Prelude.{ℕ}
+-- The numbers with which the program ends, and what an end says of failures.
+use Rattle.std.specs.Prelude.{ℕ, Bool, true, false}
 use Rattle.host_run.specs.declared.status.HostStatus.{HostStatus}
 use Rattle.host_run.specs.declared.status.HostStatus.TheVariants.{Done, Usage, Script, ReadFault, WriteFault, NoMemory}
 
@@ -10,3 +10,21 @@ exit_status (Script fault) = 3
 exit_status ReadFault = 4
 exit_status WriteFault = 5
 exit_status NoMemory = 6
+
+-- whether it tells that the source failed
+abbrev pub is_read_fault : HostStatus → Bool
+is_read_fault Done = false
+is_read_fault Usage = false
+is_read_fault (Script fault) = false
+is_read_fault ReadFault = true
+is_read_fault WriteFault = false
+is_read_fault NoMemory = false
+
+-- whether it tells that the sink failed
+abbrev pub is_write_fault : HostStatus → Bool
+is_write_fault Done = false
+is_write_fault Usage = false
+is_write_fault (Script fault) = false
+is_write_fault ReadFault = false
+is_write_fault WriteFault = true
+is_write_fault NoMemory = false

@@ -1,9 +1,11 @@
 //! Who is shown the bus of each run.
-ghost use Rattle.std.specs.Prelude.{List, Option, None};
+ghost use Rattle.std.specs.Prelude.{◌≡◌, true, List, Option, None};
 ghost use Rattle.bus_words.specs.declared.history.Entry.{Entry};
 ghost use Rattle.host_run.specs.Audit.{IsShown};
 
+use fsw_base::{Sink, SinkGuard};
 use sb_calls::BusCore;
+use std::marker::Model;
 
 /// Who is shown the bus of each run, once, before its report is written.
 pub trait Audit {
@@ -24,4 +26,47 @@ impl Audit for NoAudit {
     ghost shown = { λ _. None };
 
     fn closed(&mut self, _bus: &BusCore) {}
+}
+
+/// An audit that is shown a bus only while nothing was written.
+///
+/// Who has only the guard can't reach the audit in another way.
+#[derive(Drop)]
+pub struct AuditGuard<'a, A: Audit> {
+    audit: &'a mut A,
+}
+
+impl<'a, A: Audit> Model for AuditGuard<'a, A> {
+    ghost use Rattle.host_run.specs.Audit.{GuardedAudit};
+
+    ghost Value = { GuardedAudit };
+
+    ghost view = { λ g. record { audit = g.audit.ghost_name; shown = A.shown g.audit.now } };
+}
+
+impl<'a, A: Audit> AuditGuard<'a, A> {
+    /// A guard through which nothing was shown yet.
+    pub fn new(audit: &'a mut A) -> AuditGuard<'a, A>
+        ensures { result ≡ record { audit = audit.entry.ghost_name; shown = A.shown audit.old } }
+    {
+        AuditGuard { audit }
+    }
+
+    /// Shows the audit a bus on which every application has ended. Nothing may have been written
+    /// through the sink's guard.
+    pub fn closed<K: Sink>(&mut self, bus: &BusCore, _sink: &SinkGuard<'_, K>)
+        requires { _sink.now.untouched ≡ true }
+        ensures shown { IsShown self.old.shown self.new.shown bus.now.log.entries }
+        ensures same_audit { self.new.audit ≡ self.old.audit }
+    {
+        self.audit.closed(bus);
+    }
+
+    /// Gives the audit back.
+    pub fn into_inner(self) -> &'a mut A
+        ensures same_audit { result.ghost_name ≡ self.entry.audit }
+        ensures shown { A.shown result.now ≡ self.entry.shown }
+    {
+        self.audit
+    }
 }

@@ -1,21 +1,29 @@
 //! The line that tells what is wrong with a script.
-ghost use Rattle.std.specs.Prelude.{◌≡◌, ℕ, ◌≤◌, OnOk, OnErr};
+ghost use Rattle.std.specs.Prelude.{◌≡◌, ℕ, ◌≤◌, true, false, OnOk, OnErr};
 ghost use Rattle.fsw_base.specs.Outside.{Rose};
 ghost use Rattle.text_page.specs.Pieces.{Grew, CutShort};
 ghost use Rattle.host_run.specs.Serve.{fault_text};
 
-use fsw_base::{ScriptFault, Sink, WriteFault};
+use fsw_base::{ScriptFault, Sink, SinkGuard, WriteFault};
 use text_page::{Page, finish, put, put_number};
 
-/// Writes the line of a fault: `script:LINE:NAME`.
+/// Writes the line of a fault: `script:LINE:NAME`. No write through this guard may have failed before.
 ///
-/// `WriteFault` comes only where the sink's count of faults rose in this call, or stands at its last
-/// value; a front of the line is then written.
-pub(crate) fn write_fault<K: Sink>(sink: &mut K, fault: ScriptFault) -> Result<(), WriteFault>
-    ensures ok { OnOk result (Grew (K.written sink.old) (K.written sink.new) (fault_text fault)) }
-    ensures err { OnErr result (CutShort (K.written sink.old) (K.written sink.new) (fault_text fault)) }
-    ensures cause { OnErr result (Rose (K.faults sink.old) (K.faults sink.new)) }
-    ensures never_falls { K.faults sink.old ≤ K.faults sink.new }
+/// # Errors
+/// `WriteFault` only where a write failed, so that the sink's count of faults rose in this call, or
+/// stands at its last value; a front of the line is then written.
+pub(crate) fn write_fault<K: Sink>(
+    sink: &mut SinkGuard<'_, K>,
+    fault: ScriptFault,
+) -> Result<(), WriteFault>
+    requires { sink.old.failed ≡ false }
+    ensures ok { OnOk result (Grew sink.old.written sink.new.written (fault_text fault)) }
+    ensures none_failed { OnOk result (sink.new.failed ≡ false) }
+    ensures err { OnErr result (CutShort sink.old.written sink.new.written (fault_text fault)) }
+    ensures failed { OnErr result (sink.new.failed ≡ true) }
+    ensures cause { OnErr result (Rose sink.old.faults sink.new.faults) }
+    ensures never_falls { sink.old.faults ≤ sink.new.faults }
+    ensures same_sink { sink.new.sink ≡ sink.old.sink }
 {
     let mut page = Page::new();
     put(sink, &mut page, b"script:");

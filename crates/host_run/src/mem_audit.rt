@@ -45,7 +45,11 @@ impl Model for MemAudit {
 }
 
 impl MemAudit {
-    /// An audit that was shown nothing, with room to copy so many journals, each within these budgets.
+    /// An audit that was shown nothing, with room to copy so many journals, each within these
+    /// budgets.
+    ///
+    /// # Errors
+    /// `AllocError` where memory runs out.
     pub fn new(alloc: Global, budgets: &[Budget], pairs: u32) -> Result<MemAudit, AllocError>
         requires { AreBudgets budgets.now }
         ensures { IfOk result (λ audit. audit ≡ no_copies budgets.now pairs) }

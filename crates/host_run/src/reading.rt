@@ -1,9 +1,10 @@
 //! Reading a source to its end, as far as a script may reach.
-ghost use Rattle.std.specs.Prelude.{◌≡◌, ℕ, ◌+◌, ◌<◌, ◌≤◌, length, vec_len, vec_capacity};
+ghost use Rattle.std.specs.Prelude.{◌≡◌, ℕ, ◌+◌, ◌<◌, ◌≤◌, true, false, length, vec_len, vec_capacity};
+ghost use Rattle.fsw_base.specs.Guards.{is_failed_read};
 ghost use Rattle.fsw_base.specs.Outside.{Rose};
-ghost use Rattle.host_run.specs.Input.{input_of, ReadsAll, HasCause, Adds};
+ghost use Rattle.host_run.specs.Input.{input_of, ReadsAll, HasCause, Adds, is_fault};
 
-use fsw_base::{ReadAnswer, Source};
+use fsw_base::{ReadAnswer, Source, SourceGuard};
 use std::alloc::Global;
 
 /// The most bytes that an input may have.
@@ -27,10 +28,13 @@ pub enum Reading {
 
 /// Reads a source to its end, at most one byte more than an input may have, and no further after a failure.
 ///
-/// Memory is taken once, before the first read.
-pub fn read_all<S: Source>(alloc: Global, source: &mut S) -> Reading
-    ensures bytes { ReadsAll result (S.left source.old) (S.left source.new) }
-    ensures cause { HasCause result (S.faults source.old) (S.faults source.new) }
+/// Memory is taken once, before the first read. No read through this guard may have failed before.
+pub fn read_all<S: Source>(alloc: Global, source: &mut SourceGuard<'_, S>) -> Reading
+    requires { source.old.failed ≡ false }
+    ensures bytes { ReadsAll result source.old.left source.new.left }
+    ensures failed { source.new.failed ≡ is_fault result }
+    ensures cause { HasCause result source.old.faults source.new.faults }
+    ensures same_source { source.new.source ≡ source.old.source }
 {
     let Ok(mut kept) = Vec::with_capacity(alloc, MAX_INPUT + 1) else {
         return Reading::NoMemory;
@@ -48,14 +52,21 @@ pub fn read_all<S: Source>(alloc: Global, source: &mut S) -> Reading
 }
 
 // One read, its bytes put behind those kept.
-fn read_piece<S: Source>(source: &mut S, piece: &mut [u8], kept: &mut Vec<u8>) -> ReadAnswer
+fn read_piece<S: Source>(
+    source: &mut SourceGuard<'_, S>,
+    piece: &mut [u8],
+    kept: &mut Vec<u8>,
+) -> ReadAnswer
+    requires none_failed { source.old.failed ≡ false }
     requires some { 0 < length piece.old }
     requires room { vec_len kept.old + length piece.old ≤ vec_capacity kept.old }
-    ensures input { input_of kept.new.items (S.left source.new) ≡ input_of kept.old.items (S.left source.old) }
-    ensures adds { Adds result (length piece.old) kept.old.items kept.new.items (S.left source.new) }
+    ensures input { input_of kept.new.items source.new.left ≡ input_of kept.old.items source.old.left }
+    ensures adds { Adds result (length piece.old) kept.old.items kept.new.items source.new.left }
     ensures capacity { vec_capacity kept.old ≤ vec_capacity kept.new }
-    ensures never_falls { S.faults source.old ≤ S.faults source.new }
-    ensures cause { result ≡ ReadAnswer.Failed → Rose (S.faults source.old) (S.faults source.new) }
+    ensures failed { source.new.failed ≡ is_failed_read result }
+    ensures never_falls { source.old.faults ≤ source.new.faults }
+    ensures cause { source.new.failed ≡ true → Rose source.old.faults source.new.faults }
+    ensures same_source { source.new.source ≡ source.old.source }
 {
     let answer = source.read(piece);
     if let ReadAnswer::Got(count) = answer {

@@ -1,18 +1,19 @@
 //! The top call: all that the program does.
-ghost use Rattle.std.specs.Prelude.{◌≡◌, ◌⊎◌, true, false, List, Option};
-ghost use Rattle.bus_words.specs.declared.history.Entry.{Entry};
+ghost use Rattle.std.specs.Prelude.{◌≡◌, ◌⊎◌, true, false};
 ghost use Rattle.app_script.specs.Grammar.{built_script};
-ghost use Rattle.host_run.specs.Serve.{Headline, Lockstep, OtherWords, HasCauses, Completes, fed_by, made_by, EndsInput, EndsScript, EndsRefused, EndsTelling, usage_text};
+ghost use Rattle.host_run.specs.Audit.{GuardedAudit};
+ghost use Rattle.host_run.specs.Serve.{Headline, Lockstep, OtherWords, HasCauses, Completes, fed_by, made_by, fed_through, made_through, EndsInput, EndsScript, EndsRefused, EndsTelling, usage_text};
+ghost use Rattle.host_run.specs.Status.{is_read_fault, is_write_fault};
 ghost use Rattle.host_run.specs.Words.{is_lockstep};
 
-use crate::audit::Audit;
+use crate::audit::{Audit, AuditGuard};
 use crate::fault_line::write_fault;
 use crate::reading::{Reading, read_all};
 use crate::status::HostStatus;
 use crate::words::Words;
 use app_run::lockstep;
 use app_script::{ReadFail, Script, read_script};
-use fsw_base::{FaultKind, Gate, ScriptFault, Sink, Source, WriteFault};
+use fsw_base::{FaultKind, Gate, ScriptFault, Sink, SinkGuard, Source, SourceGuard, WriteFault};
 use run_report::write_report;
 use std::alloc::Global;
 use text_page::write_text;
@@ -69,25 +70,37 @@ pub fn serve<R, S: Source, K: Sink, G: Gate, A: Audit>(
         (made_by K.written K.faults A.shown sink.old audit.old)
         (made_by K.written K.faults A.shown sink.new audit.new) }
 {
-    serve_words(alloc, words, source, sink, audit)
+    // From here on all three are reached through their guards alone, until these give them back.
+    let mut source = SourceGuard::new(source);
+    let mut sink = SinkGuard::new(sink);
+    let mut audit = AuditGuard::new(audit);
+    let status = serve_words(alloc, words, &mut source, &mut sink, &mut audit);
+    let _source = source.into_inner();
+    let _sink = sink.into_inner();
+    let _audit = audit.into_inner();
+    status
 }
 
 // Does what the words say.
 fn serve_words<S: Source, K: Sink, A: Audit>(
     alloc: Global,
     words: &Words,
-    source: &mut S,
-    sink: &mut K,
-    audit: &mut A,
+    source: &mut SourceGuard<'_, S>,
+    sink: &mut SinkGuard<'_, K>,
+    audit: &mut AuditGuard<'_, A>,
 ) -> HostStatus
-    ensures lockstep { is_lockstep words.now ≡ true → Lockstep result
-        (fed_by S.left S.faults source.old) (fed_by S.left S.faults source.new)
-        (made_by K.written K.faults A.shown sink.old audit.old)
-        (made_by K.written K.faults A.shown sink.new audit.new) }
-    ensures other_words { is_lockstep words.now ≡ false → OtherWords result
-        (fed_by S.left S.faults source.old) (fed_by S.left S.faults source.new)
-        (made_by K.written K.faults A.shown sink.old audit.old)
-        (made_by K.written K.faults A.shown sink.new audit.new) }
+    requires no_read_failed { source.old.failed ≡ false }
+    requires no_write_failed { sink.old.failed ≡ false }
+    requires untouched { sink.old.untouched ≡ true }
+    ensures lockstep { is_lockstep words.now ≡ true → Lockstep result (fed_through source.old) (fed_through source.new)
+        (made_through sink.old audit.old) (made_through sink.new audit.new) }
+    ensures other_words { is_lockstep words.now ≡ false → OtherWords result (fed_through source.old) (fed_through source.new)
+        (made_through sink.old audit.old) (made_through sink.new audit.new) }
+    ensures read_failed { source.new.failed ≡ is_read_fault result }
+    ensures write_failed { sink.new.failed ≡ is_write_fault result }
+    ensures same_source { source.new.source ≡ source.old.source }
+    ensures same_sink { sink.new.sink ≡ sink.old.sink }
+    ensures same_audit { audit.new.audit ≡ audit.old.audit }
 {
     if !words.is_lockstep() {
         return tell_usage(sink);
@@ -104,12 +117,16 @@ fn serve_words<S: Source, K: Sink, A: Audit>(
 fn serve_text<K: Sink, A: Audit>(
     alloc: Global,
     text: &[u8],
-    sink: &mut K,
-    audit: &mut A,
+    sink: &mut SinkGuard<'_, K>,
+    audit: &mut AuditGuard<'_, A>,
 ) -> HostStatus
-    ensures { EndsInput result (built_script text.now)
-        (made_by K.written K.faults A.shown sink.old audit.old)
-        (made_by K.written K.faults A.shown sink.new audit.new) }
+    requires none_failed { sink.old.failed ≡ false }
+    requires untouched { sink.old.untouched ≡ true }
+    ensures end { EndsInput result (built_script text.now) (made_through sink.old audit.old) (made_through sink.new audit.new) }
+    ensures failed { sink.new.failed ≡ is_write_fault result }
+    ensures no_read_fault { is_read_fault result ≡ false }
+    ensures same_sink { sink.new.sink ≡ sink.old.sink }
+    ensures same_audit { audit.new.audit ≡ audit.old.audit }
 {
     match read_script(alloc, text) {
         Ok(script) => serve_script(alloc, &script, sink, audit),
@@ -122,17 +139,21 @@ fn serve_text<K: Sink, A: Audit>(
 fn serve_script<K: Sink, A: Audit>(
     alloc: Global,
     script: &Script,
-    sink: &mut K,
-    audit: &mut A,
+    sink: &mut SinkGuard<'_, K>,
+    audit: &mut AuditGuard<'_, A>,
 ) -> HostStatus
-    ensures { EndsScript result script.now
-        (made_by K.written K.faults A.shown sink.old audit.old)
-        (made_by K.written K.faults A.shown sink.new audit.new) }
+    requires none_failed { sink.old.failed ≡ false }
+    requires untouched { sink.old.untouched ≡ true }
+    ensures end { EndsScript result script.now (made_through sink.old audit.old) (made_through sink.new audit.new) }
+    ensures failed { sink.new.failed ≡ is_write_fault result }
+    ensures no_read_fault { is_read_fault result ≡ false }
+    ensures same_sink { sink.new.sink ≡ sink.old.sink }
+    ensures same_audit { audit.new.audit ≡ audit.old.audit }
 {
     let Ok(finished) = lockstep(alloc, script) else {
         return HostStatus::NoMemory;
     };
-    audit.closed(&finished.bus);
+    audit.closed(&finished.bus, sink);
     match write_report(&finished.bus, finished.receipts.as_slice(), sink) {
         Ok(()) => HostStatus::Done,
         Err(WriteFault) => HostStatus::WriteFault,
@@ -140,10 +161,12 @@ fn serve_script<K: Sink, A: Audit>(
 }
 
 // Writes what is wrong with the input.
-fn refuse<K: Sink>(sink: &mut K, fault: ScriptFault) -> HostStatus
-    ensures { (shown : Option (List (List Entry))) → EndsRefused result fault
-        (record { written = K.written sink.old; faults = K.faults sink.old; shown = shown })
-        (record { written = K.written sink.new; faults = K.faults sink.new; shown = shown }) }
+fn refuse<K: Sink>(sink: &mut SinkGuard<'_, K>, fault: ScriptFault) -> HostStatus
+    requires { sink.old.failed ≡ false }
+    ensures end { (audit : GuardedAudit) → EndsRefused result fault (made_through sink.old audit) (made_through sink.new audit) }
+    ensures failed { sink.new.failed ≡ is_write_fault result }
+    ensures no_read_fault { is_read_fault result ≡ false }
+    ensures same_sink { sink.new.sink ≡ sink.old.sink }
 {
     match write_fault(sink, fault) {
         Ok(()) => HostStatus::Script(fault),
@@ -152,10 +175,12 @@ fn refuse<K: Sink>(sink: &mut K, fault: ScriptFault) -> HostStatus
 }
 
 // Writes which words the program knows.
-fn tell_usage<K: Sink>(sink: &mut K) -> HostStatus
-    ensures { (shown : Option (List (List Entry))) → EndsTelling HostStatus.Usage result
-        (record { written = K.written sink.old; faults = K.faults sink.old; shown = shown })
-        (record { written = K.written sink.new; faults = K.faults sink.new; shown = shown }) usage_text }
+fn tell_usage<K: Sink>(sink: &mut SinkGuard<'_, K>) -> HostStatus
+    requires { sink.old.failed ≡ false }
+    ensures end { (audit : GuardedAudit) → EndsTelling HostStatus.Usage result (made_through sink.old audit) (made_through sink.new audit) usage_text }
+    ensures failed { sink.new.failed ≡ is_write_fault result }
+    ensures no_read_fault { is_read_fault result ≡ false }
+    ensures same_sink { sink.new.sink ≡ sink.old.sink }
 {
     match write_text(sink, b"usage: lockstep\n") {
         Ok(()) => HostStatus::Usage,

@@ -124,33 +124,44 @@ fn scripts_print_their_reports(rt: HostRuntime) -> Result<(), Fail> {
 
 #[test]
 fn other_words_are_told_the_usage(rt: HostRuntime) -> Result<(), Fail> {
-    let mut words = Words::new();
-    words.add("walk");
-    let mut source = MemSource::new(SCRIPT, 1000, &[]);
-    let mut sink = MemSink::new(rt.alloc(), 100, 1000, &[])?;
-    let status = serve(
-        &rt,
-        rt.alloc(),
-        &words,
-        &mut source,
-        &mut sink,
-        &OpenGate,
-        &mut NoAudit,
-    );
-    assert_eq!(rt; status.exit_status(), 2);
-    assert_eq!(rt; sink.written(), b"usage: lockstep\n".as_slice());
+    let cases: [&[&str]; 4] = [
+        &[],
+        &["walk"],
+        &["lockstep", "x"],
+        &["lockstep", "lockstep"],
+    ];
+    for case in &cases {
+        let mut words = Words::new();
+        for word in *case {
+            words.add(word);
+        }
+        let mut source = MemSource::new(SCRIPT, 1000, &[]);
+        let mut sink = MemSink::new(rt.alloc(), 100, 1000, &[])?;
+        let status = serve(
+            &rt,
+            rt.alloc(),
+            &words,
+            &mut source,
+            &mut sink,
+            &OpenGate,
+            &mut NoAudit,
+        );
+        assert_eq!(rt; status.exit_status(), 2);
+        assert_eq!(rt; sink.written(), b"usage: lockstep\n".as_slice());
+    }
     Ok(())
 }
 
-// Runs with a source that fails at one call: nothing is written, or the whole report where there is
-// no such call.
-fn fail_read<R: Abort>(
-    rt: &R,
-    alloc: Global,
-    piece: usize,
-    fails: &[u32],
-) -> Result<(), AllocError> {
-    let mut source = MemSource::new(SCRIPT, piece.max(1), fails);
+// How many calls bring so many bytes over, a piece at a time.
+fn calls(bytes: usize, piece: usize) -> usize {
+    bytes.div_ceil(piece.max(1))
+}
+
+// Runs with a source that fails at one call. Where the call is reached nothing is written; one call
+// more than the pieces need tells the end.
+fn fail_read<R: Abort>(rt: &R, alloc: Global, piece: usize, call: u32) -> Result<(), AllocError> {
+    let fails = [call];
+    let mut source = MemSource::new(SCRIPT, piece.max(1), &fails);
     let mut sink = MemSink::new(alloc, 10_000, 1000, &[])?;
     let status = serve(
         rt,
@@ -161,7 +172,8 @@ fn fail_read<R: Abort>(
         &OpenGate,
         &mut NoAudit,
     );
-    if status == HostStatus::ReadFault {
+    if call as usize <= calls(SCRIPT.len(), piece).saturating_add(1) {
+        assert_eq!(rt; status, HostStatus::ReadFault);
         assert!(rt; sink.written().is_empty());
     } else {
         assert_eq!(rt; status, HostStatus::Done);
@@ -170,16 +182,12 @@ fn fail_read<R: Abort>(
     Ok(())
 }
 
-// Runs with a sink that fails at one call: a front of the report is written, or all of it where there
-// is no such call.
-fn fail_write<R: Abort>(
-    rt: &R,
-    alloc: Global,
-    piece: usize,
-    fails: &[u32],
-) -> Result<(), AllocError> {
+// Runs with a sink that fails at one call. Where the call is reached just the pieces before it are
+// written.
+fn fail_write<R: Abort>(rt: &R, alloc: Global, piece: usize, call: u32) -> Result<(), AllocError> {
+    let fails = [call];
     let mut source = MemSource::new(SCRIPT, 1000, &[]);
-    let mut sink = MemSink::new(alloc, 10_000, piece.max(1), fails)?;
+    let mut sink = MemSink::new(alloc, 10_000, piece.max(1), &fails)?;
     let status = serve(
         rt,
         alloc,
@@ -189,8 +197,12 @@ fn fail_write<R: Abort>(
         &OpenGate,
         &mut NoAudit,
     );
-    if status == HostStatus::WriteFault {
-        assert!(rt; sink.written().len() < REPORT.len());
+    if call as usize <= calls(REPORT.len(), piece) {
+        assert_eq!(rt; status, HostStatus::WriteFault);
+        assert_eq!(rt;
+            calls(sink.written().len(), piece).saturating_add(1),
+            call as usize
+        );
         assert!(rt; REPORT.starts_with(sink.written()));
     } else {
         assert_eq!(rt; status, HostStatus::Done);
@@ -203,8 +215,8 @@ fn fail_write<R: Abort>(
 fn failures_in_mid_stream_leave_nothing_or_a_front(rt: HostRuntime) -> Result<(), Fail> {
     for piece in [1, 7, 1000] {
         for call in 1..=CALLS {
-            fail_read(&rt, rt.alloc(), piece, &[call])?;
-            fail_write(&rt, rt.alloc(), piece, &[call])?;
+            fail_read(&rt, rt.alloc(), piece, call)?;
+            fail_write(&rt, rt.alloc(), piece, call)?;
         }
     }
     Ok(())

@@ -24,7 +24,7 @@ use types.Kit.{‵, raw, ◌⊛◌, later, ◌$◌, ◌∵◌, !, qed, move, dro
 use types.Logic.{Logic, sem, lfts}
 use types.SemTy.{Body, Arr, cells}
 use types.Share.{parts}
-use Rattle.lend_block.specs.Owned.{readable, borrow_owns}
+use Rattle.lend_block.specs.Inside.{readable, borrow_owns}
 
 pub readable_laws : (r : Lft) (place : Ptr) (bytes : List ℕ) → ShrLaws (readable r place bytes)
 readable_laws r place bytes =

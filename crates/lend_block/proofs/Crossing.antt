@@ -5,7 +5,7 @@ use base.Fml.{Lft}
 use denote.Builtin.{u8}
 use denote.Param.Send.{IsSync, Common, mut_slice_sync, sendable}
 use denote.RawPtr.{Ptr, block_of, count_of}
-use Rattle.lend_block.specs.Owned.{readable}
+use Rattle.lend_block.specs.Inside.{readable}
 
 pub readable_anywhere : (r : Lft) (place : Ptr) (bytes : List ℕ) → Common (readable r place bytes)
 readable_anywhere r place bytes κ =

@@ -1,2 +1,2 @@
 pub mod Loan
-pub mod Owned
+pub mod Inside

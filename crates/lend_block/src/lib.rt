@@ -1,9 +1,9 @@
 //! A block of bytes that many receivers read while nobody copies it.
 //!
-//! Whoever has the block seals it, which begins a loan of its first bytes; each receiver gets a view
-//! of these bytes, in any thread; once every view is back, the block is open for writing again.
-//! The bytes of a view are the sealed ones for as long as the view exists, and no call takes memory,
-//! copies a byte or refuses.
+//! Whoever has the block seals it, which begins a loan of its first bytes; each receiver gets a
+//! view of these bytes, in any thread; once every view is back, the block is open for writing
+//! again. The bytes of a view are the sealed ones for as long as the view exists, and no call takes
+//! memory, copies a byte or refuses.
 //!
 //! ```text
 //! pub fn hand_out(block: &mut [u8]) -> u8

@@ -1,12 +1,12 @@
 //! A borrowed block that is read through parts, and is whole again once each part is back.
 //!
-//! Every raw pointer of the crate stands in this file. A loan is a lifetime of its own, whose number is
-//! the loan's: the borrowed block is lent for that lifetime, a part is a share of the lifetime's token,
-//! and with all 2^63 parts the lifetime ends and the borrow is back.
+//! Every raw pointer of the crate stands in this file. A loan is a lifetime of its own, whose
+//! number is the loan's: the borrowed block is lent for that lifetime, a part is a share of the
+//! lifetime's token, and with all 2^63 parts the lifetime ends and the borrow is back.
 ghost use Rattle.std.specs.Prelude.{◌≡◌, ◌≢◌, ℕ, ◌+◌, ◌-◌, ◌^◌, ◌<◌, ◌≤◌, List, length, take};
 ghost use denote.Ref.{MutBor};
 ghost use denote.RawPtr.{block_ptr, block_of, count_of};
-ghost use Rattle.lend_block.specs.Owned.{part_owns, part_shares, deed_owns};
+ghost use Rattle.lend_block.specs.Inside.{part_owns, part_shares, deed_owns};
 
 use crate::name::LoanName;
 use std::marker::{Model, PhantomData};
@@ -125,8 +125,8 @@ impl<'r> Part<'r> {
         let Part { ptr: _, marker: _ } = other;
     }
 
-    /// Two that each have more than half of their loan's parts are not of one loan. This does nothing, and
-    /// is there for what it ensures.
+    /// Two that each have more than half of their loan's parts are not of one loan. This does
+    /// nothing, and is there for what it ensures.
     pub(crate) fn tell_apart(&mut self, other: &mut Part<'_>)
         requires most { (2 ^ 62 < self.old.count) × (self.old.count ≤ 2 ^ 63) }
         requires most_of_other { (2 ^ 62 < other.old.count) × (other.old.count ≤ 2 ^ 63) }

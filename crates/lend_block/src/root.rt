@@ -10,8 +10,8 @@
 //!        |-- View: one part
 //! ```
 //!
-//! The right to read the block has 2^63 parts. Each view that is out has one of them and the root has
-//! the others, so the root has all of them exactly when no view is out.
+//! The right to read the block has 2^63 parts. Each view that is out has one of them and the root
+//! has the others, so the root has all of them exactly when no view is out.
 ghost use Rattle.std.specs.Prelude.{◌≡◌, ◌≢◌, ◌+◌, ◌^◌, ◌<◌, ◌≤◌, length, take};
 ghost use Rattle.lend_block.specs.Loan.{LentBlock};
 
@@ -20,8 +20,8 @@ use crate::part::{Deed, Part, freeze, thaw};
 use crate::view::View;
 use std::marker::Model;
 
-/// A block whose first bytes are lent. Whoever has it gives views, takes them back and opens the block
-/// again.
+/// A block whose first bytes are lent. Whoever has it gives views, takes them back and opens the
+/// block again.
 ///
 /// Dropping it leaves the block sealed for as long as it was borrowed.
 #[derive(Drop)]
@@ -41,9 +41,15 @@ pub struct Root<'r> {
 impl<'r> Model for Root<'r> {
     ghost Value = { LentBlock };
 
-    ghost view = { λ r. record { loan = r.deed.loan; bytes = take r.len r.part.bytes; out = r.out; block = r.deed.block } };
+    ghost view = { λ r. record {
+      loan = r.deed.loan;
+      bytes = take r.len r.part.bytes;
+      out = r.out;
+      block = r.deed.block;
+    } };
 
-    // Part and deed are of one loan and one block, the parts are all there, and the lengths are those of the block.
+    // Part and deed are of one loan and one block, the parts are all there, and the lengths are
+    // those of the block.
     ghost invariant = { λ r.
         (r.part.loan ≡ r.deed.loan)
         × (r.part.bytes ≡ r.deed.block.now)
@@ -73,8 +79,8 @@ impl<'r> Root<'r> {
         }
     }
 
-    /// Gives a view of the loan, which counts as out until `give_back`. At most 4294967295 are out at
-    /// a time.
+    /// Gives a view of the loan, which counts as out until `give_back`. At most 4294967295 are out
+    /// at a time.
     pub fn view(&mut self) -> View<'r>
         requires room { self.old.out < 4294967295 }
         ensures one_more { self.new ≡ record self.old { out = self.old.out + 1 } }
@@ -89,7 +95,8 @@ impl<'r> Root<'r> {
         }
     }
 
-    /// Takes back a view of this loan. Since it is one of those that are out, their number was not 0.
+    /// Takes back a view of this loan. Since it is one of those that are out, their number was not
+    /// 0.
     pub fn give_back(&mut self, view: View<'r>)
         requires of_this_loan { view.loan ≡ self.old.loan }
         ensures one_less { self.old ≡ record self.new { out = self.new.out + 1 } }
@@ -99,8 +106,8 @@ impl<'r> Root<'r> {
         self.out -= 1;
     }
 
-    /// Ends the loan, once no view is out, and opens the block for writing: the whole block as it was
-    /// sealed, with its bytes.
+    /// Ends the loan, once no view is out, and opens the block for writing: the whole block as it
+    /// was sealed, with its bytes.
     pub fn reopen(self) -> &'r mut [u8]
         requires all_back { self.out ≡ 0 }
         ensures block { result ≡ self.entry.block }
@@ -136,8 +143,8 @@ impl<'r> Root<'r> {
         self.part.name()
     }
 
-    /// Two roots that exist at the same time are of different loans. This does nothing, and is there for
-    /// what it ensures.
+    /// Two roots that exist at the same time are of different loans. This does nothing, and is
+    /// there for what it ensures.
     pub(crate) fn tell_apart(&mut self, other: &mut Root<'_>)
         ensures apart { self.old.loan ≢ other.old.loan }
         ensures same { self.new ≡ self.old }

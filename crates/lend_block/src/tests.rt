@@ -23,13 +23,14 @@ fn hand_out(block: &mut [u8]) -> u8
 /// The first byte that each view shows.
 fn firsts(one: &View<'_>, two: &View<'_>) -> (u8, u8)
     requires not_empty { (1 ≤ length one.now.bytes) × (1 ≤ length two.now.bytes) }
-    ensures first { (result.0 ≡ slice_index one.now.bytes 0) × (result.1 ≡ slice_index two.now.bytes 0) }
+    ensures first { (result.0 ≡ slice_index one.now.bytes 0)
+        × (result.1 ≡ slice_index two.now.bytes 0) }
 {
     (one.bytes()[0], two.bytes()[0])
 }
 
-/// What each of two threads reads of two views that they share, and what a view shows once the block was
-/// written and sealed anew.
+/// What each of two threads reads of two views that they share, and what a view shows once the
+/// block was written and sealed anew.
 fn shared_then_written<R: Threads>(rt: &R, block: &mut [u8]) -> ((u8, u8), (u8, u8), u8)
     requires two_bytes { 2 ≤ length block.old }
     ensures written { result.2 ≡ 9 }

@@ -7,11 +7,17 @@ use crate::words::{
     put_bytes_word, put_figure, put_id_word, put_mode_word, put_name_word, put_register,
     put_scope_word,
 };
-use fsw_base::{Scope, Sink};
+use fsw_base::{Scope, Sink, SinkGuard};
 use text_page::{Page, put};
 // Puts the line of `create`.
-pub(crate) fn put_create<K: Sink>(sink: &mut K, page: &mut Page, pipe: u32, depth: u32, name: &[u8])
-    ensures { Puts K.written K.faults sink.old sink.new page.old page.new (line_text (Create pipe depth name.now)) }
+pub(crate) fn put_create<K: Sink>(
+    sink: &mut SinkGuard<'_, K>,
+    page: &mut Page,
+    pipe: u32,
+    depth: u32,
+    name: &[u8],
+)
+    ensures { Puts sink.old sink.new page.old page.new (line_text (Create pipe depth name.now)) }
 {
     put(sink, page, b"create");
     put_register(sink, page, b'p', pipe);
@@ -20,8 +26,8 @@ pub(crate) fn put_create<K: Sink>(sink: &mut K, page: &mut Page, pipe: u32, dept
 }
 
 // Puts the line of `opts`.
-pub(crate) fn put_opts<K: Sink>(sink: &mut K, page: &mut Page, pipe: u32, bits: u8)
-    ensures { Puts K.written K.faults sink.old sink.new page.old page.new (line_text (SetOpts pipe bits)) }
+pub(crate) fn put_opts<K: Sink>(sink: &mut SinkGuard<'_, K>, page: &mut Page, pipe: u32, bits: u8)
+    ensures { Puts sink.old sink.new page.old page.new (line_text (SetOpts pipe bits)) }
 {
     put(sink, page, b"opts");
     put_register(sink, page, b'p', pipe);
@@ -29,8 +35,13 @@ pub(crate) fn put_opts<K: Sink>(sink: &mut K, page: &mut Page, pipe: u32, bits: 
 }
 
 // Puts the line of `find`.
-pub(crate) fn put_find<K: Sink>(sink: &mut K, page: &mut Page, pipe: u32, name: &[u8])
-    ensures { Puts K.written K.faults sink.old sink.new page.old page.new (line_text (Find pipe name.now)) }
+pub(crate) fn put_find<K: Sink>(
+    sink: &mut SinkGuard<'_, K>,
+    page: &mut Page,
+    pipe: u32,
+    name: &[u8],
+)
+    ensures { Puts sink.old sink.new page.old page.new (line_text (Find pipe name.now)) }
 {
     put(sink, page, b"find");
     put_register(sink, page, b'p', pipe);
@@ -39,14 +50,14 @@ pub(crate) fn put_find<K: Sink>(sink: &mut K, page: &mut Page, pipe: u32, name: 
 
 // Puts the line of `sub`.
 pub(crate) fn put_subscribe<K: Sink>(
-    sink: &mut K,
+    sink: &mut SinkGuard<'_, K>,
     page: &mut Page,
     id: u16,
     pipe: u32,
     limit: u32,
     scope: Scope,
 )
-    ensures { Puts K.written K.faults sink.old sink.new page.old page.new (line_text (Subscribe id pipe limit scope)) }
+    ensures { Puts sink.old sink.new page.old page.new (line_text (Subscribe id pipe limit scope)) }
 {
     put(sink, page, b"sub");
     put_id_word(sink, page, id);
@@ -56,8 +67,13 @@ pub(crate) fn put_subscribe<K: Sink>(
 }
 
 // Puts the line of `unsub`.
-pub(crate) fn put_unsubscribe<K: Sink>(sink: &mut K, page: &mut Page, id: u16, pipe: u32)
-    ensures { Puts K.written K.faults sink.old sink.new page.old page.new (line_text (Unsubscribe id pipe)) }
+pub(crate) fn put_unsubscribe<K: Sink>(
+    sink: &mut SinkGuard<'_, K>,
+    page: &mut Page,
+    id: u16,
+    pipe: u32,
+)
+    ensures { Puts sink.old sink.new page.old page.new (line_text (Unsubscribe id pipe)) }
 {
     put(sink, page, b"unsub");
     put_id_word(sink, page, id);
@@ -66,14 +82,14 @@ pub(crate) fn put_unsubscribe<K: Sink>(sink: &mut K, page: &mut Page, id: u16, p
 
 // Puts the line of `send`.
 pub(crate) fn put_send<K: Sink>(
-    sink: &mut K,
+    sink: &mut SinkGuard<'_, K>,
     page: &mut Page,
     id: u16,
     size: u32,
     fill: u8,
     inc: bool,
 )
-    ensures { Puts K.written K.faults sink.old sink.new page.old page.new (line_text (Send id size fill inc)) }
+    ensures { Puts sink.old sink.new page.old page.new (line_text (Send id size fill inc)) }
 {
     put(sink, page, b"send");
     put_id_word(sink, page, id);
@@ -83,8 +99,13 @@ pub(crate) fn put_send<K: Sink>(
 }
 
 // Puts the line of `sendraw`.
-pub(crate) fn put_send_raw<K: Sink>(sink: &mut K, page: &mut Page, bytes: &[u8], inc: bool)
-    ensures { Puts K.written K.faults sink.old sink.new page.old page.new (line_text (SendRaw bytes.now inc)) }
+pub(crate) fn put_send_raw<K: Sink>(
+    sink: &mut SinkGuard<'_, K>,
+    page: &mut Page,
+    bytes: &[u8],
+    inc: bool,
+)
+    ensures { Puts sink.old sink.new page.old page.new (line_text (SendRaw bytes.now inc)) }
 {
     put(sink, page, b"sendraw");
     put_bytes_word(sink, page, bytes);

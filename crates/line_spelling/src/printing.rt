@@ -12,7 +12,7 @@ use crate::memory_lines::{
 };
 use crate::table_lines::{put_load, put_table_register, put_table_share};
 use crate::words::put_alone;
-use fsw_base::Sink;
+use fsw_base::{Sink, SinkGuard};
 use script_lines::Line;
 use text_page::{Page, put};
 
@@ -21,8 +21,8 @@ use text_page::{Page, put};
 /// numbers in decimal, and limit, scope and mode even where a script may leave them out.
 ///
 /// Takes no memory. After a failed write nothing is written any more.
-pub fn print_line<K: Sink>(sink: &mut K, page: &mut Page, line: &Line)
-    ensures { Puts K.written K.faults sink.old sink.new page.old page.new (line_text line.now) }
+pub fn print_line<K: Sink>(sink: &mut SinkGuard<'_, K>, page: &mut Page, line: &Line)
+    ensures { Puts sink.old sink.new page.old page.new (line_text line.now) }
 {
     match line {
         Line::Create { pipe, depth, name } => put_create(

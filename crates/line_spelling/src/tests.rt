@@ -1,6 +1,6 @@
 //! Printed lines.
 use crate::print_line;
-use fsw_base::{EventKind, FilterList, MemSink, Scope};
+use fsw_base::{EventKind, FilterList, MemSink, Scope, SinkGuard};
 use script_lines::{ByteText, Line};
 use std::test::Fail;
 use text_page::{Page, finish, put};
@@ -49,10 +49,11 @@ fn lines_are_printed_in_their_one_spelling(rt: HostRuntime) -> Result<(), Fail> 
     ];
     for (line, text) in &rows {
         let mut sink = MemSink::new(rt.alloc(), 100, 100, &[])?;
+        let mut guard = SinkGuard::new(&mut sink);
         let mut page = Page::new();
-        print_line(&mut sink, &mut page, line);
-        put(&mut sink, &mut page, b"\n");
-        assert_eq!(rt; finish(&mut sink, &mut page), Ok(()));
+        print_line(&mut guard, &mut page, line);
+        put(&mut guard, &mut page, b"\n");
+        assert_eq!(rt; finish(&mut guard, &mut page), Ok(()));
         assert_eq!(rt; sink.written(), text.as_bytes());
     }
     Ok(())

@@ -5,7 +5,7 @@ use Rattle.std.proofs.lemmas.Bool.Decides.{nat_tests}
 use Rattle.std.specs.Ordering.{nat_cmp}
 use Rattle.std.specs.Cmp.{nat_cmp_total, unsigned_tied}
 use Rattle.std.specs.FinMap as map
-use Rattle.msgid_map.specs.Map.{routes_from}
+use Rattle.msgid_map.specs.Inside.{routes_from}
 
 is_same : (n : ℕ) → eqb n n ≡ true
 is_same n = grind (arith, nat_tests)

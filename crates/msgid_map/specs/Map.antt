@@ -1,5 +1,5 @@
 -- The routes of message ids, as a finite map.
-use Rattle.std.specs.Prelude.{◌+◌, ℕ, List, [], ◌∷◌, Option, Some, None, refl}
+use Rattle.std.specs.Prelude.{ℕ, refl}
 use Rattle.std.specs.Ordering.{nat_cmp}
 use Rattle.std.specs.FinMap as map
 use Rattle.std.specs.Coded.{Coded, code_by, coded×, coded_ℕ}
@@ -13,9 +13,3 @@ pub record IdRoutes : Type 0 where
 abbrev pub routes_code : Coded IdRoutes
 routes_code =
     code_by (map.FinMap nat_cmp ℕ × ℕ) (coded× (map.code coded_ℕ coded_ℕ) coded_ℕ) (λ r. (r.routes, r.room)) (λ p. record { routes = p.0; room = p.1 }) (λ _. refl)
-
--- the map that has, from this id on, the routes that stand in a table
-abbrev pub routes_from : ℕ → List (Option ℕ) → map.FinMap nat_cmp ℕ
-routes_from id [] = map.empty
-routes_from id (None ∷ table) = routes_from (id + 1) table
-routes_from id (Some route ∷ table) = map.insert (routes_from (id + 1) table) id route

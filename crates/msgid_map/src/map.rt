@@ -7,15 +7,15 @@ ghost use Rattle.msgid_map.specs.Map.{IdRoutes};
 use std::alloc::{AllocError, Global};
 use std::marker::Model;
 
-/// The largest valid message id: packet version 0, type, secondary header flag and application process id
-/// (CCSDS 133.0-B, 4.1.3.2 and 4.1.3.3). The least is 1.
+/// The largest valid message id: packet version 0, type, secondary header flag and application
+/// process id (CCSDS 133.0-B, 4.1.3.2 and 4.1.3.3). The least is 1.
 pub const MAX_ID: u16 = 0x1fff;
 
 // How many places the table has: one for each id, and one for 0, which is none.
 const PLACES: usize = 0x2000;
 
-/// A route for each of some message ids. Contracts see the finite map from ids to routes, and how many ids more there is
-/// room for.
+/// A route for each of some message ids. Contracts see the finite map from ids to routes, and how
+/// many ids more there is room for.
 #[derive(Drop)]
 pub struct IdMap {
     /// At each id, its route. There are [`PLACES`] of them.
@@ -32,7 +32,7 @@ impl Model for IdMap {
 
     ghost coded = { routes_code };
 
-    ghost use Rattle.msgid_map.specs.Map.{routes_from};
+    ghost use Rattle.msgid_map.specs.Inside.{routes_from};
     ghost use Rattle.msgid_map.specs.declared.map.TheConstants.{PLACES};
 
     ghost view = { λ m. record { routes = routes_from 0 m.table.items; room = m.room } };
@@ -42,6 +42,9 @@ impl Model for IdMap {
 
 impl IdMap {
     /// No id has a route, and there is room for `room` ids. No later call takes memory.
+    ///
+    /// # Errors
+    /// `AllocError` where there is no memory for the table.
     pub fn new(alloc: Global, room: u32) -> Result<IdMap, AllocError>
         ensures { IfOk result (λ made. made ≡ record { routes = map.empty; room = room }) }
     {
@@ -50,7 +53,8 @@ impl IdMap {
         Ok(IdMap { table, room })
     }
 
-    /// The route that was inserted for this id; None exactly where none was, so for each invalid id too.
+    /// The route that was inserted for this id; None exactly where none was, so for each invalid id
+    /// too.
     pub fn get(&self, id: u16) -> Option<u32>
         ensures { result ≡ map.get self.now.routes id }
     {

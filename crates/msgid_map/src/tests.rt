@@ -6,7 +6,7 @@ use crate::map::IdMap;
 use std::test::Fail;
 
 /// Two ids get a route each; one of them is looked up, and one that has none.
-fn routed(map: &mut IdMap) -> (Option<u32>, Option<u32>)
+fn two_routes(map: &mut IdMap) -> (Option<u32>, Option<u32>)
     requires none { map.old.routes ≡ empty }
     requires room { map.old.room ≡ 2 }
     ensures { result ≡ (Some 1, None) }
@@ -20,7 +20,7 @@ fn routed(map: &mut IdMap) -> (Option<u32>, Option<u32>)
 fn an_id_has_the_route_that_it_was_given(rt: HostRuntime) -> Result<(), Fail> {
     let mut map = IdMap::new(rt.alloc(), 2)?;
     assert_eq!(rt; map.get(0x1fff), None);
-    let (first, other) = routed(&mut map);
+    let (first, other) = two_routes(&mut map);
     assert_eq!(rt; (first, other), (Some(1), None));
     Ok(())
 }

@@ -1,14 +1,15 @@
 //! The queue of one pipe of a software bus, and the item that was received last from it.
 //!
-//! Contracts see a list with a depth, and a last item; each call does just what that list says, and none but `new` takes
-//! memory.
+//! Contracts see a list with a depth, and a last item; each call does just what that list says, and
+//! none but `new` takes memory.
 //!
 //! ```
 //! /// Of three items two fit, and the older one comes out.
 //! fn older_of_two(queue: &mut PipeQueue, first: Item, second: Item, third: Item) -> Option<Item>
 //!     requires { queue.old ≡ record { room = 2; depth = 0; queue = []; last = None } }
 //!     ensures item { result ≡ Some first }
-//!     ensures left { queue.new ≡ record { room = 2; depth = 2; queue = second ∷ []; last = None } }
+//!     ensures left {
+//!         queue.new ≡ record { room = 2; depth = 2; queue = second ∷ []; last = None } }
 //! {
 //!     queue.start(2);
 //!     let _ = queue.try_put(first);

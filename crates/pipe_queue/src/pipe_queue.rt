@@ -7,8 +7,8 @@ use circular_buffer::HeapCircularBuffer;
 use std::alloc::{AllocError, Global};
 use std::marker::Model;
 
-/// What waits in a pipe, and what was received last. Contracts see the room, the depth, the items that wait, oldest first,
-/// and the last one.
+/// What waits in a pipe, and what was received last. Contracts see the room, the depth, the items
+/// that wait, oldest first, and the last one.
 #[derive(Drop)]
 pub struct PipeQueue {
     /// How many items may wait; 0 before the first start. The ring has room for them.
@@ -25,15 +25,20 @@ impl Model for PipeQueue {
 
     ghost Value = { Queued };
 
-    ghost view = { λ q. record { room = q.ring.capacity; depth = q.depth; queue = q.ring.items; last = q.last } };
+    ghost view = { λ q.
+        record { room = q.ring.capacity; depth = q.depth; queue = q.ring.items; last = q.last } };
 
     ghost invariant = { λ q. (length q.ring.items ≤ q.depth) × (q.depth ≤ q.ring.capacity) };
 }
 
 impl PipeQueue {
     /// An empty queue with room for pipes of a depth up to `room`. No later call takes memory.
+    ///
+    /// # Errors
+    /// `AllocError` where memory runs out.
     pub fn new(alloc: Global, room: u32) -> Result<PipeQueue, AllocError>
-        ensures { IfOk result (λ queue. queue ≡ record { room = room; depth = 0; queue = []; last = None }) }
+        ensures { IfOk result
+            (λ queue. queue ≡ record { room = room; depth = 0; queue = []; last = None }) }
     {
         let ring = HeapCircularBuffer::with_capacity(alloc, room as usize)?;
         Ok(PipeQueue {
@@ -54,10 +59,14 @@ impl PipeQueue {
         self.depth = depth;
     }
 
-    /// Queues an item as the newest one; Full exactly where as many wait as the depth says, and then nothing changes.
+    /// Queues an item as the newest one.
+    ///
+    /// # Errors
+    /// `Full` if and only if as many items wait as the depth says; then nothing changes.
     pub fn try_put(&mut self, item: Item) -> Result<(), Full>
         ensures full { IsErr result ↔ (length self.old.queue ≡ self.old.depth) }
-        ensures put { OnOk result (self.new ≡ record self.old { queue = self.old.queue ++ item ∷ [] }) }
+        ensures put { OnOk result
+            (self.new ≡ record self.old { queue = self.old.queue ++ item ∷ [] }) }
         ensures same { OnErr result (self.new ≡ self.old) }
     {
         if self.ring.len() == self.depth as usize {
@@ -85,8 +94,8 @@ impl PipeQueue {
         before
     }
 
-    /// Empties it, the last item too, so that it can be started again. Whoever shares messages among pipes takes the items
-    /// out one by one instead.
+    /// Empties it, the last item too, so that it can be started again. Whoever shares messages
+    /// among pipes takes the items out one by one instead.
     pub fn clear(&mut self)
         ensures { self.new ≡ record self.old { queue = []; last = None } }
     {

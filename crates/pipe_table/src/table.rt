@@ -74,7 +74,7 @@ impl PipeTable {
     }
 
     /// The live pipes stand in order of number. Does nothing.
-    pub fn are_in_order(&self)
+    pub fn recall_order(&self)
         ensures { IsRising 0 self.now.live }
     {
         let _ = &self.numbers;

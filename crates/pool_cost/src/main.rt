@@ -1,5 +1,6 @@
-//! Draws and returns blocks of a pool, so that the cost of a get and a put can be measured from outside. The argument is
-//! the number of turns; each gives back the block drawn 64 turns before and draws one of the next block size.
+//! Draws and returns blocks of a pool, so that the cost of a get and a put can be measured from
+//! outside. The argument is the number of turns; each gives back the block drawn 64 turns before
+//! and draws one of the next block size.
 #![tactic(auto)]
 
 mod turns;
@@ -10,7 +11,7 @@ use fsw_base::BlockSizes;
 use std::marker::Brand;
 use std::{env, io};
 
-/// The bytes of the pool: enough for 64 blocks of any size.
+// The bytes of the pool: enough for 64 blocks of any size.
 const BYTES: u32 = 8_000_000;
 
 fn main(rt: HostRuntime) -> io::Result<()> {

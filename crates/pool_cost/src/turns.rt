@@ -4,15 +4,16 @@ ghost use Rattle.std.specs.Prelude.{◌≡◌, ◌<◌};
 use bucket_list::{Blank, Ledger, Steps};
 use es_pool::Pool;
 
-/// How many blocks are out at a time.
+// How many blocks are out at a time.
 const OUT: u32 = 64;
 
-/// The sizes asked for in turn.
+// The sizes asked for in turn.
 const SIZES: [u32; 17] = [
     8, 16, 32, 48, 64, 96, 128, 160, 256, 512, 1024, 2048, 4096, 8192, 16384, 32768, 80000,
 ];
 
-/// Gives back the block of `OUT` turns before and draws the next, so many times. Answers how many calls were refused.
+/// Gives back the block of `OUT` turns before and draws the next, so many times. Answers how many
+/// calls were refused.
 pub fn draw_and_return<L: Ledger>(pool: &mut Pool, turns: u32, blank: Blank) -> u32
     requires name { blank.name ≡ L.name }
     requires parts { blank.parts ≡ L.parts }

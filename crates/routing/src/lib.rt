@@ -28,4 +28,4 @@ mod routes;
 #[cfg(test)]
 mod tests;
 
-pub use routes::{Routes, counts_go_by_calls};
+pub use routes::{Routes, recall_counts};

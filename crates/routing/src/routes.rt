@@ -197,7 +197,7 @@ impl Routes {
 }
 
 /// The law of counts: a route's next count goes by how many it has given altogether, however many those are.
-pub fn counts_go_by_calls()
+pub fn recall_counts()
     ensures { CountsGoByCalls }
 {}
 

@@ -6,12 +6,12 @@ ghost use Rattle.text_page.specs.Pieces.{Puts};
 ghost use Rattle.run_report.specs.BusText.{scope_text, mode_text, call_text, answer_text, entry_text, entries_text};
 
 use bus_words::{BusAnswer, BusCall, BusEntry, BusJournal};
-use fsw_base::{Scope, Sink};
+use fsw_base::{Scope, Sink, SinkGuard};
 use text_page::{Page, put, put_hex_id, put_name, put_number};
 
 /// Puts the lines of a journal, whose entries are numbered from 1.
-pub fn put_entries<K: Sink>(sink: &mut K, page: &mut Page, journal: &BusJournal)
-    ensures { Puts K.written K.faults sink.old sink.new page.old page.new (entries_text journal.now.entries) }
+pub fn put_entries<K: Sink>(sink: &mut SinkGuard<'_, K>, page: &mut Page, journal: &BusJournal)
+    ensures { Puts sink.old sink.new page.old page.new (entries_text journal.now.entries) }
 {
     for i in 0..journal.len() {
         put_entry(sink, page, i + 1, &journal.get(i));
@@ -19,8 +19,13 @@ pub fn put_entries<K: Sink>(sink: &mut K, page: &mut Page, journal: &BusJournal)
 }
 
 // Puts the line of one entry.
-fn put_entry<K: Sink>(sink: &mut K, page: &mut Page, number: u32, entry: &BusEntry<'_>)
-    ensures { Puts K.written K.faults sink.old sink.new page.old page.new (entry_text number (entry_of entry.now)) }
+fn put_entry<K: Sink>(
+    sink: &mut SinkGuard<'_, K>,
+    page: &mut Page,
+    number: u32,
+    entry: &BusEntry<'_>,
+)
+    ensures { Puts sink.old sink.new page.old page.new (entry_text number (entry_of entry.now)) }
 {
     put_number(sink, page, number);
     put(sink, page, b" a");
@@ -33,8 +38,8 @@ fn put_entry<K: Sink>(sink: &mut K, page: &mut Page, number: u32, entry: &BusEnt
 }
 
 // Puts a call.
-fn put_call<K: Sink>(sink: &mut K, page: &mut Page, call: &BusCall<'_>)
-    ensures { Puts K.written K.faults sink.old sink.new page.old page.new (call_text (call_of call.now)) }
+fn put_call<K: Sink>(sink: &mut SinkGuard<'_, K>, page: &mut Page, call: &BusCall<'_>)
+    ensures { Puts sink.old sink.new page.old page.new (call_text (call_of call.now)) }
 {
     match call {
         BusCall::Create { depth, name } => put_create(sink, page, *depth, name),
@@ -59,16 +64,16 @@ fn put_call<K: Sink>(sink: &mut K, page: &mut Page, call: &BusCall<'_>)
 }
 
 // Puts a word, with the blank behind it, and a number.
-fn put_numbered<K: Sink>(sink: &mut K, page: &mut Page, word: &[u8], number: u32)
-    ensures { Puts K.written K.faults sink.old sink.new page.old page.new (word.now ++ decimal number) }
+fn put_numbered<K: Sink>(sink: &mut SinkGuard<'_, K>, page: &mut Page, word: &[u8], number: u32)
+    ensures { Puts sink.old sink.new page.old page.new (word.now ++ decimal number) }
 {
     put(sink, page, word);
     put_number(sink, page, number);
 }
 
 // Puts a create.
-fn put_create<K: Sink>(sink: &mut K, page: &mut Page, depth: u32, name: &[u8])
-    ensures { Puts K.written K.faults sink.old sink.new page.old page.new (call_text (Create depth name.now)) }
+fn put_create<K: Sink>(sink: &mut SinkGuard<'_, K>, page: &mut Page, depth: u32, name: &[u8])
+    ensures { Puts sink.old sink.new page.old page.new (call_text (Create depth name.now)) }
 {
     put_numbered(sink, page, b"create ", depth);
     put(sink, page, b" ");
@@ -76,8 +81,8 @@ fn put_create<K: Sink>(sink: &mut K, page: &mut Page, depth: u32, name: &[u8])
 }
 
 // Puts a call that sets a pipe's option bits.
-fn put_set_opts<K: Sink>(sink: &mut K, page: &mut Page, pipe: u32, bits: u8)
-    ensures { Puts K.written K.faults sink.old sink.new page.old page.new (call_text (SetOpts pipe bits)) }
+fn put_set_opts<K: Sink>(sink: &mut SinkGuard<'_, K>, page: &mut Page, pipe: u32, bits: u8)
+    ensures { Puts sink.old sink.new page.old page.new (call_text (SetOpts pipe bits)) }
 {
     put_numbered(sink, page, b"opts ", pipe);
     put(sink, page, b" ");
@@ -85,8 +90,8 @@ fn put_set_opts<K: Sink>(sink: &mut K, page: &mut Page, pipe: u32, bits: u8)
 }
 
 // Puts a find.
-fn put_find<K: Sink>(sink: &mut K, page: &mut Page, name: &[u8])
-    ensures { Puts K.written K.faults sink.old sink.new page.old page.new (call_text (Find name.now)) }
+fn put_find<K: Sink>(sink: &mut SinkGuard<'_, K>, page: &mut Page, name: &[u8])
+    ensures { Puts sink.old sink.new page.old page.new (call_text (Find name.now)) }
 {
     put(sink, page, b"find ");
     put_name(sink, page, name);
@@ -94,14 +99,14 @@ fn put_find<K: Sink>(sink: &mut K, page: &mut Page, name: &[u8])
 
 // Puts a subscribe.
 fn put_subscribe<K: Sink>(
-    sink: &mut K,
+    sink: &mut SinkGuard<'_, K>,
     page: &mut Page,
     id: u16,
     pipe: u32,
     limit: u32,
     scope: Scope,
 )
-    ensures { Puts K.written K.faults sink.old sink.new page.old page.new (call_text (Subscribe id pipe limit scope)) }
+    ensures { Puts sink.old sink.new page.old page.new (call_text (Subscribe id pipe limit scope)) }
 {
     put(sink, page, b"sub ");
     put_hex_id(sink, page, id);
@@ -114,8 +119,8 @@ fn put_subscribe<K: Sink>(
 }
 
 // Puts an unsubscribe.
-fn put_unsubscribe<K: Sink>(sink: &mut K, page: &mut Page, id: u16, pipe: u32)
-    ensures { Puts K.written K.faults sink.old sink.new page.old page.new (call_text (Unsubscribe id pipe)) }
+fn put_unsubscribe<K: Sink>(sink: &mut SinkGuard<'_, K>, page: &mut Page, id: u16, pipe: u32)
+    ensures { Puts sink.old sink.new page.old page.new (call_text (Unsubscribe id pipe)) }
 {
     put(sink, page, b"unsub ");
     put_hex_id(sink, page, id);
@@ -124,8 +129,8 @@ fn put_unsubscribe<K: Sink>(sink: &mut K, page: &mut Page, id: u16, pipe: u32)
 }
 
 // Puts a send: its message's size and the sum of its bytes.
-fn put_transmit<K: Sink>(sink: &mut K, page: &mut Page, bytes: &[u8], inc: bool)
-    ensures { Puts K.written K.faults sink.old sink.new page.old page.new (call_text (Transmit bytes.now inc)) }
+fn put_transmit<K: Sink>(sink: &mut SinkGuard<'_, K>, page: &mut Page, bytes: &[u8], inc: bool)
+    ensures { Puts sink.old sink.new page.old page.new (call_text (Transmit bytes.now inc)) }
 {
     put(sink, page, b"send ");
     put_number(sink, page, bytes.len());
@@ -136,8 +141,8 @@ fn put_transmit<K: Sink>(sink: &mut K, page: &mut Page, bytes: &[u8], inc: bool)
 }
 
 // Puts a subscription's scope.
-fn put_scope<K: Sink>(sink: &mut K, page: &mut Page, scope: Scope)
-    ensures { Puts K.written K.faults sink.old sink.new page.old page.new (scope_text scope) }
+fn put_scope<K: Sink>(sink: &mut SinkGuard<'_, K>, page: &mut Page, scope: Scope)
+    ensures { Puts sink.old sink.new page.old page.new (scope_text scope) }
 {
     match scope {
         Scope::Global => put(sink, page, b"global"),
@@ -146,8 +151,8 @@ fn put_scope<K: Sink>(sink: &mut K, page: &mut Page, scope: Scope)
 }
 
 // Puts whether a send gives its message the next sequence count.
-fn put_mode<K: Sink>(sink: &mut K, page: &mut Page, inc: bool)
-    ensures { Puts K.written K.faults sink.old sink.new page.old page.new (mode_text inc) }
+fn put_mode<K: Sink>(sink: &mut SinkGuard<'_, K>, page: &mut Page, inc: bool)
+    ensures { Puts sink.old sink.new page.old page.new (mode_text inc) }
 {
     if inc {
         put(sink, page, b"inc");
@@ -164,8 +169,8 @@ fn sum_of(bytes: &[u8]) -> u128
 }
 
 // Puts an answer.
-fn put_answer<K: Sink>(sink: &mut K, page: &mut Page, answer: &BusAnswer)
-    ensures { Puts K.written K.faults sink.old sink.new page.old page.new (answer_text answer.now) }
+fn put_answer<K: Sink>(sink: &mut SinkGuard<'_, K>, page: &mut Page, answer: &BusAnswer)
+    ensures { Puts sink.old sink.new page.old page.new (answer_text answer.now) }
 {
     match answer {
         BusAnswer::Done => put(sink, page, b"CFE_SUCCESS"),

@@ -4,12 +4,12 @@ ghost use Rattle.text_page.specs.Pieces.{Puts};
 ghost use Rattle.run_report.specs.ReceiptText.{seen_text, receipt_text, application_text, receipts_text};
 
 use bus_words::{Receipt, ReceiptList};
-use fsw_base::Sink;
+use fsw_base::{Sink, SinkGuard};
 use text_page::{Page, put, put_hex_bytes, put_hex_id, put_number};
 
 /// Puts the receipts of the applications 1, 2, 3 and so on.
-pub fn put_receipts<K: Sink>(sink: &mut K, page: &mut Page, receipts: &[ReceiptList])
-    ensures { Puts K.written K.faults sink.old sink.new page.old page.new (receipts_text (map (λ list. list.receipts) receipts.now)) }
+pub fn put_receipts<K: Sink>(sink: &mut SinkGuard<'_, K>, page: &mut Page, receipts: &[ReceiptList])
+    ensures { Puts sink.old sink.new page.old page.new (receipts_text (map (λ list. list.receipts) receipts.now)) }
 {
     for (i, list) in receipts.iter().enumerate() {
         put_application(sink, page, i + 1, list);
@@ -17,8 +17,13 @@ pub fn put_receipts<K: Sink>(sink: &mut K, page: &mut Page, receipts: &[ReceiptL
 }
 
 // Puts the receipts of one application, in its own order.
-fn put_application<K: Sink>(sink: &mut K, page: &mut Page, app: usize, list: &ReceiptList)
-    ensures { Puts K.written K.faults sink.old sink.new page.old page.new (application_text app list.now.receipts) }
+fn put_application<K: Sink>(
+    sink: &mut SinkGuard<'_, K>,
+    page: &mut Page,
+    app: usize,
+    list: &ReceiptList,
+)
+    ensures { Puts sink.old sink.new page.old page.new (application_text app list.now.receipts) }
 {
     for i in 0..list.len() {
         put_receipt(sink, page, app, &list.get(i));
@@ -26,8 +31,8 @@ fn put_application<K: Sink>(sink: &mut K, page: &mut Page, app: usize, list: &Re
 }
 
 // Puts the line of one receipt.
-fn put_receipt<K: Sink>(sink: &mut K, page: &mut Page, app: usize, receipt: &Receipt)
-    ensures { Puts K.written K.faults sink.old sink.new page.old page.new (receipt_text app receipt.now) }
+fn put_receipt<K: Sink>(sink: &mut SinkGuard<'_, K>, page: &mut Page, app: usize, receipt: &Receipt)
+    ensures { Puts sink.old sink.new page.old page.new (receipt_text app receipt.now) }
 {
     put(sink, page, b"a");
     put_number(sink, page, app);
@@ -37,8 +42,8 @@ fn put_receipt<K: Sink>(sink: &mut K, page: &mut Page, app: usize, receipt: &Rec
 }
 
 // Puts what a receipt says.
-fn put_seen<K: Sink>(sink: &mut K, page: &mut Page, receipt: &Receipt)
-    ensures { Puts K.written K.faults sink.old sink.new page.old page.new (seen_text receipt.now) }
+fn put_seen<K: Sink>(sink: &mut SinkGuard<'_, K>, page: &mut Page, receipt: &Receipt)
+    ensures { Puts sink.old sink.new page.old page.new (seen_text receipt.now) }
 {
     match receipt {
         Receipt::Nothing => put(sink, page, b"none"),

@@ -7,7 +7,7 @@ use crate::write_journal;
 use bus_words::{
     Allowance, BusAnswer, BusCall, BusEntry, BusJournal, Head, PipeText, Receipt, ReceiptList,
 };
-use fsw_base::{AppNo, Budget, MemSink, SbStatus, Scope, WriteFault};
+use fsw_base::{AppNo, Budget, MemSink, SbStatus, Scope, SinkGuard, WriteFault};
 use std::alloc::{AllocError, Global};
 use std::test::Fail;
 
@@ -128,7 +128,10 @@ fn message_on_its_path_is_reported(rt: HostRuntime) -> Result<(), Fail> {
     });
     let mut sink = MemSink::new(rt.alloc(), 1000, 100, &[])?;
     let journal = journal_of(rt.alloc(), &PATH)?;
-    assert_eq!(rt; write_journal(&journal, &[receipts], &mut sink), Ok(()));
+    assert_eq!(rt;
+        write_journal(&journal, &[receipts], &mut SinkGuard::new(&mut sink)),
+        Ok(())
+    );
     assert_eq!(rt; sink.written(), PATH_REPORT);
     Ok(())
 }
@@ -138,7 +141,11 @@ fn refusals_are_reported_by_name(rt: HostRuntime) -> Result<(), Fail> {
     let mut sink = MemSink::new(rt.alloc(), 1000, 1000, &[])?;
     let journal = journal_of(rt.alloc(), &REFUSALS)?;
     assert_eq!(rt;
-        write_journal(&journal, &[ReceiptList::new(rt.alloc(), 0)?], &mut sink),
+        write_journal(
+            &journal,
+            &[ReceiptList::new(rt.alloc(), 0)?],
+            &mut SinkGuard::new(&mut sink)
+        ),
         Ok(())
     );
     assert_eq!(rt; sink.written(), REFUSALS_REPORT);
@@ -149,7 +156,10 @@ fn refusals_are_reported_by_name(rt: HostRuntime) -> Result<(), Fail> {
 fn failing_write_leaves_a_front(rt: HostRuntime) -> Result<(), Fail> {
     let mut sink = MemSink::new(rt.alloc(), 1000, 10, &[2])?;
     let journal = journal_of(rt.alloc(), &PATH)?;
-    assert_eq!(rt; write_journal(&journal, &[], &mut sink), Err(WriteFault));
+    assert_eq!(rt;
+        write_journal(&journal, &[], &mut SinkGuard::new(&mut sink)),
+        Err(WriteFault)
+    );
     assert_eq!(rt; sink.written(), b"fsw 1\nbus\n".as_slice());
     Ok(())
 }
@@ -190,7 +200,10 @@ fn calls_on_pipes_are_reported(rt: HostRuntime) -> Result<(), Fail> {
     receipts.push(Receipt::Nothing);
     let mut sink = MemSink::new(rt.alloc(), 1000, 1000, &[])?;
     let journal = journal_of(rt.alloc(), &rows)?;
-    assert_eq!(rt; write_journal(&journal, &[receipts], &mut sink), Ok(()));
+    assert_eq!(rt;
+        write_journal(&journal, &[receipts], &mut SinkGuard::new(&mut sink)),
+        Ok(())
+    );
     assert_eq!(rt; sink.written(), PIPES_REPORT);
     Ok(())
 }

@@ -1,5 +1,5 @@
 //! Writing a whole report.
-ghost use Rattle.std.specs.Prelude.{◌≡◌, ℕ, ◌≤◌, OnOk, OnErr};
+ghost use Rattle.std.specs.Prelude.{◌≡◌, ℕ, ◌≤◌, false, true, OnOk, OnErr};
 ghost use Rattle.fsw_base.specs.Outside.{Rose};
 ghost use Rattle.text_page.specs.Pieces.{Grew, CutShort, Puts};
 ghost use Rattle.run_report.specs.Report.{report_of};
@@ -7,7 +7,7 @@ ghost use Rattle.run_report.specs.Report.{report_of};
 use crate::entries::put_entries;
 use crate::receipts::put_receipts;
 use bus_words::{BusJournal, ReceiptList};
-use fsw_base::{Sink, WriteFault};
+use fsw_base::{Sink, SinkGuard, WriteFault};
 use sb_calls::BusCore;
 use text_page::{Page, finish, put};
 
@@ -15,12 +15,16 @@ use text_page::{Page, finish, put};
 pub fn write_report<K: Sink>(
     bus: &BusCore,
     receipts: &[ReceiptList],
-    sink: &mut K,
+    sink: &mut SinkGuard<'_, K>,
 ) -> Result<(), WriteFault>
-    ensures ok { OnOk result (Grew (K.written sink.old) (K.written sink.new) (report_of bus.now.log receipts.now)) }
-    ensures err { OnErr result (CutShort (K.written sink.old) (K.written sink.new) (report_of bus.now.log receipts.now)) }
-    ensures cause { OnErr result (Rose (K.faults sink.old) (K.faults sink.new)) }
-    ensures never_falls { K.faults sink.old ≤ K.faults sink.new }
+    requires { sink.old.failed ≡ false }
+    ensures ok { OnOk result (Grew sink.old.written sink.new.written (report_of bus.now.log receipts.now)) }
+    ensures none_failed { OnOk result (sink.new.failed ≡ false) }
+    ensures err { OnErr result (CutShort sink.old.written sink.new.written (report_of bus.now.log receipts.now)) }
+    ensures failed { OnErr result (sink.new.failed ≡ true) }
+    ensures cause { OnErr result (Rose sink.old.faults sink.new.faults) }
+    ensures never_falls { sink.old.faults ≤ sink.new.faults }
+    ensures same_sink { sink.new.sink ≡ sink.old.sink }
 {
     write_journal(bus.journal(), receipts, sink)
 }
@@ -28,18 +32,25 @@ pub fn write_report<K: Sink>(
 /// Writes the report of a journal and of the receipts of the applications 1, 2, 3 and so on.
 ///
 /// The sink is given the text in pages of 4096 bytes, of which it may take less at a time. No memory
-/// is taken. `WriteFault` comes only where the sink's count of faults rose in this call (or stands at
-/// its last value); the sink then has a front of the text, and after the failed write nothing more is
-/// written.
+/// is taken. No write through this guard may have failed before.
+///
+/// # Errors
+/// `WriteFault` only where a write failed, so that the sink's count of faults rose in this call (or
+/// stands at its last value); the sink then has a front of the text, and after the failed write nothing
+/// more is written.
 pub fn write_journal<K: Sink>(
     journal: &BusJournal,
     receipts: &[ReceiptList],
-    sink: &mut K,
+    sink: &mut SinkGuard<'_, K>,
 ) -> Result<(), WriteFault>
-    ensures ok { OnOk result (Grew (K.written sink.old) (K.written sink.new) (report_of journal.now receipts.now)) }
-    ensures err { OnErr result (CutShort (K.written sink.old) (K.written sink.new) (report_of journal.now receipts.now)) }
-    ensures cause { OnErr result (Rose (K.faults sink.old) (K.faults sink.new)) }
-    ensures never_falls { K.faults sink.old ≤ K.faults sink.new }
+    requires { sink.old.failed ≡ false }
+    ensures ok { OnOk result (Grew sink.old.written sink.new.written (report_of journal.now receipts.now)) }
+    ensures none_failed { OnOk result (sink.new.failed ≡ false) }
+    ensures err { OnErr result (CutShort sink.old.written sink.new.written (report_of journal.now receipts.now)) }
+    ensures failed { OnErr result (sink.new.failed ≡ true) }
+    ensures cause { OnErr result (Rose sink.old.faults sink.new.faults) }
+    ensures never_falls { sink.old.faults ≤ sink.new.faults }
+    ensures same_sink { sink.new.sink ≡ sink.old.sink }
 {
     let mut page = Page::new();
     put(sink, &mut page, b"fsw 1\nbus\n");

@@ -225,7 +225,7 @@ entry_means a journal e keeps is =
     ap (λ kept. record (means a) { pipes = map (pipe_in kept) a.tables.pipes }) (kept_grown a.journal journal e a.sends.items is keeps.sends)
 
 -- the answer and the bus of a call whose cause is known
-pub step_by : (limits : Limits) (history : List Entry) (s : State) (app : ℕ) (call : Call) (why : Option SbStatus) → cause limits s app call ≡ why →
+pub step_by : (limits : Limits) (history : List Entry) (s : State) (app : ℕ) (call : Call) (why : Option SbStatus) → cause limits history s app call ≡ why →
     step limits history s app call ≡ decided limits history s app call why
 step_by limits history s app call why is = ap (decided limits history s app call) is
 
@@ -289,7 +289,7 @@ refusal_makes End status = refl
 
 -- a refused call that changes nothing leaves the fields so
 module _ (a : Inside) (journal : Log) (old : Core) (app : ℕ) (call : Call) (status : SbStatus) (called : Called a old app call)
-    (why : cause (limits_of a.config) (means a) app call ≡ Some status) (same : refused_state (means a) call status ≡ means a)
+    (why : cause (limits_of a.config) a.journal.entries (means a) app call ≡ Some status) (same : refused_state (means a) call status ≡ means a)
     (pushed : journal ≡ with_entry a.journal (record { app = app; call = call; answer = Sb status })) where
   refused_next : Next a (record a { journal = journal }) app call (Sb status)
   refused_next = record {

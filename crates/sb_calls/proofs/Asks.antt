@@ -74,7 +74,7 @@ module _ (limits : Limits) (history : List Entry) (s : State) (app : ℕ) where
   why : {X : Type 0} (f : Pipe → X) (p : Pipe → Bool) (x : X) → option_map f (find p s.pipes) ≡ Some x → refused_if (not (list_any p s.pipes)) BadArgument None ≡ None
   why f p x some = ap (λ b. refused_if (not b) BadArgument None) (any_found p s.pipes ∙ some_told f (find p s.pipes) x some)
 
-  pub no_bits : (pipe : ℕ) → option_map (λ p. p.bits) (pipe_at s.pipes pipe) ≡ None → cause limits s app (GetOpts pipe) ≡ Some BadArgument
+  pub no_bits : (pipe : ℕ) → option_map (λ p. p.bits) (pipe_at s.pipes pipe) ≡ None → cause limits history s app (GetOpts pipe) ≡ Some BadArgument
   no_bits pipe none = why_not (λ p. p.bits) (λ p. eqb p.number pipe) none
 
   pub bits_step : (pipe bits : ℕ) → option_map (λ p. p.bits) (pipe_at s.pipes pipe) ≡ Some bits → step limits history s app (GetOpts pipe) ≡ (Number bits, s)
@@ -82,7 +82,7 @@ module _ (limits : Limits) (history : List Entry) (s : State) (app : ℕ) where
       ap (decided limits history s app (GetOpts pipe)) (why (λ p. p.bits) (λ p. eqb p.number pipe) bits some)
       ∙ ap (λ n. (Number n, s)) (told_value (λ (p : Pipe). p.bits) (pipe_at s.pipes pipe) bits 0 some)
 
-  pub no_number : (name : List ℕ) → option_map (λ p. p.number) (pipe_named s.pipes name) ≡ None → cause limits s app (Find name) ≡ Some BadArgument
+  pub no_number : (name : List ℕ) → option_map (λ p. p.number) (pipe_named s.pipes name) ≡ None → cause limits history s app (Find name) ≡ Some BadArgument
   no_number name none = why_not (λ p. p.number) (λ p. bytes_eq p.name name) none
 
   pub number_step : (name : List ℕ) (number : ℕ) → option_map (λ p. p.number) (pipe_named s.pipes name) ≡ Some number → step limits history s app (Find name) ≡ (Number number, s)
@@ -90,7 +90,7 @@ module _ (limits : Limits) (history : List Entry) (s : State) (app : ℕ) where
       ap (decided limits history s app (Find name)) (why (λ p. p.number) (λ p. bytes_eq p.name name) number some)
       ∙ ap (λ n. (Number n, s)) (told_value (λ (p : Pipe). p.number) (pipe_named s.pipes name) number 0 some)
 
-  pub no_name : (pipe : ℕ) → option_map (λ p. p.name) (pipe_at s.pipes pipe) ≡ None → cause limits s app (PipeName pipe) ≡ Some BadArgument
+  pub no_name : (pipe : ℕ) → option_map (λ p. p.name) (pipe_at s.pipes pipe) ≡ None → cause limits history s app (PipeName pipe) ≡ Some BadArgument
   no_name pipe none = why_not (λ p. p.name) (λ p. eqb p.number pipe) none
 
   pub name_step : (pipe : ℕ) (name : List ℕ) → option_map (λ p. p.name) (pipe_at s.pipes pipe) ≡ Some name → step limits history s app (PipeName pipe) ≡ (Name name, s)

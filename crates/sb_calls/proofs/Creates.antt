@@ -57,7 +57,7 @@ with_new t app name depth = record t { pipes = t.pipes ++ new_row (t.pipes_creat
 
 module _ (a : Inside) (next : Tables) (journal : Log) (old : Core) (app depth : ℕ) (name : List ℕ)
     (called : Called a old app (Create depth name))
-    (why : cause (limits_of a.config) (means a) app (Create depth name) ≡ None)
+    (why : cause (limits_of a.config) a.journal.entries (means a) app (Create depth name) ≡ None)
     (is : next ≡ with_new a.tables app name depth)
     (pushed : journal ≡ with_entry a.journal (record { app = app; call = Create depth name; answer = Number (a.tables.pipes_created + 1) })) where
   created_keeps : Keeps (record a { tables = next; journal = journal })
@@ -110,7 +110,7 @@ module _ (a : Inside) (next : Tables) (journal : Log) (old : Core) (app depth : 
 -- the same, with the number that was answered
 module _ (a : Inside) (next : Tables) (journal : Log) (old : Core) (app depth : ℕ) (name : List ℕ) (number : ℕ)
     (called : Called a old app (Create depth name))
-    (why : cause (limits_of a.config) (means a) app (Create depth name) ≡ None)
+    (why : cause (limits_of a.config) a.journal.entries (means a) app (Create depth name) ≡ None)
     (is : next ≡ with_new a.tables app name depth) (numbered : number ≡ a.tables.pipes_created + 1)
     (pushed : journal ≡ with_entry a.journal (record { app = app; call = Create depth name; answer = Number number })) where
   as_numbered : journal ≡ with_entry a.journal (record { app = app; call = Create depth name; answer = Number (a.tables.pipes_created + 1) })

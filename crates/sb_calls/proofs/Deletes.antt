@@ -15,7 +15,7 @@ use Rattle.sb_calls.proofs.After.{Called, step_by, exit_stands, exit_does}
 use Rattle.sb_calls.proofs.Changes.{pipes_leave, subscriptions_leave}
 
 module _ (a : Inside) (next : Tables) (journal : Log) (old : Core) (app pipe : ℕ)
-    (called : Called a old app (Delete pipe)) (why : cause (limits_of a.config) (means a) app (Delete pipe) ≡ None)
+    (called : Called a old app (Delete pipe)) (why : cause (limits_of a.config) a.journal.entries (means a) app (Delete pipe) ≡ None)
     (is : next ≡ record a.tables {
       pipes = filter (λ row. not (eqb row.number pipe)) a.tables.pipes;
       subscriptions = filter (λ sub. not (eqb sub.pipe pipe)) a.tables.subscriptions;

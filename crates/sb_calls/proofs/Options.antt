@@ -17,7 +17,7 @@ use Rattle.sb_calls.proofs.Changes.{row_keeps}
 use Rattle.sb_calls.proofs.Meaning.{pipes_with_row}
 
 module _ (a : Inside) (next : Tables) (journal : Log) (old : Core) (app pipe bits : ℕ)
-    (called : Called a old app (SetOpts pipe bits)) (why : cause (limits_of a.config) (means a) app (SetOpts pipe bits) ≡ None)
+    (called : Called a old app (SetOpts pipe bits)) (why : cause (limits_of a.config) a.journal.entries (means a) app (SetOpts pipe bits) ≡ None)
     (is : next ≡ record a.tables { pipes = with_row (row_with_bits bits) pipe a.tables.pipes })
     (pushed : journal ≡ with_entry a.journal (record { app = app; call = SetOpts pipe bits; answer = Done })) where
   set_keeps : Keeps (record a { tables = next })

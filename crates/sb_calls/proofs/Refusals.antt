@@ -11,6 +11,7 @@ use Rattle.fsw_base.specs.declared.statuses.SbStatus.TheVariants.{BadArgument, M
 use Rattle.ccsds_msg.specs.Message.{is_valid_id}
 use Rattle.bus_words.specs.declared.calls.BusAnswer.{BusAnswer}
 use Rattle.bus_words.specs.declared.history.Call.{Call}
+use Rattle.bus_words.specs.declared.history.Entry.{Entry}
 use Rattle.bus_words.specs.Bus.{State, owns, is_subscribed, has_route, route}
 use Rattle.bus_words.specs.Machine.{create_cause, subscribe_cause, refused_if, refused_state, step}
 use Rattle.sb_calls.specs.declared.bus_core.BusCore.TheInside.{Inside}
@@ -33,11 +34,11 @@ at_core a now is stands F why here =
     subst P is (sym here ∙ ap (F (limits_of a.config)) stands.state)
 
 -- and the other way round
-pub from_core : (a : Inside) (now : Core) → core_of a ≡ now → Stands a → (F : Limits → State → Option SbStatus) (why : Option SbStatus) →
-    F now.limits (state_of now) ≡ why → F (limits_of a.config) (means a) ≡ why
+pub from_core : (a : Inside) (now : Core) → core_of a ≡ now → Stands a → (F : Limits → List Entry → State → Option SbStatus) (why : Option SbStatus) →
+    F now.limits now.log.entries (state_of now) ≡ why → F (limits_of a.config) a.journal.entries (means a) ≡ why
 from_core a now is stands F why there =
-    let P : Core → Type 0 = λ o. F o.limits (state_of o) ≡ why in
-    ap (F (limits_of a.config)) stands.state ∙ subst P (sym is) there
+    let P : Core → Type 0 = λ o. F o.limits o.log.entries (state_of o) ≡ why in
+    ap (F (limits_of a.config) a.journal.entries) stands.state ∙ subst P (sym is) there
 
 -- a step that changes nothing, of the core and of the fields
 pub step_from_core : (a : Inside) (now : Core) → core_of a ≡ now → Stands a → (app : ℕ) (call : Call) (answer : BusAnswer) →

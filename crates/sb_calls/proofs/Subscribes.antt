@@ -177,7 +177,7 @@ with_sub t id pipe limit scope = record t {
 }
 
 module _ (a : Inside) (next : Tables) (journal : Log) (old : Core) (app id pipe limit : ℕ) (scope : Scope)
-    (called : Called a old app (Subscribe id pipe limit scope)) (why : cause (limits_of a.config) (means a) app (Subscribe id pipe limit scope) ≡ None)
+    (called : Called a old app (Subscribe id pipe limit scope)) (why : cause (limits_of a.config) a.journal.entries (means a) app (Subscribe id pipe limit scope) ≡ None)
     (fresh : is_subscribed a.tables.subscriptions id pipe ≡ false)
     (is : next ≡ with_sub a.tables id pipe limit scope)
     (pushed : journal ≡ with_entry a.journal (record { app = app; call = Subscribe id pipe limit scope; answer = Done })) where

@@ -137,7 +137,7 @@ abbrev pub with_send : Tables → ℕ → ℕ → ℕ → Bool → Tables
 with_send t id app number inc = record t { pipes = deliver_rows app number (route t.subscriptions id) t.pipes; routes = counted_up t.routes id inc }
 
 module _ (a : Inside) (next : Tables) (sends : Vec SendRow Global) (journal : Log) (old : Core) (app : ℕ) (bytes : List ℕ) (inc : Bool)
-    (called : Called a old app (Transmit bytes inc)) (why : cause (limits_of a.config) (means a) app (Transmit bytes inc) ≡ None)
+    (called : Called a old app (Transmit bytes inc)) (why : cause (limits_of a.config) a.journal.entries (means a) app (Transmit bytes inc) ≡ None)
     (first : Subscription) (more : List Subscription) (someone : route a.tables.subscriptions (message_id bytes) ≡ first ∷ more)
     (count entry number arrived : ℕ)
     (counted : with_count bytes count ≡ delivered (limits_of a.config) a.journal.entries bytes inc) (bits : count < 16384)

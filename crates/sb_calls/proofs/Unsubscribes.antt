@@ -13,7 +13,7 @@ use Rattle.sb_calls.proofs.After.{Called, step_by, exit_stands, exit_does}
 use Rattle.sb_calls.proofs.Changes.{subscriptions_leave}
 
 module _ (a : Inside) (next : Tables) (journal : Log) (old : Core) (app id pipe : ℕ)
-    (called : Called a old app (Unsubscribe id pipe)) (why : cause (limits_of a.config) (means a) app (Unsubscribe id pipe) ≡ None)
+    (called : Called a old app (Unsubscribe id pipe)) (why : cause (limits_of a.config) a.journal.entries (means a) app (Unsubscribe id pipe) ≡ None)
     (is : next ≡ record a.tables { subscriptions = filter (λ sub. not (eqb sub.id id && eqb sub.pipe pipe)) a.tables.subscriptions })
     (pushed : journal ≡ with_entry a.journal (record { app = app; call = Unsubscribe id pipe; answer = Done })) where
   unsubscribed_keeps : Keeps (record a { tables = next })

@@ -52,7 +52,8 @@ impl BusCore {
     }
 
     /// Has messages of this id queued on the caller's pipe, up to `limit` of them at once. Where the
-    /// pipe is subscribed to the id already, this changes nothing. At most 8 steps.
+    /// pipe is subscribed to the id already, this changes nothing. At most 2 steps for each
+    /// subscription of the id, and 10 more.
     ///
     /// # Errors
     /// `BadArgument` for an id that isn't 1 to 0x1FFF, and for a pipe that isn't live or isn't the
@@ -70,7 +71,7 @@ impl BusCore {
     ) -> Result<(), SbStatus>
         requires may { MayCall self.old app (Call.Subscribe id pipe limit scope) }
         ensures does { Does self.old self.new app (Call.Subscribe id pipe limit scope) (done result) }
-        ensures cost { steps.new ≤ steps.old + 8 }
+        ensures cost { steps.new ≤ steps.old + 2 * length (route (state_of self.old).subscriptions id) + 10 }
     {
         let call = BusCall::Subscribe {
             id,
@@ -78,11 +79,12 @@ impl BusCore {
             limit,
             scope,
         };
-        if let Some(status) = self.subscribe_cause(app, id, pipe) {
+        let there = self.tables.is_subscribed(id, pipe, steps);
+        if let Some(status) = self.subscribe_cause(app, id, pipe, there) {
             self.refuse(app, call, status);
             return Err(status);
         }
-        if self.tables.is_subscribed(id, pipe) {
+        if there {
             self.tell(app, call, BusAnswer::Done);
             return Ok(());
         }
@@ -96,8 +98,8 @@ impl BusCore {
     }
 
     /// Has no more messages of this id queued on the caller's pipe. Those that wait
-    /// stay. Where the pipe isn't subscribed to the id, this changes nothing. A step for each
-    /// subscription of the id, and at most 8 more.
+    /// stay. Where the pipe isn't subscribed to the id, this changes nothing. At most 3 steps for
+    /// each subscription of the id, and 10 more.
     ///
     /// # Errors
     /// `BadArgument` for an id that isn't 1 to 0x1FFF, and for a pipe that isn't live or isn't the
@@ -111,7 +113,7 @@ impl BusCore {
     ) -> Result<(), SbStatus>
         requires may { MayCall self.old app (Call.Unsubscribe id pipe) }
         ensures does { Does self.old self.new app (Call.Unsubscribe id pipe) (done result) }
-        ensures cost { steps.new ≤ steps.old + length (route (state_of self.old).subscriptions id) + 8 }
+        ensures cost { steps.new ≤ steps.old + 3 * length (route (state_of self.old).subscriptions id) + 10 }
     {
         let call = BusCall::Unsubscribe { id, pipe };
         if let Some(status) = self.unsubscribe_cause(app, id, pipe) {

@@ -1,6 +1,7 @@
 //! Why a call is refused: the first cause that applies, in the order of the guides.
 ghost use Rattle.std.specs.Prelude.{◌≡◌, None, ◌==◌, ◌||◌, ◌&&◌, not, nat_lt, nat_le, length, is_some, ◌≤◌};
 ghost use Rattle.ccsds_msg.specs.Message.{fault, is_valid_id};
+ghost use Rattle.bus_words.specs.Bus.{is_subscribed};
 ghost use Rattle.bus_words.specs.Machine.{refused_if, create_cause, subscribe_cause, unsubscribe_cause, unowned_cause, set_opts_cause, transmit_cause};
 ghost use Rattle.sb_calls.specs.Core.{state_of};
 ghost use Rattle.bus_tables.specs.Rows.{owns_row, has_way};
@@ -28,14 +29,21 @@ impl BusCore {
         None
     }
 
-    /// Why the pipe can't be subscribed to the id.
-    pub(crate) fn subscribe_cause(&self, app: AppNo, id: u16, pipe: u32) -> Option<SbStatus>
+    /// Why the pipe can't be subscribed to the id; `there` says whether it is already.
+    pub(crate) fn subscribe_cause(
+        &self,
+        app: AppNo,
+        id: u16,
+        pipe: u32,
+        there: bool,
+    ) -> Option<SbStatus>
+        requires { there ≡ is_subscribed (state_of self.now).subscriptions id pipe }
         ensures { result ≡ subscribe_cause self.now.limits (state_of self.now) app id pipe }
     {
         if is_bad_subscription(&self.tables, app, id, pipe) {
             return Some(SbStatus::BadArgument);
         }
-        if self.tables.is_subscribed(id, pipe) {
+        if there {
             return None;
         }
         if lacks_route(&self.tables, id, self.config.msgids) {

@@ -12,7 +12,7 @@ impl BusCore {
     /// Makes the entry of a call that is refused for this cause, and changes nothing.
     pub(crate) fn refuse(&mut self, app: AppNo, call: BusCall<'_>, status: SbStatus)
         requires may { MayCall self.old app (call_of call) }
-        requires why { cause self.old.limits (state_of self.old) app (call_of call) ≡ Some status }
+        requires why { cause self.old.limits self.old.log.entries (state_of self.old) app (call_of call) ≡ Some status }
         requires same { refused_state (state_of self.old) (call_of call) status ≡ state_of self.old }
         ensures { Does self.old self.new app (call_of call.entry) (BusAnswer.Sb status) }
     {

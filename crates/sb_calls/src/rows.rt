@@ -4,7 +4,9 @@
 /// sequence count of its message, 0 to 16383 (CCSDS 133.0-B, 4.1.3.4.3).
 #[derive(Clone, Copy, Debug)]
 pub(crate) struct SendRow {
+    /// The place of its entry, from 0.
     pub(crate) entry: u32,
+    /// The sequence count.
     pub(crate) count: u16,
 }
 

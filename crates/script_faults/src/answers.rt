@@ -4,6 +4,9 @@ use fsw_base::AppNo;
 use std::io;
 
 /// Writes what reading a script answered.
+///
+/// # Errors
+/// What writing to standard output answered.
 pub fn print_answer(rt: &HostRuntime, answer: Result<Script, ReadFail>) -> io::Result<()> {
     match answer {
         Ok(script) => print_script(rt, &script),

@@ -6,7 +6,10 @@ use script_words::text::first_word;
 use std::alloc::{AllocError, Global};
 
 /// The script that a line spells.
-pub fn spelled(alloc: Global, line: &[u8]) -> Result<Vec<u8>, AllocError> {
+///
+/// # Errors
+/// `AllocError` where memory runs out.
+pub fn spelled_script(alloc: Global, line: &[u8]) -> Result<Vec<u8>, AllocError> {
     let mut script = Vec::new(alloc);
     let mut repeated = false;
     for part in line.split(|&byte| byte == b'[' || byte == b']') {

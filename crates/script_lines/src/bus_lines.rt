@@ -42,7 +42,9 @@ pub enum BusWord {
     Pend,
 }
 
-ghost use Rattle.script_lines.specs.BusLines.{pipe_alone, create_of, opts_of, find_of, limit_of, subscribed, sub_of, unsub_of, sent, send_of, hex_word, sendraw_of, bus_line_of, bus_word};
+ghost use Rattle.script_lines.specs.BusLines.{pipe_alone, create_of, opts_of, find_of, limit_of};
+ghost use Rattle.script_lines.specs.BusLines.{subscribed, sub_of, unsub_of, sent, send_of};
+ghost use Rattle.script_lines.specs.BusLines.{hex_word, sendraw_of, bus_line_of, bus_word};
 
 // The word as the first one of such a line.
 #[tactic(auto, unfolding(crate::specs::BusLines::bus_word))]
@@ -131,7 +133,7 @@ fn limit(word: Option<&[u8]>) -> Result<u32, FaultKind>
 }
 
 #[tactic(auto, unfolding(crate::specs::BusLines::subscribed))]
-fn subscribed(id: u32, pipe: u32, limit: u32, scope: Scope) -> Result<Line, FaultKind>
+fn subscribe_within(id: u32, pipe: u32, limit: u32, scope: Scope) -> Result<Line, FaultKind>
     ensures { Reads (λ line. line) result (subscribed id pipe limit scope) }
 {
     let id = short_within(id)?;
@@ -153,7 +155,7 @@ fn sub(rest: &[u8]) -> Result<Line, FaultKind>
     let pipe = pipe(register)?;
     let limit = limit(waiting)?;
     let scope = scope(reach)?;
-    subscribed(id, pipe, limit, scope)
+    subscribe_within(id, pipe, limit, scope)
 }
 
 #[tactic(auto, unfolding(crate::specs::BusLines::unsub_of))]

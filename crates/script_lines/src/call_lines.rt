@@ -1,7 +1,8 @@
 //! Call lines of any kind.
 ghost use Rattle.std.specs.Prelude.{◌≡◌};
 ghost use Rattle.script_words.specs.Readings.{Gives};
-ghost use Rattle.script_lines.specs.CallLines.{table_or_show, event_or_table, memory_or_event, call_word, call_line_of};
+ghost use Rattle.script_lines.specs.CallLines.{table_or_show, event_or_table, memory_or_event};
+ghost use Rattle.script_lines.specs.CallLines.{call_word, call_line_of};
 
 use crate::bus_lines::{BusWord, bus_line, bus_word};
 use crate::event_lines::{EventWord, event_line, event_word};
@@ -76,8 +77,9 @@ pub fn call_word(word: &[u8]) -> Option<CallWord>
 
 /// The call line with this first word, from the line behind that word.
 ///
-/// The fault is the line's first: `WrongCount` before `BadWord` before `OutOfRange` before `Repeated`,
-/// wherever in the line they stand. Memory is taken for names, texts and bytes.
+/// # Errors
+/// The line's first fault: `WrongCount` before `BadWord` before `OutOfRange` before `Repeated`,
+/// wherever in the line they stand. `Memory` where there is none for its names, texts and bytes.
 #[tactic(auto, unfolding(crate::specs::CallLines::call_line_of))]
 pub fn call_line(alloc: Global, first: CallWord, rest: &[u8]) -> Result<Line, LineFail>
     ensures { Gives (λ line. line) result (call_line_of first rest.now) }

@@ -3,7 +3,9 @@ ghost use Rattle.std.specs.Prelude.{◌≡◌, ◌≤◌, length};
 ghost use Rattle.script_words.specs.Readings.{Reads, Gives};
 ghost use Rattle.script_words.specs.Text.{words_of};
 ghost use Rattle.script_words.specs.Lists.{each};
-ghost use Rattle.script_lines.specs.EventLines.{pair_word, filter_of, registered, evreg_of, two_and_text, kind_of, text_of, evented, event_of, evreset_of, logmode_of, event_line_of, event_word};
+ghost use Rattle.script_lines.specs.EventLines.{pair_word, filter_of, registered, evreg_of};
+ghost use Rattle.script_lines.specs.EventLines.{two_and_text, kind_of, text_of, evented, event_of};
+ghost use Rattle.script_lines.specs.EventLines.{evreset_of, logmode_of, event_line_of, event_word};
 
 use crate::line::Line;
 use arrayvec::ArrayVec;
@@ -107,7 +109,7 @@ fn filters(pairs: &[(u32, u32)]) -> Result<ArrayVec<(u16, u16), MAX_FILTERS>, Fa
 
 // The line that registers these filters.
 #[tactic(auto, unfolding(crate::specs::EventLines::registered))]
-fn registered(filters: &[(u16, u16)]) -> Result<Line, FaultKind>
+fn register_once(filters: &[(u16, u16)]) -> Result<Line, FaultKind>
     requires { length filters.now ≤ 8 }
     ensures { Reads (λ line. line) result (registered filters.now) }
 {
@@ -124,7 +126,7 @@ fn evreg(rest: &[u8]) -> Result<Line, FaultKind>
     few(8, rest)?;
     let pairs = pairs(rest)?;
     let filters = filters(pairs.as_slice())?;
-    registered(filters.as_slice())
+    register_once(filters.as_slice())
 }
 
 // The next two words, and the text behind them without the blanks round it.
@@ -172,7 +174,7 @@ fn text_within(alloc: Global, text: &[u8]) -> Result<ByteText, LineFail>
 }
 
 #[tactic(auto, unfolding(crate::specs::EventLines::evented))]
-fn evented(alloc: Global, id: u32, number: u32, text: &[u8]) -> Result<Line, LineFail>
+fn event_within(alloc: Global, id: u32, number: u32, text: &[u8]) -> Result<Line, LineFail>
     ensures { Gives (λ line. line) result (evented id number text.now) }
 {
     let id = short_within(id)?;
@@ -188,7 +190,7 @@ fn event(alloc: Global, rest: &[u8]) -> Result<Line, LineFail>
     let (id, type_word, text) = two_and_text(rest)?;
     let id = number(id)?;
     let type_number = number(type_word)?;
-    evented(alloc, id, type_number, text)
+    event_within(alloc, id, type_number, text)
 }
 
 #[tactic(auto, unfolding(crate::specs::EventLines::evreset_of))]

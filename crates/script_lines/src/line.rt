@@ -1,5 +1,6 @@
 //! The call lines of a script, one variant a form.
-ghost use Rattle.std.specs.Prelude.{◌≡◌, ◌<◌, ◌≤◌, ◌↔◌, length, slice_get, IsSome, IfSome, IfOk, Some};
+ghost use Rattle.std.specs.Prelude.{◌≡◌, ◌<◌, ◌≤◌, ◌↔◌, length, slice_get, IsSome, IfSome, IfOk};
+ghost use Rattle.std.specs.Prelude.{Some};
 
 use arrayvec::ArrayVec;
 use fsw_base::{EventKind, FilterList, Scope};
@@ -70,7 +71,8 @@ impl RuleList {
     }
 }
 
-/// The rules that a line gives a table, with a place of their own in memory, so that a line is small.
+/// The rules that a line gives a table, with a place of their own in memory, so that a line is
+/// small.
 #[derive(Drop)]
 pub struct BoxedRules {
     rules: Box<RuleList>,
@@ -87,6 +89,9 @@ impl Model for BoxedRules {
 
 impl BoxedRules {
     /// These rules.
+    ///
+    /// # Errors
+    /// `AllocError` where there is no memory for them.
     pub fn new(alloc: Global, rules: RuleList) -> Result<BoxedRules, AllocError>
         ensures { IfOk result (λ boxed. boxed ≡ rules) }
     {

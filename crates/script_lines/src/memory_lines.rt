@@ -2,7 +2,9 @@
 ghost use Rattle.std.specs.Prelude.{◌≡◌};
 ghost use Rattle.script_words.specs.Readings.{Reads, Gives};
 ghost use Rattle.script_words.specs.Text.{words_of};
-ghost use Rattle.script_lines.specs.MemoryLines.{alloc_of, xmit_of, release_of, form_of, put_of, pool_line_of, pget_of, pput_of, pstats_of, memory_line_of, memory_word};
+ghost use Rattle.script_lines.specs.MemoryLines.{alloc_of, xmit_of, release_of, form_of, put_of};
+ghost use Rattle.script_lines.specs.MemoryLines.{pool_line_of, pget_of, pput_of, pstats_of};
+ghost use Rattle.script_lines.specs.MemoryLines.{memory_line_of, memory_word};
 
 use crate::bus_lines::hex_word;
 use crate::line::Line;

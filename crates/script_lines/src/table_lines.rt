@@ -3,7 +3,9 @@ ghost use Rattle.std.specs.Prelude.{◌≡◌, ◌≤◌, length, IfOk};
 ghost use Rattle.script_words.specs.Readings.{Reads, Gives};
 ghost use Rattle.script_words.specs.Text.{words_of};
 ghost use Rattle.script_words.specs.Lists.{each};
-ghost use Rattle.script_lines.specs.TableLines.{table_alone, triple_word, rule_of, table_words, described, treg_of, tshare_of, placed, load_of, table_line_of, table_word, shown, show_of};
+ghost use Rattle.script_lines.specs.TableLines.{table_alone, triple_word, rule_of, table_words};
+ghost use Rattle.script_lines.specs.TableLines.{described, treg_of, tshare_of, placed, load_of};
+ghost use Rattle.script_lines.specs.TableLines.{table_line_of, table_word, shown, show_of};
 
 use crate::line::{BoxedRules, Line, MAX_RULES, Rule, RuleList};
 use arrayvec::ArrayVec;
@@ -138,7 +140,9 @@ fn rules(triples: &[(u32, u32, u32)]) -> Result<ArrayVec<Rule, MAX_RULES>, Fault
 // The register, the name, the size, the options, and what follows: at most eight rules.
 #[tactic(auto, unfolding(crate::specs::TableLines::table_words))]
 fn table_words(rest: &[u8]) -> Result<((&[u8], &[u8]), (&[u8], &[u8], &[u8])), FaultKind>
-    ensures words { Reads (λ x. ((x.0.0.now, x.0.1.now), (x.1.0.now, x.1.1.now, words_of x.1.2.now))) result (table_words (words_of rest.now)) }
+    ensures words { Reads
+        (λ x. ((x.0.0.now, x.0.1.now), (x.1.0.now, x.1.1.now, words_of x.1.2.now)))
+        result (table_words (words_of rest.now)) }
     ensures few { IfOk result (λ x. length (words_of x.1.2.now) ≤ 8) }
 {
     let (register, name, rest) = next_two(rest)?;
@@ -148,7 +152,7 @@ fn table_words(rest: &[u8]) -> Result<((&[u8], &[u8]), (&[u8], &[u8], &[u8])), F
 }
 
 #[tactic(auto, unfolding(crate::specs::TableLines::described))]
-fn described(
+fn register_within(
     alloc: Global,
     handle: u32,
     word: &[u8],
@@ -192,7 +196,7 @@ fn treg(alloc: Global, rest: &[u8]) -> Result<Line, LineFail>
     let size = number(size)?;
     let option = number(option)?;
     let triples = triples(rest)?;
-    described(alloc, handle, name, (size, option), triples.as_slice())
+    register_within(alloc, handle, name, (size, option), triples.as_slice())
 }
 
 #[tactic(auto, unfolding(crate::specs::TableLines::tshare_of))]
@@ -206,7 +210,7 @@ fn tshare(alloc: Global, rest: &[u8]) -> Result<Line, LineFail>
 }
 
 #[tactic(auto, unfolding(crate::specs::TableLines::placed))]
-fn placed(
+fn load_within(
     alloc: Global,
     handle: u32,
     place: u32,
@@ -229,7 +233,7 @@ fn load(alloc: Global, rest: &[u8]) -> Result<(u32, u32, Content), LineFail>
     let handle = table(register)?;
     let place = number(place)?;
     let filling = filling(word)?;
-    placed(alloc, handle, place, word, filling)
+    load_within(alloc, handle, place, word, filling)
 }
 
 // The line with this first word, from the words behind it.

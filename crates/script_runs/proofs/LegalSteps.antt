@@ -79,24 +79,24 @@ legal-refused_receive F limits s app pipe BufAlocErr is keeps = keeps.same
 legal-refused_receive F limits s app pipe NoMessage is keeps = keeps.receives pipe (no_message-owns s app pipe is)
 legal-refused_receive F limits s app pipe BufferInvalid is keeps = keeps.same
 
-legal-refused : (F : State → Type 0) (limits : Limits) (s : State) (app : ℕ) (call : Call) (status : SbStatus) → cause limits s app call ≡ Some status →
+legal-refused : (F : State → Type 0) (limits : Limits) (history : List Entry) (s : State) (app : ℕ) (call : Call) (status : SbStatus) → cause limits history s app call ≡ Some status →
     KeepsLegal F limits s app → F (refused_state s call status)
-legal-refused F limits s app (Create depth name) status is keeps = keeps.same
-legal-refused F limits s app (Delete pipe) status is keeps = keeps.same
-legal-refused F limits s app (SetOpts pipe bits) status is keeps = keeps.same
-legal-refused F limits s app (GetOpts pipe) status is keeps = keeps.same
-legal-refused F limits s app (Find name) status is keeps = keeps.same
-legal-refused F limits s app (PipeName pipe) status is keeps = keeps.same
-legal-refused F limits s app (Subscribe id pipe limit scope) status is keeps = keeps.same
-legal-refused F limits s app (Unsubscribe id pipe) status is keeps = keeps.same
-legal-refused F limits s app (Transmit bytes inc) status is keeps = keeps.same
-legal-refused F limits s app (Receive pipe) status is keeps = legal-refused_receive F limits s app pipe status is keeps
-legal-refused F limits s app (Pend pipe) status is keeps = keeps.same
-legal-refused F limits s app (Look pipe) status is keeps = keeps.same
-legal-refused F limits s app End status is keeps = keeps.same
+legal-refused F limits history s app (Create depth name) status is keeps = keeps.same
+legal-refused F limits history s app (Delete pipe) status is keeps = keeps.same
+legal-refused F limits history s app (SetOpts pipe bits) status is keeps = keeps.same
+legal-refused F limits history s app (GetOpts pipe) status is keeps = keeps.same
+legal-refused F limits history s app (Find name) status is keeps = keeps.same
+legal-refused F limits history s app (PipeName pipe) status is keeps = keeps.same
+legal-refused F limits history s app (Subscribe id pipe limit scope) status is keeps = keeps.same
+legal-refused F limits history s app (Unsubscribe id pipe) status is keeps = keeps.same
+legal-refused F limits history s app (Transmit bytes inc) status is keeps = keeps.same
+legal-refused F limits history s app (Receive pipe) status is keeps = legal-refused_receive F limits s app pipe status is keeps
+legal-refused F limits history s app (Pend pipe) status is keeps = keeps.same
+legal-refused F limits history s app (Look pipe) status is keeps = keeps.same
+legal-refused F limits history s app End status is keeps = keeps.same
 
 legal-accepted : (F : State → Type 0) (limits : Limits) (history : List Entry) (s : State) (app : ℕ) (call : Call) →
-    cause limits s app call ≡ None → IsTrue (may_call (standing_of s app) call) → KeepsLegal F limits s app → F ((accept limits history s app call).1)
+    cause limits history s app call ≡ None → IsTrue (may_call (standing_of s app) call) → KeepsLegal F limits s app → F ((accept limits history s app call).1)
 legal-accepted F limits history s app (Create depth name) none may keeps = keeps.creates depth name
 legal-accepted F limits history s app (Delete pipe) none may keeps = keeps.deletes pipe (accepted-owns s app pipe none)
 legal-accepted F limits history s app (SetOpts pipe bits) none may keeps = keeps.sets pipe bits
@@ -119,14 +119,14 @@ legal-accepted F limits history s app (Look pipe) none may keeps =
 legal-accepted F limits history s app End none may keeps = keeps.ends
 
 legal-decided : (F : State → Type 0) (limits : Limits) (history : List Entry) (s : State) (app : ℕ) (call : Call) (why : Option SbStatus) →
-    cause limits s app call ≡ why → IsTrue (may_call (standing_of s app) call) → KeepsLegal F limits s app → F ((decided limits history s app call why).1)
-legal-decided F limits history s app call (Some status) is may keeps = legal-refused F limits s app call status is keeps
+    cause limits history s app call ≡ why → IsTrue (may_call (standing_of s app) call) → KeepsLegal F limits s app → F ((decided limits history s app call why).1)
+legal-decided F limits history s app call (Some status) is may keeps = legal-refused F limits history s app call status is keeps
 legal-decided F limits history s app call None is may keeps = legal-accepted F limits history s app call is may keeps
 
 -- what each change keeps holds after a step that the application may make
 pub legal-step : (F : State → Type 0) (limits : Limits) (history : List Entry) (s : State) (app : ℕ) (call : Call) →
     IsTrue (may_call (standing_of s app) call) → KeepsLegal F limits s app → F ((step limits history s app call).1)
-legal-step F limits history s app call may keeps = legal-decided F limits history s app call (cause limits s app call) refl may keeps
+legal-step F limits history s app call may keeps = legal-decided F limits history s app call (cause limits history s app call) refl may keeps
 
 -- Standings. --
 

@@ -17,8 +17,8 @@ pub struct Account {
     pub bytes: u32,
     /// How many buffers they take: one an `alloc` line.
     pub buffers: u32,
-    /// For each register of buffers, `b0` to `b63`, the size in bytes that its latest `alloc` asked for;
-    /// 0 before its first.
+    /// For each register of buffers, `b0` to `b63`, the size in bytes that its latest `alloc` asked
+    /// for; 0 before its first.
     pub sizes: [u32; 64],
 }
 
@@ -103,9 +103,9 @@ impl Account {
         }
     }
 
-    /// The charge of the line that comes next, in bytes: the length of the name, message, text or content
-    /// that it brings; for `xmit` the size that the latest `alloc` of its register asked for; 0 for all
-    /// other lines.
+    /// The charge of the line that comes next, in bytes: the length of the name, message, text or
+    /// content that it brings; for `xmit` the size that the latest `alloc` of its register asked
+    /// for; 0 for all other lines.
     #[tactic(auto, unfolding(crate::specs::Accounts::charge_of))]
     pub fn charge(&self, line: &Line) -> usize
         ensures { result ≡ charge_of self.now line.now }
@@ -125,8 +125,8 @@ impl Account {
         }
     }
 
-    /// What an application with these lines may add to a run: an entry for each line, one more for each
-    /// that can wait, and one for its end; the bytes of its charges; its buffers.
+    /// What an application with these lines may add to a run: an entry for each line, one more for
+    /// each that can wait, and one for its end; the bytes of its charges; its buffers.
     pub fn budget(&self) -> Budget
         requires { self.now.calls + self.now.waits + 1 < 2 ^ 32 }
         ensures { result ≡ budget_in self.now }
@@ -138,8 +138,8 @@ impl Account {
         }
     }
 
-    /// Counts one call line more, with its charge in bytes, which is what [`Account::charge`] answers for
-    /// it before it is counted.
+    /// Counts one call line more, with its charge in bytes, which is what [`Account::charge`]
+    /// answers for it before it is counted.
     pub fn count(&mut self, line: &Line, charge: u32)
         requires charge { charge ≡ charge_of self.old line.now }
         requires calls { self.old.calls < 2 ^ 31 }

@@ -1,12 +1,12 @@
 //! The lines of a script that configure a run, and what its call lines take: readers of the lines
-//! `script`, `set`, `sizes`, `seq` and `app`, each from the line behind its first word, and the account
-//! of an application's call lines, from which its budget comes.
+//! `script`, `set`, `sizes`, `seq` and `app`, each from the line behind its first word, and the
+//! account of an application's call lines, from which its budget comes.
 //!
-//! A reader answers just what the words stand for, or the line's first fault; an account is just the
-//! sum of the lines that were counted.
+//! A reader answers just what the words stand for, or the line's first fault; an account is just
+//! the sum of the lines that were counted.
 //!
 //! ```
-//! /// Reads the rest of a `set` line and gives the limit its value; the limits stay where it is faulty.
+//! /// Reads the rest of a `set` line and gives the limit its value; where it is faulty all stay.
 //! fn configure(config: &mut Config, rest: &[u8]) -> Result<(), FaultKind> {
 //!     let (name, value) = set(rest)?;
 //!     put_limit(config, name, value);

@@ -6,7 +6,11 @@ ghost use Rattle.script_words.specs.Readings.{Reads};
 ghost use Rattle.script_words.specs.Text.{words_of};
 ghost use Rattle.script_words.specs.Lists.{each};
 ghost use Rattle.script_words.specs.Numbers.{number_of};
-ghost use Rattle.script_settings.specs.Settings.{limit_name, limit_number, least, greatest, with_limit, is_among, limit_named, set_of, some_words, sizes_within, sizes_of, seq_of, is_name_byte, is_app_name, app_of, script_of, is_built_limit};
+ghost use Rattle.script_settings.specs.Settings.{limit_name, limit_number, least, greatest};
+ghost use Rattle.script_settings.specs.Settings.{with_limit, is_among, limit_named, set_of};
+ghost use Rattle.script_settings.specs.Settings.{some_words, sizes_within, sizes_of, seq_of};
+ghost use Rattle.script_settings.specs.Settings.{is_name_byte, is_app_name, app_of, script_of};
+ghost use Rattle.script_settings.specs.Settings.{is_built_limit};
 
 use arrayvec::ArrayVec;
 use fsw_base::{BlockSizes, Config, FaultKind, MAX_BLOCK_SIZES};
@@ -151,8 +155,9 @@ fn limit_named(word: &[u8]) -> Result<LimitName, FaultKind>
 
 /// The limit that a `set` line names, and its value, which is in the limit's range.
 ///
-/// `WrongCount` unless there are two words; else `BadWord` where the first names no limit or the second
-/// is no number; else `OutOfRange` where the value is outside the limit's range.
+/// # Errors
+/// `WrongCount` unless there are two words; else `BadWord` where the first names no limit or the
+/// second is no number; else `OutOfRange` where the value is outside the limit's range.
 #[tactic(auto, unfolding(crate::specs::Settings::set_of))]
 pub fn set(rest: &[u8]) -> Result<(LimitName, u32), FaultKind>
     ensures line { Reads (λ x. x) result (set_of (words_of rest.now)) }
@@ -225,8 +230,9 @@ fn sizes_within(sizes: &[u32]) -> Result<BlockSizes, FaultKind>
 
 /// The block sizes of a `sizes` line, in bytes: 1 to 17 multiples of 8 that rise, at most 80000.
 ///
-/// `WrongCount` where there is no word or an eighteenth; else `BadWord` where a word is no number; else
-/// `OutOfRange` where the numbers aren't such sizes.
+/// # Errors
+/// `WrongCount` where there is no word or an eighteenth; else `BadWord` where a word is no number;
+/// else `OutOfRange` where the numbers aren't such sizes.
 #[tactic(auto, unfolding(crate::specs::Settings::sizes_of))]
 pub fn sizes(rest: &[u8]) -> Result<BlockSizes, FaultKind>
     ensures { Reads (λ sizes. sizes) result (sizes_of (words_of rest.now)) }
@@ -237,10 +243,12 @@ pub fn sizes(rest: &[u8]) -> Result<BlockSizes, FaultKind>
     sizes_within(sizes.as_slice())
 }
 
-/// The message id of a `seq` line, 1 to 8191, and the sequence count at which it starts, 0 to 16383.
+/// The message id of a `seq` line, 1 to 8191, and the sequence count at which it starts, 0 to
+/// 16383.
 ///
-/// `WrongCount` unless there are two words; else `BadWord` where one is no number; else `OutOfRange`
-/// where the id or the count is outside its range.
+/// # Errors
+/// `WrongCount` unless there are two words; else `BadWord` where one is no number; else
+/// `OutOfRange` where the id or the count is outside its range.
 #[tactic(auto, unfolding(crate::specs::Settings::seq_of))]
 pub fn seq(rest: &[u8]) -> Result<(u16, u16), FaultKind>
     ensures line { Reads (λ x. x) result (seq_of (words_of rest.now)) }
@@ -279,6 +287,7 @@ fn is_app_name(word: &[u8]) -> bool
 
 /// The application's name that an `app` line gives: 1 to 19 letters, digits or underscores.
 ///
+/// # Errors
 /// `WrongCount` unless there is one word; else `BadWord` where it is no such name.
 #[tactic(auto, unfolding(crate::specs::Settings::app_of))]
 pub fn app(rest: &[u8]) -> Result<&[u8], FaultKind>
@@ -294,8 +303,9 @@ pub fn app(rest: &[u8]) -> Result<&[u8], FaultKind>
 
 /// The version of a `script` line, of which there is one today, 1.
 ///
-/// `WrongCount` unless there is one word; else `BadWord` where it is no number; else `OutOfRange` where
-/// it is another version.
+/// # Errors
+/// `WrongCount` unless there is one word; else `BadWord` where it is no number; else `OutOfRange`
+/// where it is another version.
 #[tactic(auto, unfolding(crate::specs::Settings::script_of))]
 pub fn version(rest: &[u8]) -> Result<u32, FaultKind>
     ensures { Reads (λ version. version) result (script_of (words_of rest.now)) }

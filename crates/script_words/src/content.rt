@@ -22,6 +22,9 @@ impl Model for ByteText {
 
 impl ByteText {
     /// These bytes.
+    ///
+    /// # Errors
+    /// `AllocError` where there is no memory for them.
     pub fn new(alloc: Global, bytes: &[u8]) -> Result<ByteText, AllocError>
         ensures { IfOk result (λ text. text ≡ bytes.now) }
     {
@@ -30,10 +33,13 @@ impl ByteText {
     }
 
     /// The bytes that hexadecimal digits spell, two digits a byte.
+    ///
+    /// # Errors
+    /// `AllocError` where there is no memory for them.
     pub fn from_hex(alloc: Global, word: &[u8]) -> Result<ByteText, AllocError>
         ensures { IfOk result (λ text. text ≡ hex_bytes word.now) }
     {
-        let bytes = decoded(alloc, word)?;
+        let bytes = bytes_spelled(alloc, word)?;
         Ok(ByteText { bytes })
     }
 
@@ -46,7 +52,7 @@ impl ByteText {
 }
 
 // The bytes that hexadecimal digits spell, two digits a byte.
-fn decoded(alloc: Global, word: &[u8]) -> Result<Vec<u8>, AllocError>
+fn bytes_spelled(alloc: Global, word: &[u8]) -> Result<Vec<u8>, AllocError>
     ensures { IfOk result (λ bytes. bytes.items ≡ hex_bytes word.now) }
 {
     let mut bytes = Vec::with_capacity(alloc, word.len() / 2)?;

@@ -1,7 +1,8 @@
-//! The words of a script: how a text falls into lines and a line into words, how many words a line has,
-//! and what a word spells: a number, a register, a name, a mode, bytes.
+//! The words of a script: how a text falls into lines and a line into words, how many words a line
+//! has, and what a word spells: a number, a register, a name, a mode, bytes.
 //!
-//! Each reader answers exactly what the definition of its name says, or just the fault that it names.
+//! Each reader answers exactly what the definition of its name says, or just the fault that it
+//! names.
 //!
 //! ```
 //! /// The pipe's register that a line names behind its first word, p0 to p63, and nothing else.

@@ -1,8 +1,13 @@
 //! Numbers, registers and bytes as a script spells them.
-ghost use Rattle.std.specs.Prelude.{◌≡◌, ◌+◌, ◌*◌, ◌^◌, ◌≤◌, ◌<◌, ◌∷◌, [], ◌++◌, min, length, MatchOption, IfSome, IfOk, position};
+ghost use Rattle.std.specs.Prelude.{◌≡◌, ◌+◌, ◌*◌, ◌^◌, ◌≤◌, ◌<◌, ◌∷◌, [], ◌++◌, min, length};
+ghost use Rattle.std.specs.Prelude.{MatchOption, IfSome, IfOk, position};
 ghost use Rattle.std.specs.List.{list_all};
 ghost use Rattle.script_words.specs.Readings.{Reads};
-ghost use Rattle.script_words.specs.Numbers.{is_digit, is_hex_digit, digit_value, value_in, is_decimal, is_hexadecimal, number_of, register_of, within, is_hex, is_colon, parts_of, numbers_2, number_and_2, numbers_3, small, pipe_of, buffer_of, pool_of, grant_of, table_of};
+ghost use Rattle.script_words.specs.Numbers.{is_digit, is_hex_digit, digit_value, value_in};
+ghost use Rattle.script_words.specs.Numbers.{is_decimal, is_hexadecimal, number_of, register_of};
+ghost use Rattle.script_words.specs.Numbers.{within, is_hex, is_colon, parts_of, numbers_2};
+ghost use Rattle.script_words.specs.Numbers.{number_and_2, numbers_3, small, pipe_of, buffer_of};
+ghost use Rattle.script_words.specs.Numbers.{pool_of, grant_of, table_of};
 ghost use Rattle.std.specs.Prelude.{if◌then◌else◌, Err};
 ghost use Rattle.fsw_base.specs.declared.script_faults.FaultKind.TheVariants.{BadWord};
 
@@ -88,7 +93,8 @@ fn small(value: u64) -> Result<u32, FaultKind>
 }
 
 fn hexadecimal(digits: &[u8]) -> Result<u32, FaultKind>
-    ensures { Reads (λ n. n) result (if is_hexadecimal digits.now then small (value_in 16 digits.now) else Err BadWord) }
+    ensures { Reads (λ n. n) result
+        (if is_hexadecimal digits.now then small (value_in 16 digits.now) else Err BadWord) }
 {
     if 1 <= digits.len() && digits.len() <= 8 && are_hex_digits(digits) {
         small(value_in(16, digits))
@@ -98,7 +104,8 @@ fn hexadecimal(digits: &[u8]) -> Result<u32, FaultKind>
 }
 
 fn decimal(digits: &[u8]) -> Result<u32, FaultKind>
-    ensures { Reads (λ n. n) result (if is_decimal digits.now then small (value_in 10 digits.now) else Err BadWord) }
+    ensures { Reads (λ n. n) result
+        (if is_decimal digits.now then small (value_in 10 digits.now) else Err BadWord) }
 {
     if is_decimal(digits) {
         small(value_in(10, digits))
@@ -107,8 +114,11 @@ fn decimal(digits: &[u8]) -> Result<u32, FaultKind>
     }
 }
 
-/// The number that a word spells: decimal digits without a needless 0 at the front, or `0x` and one to
-/// eight hexadecimal digits. `BadWord` where it spells none up to 4294967295.
+/// The number that a word spells: decimal digits without a needless 0 at the front, or `0x` and one
+/// to eight hexadecimal digits.
+///
+/// # Errors
+/// `BadWord` where it spells none up to 4294967295.
 #[tactic(auto, unfolding(crate::specs::Numbers::number_of))]
 pub fn number(word: &[u8]) -> Result<u32, FaultKind>
     ensures { Reads (λ n. n) result (number_of word.now) }
@@ -138,7 +148,10 @@ fn register(letter: u8, count: u32, word: &[u8]) -> Result<u32, FaultKind>
     }
 }
 
-/// The number, where it is from `low` to `high`; else `OutOfRange`.
+/// The number, where it is from `low` to `high`.
+///
+/// # Errors
+/// `OutOfRange` where it isn't.
 #[tactic(auto, unfolding(crate::specs::Numbers::within))]
 pub fn within(low: u32, high: u32, number: u32) -> Result<u32, FaultKind>
     ensures range { Reads (λ n. n) result (within low high number) }
@@ -168,7 +181,8 @@ fn colon_in(word: &[u8]) -> Option<usize>
 
 // What stands before the first colon and what follows it; None where no colon is there.
 fn first_part(word: &[u8]) -> Option<(&[u8], &[u8])>
-    ensures { MatchOption result (parts_of word.now ≡ word.now ∷ []) (λ cut. parts_of word.now ≡ cut.0.now ∷ parts_of cut.1.now) }
+    ensures { MatchOption result (parts_of word.now ≡ word.now ∷ [])
+        (λ cut. parts_of word.now ≡ cut.0.now ∷ parts_of cut.1.now) }
 {
     match colon_in(word) {
         Some(end) => {
@@ -180,7 +194,10 @@ fn first_part(word: &[u8]) -> Option<(&[u8], &[u8])>
     }
 }
 
-/// Two numbers with a colon between; `BadWord` where the word isn't that.
+/// Two numbers with a colon between.
+///
+/// # Errors
+/// `BadWord` where the word isn't that.
 #[tactic(auto, unfolding(crate::specs::Numbers::numbers_2))]
 pub fn two_numbers(word: &[u8]) -> Result<(u32, u32), FaultKind>
     ensures { Reads (λ x. x) result (numbers_2 (parts_of word.now)) }
@@ -208,7 +225,10 @@ fn number_and_two(first: &[u8], others: &[u8]) -> Result<(u32, u32, u32), FaultK
     Ok((first, second, third))
 }
 
-/// Three numbers with colons between; `BadWord` where the word isn't that.
+/// Three numbers with colons between.
+///
+/// # Errors
+/// `BadWord` where the word isn't that.
 #[tactic(auto, unfolding(crate::specs::Numbers::numbers_3))]
 pub fn three_numbers(word: &[u8]) -> Result<(u32, u32, u32), FaultKind>
     ensures { Reads (λ x. x) result (numbers_3 (parts_of word.now)) }
@@ -219,7 +239,10 @@ pub fn three_numbers(word: &[u8]) -> Result<(u32, u32, u32), FaultKind>
     }
 }
 
-/// The number of a pipe's register, `p0` to `p63`; else `BadWord`.
+/// The number of a pipe's register, `p0` to `p63`.
+///
+/// # Errors
+/// `BadWord` where the word names none.
 #[tactic(auto, unfolding(crate::specs::Numbers::pipe_of))]
 pub fn pipe(word: &[u8]) -> Result<u32, FaultKind>
     ensures { Reads (λ n. n) result (pipe_of word.now) }
@@ -227,7 +250,10 @@ pub fn pipe(word: &[u8]) -> Result<u32, FaultKind>
     register(b'p', 64, word)
 }
 
-/// The number of a buffer's register, `b0` to `b63`; else `BadWord`.
+/// The number of a buffer's register, `b0` to `b63`.
+///
+/// # Errors
+/// `BadWord` where the word names none.
 #[tactic(auto, unfolding(crate::specs::Numbers::buffer_of))]
 pub fn buffer(word: &[u8]) -> Result<u32, FaultKind>
     ensures { Reads (λ n. n) result (buffer_of word.now) }
@@ -235,7 +261,10 @@ pub fn buffer(word: &[u8]) -> Result<u32, FaultKind>
     register(b'b', 64, word)
 }
 
-/// The number of a memory pool's register, `q0` to `q7`; else `BadWord`.
+/// The number of a memory pool's register, `q0` to `q7`.
+///
+/// # Errors
+/// `BadWord` where the word names none.
 #[tactic(auto, unfolding(crate::specs::Numbers::pool_of))]
 pub fn pool(word: &[u8]) -> Result<u32, FaultKind>
     ensures { Reads (λ n. n) result (pool_of word.now) }
@@ -243,7 +272,10 @@ pub fn pool(word: &[u8]) -> Result<u32, FaultKind>
     register(b'q', 8, word)
 }
 
-/// The number of a grant's register, `m0` to `m63`; else `BadWord`.
+/// The number of a grant's register, `m0` to `m63`.
+///
+/// # Errors
+/// `BadWord` where the word names none.
 #[tactic(auto, unfolding(crate::specs::Numbers::grant_of))]
 pub fn grant(word: &[u8]) -> Result<u32, FaultKind>
     ensures { Reads (λ n. n) result (grant_of word.now) }
@@ -251,7 +283,10 @@ pub fn grant(word: &[u8]) -> Result<u32, FaultKind>
     register(b'm', 64, word)
 }
 
-/// The number of a table handle's register, `t0` to `t63`; else `BadWord`.
+/// The number of a table handle's register, `t0` to `t63`.
+///
+/// # Errors
+/// `BadWord` where the word names none.
 #[tactic(auto, unfolding(crate::specs::Numbers::table_of))]
 pub fn table(word: &[u8]) -> Result<u32, FaultKind>
     ensures { Reads (λ n. n) result (table_of word.now) }
@@ -259,7 +294,10 @@ pub fn table(word: &[u8]) -> Result<u32, FaultKind>
     register(b't', 64, word)
 }
 
-/// The number as a byte, where it is at most 255; else `OutOfRange`.
+/// The number as a byte, where it is at most 255.
+///
+/// # Errors
+/// `OutOfRange` where it is greater.
 pub fn byte_within(number: u32) -> Result<u8, FaultKind>
     ensures { Reads (λ n. n) result (within 0 255 number) }
 {
@@ -267,7 +305,10 @@ pub fn byte_within(number: u32) -> Result<u8, FaultKind>
     Ok(number as u8)
 }
 
-/// The number as one of two bytes, where it is at most 65535; else `OutOfRange`.
+/// The number as one of two bytes, where it is at most 65535.
+///
+/// # Errors
+/// `OutOfRange` where it is greater.
 pub fn short_within(number: u32) -> Result<u16, FaultKind>
     ensures { Reads (λ n. n) result (within 0 65535 number) }
 {

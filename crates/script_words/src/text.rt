@@ -1,7 +1,10 @@
 //! Lines and words.
-ghost use Rattle.std.specs.Prelude.{◌≡◌, ◌<◌, ◌∷◌, [], length, MatchOption, IfSome, position, reverse, ◌≤◌};
+ghost use Rattle.std.specs.Prelude.{◌≡◌, ◌<◌, ◌∷◌, [], length, MatchOption, IfSome, position};
+ghost use Rattle.std.specs.Prelude.{reverse, ◌≤◌};
 ghost use Rattle.std.specs.List.{list_all, position_or_len};
-ghost use Rattle.script_words.specs.Text.{is_feed, is_blank, is_no_blank, is_text, is_same, without_return, lines_of, words_of, from_word, behind_word, without_blanks_behind, trimmed};
+ghost use Rattle.script_words.specs.Text.{is_feed, is_blank, is_no_blank, is_text, is_same};
+ghost use Rattle.script_words.specs.Text.{without_return, lines_of, words_of, from_word};
+ghost use Rattle.script_words.specs.Text.{behind_word, without_blanks_behind, trimmed};
 
 /// The first line of bytes that aren't empty, without its line feed and one carriage return before
 /// that, and what follows the line feed.
@@ -108,7 +111,8 @@ fn from_word(line: &[u8]) -> &[u8]
 
 /// The first word of a line and the line behind it; None exactly where no word is left.
 pub fn first_word(line: &[u8]) -> Option<(&[u8], &[u8])>
-    ensures words { MatchOption result (words_of line.now ≡ []) (λ cut. words_of line.now ≡ cut.0.now ∷ words_of cut.1.now) }
+    ensures words { MatchOption result (words_of line.now ≡ [])
+        (λ cut. words_of line.now ≡ cut.0.now ∷ words_of cut.1.now) }
     ensures behind { IfSome result (λ cut. cut.1.now ≡ behind_word line.now) }
     ensures shorter { IfSome result (λ cut. length cut.1.now < length line.now) }
 {

@@ -2,7 +2,8 @@
 ghost use Rattle.std.specs.Prelude.{◌≡◌, IsTrue};
 ghost use Rattle.std.specs.Option.{option_map};
 ghost use Rattle.script_words.specs.Readings.{Reads, Gives};
-ghost use Rattle.script_words.specs.Content.{name_of, mode_word, mode_of, scope_word, scope_of, filling_of, content_of};
+ghost use Rattle.script_words.specs.Content.{name_of, mode_word, mode_of, scope_word, scope_of};
+ghost use Rattle.script_words.specs.Content.{filling_of, content_of};
 
 use crate::content::{ByteText, Content};
 use crate::fail::LineFail;
@@ -11,7 +12,10 @@ use crate::text::is_same;
 use fsw_base::{FaultKind, Scope};
 use std::alloc::Global;
 
-/// The name that a word gives; a hyphen alone is the empty name. `OutOfRange` past 64 bytes.
+/// The name that a word gives; a hyphen alone is the empty name.
+///
+/// # Errors
+/// `OutOfRange` past 64 bytes; `Memory` where there is no memory for it.
 #[tactic(auto, unfolding(crate::specs::Content::name_of))]
 pub fn name(alloc: Global, word: &[u8]) -> Result<ByteText, LineFail>
     ensures { Gives (λ name. name) result (name_of word.now) }
@@ -39,7 +43,10 @@ fn mode_word(word: &[u8]) -> Result<bool, FaultKind>
     }
 }
 
-/// Whether a send counts on: `inc` or `keep`, and `inc` where the word is left out; else `BadWord`.
+/// Whether a send counts on: `inc` or `keep`, and `inc` where the word is left out.
+///
+/// # Errors
+/// `BadWord` where it is another word.
 #[tactic(auto, unfolding(crate::specs::Content::mode_of))]
 pub fn mode(word: Option<&[u8]>) -> Result<bool, FaultKind>
     ensures { Reads (λ inc. inc) result (mode_of (option_map (λ w. w.now) word.entry)) }
@@ -63,8 +70,10 @@ fn scope_word(word: &[u8]) -> Result<Scope, FaultKind>
     }
 }
 
-/// How far a subscription reaches: `global` or `local`, and `global` where the word is left out; else
-/// `BadWord`.
+/// How far a subscription reaches: `global` or `local`, and `global` where the word is left out.
+///
+/// # Errors
+/// `BadWord` where it is another word.
 #[tactic(auto, unfolding(crate::specs::Content::scope_of))]
 pub fn scope(word: Option<&[u8]>) -> Result<Scope, FaultKind>
     ensures { Reads (λ scope. scope) result (scope_of (option_map (λ w. w.now) word.entry)) }
@@ -75,7 +84,10 @@ pub fn scope(word: Option<&[u8]>) -> Result<Scope, FaultKind>
     }
 }
 
-/// The numbers of a filling `fill:LEN:BYTE`, in any range; None where the word spells its bytes out.
+/// The numbers of a filling `fill:LEN:BYTE`, in any range; None where the word spells its bytes
+/// out.
+///
+/// # Errors
 /// `BadWord` where it is neither.
 #[tactic(auto, unfolding(crate::specs::Content::filling_of))]
 pub fn filling(word: &[u8]) -> Result<Option<(u32, u32)>, FaultKind>
@@ -93,8 +105,11 @@ pub fn filling(word: &[u8]) -> Result<Option<(u32, u32)>, FaultKind>
     }
 }
 
-/// The content that a word spells, whose filling these numbers are; `OutOfRange` where a filling has no
-/// byte, more than 65536, or a first byte past 255.
+/// The content that a word spells, whose filling these numbers are.
+///
+/// # Errors
+/// `OutOfRange` where a filling has no byte, more than 65536, or a first byte past 255; `Memory`
+/// where there is no memory for it.
 #[tactic(auto, unfolding(crate::specs::Content::content_of))]
 pub fn content(alloc: Global, word: &[u8], filling: Option<(u32, u32)>) -> Result<Content, LineFail>
     ensures { Gives (λ content. content) result (content_of word.now filling) }

@@ -30,18 +30,18 @@ held_elsewhere slots slot number none p here its =
     cc
 
 -- no other slot has its number
-pub apart : (slots : List (Option Place)) (free : List ℕ) (newest : List (Option ℕ)) (made slot number : ℕ) (p : Place) → AreKept slots free newest made → get_or slots slot None ≡ Some p → p.number ≡ number → (k : ℕ) → k ≢ slot → number_at slots k ≢ number
-apart slots free newest made slot number p kept here its k ne same =
-    let pos = kept.chained.positive slot (ap is_some here) in
-    ne (kept.chained.chain.distinct k slot (omega (arith, same, its, pos, ap number_in here)) (same ∙ sym (ap number_in here ∙ its)))
+pub apart : (slots : List (Option Place)) (free : List ℕ) (made slot number : ℕ) (p : Place) → AreKept slots free made → get_or slots slot None ≡ Some p → p.number ≡ number → (k : ℕ) → k ≢ slot → number_at slots k ≢ number
+apart slots free made slot number p kept here its k ne same =
+    let pos = kept.positive slot (ap is_some here) in
+    ne (kept.distinct k slot (omega (arith, same, its, pos, ap number_in here)) (same ∙ sym (ap number_in here ∙ its)))
 
-pub live_found : (slots : List (Option Place)) (free : List ℕ) (newest : List (Option ℕ)) (made : ℕ) (sub : SubNo) (p : Place) → AreKept slots free newest made → held_at slots sub.slot sub.number ≡ Some p → find (goes_by sub) (live_upto slots made) ≡ Some (held_in sub.slot p)
-live_found slots free newest made sub p kept is =
+pub live_found : (slots : List (Option Place)) (free : List ℕ) (made : ℕ) (sub : SubNo) (p : Place) → AreKept slots free made → held_at slots sub.slot sub.number ≡ Some p → find (goes_by sub) (live_upto slots made) ≡ Some (held_in sub.slot p)
+live_found slots free made sub p kept is =
     let h = held_here slots sub.slot sub.number p is in
-    let pos = kept.chained.positive sub.slot (ap is_some h.0) in
+    let pos = kept.positive sub.slot (ap is_some h.0) in
     let most : number_at slots sub.slot ≤ made = kept.numbers sub.slot in
     let n : number_at slots sub.slot ≡ sub.number = ap number_in h.0 ∙ h.1 in
-    find_live slots sub p made h.0 h.1 (omega (arith, pos, n)) (omega (arith, most, n)) (apart slots free newest made sub.slot sub.number p kept h.0 h.1)
+    find_live slots sub p made h.0 h.1 (omega (arith, pos, n)) (omega (arith, most, n)) (apart slots free made sub.slot sub.number p kept h.0 h.1)
 
 pub live_ended : (slots : List (Option Place)) (made : ℕ) (sub : SubNo) → held_at slots sub.slot sub.number ≡ None → find (goes_by sub) (live_upto slots made) ≡ None
 live_ended slots made sub none = find_ended slots sub made (held_elsewhere slots sub.slot sub.number none)
@@ -92,7 +92,7 @@ none_of_pipe slots made pipe none =
     foreign s st = differ s.pipe pipe (λ e. none s.slot st.place st.here (sym (ap (λ x. x.pipe) st.is) ∙ e))
 
 -- what a slot holds is live, and goes by the slot and its number
-pub live_in : (slots : List (Option Place)) (free : List ℕ) (newest : List (Option ℕ)) (made slot : ℕ) (p : Place) → AreKept slots free newest made → get_or slots slot None ≡ Some p → find (goes_by (record { slot = slot; number = p.number })) (live_upto slots made) ≡ Some (held_in slot p)
-live_in slots free newest made slot p kept here =
-    live_found slots free newest made (record { slot = slot; number = p.number }) p kept
+pub live_in : (slots : List (Option Place)) (free : List ℕ) (made slot : ℕ) (p : Place) → AreKept slots free made → get_or slots slot None ≡ Some p → find (goes_by (record { slot = slot; number = p.number })) (live_upto slots made) ≡ Some (held_in slot p)
+live_in slots free made slot p kept here =
+    live_found slots free made (record { slot = slot; number = p.number }) p kept
     (ap (λ b. cond b (get_or slots slot None) None) (eq-eqb (number_at slots slot) p.number (ap number_in here)) ∙ here)

@@ -1,10 +1,7 @@
-pub mod Chains
 pub mod Changes
 pub mod Ended
-pub mod First
 pub mod Found
 pub mod Kept
-pub mod Links
 pub mod Lists
 pub mod Live
 pub mod Numbers

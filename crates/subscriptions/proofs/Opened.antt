@@ -2,7 +2,7 @@
 use Rattle.std.proofs.Common.{◌≡◌, ℕ, zero, suc, ◌+◌, ◌<◌, ◌^◌, List, length, get_or, replicate, Option, None, is_some, false, refl, sym, ap, subst, arith}
 use Rattle.std.proofs.lemmas.List.{length-replicate}
 use Rattle.subscriptions.specs.declared.place.Place.{Place}
-use Rattle.subscriptions.specs.Slots.{number_in, id_in, number_at, id_at, IsNewest, AreKept}
+use Rattle.subscriptions.specs.Slots.{number_in, number_at, AreKept}
 
 abbrev nothing : (X : Type 0) → Option X
 nothing X = None
@@ -13,19 +13,10 @@ nothing_at zero k = refl
 nothing_at (suc n) zero = refl
 nothing_at (suc n) (suc k) = nothing_at n k
 
-pub kept_opened : (room : ℕ) (free : List ℕ) → length free ≡ room → ((i : ℕ) → i < room → get_or free i 0 + i + 1 ≡ room) → AreKept (replicate room None) free (replicate 8192 None) 0
+pub kept_opened : (room : ℕ) (free : List ℕ) → length free ≡ room → ((i : ℕ) → i < room → get_or free i 0 + i + 1 ≡ room) → AreKept (replicate room None) free 0
 kept_opened room free all each = record {
-  chained = record {
-    positive = λ k is. absurd (let none : is_some (get_or (replicate room (nothing Place)) k None) ≡ false = ap is_some (nothing_at room k) in cc);
-    fit = λ k. omega (arith, number_none k);
-    ids = λ k. omega (arith, id_none k);
-    table = length-replicate 8192 (nothing ℕ);
-    chain = record {
-      distinct = λ j k used same. absurd (omega (arith, used, number_none j));
-      heads = λ id h. subst (λ l. IsNewest (number_at (replicate room None)) (id_at (replicate room None)) id (2 ^ 32) l) (sym (nothing_at 8192 id)) (no_newest id);
-      links = λ k used. absurd (omega (arith, used, number_none k));
-    };
-  };
+  positive = λ k is. absurd (let none : is_some (get_or (replicate room (nothing Place)) k None) ≡ false = ap is_some (nothing_at room k) in cc);
+  distinct = λ j k used same. absurd (omega (arith, used, number_none j));
   unused = record {
     empty = λ i h. (omega (arith, each i (omega (arith, h, all)), length-replicate room (nothing Place)), nothing_at room (get_or free i 0));
     once = λ i j h k e. omega (arith, each i (omega (arith, h, all)), each j (omega (arith, k, all)), e);
@@ -36,13 +27,3 @@ kept_opened room free all each = record {
   where
     number_none : (k : ℕ) → number_at (replicate room None) k ≡ 0
     number_none k = ap number_in (nothing_at room k)
-
-    id_none : (k : ℕ) → id_at (replicate room None) k ≡ 0
-    id_none k = ap id_in (nothing_at room k)
-
-    no_newest : (id : ℕ) → IsNewest (number_at (replicate room None)) (id_at (replicate room None)) id (2 ^ 32) None
-    no_newest id = record {
-      own = λ k is. absurd cc;
-      older = omega arith;
-      only = λ k above under same. omega (arith, above, number_none k);
-    }

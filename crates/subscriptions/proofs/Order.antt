@@ -47,9 +47,9 @@ live_rising slots (suc upto) distinct =
     (All-weaker (StandsUpto slots upto) (λ s. s.number ≤ upto) (λ s st. st.within) (live_upto slots upto) (live_stand slots upto))
     (numbered_rising upto 0 slots distinct)
 
-pub in_order : (slots : List (Option Place)) (free : List ℕ) (newest : List (Option ℕ)) (made : ℕ) → AreKept slots free newest made → AreInOrder (shown slots made)
-in_order slots free newest made kept = record {
-  rising = live_rising slots made kept.chained.chain.distinct;
+pub in_order : (slots : List (Option Place)) (free : List ℕ) (made : ℕ) → AreKept slots free made → AreInOrder (shown slots made)
+in_order slots free made kept = record {
+  rising = live_rising slots made kept.distinct;
   numbers = All-weaker (StandsUpto slots made) (λ s. s.number ≤ made) (λ s st. st.within) (live_upto slots made) (live_stand slots made);
   slots = All-weaker (StandsUpto slots made) (λ s. s.slot < length slots) (λ s st. in_range slots s.slot st.place st.here) (live_upto slots made) (live_stand slots made);
   fit = omega (arith, kept.full);

@@ -4,7 +4,7 @@ use Rattle.std.proofs.lemmas.Bool.{cases_eq}
 use Rattle.std.proofs.lemmas.Bool.Decides.{nat_tests}
 use Rattle.std.proofs.lemmas.List.{get_or_past, length-set}
 use Rattle.subscriptions.specs.declared.place.Place.{Place}
-use Rattle.subscriptions.specs.Slots.{IsTop, with_waiting, with_older}
+use Rattle.subscriptions.specs.Slots.{IsTop, with_waiting}
 
 at_or_past : (n k : ℕ) → (n ≤ k) ⊎ (k < n)
 at_or_past n k = by_test (leb n k) refl
@@ -32,9 +32,6 @@ top_changed slots slot top change same is = written_below slots slot top (change
 
 pub top_waiting : (slots : List (Option Place)) (slot top waiting : ℕ) → IsTop slots top → IsTop (set slots slot (with_waiting waiting (get_or slots slot None))) top
 top_waiting slots slot top waiting is = top_changed slots slot top (with_waiting waiting) refl is
-
-pub top_older : (slots : List (Option Place)) (slot top : ℕ) (older : Option ℕ) → IsTop slots top → IsTop (set slots slot (with_older older (get_or slots slot None))) top
-top_older slots slot top older is = top_changed slots slot top (with_older older) refl is
 
 pub top_freed : (slots : List (Option Place)) (slot top : ℕ) → IsTop slots top → IsTop (set slots slot None) top
 top_freed slots slot top is = written_below slots slot top None is (λ above. refl)

@@ -1,5 +1,5 @@
 -- The subscriptions of a software bus, as a caller sees them (cFE Software Bus, subscriptions and message limits).
-use Rattle.std.specs.Prelude.{ℕ, ◌+◌, ◌-◌, ◌==◌, ◌&&◌, nat_le, ◌<◌, ◌≤◌, not, Bool, List, [], ◌∷◌, length, map, filter, find, Option, option_map, if◌then◌else◌}
+use Rattle.std.specs.Prelude.{ℕ, ◌+◌, ◌-◌, ◌==◌, ◌&&◌, nat_le, ◌<◌, ◌≤◌, not, Bool, List, [], ◌∷◌, length, map, filter, find, Option, if◌then◌else◌}
 use Rattle.std.specs.List.{All}
 use Rattle.std.specs.Option.{option_map_or}
 use Rattle.fsw_base.specs.declared.config.Scope.{Scope}
@@ -36,14 +36,6 @@ goes_by sub s = s.slot == sub.slot && s.number == sub.number
 -- the live subscription of this slot and number; none where it has ended
 abbrev pub live_at : Subscribed → SubNo → Option Subscription
 live_at subs sub = find (goes_by sub) subs.live
-
--- whether a live subscription ties this id to this pipe
-abbrev pub ties : ℕ → ℕ → Subscription → Bool
-ties id pipe s = s.id == id && s.pipe == pipe
-
--- the first live subscription that ties this id to this pipe
-abbrev pub first_of : Subscribed → ℕ → ℕ → Option SubNo
-first_of subs id pipe = option_map number_of (find (ties id pipe) subs.live)
 
 -- what a subscription was made with
 abbrev pub row_of : Subscription → SubRow

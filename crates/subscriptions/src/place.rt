@@ -7,13 +7,10 @@ use fsw_base::Scope;
 pub(crate) struct Place {
     // From 1, by order of making.
     pub(crate) number: u32,
-    // Below 0x2000.
     pub(crate) id: u16,
     pub(crate) pipe: u32,
     pub(crate) limit: u32,
     pub(crate) scope: Scope,
     // How many of its messages wait.
     pub(crate) waiting: u32,
-    // The slot of the newest live subscription of the same id that was made before it, if there is one.
-    pub(crate) older: Option<u32>,
 }

@@ -1,24 +1,15 @@
 //! The subscriptions.
-//!
-//! ```text
-//!   newest, by message id      slots
-//!   0x0801 -----------------> [ number 4, id 0x0801 ] --older--> [ number 2, id 0x0801 ]
-//!   0x0802  none               [ free ]
-//! ```
-ghost use Rattle.std.specs.Prelude.{◌≡◌, ℕ, ◌==◌, ◌+◌, ◌-◌, ◌<◌, ◌≤◌, ◌^◌, ◌↔◌, false, Some, None, List, [], ◌∷◌, ◌++◌, length, map, replicate, slice_set, slice_index, slice_index_or, vec_capacity, MatchOption, option_map, IsSome, IsTrue, IfOk, IfSome};
+ghost use Rattle.std.specs.Prelude.{◌≡◌, ℕ, ◌==◌, ◌+◌, ◌-◌, ◌<◌, ◌≤◌, ◌^◌, ◌↔◌, false, Some, None, List, [], ◌∷◌, ◌++◌, length, map, replicate, slice_set, slice_index, slice_index_or, vec_capacity, option_map, IsSome, IsTrue, IfOk, IfSome};
 ghost use Rattle.std.specs.List.{list_any};
 ghost use Rattle.std.specs.Option.{ForSome};
-ghost use Rattle.subscriptions.specs.Subs.{Subscribed, Subscription, live_at, first_of, row_of, verdict_at, one_more, one_fewer, with_change, without, AreInOrder};
-ghost use Rattle.subscriptions.specs.Slots.{AreChained, number_at, id_at, older_at, held_at, closer_in, with_waiting, with_older};
+ghost use Rattle.subscriptions.specs.Subs.{Subscribed, Subscription, live_at, row_of, verdict_at, one_more, one_fewer, with_change, without, AreInOrder};
+ghost use Rattle.subscriptions.specs.Slots.{held_at, with_waiting};
 
 use crate::place::Place;
 use crate::words::{SubNo, SubRow, Verdict};
 use fsw_base::Scope;
 use std::alloc::{AllocError, Global};
 use std::marker::Model;
-
-/// How many message ids there are: valid ones are below it.
-const IDS: u32 = 0x2000;
 
 /// The live subscriptions. Contracts see how many may be live at once, how many were made so far, and those that are
 /// live, in order of number.
@@ -28,8 +19,6 @@ pub struct Subs {
     slots: Vec<Option<Place>>,
     /// The free slots, each once, the next one to use last. It has room for all slots.
     free: Vec<u32>,
-    /// At each message id, the slot of its newest live subscription; from there `older` leads through all of the id.
-    newest: Vec<Option<u32>>,
     /// How many subscriptions were made, which is the newest one's number.
     made: u32,
     /// No slot from this one on was ever used.
@@ -46,7 +35,7 @@ impl Model for Subs {
 
     ghost view = { λ s. record { room = length s.slots.items; made = s.made; live = live_upto s.slots.items s.made } };
 
-    ghost invariant = { λ s. AreKept s.slots.items s.free.items s.newest.items s.made × (length s.slots.items < 2 ^ 32) × (length s.slots.items ≤ vec_capacity s.free) × IsTop s.slots.items s.top × (s.top ≤ length s.slots.items) };
+    ghost invariant = { λ s. AreKept s.slots.items s.free.items s.made × (length s.slots.items < 2 ^ 32) × (length s.slots.items ≤ vec_capacity s.free) × IsTop s.slots.items s.top × (s.top ≤ length s.slots.items) };
 }
 
 impl Subs {
@@ -56,11 +45,9 @@ impl Subs {
     {
         let slots = free_slots(alloc, room)?;
         let free = all_slots(alloc, room)?;
-        let newest = no_links(alloc, IDS)?;
         Ok(Subs {
             slots,
             free,
-            newest,
             made: 0,
             top: 0,
         })
@@ -74,16 +61,15 @@ impl Subs {
     }
 
     /// The live subscriptions stand in order of number, and each in a slot below the room. Does nothing.
-    pub fn are_in_order(&self)
+    pub fn recall_order(&self)
         ensures { AreInOrder self.now }
     {
         let _ = &self.slots;
     }
 
-    /// A new subscription of a message id, below 0x2000, to a pipe, of whose messages none waits. Whether the pair is
-    /// live already isn't asked. Takes a constant time.
+    /// A new subscription of a message id to a pipe, of whose messages none waits. Whether the pair is live already isn't
+    /// asked. Takes a constant time.
     pub fn add(&mut self, id: u16, pipe: u32, limit: u32, scope: Scope) -> SubNo
-        requires id { id < 0x2000 }
         requires room { length self.old.live < self.old.room }
         requires number { self.old.made + 1 < 2 ^ 32 }
         ensures number { result.number ≡ self.old.made + 1 }
@@ -97,8 +83,6 @@ impl Subs {
         let slot = self.free.pop().unwrap();
         self.made += 1;
         self.top = self.top.max(slot + 1);
-        let older = self.newest[id as usize];
-        self.newest[id as usize] = Some(slot);
         self.slots[slot as usize] = Some(Place {
             number: self.made,
             id,
@@ -106,7 +90,6 @@ impl Subs {
             limit,
             scope,
             waiting: 0,
-            older,
         });
         SubNo {
             slot,
@@ -114,17 +97,11 @@ impl Subs {
         }
     }
 
-    /// Ends a live subscription. Its slot is used again, its number never. Looks at live subscriptions of its message id
-    /// alone.
+    /// Ends a live subscription. Its slot is used again, its number never. Takes a constant time.
     pub fn remove(&mut self, sub: SubNo)
         requires { IsSome (live_at self.old sub) }
         ensures { self.new ≡ without self.old sub }
     {
-        let place = held(&self.slots, sub).unwrap();
-        match newer(&self.slots, &self.newest, place.id, sub.slot) {
-            None => self.newest[place.id as usize] = place.older,
-            Some(slot) => set_older(&mut self.slots, slot, place.older),
-        }
         self.slots[sub.slot as usize] = None;
         self.free.push_reserved(sub.slot);
     }
@@ -141,20 +118,6 @@ impl Subs {
             limit: place.limit,
             scope: place.scope,
         }
-    }
-
-    /// The first live subscription of a message id to a pipe; None exactly where there is none. Looks at live
-    /// subscriptions of the id alone.
-    pub fn find(&self, id: u16, pipe: u32) -> Option<SubNo>
-        ensures { result ≡ first_of self.now id pipe }
-    {
-        let mut link = newest_of(&self.newest, id);
-        let mut found = None;
-        while let Some(slot) = link {
-            found = closer(&self.slots, slot, pipe, found);
-            link = older(&self.slots, slot);
-        }
-        found
     }
 
     /// What the limit of a subscription says of one message more; one that has ended has no limit. Takes a constant time.
@@ -228,58 +191,6 @@ fn held(slots: &[Option<Place>], sub: SubNo) -> Option<Place>
     }
 }
 
-// The slot of the newest subscription of an id.
-fn newest_of(newest: &[Option<u32>], id: u16) -> Option<u32>
-    ensures { result ≡ slice_index_or newest.now id None }
-{
-    match newest.get(id as usize) {
-        Some(link) => *link,
-        None => None,
-    }
-}
-
-// The slot of the next older subscription of the same id.
-fn older(slots: &[Option<Place>], slot: u32) -> Option<u32>
-    ensures { result ≡ older_at slots.now slot }
-{
-    match in_slot(slots, slot) {
-        Some(place) => place.older,
-        None => None,
-    }
-}
-
-// The subscription in a slot where it is the pipe's, else the one found so far.
-fn closer(slots: &[Option<Place>], slot: u32, pipe: u32, found: Option<SubNo>) -> Option<SubNo>
-    ensures { result ≡ closer_in (slice_index_or slots.now slot None) slot pipe found }
-{
-    match in_slot(slots, slot) {
-        Some(place) if place.pipe == pipe => Some(SubNo {
-            slot,
-            number: place.number,
-        }),
-        _ => found,
-    }
-}
-
-// The slot of the next newer subscription of the same id; None where this is the newest one.
-fn newer(slots: &[Option<Place>], newest: &[Option<u32>], id: u16, slot: u32) -> Option<u32>
-    requires chained { AreChained slots.now newest.now }
-    requires live { 0 < number_at slots.now slot }
-    requires id { id_at slots.now slot ≡ id }
-    ensures { MatchOption result (slice_index_or newest.now id None ≡ Some slot) (λ above. (0 < number_at slots.now above) × (older_at slots.now above ≡ Some slot)) }
-{
-    let mut above = None;
-    let mut link = newest_of(newest, id);
-    while let Some(at) = link {
-        if at == slot {
-            return above;
-        }
-        above = link;
-        link = older(slots, at);
-    }
-    above
-}
-
 // Sets how many messages of the subscription in a slot wait.
 fn set_waiting(slots: &mut Vec<Option<Place>>, slot: u32, waiting: u32)
     requires { slot < length slots.old.items }
@@ -287,16 +198,6 @@ fn set_waiting(slots: &mut Vec<Option<Place>>, slot: u32, waiting: u32)
 {
     if let Some(place) = in_slot(slots, slot) {
         slots[slot as usize] = Some(Place { waiting, ..place });
-    }
-}
-
-// Sets what is older than the subscription in a slot.
-fn set_older(slots: &mut Vec<Option<Place>>, slot: u32, older: Option<u32>)
-    requires { slot < length slots.old.items }
-    ensures items { slots.new.items ≡ slice_set slots.old.items slot (with_older older (slice_index_or slots.old.items slot None)) }
-{
-    if let Some(place) = in_slot(slots, slot) {
-        slots[slot as usize] = Some(Place { older, ..place });
     }
 }
 
@@ -322,15 +223,4 @@ fn all_slots(alloc: Global, room: u32) -> Result<Vec<u32>, AllocError>
         free.push_reserved(room - 1 - above);
     }
     Ok(free)
-}
-
-// So many links, none of which leads anywhere yet.
-fn no_links(alloc: Global, ids: u32) -> Result<Vec<Option<u32>>, AllocError>
-    ensures { IfOk result (λ newest. newest.items ≡ replicate ids None) }
-{
-    let mut newest = Vec::with_capacity(alloc, ids as usize)?;
-    for _id in 0..ids {
-        newest.push_reserved(None);
-    }
-    Ok(newest)
 }

@@ -1,49 +1,45 @@
 //! A page of text between its writer and the sink, so that a sink is asked for few, long writes.
-ghost use Rattle.std.specs.Prelude.{◌≡◌, ℕ, ◌+◌, ◌-◌, ◌<◌, ◌≤◌, ◌==◌, min, Bool, true, false, [], ◌++◌, length, take, OnOk, OnErr};
-ghost use Rattle.fsw_base.specs.Outside.{IsCountOf, Rose};
-ghost use Rattle.text_page.specs.Pieces.{Waiting, Grew, CutShort, Puts};
+ghost use Rattle.std.specs.Prelude.{◌≡◌, ℕ, ◌+◌, ◌-◌, ◌<◌, ◌≤◌, ◌==◌, min, true, false, List, [], ◌++◌, length, take, OnOk, OnErr};
+ghost use Rattle.fsw_base.specs.Outside.{IsCountOf};
+ghost use Rattle.text_page.specs.Pieces.{Puts};
 ghost use Rattle.text_page.specs.declared.pages.TheConstants.{PAGE_BYTES};
 
 use crate::writes::write_text;
 use arrayvec::ArrayVec;
-use fsw_base::{Sink, WriteFault};
+use fsw_base::{Sink, SinkGuard, WriteFault};
 use std::marker::Model;
 
 /// How many bytes wait for one write.
 pub const PAGE_BYTES: usize = 4096;
 
-/// Text that waits to be written, and whether a write has failed.
+/// Text that waits to be written.
 #[derive(Drop)]
 pub struct Page {
     // Put, and not yet written.
     text: ArrayVec<u8, PAGE_BYTES>,
-    // Once a write failed nothing more is written.
-    failed: bool,
 }
 
 impl Model for Page {
-    ghost Value = { Waiting };
+    ghost Value = { List ℕ };
 
-    ghost view = { λ p. record { text = p.text.items; failed = p.failed } };
+    ghost view = { λ p. p.text.items };
 }
 
 impl Page {
     /// An empty page.
     pub fn new() -> Page
-        ensures { result ≡ record { text = []; failed = false } }
+        ensures { result ≡ [] }
     {
         Page {
             text: ArrayVec::new(),
-            failed: false,
         }
     }
 
     // Takes as much of the text as has room, and answers how many bytes that is.
     fn append(&mut self, text: &[u8]) -> usize
-        requires { length self.old.text < PAGE_BYTES }
+        requires { length self.old < PAGE_BYTES }
         ensures count { 0 < length text.now → IsCountOf result (length text.now) }
-        ensures text { self.new.text ≡ self.old.text ++ take result text.now }
-        ensures failed { self.new.failed ≡ self.old.failed }
+        ensures text { self.new ≡ self.old ++ take result text.now }
     {
         let count = text.len().min(PAGE_BYTES - self.text.len());
         let _ = self.text.try_extend_from_slice(&text[..count]);
@@ -51,10 +47,10 @@ impl Page {
     }
 }
 
-/// Puts a piece of text on the page. A full page is written out first; after a failed write nothing
-/// is written any more.
-pub fn put<K: Sink>(sink: &mut K, page: &mut Page, text: &[u8])
-    ensures { Puts K.written K.faults sink.old sink.new page.old page.new text.now }
+/// Puts a piece of text on the page. A full page is written out first. After a failed write nothing is
+/// written any more, and what is put is lost.
+pub fn put<K: Sink>(sink: &mut SinkGuard<'_, K>, page: &mut Page, text: &[u8])
+    ensures { Puts sink.old sink.new page.old page.new text.now }
 {
     let mut taken = 0;
     while taken < text.len() {
@@ -63,22 +59,23 @@ pub fn put<K: Sink>(sink: &mut K, page: &mut Page, text: &[u8])
 }
 
 /// Writes what still waits; an error where this write failed or one before.
-pub fn finish<K: Sink>(sink: &mut K, page: &mut Page) -> Result<(), WriteFault>
-    ensures puts { Puts K.written K.faults sink.old sink.new page.old page.new [] }
-    ensures ok { OnOk result ((page.new.failed ≡ false) × (page.new.text ≡ [])) }
-    ensures err { OnErr result (page.new.failed ≡ true) }
+pub fn finish<K: Sink>(sink: &mut SinkGuard<'_, K>, page: &mut Page) -> Result<(), WriteFault>
+    ensures puts { Puts sink.old sink.new page.old page.new [] }
+    ensures ok { OnOk result (page.new ≡ []) }
+    ensures none_failed { OnOk result (sink.new.failed ≡ false) }
+    ensures failed { OnErr result (sink.new.failed ≡ true) }
 {
     write_out(sink, page);
-    if page.failed {
+    if sink.has_failed() {
         return Err(WriteFault);
     }
     Ok(())
 }
 
 // Puts a front of the text, at least one byte of it, and answers how many bytes that is.
-fn put_front<K: Sink>(sink: &mut K, page: &mut Page, text: &[u8]) -> usize
+fn put_front<K: Sink>(sink: &mut SinkGuard<'_, K>, page: &mut Page, text: &[u8]) -> usize
     requires { 0 < length text.now }
-    ensures puts { Puts K.written K.faults sink.old sink.new page.old page.new (take result text.now) }
+    ensures puts { Puts sink.old sink.new page.old page.new (take result text.now) }
     ensures count { IsCountOf result (length text.now) }
 {
     make_room(sink, page);
@@ -86,9 +83,9 @@ fn put_front<K: Sink>(sink: &mut K, page: &mut Page, text: &[u8]) -> usize
 }
 
 // Writes the page out where it is full.
-fn make_room<K: Sink>(sink: &mut K, page: &mut Page)
-    ensures puts { Puts K.written K.faults sink.old sink.new page.old page.new [] }
-    ensures room { length page.new.text < PAGE_BYTES }
+fn make_room<K: Sink>(sink: &mut SinkGuard<'_, K>, page: &mut Page)
+    ensures puts { Puts sink.old sink.new page.old page.new [] }
+    ensures room { length page.new < PAGE_BYTES }
 {
     if page.text.is_full() {
         write_out(sink, page);
@@ -96,12 +93,12 @@ fn make_room<K: Sink>(sink: &mut K, page: &mut Page)
 }
 
 // Writes out what waits on the page, which is empty then.
-fn write_out<K: Sink>(sink: &mut K, page: &mut Page)
-    ensures puts { Puts K.written K.faults sink.old sink.new page.old page.new [] }
-    ensures empty { page.new.text ≡ [] }
+fn write_out<K: Sink>(sink: &mut SinkGuard<'_, K>, page: &mut Page)
+    ensures puts { Puts sink.old sink.new page.old page.new [] }
+    ensures empty { page.new ≡ [] }
 {
-    if !page.failed {
-        page.failed = write_text(sink, page.text.as_slice()).is_err();
+    if !sink.has_failed() {
+        let _ = write_text(sink, page.text.as_slice());
     }
     page.text.clear();
 }

@@ -4,20 +4,20 @@ ghost use Rattle.text_page.specs.Pieces.{Puts};
 ghost use Rattle.text_page.specs.Texts.{hex_digit, hex_byte, hex_bytes, hex_id, name_text};
 
 use crate::pages::{Page, put};
-use fsw_base::Sink;
+use fsw_base::{Sink, SinkGuard};
 use itoa::{Buffer, Integer};
 
 /// Puts a number in decimal.
-pub fn put_number<K: Sink, N: Integer>(sink: &mut K, page: &mut Page, number: N)
-    ensures { Puts K.written K.faults sink.old sink.new page.old page.new (N.text number) }
+pub fn put_number<K: Sink, N: Integer>(sink: &mut SinkGuard<'_, K>, page: &mut Page, number: N)
+    ensures { Puts sink.old sink.new page.old page.new (N.text number) }
 {
     let mut buffer = Buffer::new();
     put(sink, page, buffer.format(number).as_bytes());
 }
 
 /// Puts a name, or `-` for the empty one.
-pub fn put_name<K: Sink>(sink: &mut K, page: &mut Page, name: &[u8])
-    ensures { Puts K.written K.faults sink.old sink.new page.old page.new (name_text name.now) }
+pub fn put_name<K: Sink>(sink: &mut SinkGuard<'_, K>, page: &mut Page, name: &[u8])
+    ensures { Puts sink.old sink.new page.old page.new (name_text name.now) }
 {
     if name.is_empty() {
         put(sink, page, b"-");
@@ -27,8 +27,8 @@ pub fn put_name<K: Sink>(sink: &mut K, page: &mut Page, name: &[u8])
 }
 
 /// Puts a message id as `0x` and four hexadecimal digits.
-pub fn put_hex_id<K: Sink>(sink: &mut K, page: &mut Page, id: u16)
-    ensures { Puts K.written K.faults sink.old sink.new page.old page.new (hex_id id) }
+pub fn put_hex_id<K: Sink>(sink: &mut SinkGuard<'_, K>, page: &mut Page, id: u16)
+    ensures { Puts sink.old sink.new page.old page.new (hex_id id) }
 {
     put(sink, page, b"0x");
     put(sink, page, &hex_byte((id / 256) as u8));
@@ -36,8 +36,8 @@ pub fn put_hex_id<K: Sink>(sink: &mut K, page: &mut Page, id: u16)
 }
 
 /// Puts bytes as two hexadecimal digits each.
-pub fn put_hex_bytes<K: Sink>(sink: &mut K, page: &mut Page, bytes: &[u8])
-    ensures { Puts K.written K.faults sink.old sink.new page.old page.new (hex_bytes bytes.now) }
+pub fn put_hex_bytes<K: Sink>(sink: &mut SinkGuard<'_, K>, page: &mut Page, bytes: &[u8])
+    ensures { Puts sink.old sink.new page.old page.new (hex_bytes bytes.now) }
 {
     for byte in bytes {
         put(sink, page, &hex_byte(*byte));

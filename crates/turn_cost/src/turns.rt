@@ -44,7 +44,8 @@ fn note_turn<R: Wait>(
     requires app { (view_of seat.old).app ≡ app }
     ensures seat { IsReady seat.new lock.now.name }
     ensures app { (view_of seat.new).app ≡ app }
-    ensures mine { (view_of seat.new).mine ≡ (view_of seat.old).mine ++ (if result then (app, number) ∷ [] else []) }
+    ensures mine { (view_of seat.new).mine ≡ (view_of seat.old).mine
+        ++ (if result then (app, number) ∷ [] else []) }
 {
     let mut turn = lock.enter(rt, seat);
     if turn.value_mut().note(app, number) {
@@ -58,6 +59,9 @@ fn note_turn<R: Wait>(
 
 /// Opens a lock, takes so many turns as one application, notes in one more how many they were,
 /// closes the lock, and answers the visits noted.
+///
+/// # Errors
+/// `AllocError` where there is no memory for the visits or the lock.
 pub fn take_turns<R: Wait>(rt: &R, alloc: Global, turns: u64) -> Result<Visits, AllocError> {
     let visits = Visits::with_room(alloc, 1)?;
     let (lock, mut main) = TurnLock::new(alloc, visits, 1)?;

@@ -8,6 +8,7 @@ use turn_lock::Historied;
 /// The visits that applications noted, in order: the application, and a number of its own.
 #[derive(Drop)]
 pub struct Visits {
+    /// Each visit, the first one first.
     pub noted: Vec<(u32, u64)>,
 }
 
@@ -25,6 +26,9 @@ impl Historied for Visits {
 
 impl Visits {
     /// No visits yet, and room for so many.
+    ///
+    /// # Errors
+    /// `AllocError` where there is no memory for them.
     pub fn with_room(alloc: Global, room: usize) -> Result<Visits, AllocError>
         ensures none { IfOk result (λ v. v.noted.items ≡ []) }
         ensures room { IfOk result (λ v. vec_capacity v.noted ≡ room) }
@@ -35,7 +39,8 @@ impl Visits {
 
     /// Notes a visit and answers true; false, and nothing is noted, where there is no room.
     pub fn note(&mut self, app: u32, number: u64) -> bool
-        ensures noted { self.new.noted.items ≡ self.old.noted.items ++ (if result then (app, number) ∷ [] else []) }
+        ensures noted { self.new.noted.items ≡ self.old.noted.items
+            ++ (if result then (app, number) ∷ [] else []) }
         ensures room { vec_capacity self.new.noted ≡ vec_capacity self.old.noted }
     {
         if self.noted.len() >= self.noted.capacity() {

@@ -8,7 +8,7 @@ use Rattle.fsw_base.proofs.Prefix.{prefix_self, prefix_trans}
 use Rattle.turn_lock.specs.declared.view.View.{View}
 use Rattle.turn_lock.specs.declared.view.Stage.TheVariants.{Has}
 use Rattle.turn_lock.specs.Views.{entries_of, is_live, is_queued, is_served, is_in_queue, published_view, rested_view}
-use Rattle.turn_lock.specs.Rule.{Fits, CountsIn, Kept}
+use Rattle.turn_lock.specs.Rule.{wrap, Fits, CountsIn, Kept}
 use Rattle.turn_lock.specs.Steps.{Grows, Publishes, Passes}
 use Rattle.turn_lock.proofs.Counting.{counts_serving, counts_entries, queue_less, queue_same}
 use Rattle.turn_lock.proofs.Entries.{entries_of-append_other}
@@ -73,7 +73,7 @@ module _ {T F E : Type 0} (fixed : T → F) (history : T → List (ℕ × E)) (o
       )
 
   pass_keeps : (slots id : ℕ) (v : View F E) (x : T) → slots ≡ 1 → v.stage ≡ Has → history x ≡ v.seen → Some (fixed x) ≡ v.fixed
-      → Allows (Kept fixed history opening) slots id (v, (0, Some x) ∷ []) 1 (λ n. (n + 1) % 2 ^ 64) (λ found now. Passes (v, (0, Some x) ∷ []) now)
+      → Allows (Kept fixed history opening) slots id (v, (0, Some x) ∷ []) 1 (λ n. (n + 1) % 2 ^ 64) (λ found now. Passes (v, (0, Some x) ∷ []) now × (found ≡ v.ticket % wrap))
   pass_keeps slots id v x one has same_log same_fixed s h homes at small =
       let w : View F E = rested_view v in
       let f = h.each id v at in
@@ -122,12 +122,12 @@ module _ {T F E : Type 0} (fixed : T → F) (history : T → List (ℕ × E)) (o
             each_set (λ u. is_served u.stage ≢ true) s.views id w (λ j u other e. idle j u other e) off,
           );
         },
-        refl,
+        (refl, h.words.serving ∙ ap (λ n. n % wrap) (sym here.0)),
       )
 
   -- the same at a seat in one piece
   pub pass_keeps_as : (slots id : ℕ) (me : Me (Option T) (View F E)) (x : T) → me.1 ≡ (0, Some x) ∷ [] → slots ≡ 1 → me.0.stage ≡ Has → history x ≡ me.0.seen → Some (fixed x) ≡ me.0.fixed
-      → Allows (Kept fixed history opening) slots id me 1 (λ n. (n + 1) % 2 ^ 64) (λ found now. Passes me now)
+      → Allows (Kept fixed history opening) slots id me 1 (λ n. (n + 1) % 2 ^ 64) (λ found now. Passes me now × (found ≡ me.0.ticket % wrap))
   pass_keeps_as slots id me x full one has same_log same_fixed =
-      let P : List (ℕ × Option T) → Type 0 = λ carried. Allows (Kept fixed history opening) slots id (me.0, carried) 1 (λ n. (n + 1) % 2 ^ 64) (λ found now. Passes (me.0, carried) now) in
+      let P : List (ℕ × Option T) → Type 0 = λ carried. Allows (Kept fixed history opening) slots id (me.0, carried) 1 (λ n. (n + 1) % 2 ^ 64) (λ found now. Passes (me.0, carried) now × (found ≡ me.0.ticket % wrap)) in
       subst P (sym full) (pass_keeps slots id me.0 x one has same_log same_fixed)

@@ -20,6 +20,18 @@
 //! let value = lock.close(main);
 //! ```
 //!
+//! Whoever waits for a change of the value sleeps until somebody makes an entry and wakes:
+//!
+//! ```text
+//! let turn = lock.enter(rt, &mut seat);
+//! let entries = turn.value().len() as u32;
+//! lock.leave(&mut seat, turn);
+//! lock.sleep(rt, entries);                                    // not where the count has moved
+//!
+//! lock.leave(&mut other, turn_with_an_entry);
+//! lock.wake();
+//! ```
+//!
 //! # Implementation
 //!
 //! Three words, modulo 2^64, and a slot. A seat draws a ticket from the first word, and waits until
@@ -28,8 +40,9 @@
 //! ```text
 //! ticket word   drawn so far        draw: + 1, the seat has that ticket
 //! serving word  served now          look: the seat's own ticket, and the slot is out with it
-//!                                   pass: + 1, and the slot is home again
+//!                                   pass: + 1, and the slot is home again; then wake
 //! count word    entries             publish: + 1, or + 0 in a turn without an entry
+//!                                   sleep, wake: who waits for a change
 //! slot          the value           take, after look; give, after publish and before pass
 //! ```
 #![tactic(auto)]

@@ -1,8 +1,10 @@
 //! The lock: a value that goes from seat to seat, in the order of the tickets.
-ghost use Rattle.std.specs.Prelude.{◌≡◌, ℕ, ◌≤◌, ◌<◌, ◌++◌, [], ◌∷◌, length, true, false, All, Contains, IfOk, Some};
+ghost use Rattle.std.specs.Prelude.{◌≡◌, ℕ, ◌≤◌, ◌<◌, ◌++◌, [], ◌∷◌, length, true, false, All};
+ghost use Rattle.std.specs.Prelude.{Contains, IfOk, Some};
 ghost use mathlib.Core.List.{IsPrefix};
 ghost use Rattle.turn_lock.specs.Views.{entries_of, main_view, seat_view, with_app};
-ghost use Rattle.turn_lock.specs.Seats.{view_of, entered_view, left_view, IsOut, IsMain, IsReady, AddsOne, KeepsLonger, AllJoined};
+ghost use Rattle.turn_lock.specs.Seats.{view_of, entered_view, left_view, IsOut, IsMain, IsReady};
+ghost use Rattle.turn_lock.specs.Seats.{AddsOne, KeepsLonger, AllJoined};
 
 use crate::board::Board;
 use crate::historied::Historied;
@@ -19,11 +21,15 @@ pub const MOST_SEATS: u32 = 16;
 
 /// A value that one seat at a time has, in the order in which they drew their tickets. It can be
 /// shared by threads where the value may move between them, and lives no longer than what the
-/// value borrows. It can't be dropped, only closed.
+/// value borrows. Where the value can be dropped the lock can be let go with it, at any time, and
+/// nothing is learnt then of the history; closing gives the value and its history.
 ///
 /// Contracts see which lock it is and how many seats can be split off.
+#[derive(Drop)]
 pub struct TurnLock<T: Historied> {
+    /// The words and the slot.
     board: Board<T>,
+    /// How many seats can be split off.
     seats: u32,
 }
 
@@ -43,6 +49,7 @@ impl<T: Historied> TurnLock<T> {
     /// A lock that holds this value, whose history is empty, and its main seat. At most `seats`
     /// seats can be split off, 1 to [`MOST_SEATS`]. It is the one call that takes memory.
     ///
+    /// # Errors
     /// `AllocError` where there is no memory; the value is dropped then.
     pub fn new(
         alloc: Global,
@@ -88,17 +95,19 @@ impl<T: Historied> TurnLock<T> {
         ensures unmarked { result.marked ≡ false }
         ensures opening { Some (T.fixed result.value) ≡ (view_of seat.old).fixed }
         ensures extends { IsPrefix (view_of seat.old).seen (T.history result.value) }
-        ensures mine { entries_of (view_of seat.old).app (T.history result.value) ≡ (view_of seat.old).mine }
+        ensures mine { entries_of (view_of seat.old).app (T.history result.value)
+            ≡ (view_of seat.old).mine }
         ensures view { result.view ≡ entered_view (view_of seat.old) (T.history result.value) }
     {
         let mut place = seat.take_place();
         let ticket = self.board.draw(&mut place);
-        self.board.wait(rt, &mut place, ticket);
+        let looks = self.board.wait(rt, &mut place, ticket);
         let value = self.board.take(&mut place);
         Turn {
             place,
             value,
             marked: false,
+            looks,
         }
     }
 
@@ -118,13 +127,28 @@ impl<T: Historied> TurnLock<T> {
             mut place,
             value,
             marked,
+            looks: _,
         } = turn;
         let told = Snapshot::of(&value);
         self.board
             .publish::<Brand>(&mut place, &told, u64::from(marked));
         self.board.give(&mut place, value);
-        self.board.pass(&mut place);
-        *seat = Seat::of(place);
+        let passed = self.board.pass(place);
+        *seat = Seat::of(self.board.wake(passed));
+    }
+
+    /// Sleeps while the history that was published last has so many entries, modulo 2^32, until
+    /// [`TurnLock::wake`] is called, and returns at once where it has another number. It may return
+    /// early. So whoever waits for a change takes a turn, reads the history's length, leaves, and
+    /// sleeps with that length; no turn should be out with who sleeps.
+    pub fn sleep<R: Wait>(&self, rt: &R, entries: u32) {
+        self.board.sleep_at_count(rt, entries);
+    }
+
+    /// Wakes all who sleep with [`TurnLock::sleep`]. Whoever made an entry calls it after `leave`,
+    /// which publishes it.
+    pub fn wake(&self) {
+        self.board.wake_at_count();
     }
 
     /// Takes a seat that ends into the main one, which keeps its entries and the longer of what
@@ -133,8 +157,10 @@ impl<T: Historied> TurnLock<T> {
         requires main { IsMain main.old self.now.name }
         requires seat { IsReady seat self.now.name }
         ensures main { IsMain main.new self.now.name }
-        ensures seen { KeepsLonger (view_of main.old).seen (view_of seat).seen (view_of main.new).seen }
-        ensures ended { (view_of main.new).ended ≡ (view_of main.old).ended ++ ((view_of seat).app, (view_of seat).mine) ∷ [] }
+        ensures seen { KeepsLonger (view_of main.old).seen (view_of seat).seen
+            (view_of main.new).seen }
+        ensures ended { (view_of main.new).ended ≡ (view_of main.old).ended
+            ++ ((view_of seat).app, (view_of seat).mine) ∷ [] }
         ensures apps { (view_of main.new).apps ≡ (view_of main.old).apps }
         ensures opening { (view_of main.new).fixed ≡ (view_of main.old).fixed }
     {
@@ -153,7 +179,8 @@ impl<T: Historied> TurnLock<T> {
         ensures opening { Some (T.fixed result) ≡ (view_of main).fixed }
         ensures extends { IsPrefix (view_of main).seen (T.history result) }
         ensures ended { All (λ e. entries_of e.0 (T.history result) ≡ e.1) (view_of main).ended }
-        ensures others { (app : ℕ) → ¬ (Contains (view_of main).apps app) → entries_of app (T.history result) ≡ [] }
+        ensures others { (app : ℕ) → ¬ (Contains (view_of main).apps app)
+            → entries_of app (T.history result) ≡ [] }
     {
         let TurnLock { board, seats: _ } = self;
         board.close(main.into_place())

@@ -63,9 +63,11 @@ impl<T: Historied, N: Telling<T::Event>> Play<Option<T>, View<T::Fixed, T::Event
 pub(crate) struct Pass;
 
 impl<T: Historied> Play<Option<T>, View<T::Fixed, T::Event>> for Pass {
+    ghost use Rattle.std.specs.Prelude.{◌≡◌, ◌%◌};
+    ghost use Rattle.turn_lock.specs.Rule.{wrap};
     ghost use Rattle.turn_lock.specs.Steps.{Passes};
 
-    ghost then = { λ _ before _ now. Passes before now };
+    ghost then = { λ _ before found now. Passes before now × (found ≡ before.0.ticket % wrap) };
 }
 
 /// Which application a seat is split off for. Each call picks it.

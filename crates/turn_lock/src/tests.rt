@@ -3,6 +3,8 @@ ghost use Rattle.std.specs.Prelude.{◌≡◌, ◌≤◌, ℕ, ◌++◌, List, [
 ghost use Rattle.std.specs.Prelude.{if◌then◌else◌};
 ghost use Rattle.turn_lock.specs.Seats.{view_of, IsReady};
 
+mod sleeping;
+
 use crate::{Historied, LockName, Seat, TurnLock};
 use fsw_base::AppNo;
 use std::alloc::{AllocError, Global};
@@ -43,7 +45,8 @@ impl<'r> Historied for Pad<'r> {
 impl<'r> Pad<'r> {
     /// Adds a pair and answers true; false, and nothing is added, where there is no room.
     fn add(&mut self, app: u32, number: u8) -> bool
-        ensures { self.new ≡ (self.old.0 ++ (if result then (app, number) ∷ [] else []), self.old.1) }
+        ensures { self.new
+            ≡ (self.old.0 ++ (if result then (app, number) ∷ [] else []), self.old.1) }
     {
         let at = self.pairs.len();
         if at >= self.bytes.len() || at >= self.pairs.capacity() {
@@ -74,7 +77,8 @@ fn add_one<'r, R: Wait>(
     requires app { (view_of seat.old).app ≡ app }
     ensures seat { IsReady seat.new lock.now.name }
     ensures app { (view_of seat.new).app ≡ app }
-    ensures mine { (view_of seat.new).mine ≡ (view_of seat.old).mine ++ (if result then (app, number) ∷ [] else []) }
+    ensures mine { (view_of seat.new).mine ≡ (view_of seat.old).mine
+        ++ (if result then (app, number) ∷ [] else []) }
 {
     let mut turn = lock.enter(rt, seat);
     dawdle();

@@ -14,9 +14,14 @@ use std::marker::Model;
 /// Contracts see which lock it is of, the value, whether it is marked, and what the turn's seat
 /// knows, with the history seen at entry.
 pub struct Turn<T: Historied> {
+    /// The place of the turn's seat, which the slot is out with.
     pub(crate) place: Place<Option<T>, View<T::Fixed, T::Event>>,
+    /// The value.
     pub(crate) value: T,
+    /// Whether an entry was made in this turn.
     pub(crate) marked: bool,
+    /// How often the seat looked until the turn came.
+    pub(crate) looks: u32,
 }
 
 impl<T: Historied> Model for Turn<T> {
@@ -27,13 +32,24 @@ impl<T: Historied> Model for Turn<T> {
 
     ghost Value = { TurnView T T.Fixed T.Event };
 
-    ghost view = { λ t. record { lock = t.place.table_id; view = rested_view t.place.me.0; value = t.value; marked = t.marked } };
+    ghost view = { λ t. record {
+      lock = t.place.table_id;
+      view = rested_view t.place.me.0;
+      value = t.value;
+      marked = t.marked;
+    } };
 
     ghost invariant = { λ t. (t.place.me.0.stage ≡ Has) × (t.place.me.1 ≡ (0, None) ∷ []) };
 }
 
 impl<T: Historied> Turn<T> {
     ghost use Rattle.turn_lock.specs.Lending.{LendsValue};
+
+    /// How often the seat looked until this turn came, for tests and for tuning: a seat that waits
+    /// long sleeps, and then looks no oftener than turns are passed on. No clause speaks of it.
+    pub fn looks(&self) -> u32 {
+        self.looks
+    }
 
     /// The value, to be looked at.
     pub fn value(&self) -> &T
@@ -44,7 +60,8 @@ impl<T: Historied> Turn<T> {
 
     /// The value, to be changed. Whoever adds an entry to its history marks the turn too.
     pub fn value_mut(&mut self) -> &mut T
-        ensures* writes_back { sem 𝓛 (LendsValue T.row T.Fixed.row T.Event.row T.fixed T.history self.entry result) }
+        ensures* writes_back { sem 𝓛 (LendsValue T.row T.Fixed.row T.Event.row T.fixed T.history
+            self.entry result) }
         ensures value { result.now ≡ self.old.value }
     {
         &mut self.value

@@ -1,5 +1,5 @@
 -- The held lists kept by a hold and a letting go, and what they leave.
-use Rattle.std.proofs.Common.{◌≡◌, ℕ, ◌+◌, ◌-◌, ◌<◌, ◌≤◌, ◌^◌, ◌⊎◌, inl, inr, zero, suc, Bool, true, false, not, cond, eqb, List, [], ◌∷◌, length, get_or, set, drop, replicate, refl, ap, sym, subst, ◌∙◌, arith}
+use Rattle.std.proofs.Common.{◌≡◌, ℕ, ◌+◌, ◌-◌, ◌<◌, ◌≤◌, ◌^◌, ◌⊎◌, inl, inr, zero, suc, Bool, true, false, cond, eqb, List, [], ◌∷◌, length, get_or, set, drop, replicate, refl, ap, sym, subst, ◌∙◌, arith}
 use Rattle.std.specs.List.{range_with_len}
 use Rattle.std.proofs.lemmas.Bool.{cases_eq, cases_lt}
 use Rattle.std.proofs.lemmas.Bool.Decides.{nat_tests}
@@ -8,11 +8,10 @@ use Rattle.std.proofs.lemmas.List.FromFn.{length-range_with_len, get_or-range_wi
 use Rattle.std.proofs.lemmas.List.Sums.{count_by-le-length}
 use Rattle.bucket_list.specs.Lists.{times_in, times}
 use Rattle.bucket_list.specs.Chains.{chain}
-use Rattle.bucket_list.proofs.Counts.{times_in-cons, times_in-le-times, length_few, loose_from_each}
-use Rattle.bucket_list.proofs.Chains.{length-chain}
-use Rattle.zero_copy.specs.Held.{without}
+use Rattle.bucket_list.proofs.Counts.{times_in-cons, times_in-le-times, length_few, loose_from_each, once_from_each}
+use Rattle.zero_copy.specs.Held.{AreApart, without}
 use Rattle.zero_copy.specs.Rings.{Linked, rings, owner_mark, AreHeld}
-use Rattle.zero_copy.proofs.Links.{next_else, prev_else, chain_linked, prev_in, next_in, linked_without, linked_front, length_without, times_without, without_first, first_in, after_first, once_behind}
+use Rattle.zero_copy.proofs.Links.{next_else, prev_else, chain_linked, prev_in, next_in, linked_without, linked_front, length_without, times_without, without_first, after_first, once_behind}
 
 -- as many rings as counts, and each the chain behind its anchor
 pub length-rings : (next : List ℕ) (anchor : ℕ) (counts : List ℕ) → length (rings next anchor counts) ≡ length counts
@@ -219,6 +218,17 @@ desc_in next prev counts owners descs place q a h some = by_cases (cases_lt q de
     by_cases : (q < descs) ⊎ (descs ≤ q) → q < descs
     by_cases (inl within) = within
     by_cases (inr past) = absurd (omega (arith, some, no_anchor_in next prev counts owners descs place q a h past))
+
+-- no descriptor is held twice, and each that is held is one of those that there are
+pub held_apart : (next prev counts owners : List ℕ) (descs : ℕ) → AreHeld next prev counts owners descs → AreApart (record { descs = descs; lists = rings next descs counts })
+held_apart next prev counts owners descs a = record {
+  once = λ q. once_from_each (rings next descs counts) q (λ i h. once_in next prev counts owners descs i a (inside i h) q)
+      (λ i j h hj some ne. a.owned j q (inside j hj) ∙ mark_other owners i j q (omega (arith, some, a.owned i q (inside i h))) ne);
+  exist = λ q past. loose_from_each (rings next descs counts) q (λ i h. no_anchor_in next prev counts owners descs i q a (inside i h) past);
+}
+  where
+    inside : (place : ℕ) → place < length (rings next descs counts) → place < length counts
+    inside place h = omega (arith, h, length-rings next descs counts)
 
 -- places have a link in both rows
 links_inside : (next prev counts owners : List ℕ) (descs place q : ℕ) → AreHeld next prev counts owners descs → place < length counts → 0 < times_in (get_or (rings next descs counts) place []) q → (q < length next) × (q < length prev)

@@ -1,5 +1,5 @@
 -- Which buffers each application holds, as a caller sees it.
-use Rattle.std.specs.Prelude.{◌≡◌, ◌==◌, ◌<◌, ◌-◌, ℕ, not, List, [], filter, slice_index_or}
+use Rattle.std.specs.Prelude.{◌≡◌, ◌==◌, ◌<◌, ◌≤◌, ◌-◌, ℕ, not, List, [], filter, slice_index_or}
 use Rattle.bucket_list.specs.Lists.{times, times_in}
 
 -- how many descriptors there are, and those that each application holds, the one held last first: application 1's list
@@ -23,3 +23,8 @@ IsLetGo held desc = times held.lists desc ≡ 0
 -- a list without one descriptor
 abbrev pub without : ℕ → List ℕ → List ℕ
 without desc descs = filter (λ d. not (d == desc)) descs
+
+-- no descriptor is held twice, neither by one application nor by two, and each that is held is one of those that there are
+pub record AreApart (held : Held) : Type 0 where
+  pub once : (desc : ℕ) → times held.lists desc ≤ 1
+  pub exist : (desc : ℕ) → held.descs ≤ desc → IsLetGo held desc

@@ -1,5 +1,5 @@
 -- What the links of the held lists stand for: each list with its anchor is a ring, linked in both directions.
-use Rattle.std.specs.Prelude.{◌≡◌, ◌==◌, ◌+◌, ◌<◌, ◌^◌, ℕ, suc, if◌then◌else◌, List, [], ◌∷◌, length, slice_index, slice_index_or}
+use Rattle.std.specs.Prelude.{◌≡◌, ◌==◌, ◌+◌, ◌<◌, ◌^◌, ℕ, if◌then◌else◌, List, [], ◌∷◌, length, slice_index, slice_index_or}
 use Rattle.bucket_list.specs.Lists.{times_in}
 use Rattle.bucket_list.specs.Chains.{chain}
 

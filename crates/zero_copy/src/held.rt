@@ -7,8 +7,8 @@
 //!            |                                                   ^
 //!            +---------------------------------------------------+
 //! ```
-ghost use Rattle.std.specs.Prelude.{◌≡◌, ℕ, ◌+◌, ◌-◌, ◌<◌, ◌≤◌, ◌↔◌, [], ◌∷◌, length, replicate, slice_set, drop, IsTrue, IsNone, IfOk, IfSome};
-ghost use Rattle.zero_copy.specs.Held.{Held, held_by, IsHeldBy, IsLetGo, without};
+ghost use Rattle.std.specs.Prelude.{◌≡◌, ℕ, ◌+◌, ◌-◌, ◌^◌, ◌<◌, ◌≤◌, ◌↔◌, [], ◌∷◌, length, replicate, slice_set, drop, IsTrue, IsNone, IfOk, IfSome};
+ghost use Rattle.zero_copy.specs.Held.{Held, held_by, IsHeldBy, IsLetGo, AreApart, without};
 
 use bucket_list::{Ledger, Links, Steps};
 use fsw_base::AppNo;
@@ -47,13 +47,17 @@ impl Model for HeldLists {
 }
 
 impl HeldLists {
-    /// Empty lists for `apps` applications over descriptors 0 to `descs` - 1. No later call takes memory.
+    /// Empty lists for `apps` applications over descriptors 0 to `descs` - 1, together fewer than 2^32. No later call
+    /// takes memory.
+    ///
+    /// # Errors
+    ///
+    /// Out of memory.
     pub fn new(alloc: Global, apps: u32, descs: u32) -> Result<HeldLists, AllocError>
+        requires { descs + apps < 2 ^ 32 }
         ensures { IfOk result (λ held. held ≡ record { descs = descs; lists = replicate apps [] }) }
     {
-        let Some(places) = descs.checked_add(apps) else {
-            return Err(AllocError);
-        };
+        let places = descs + apps;
         let next = Links::to_themselves(alloc, places)?;
         let prev = Links::to_themselves(alloc, places)?;
         let counts = zeros(alloc, apps)?;
@@ -65,6 +69,14 @@ impl HeldLists {
             counts,
             owners,
         })
+    }
+
+    /// No descriptor is held twice, by one application or by two, and each that is held is below their number. Does
+    /// nothing.
+    pub fn recall_apart(&self)
+        ensures { AreApart self.now }
+    {
+        let _ = &self.counts;
     }
 
     /// Puts a descriptor that no application holds to the front of an application's list. At most 8 steps.
@@ -110,6 +122,7 @@ impl HeldLists {
         ensures first { IfSome result (λ desc. held_by self.old app ≡ desc ∷ held_by self.new app) }
         ensures after { self.new ≡ record self.old { lists = slice_set self.old.lists (app - 1) (drop 1 (held_by self.old app)) } }
         ensures let_go { IfSome result (IsLetGo self.new) }
+        ensures exists { IfSome result (λ desc. desc < self.new.descs) }
         ensures cost { steps.new ≤ steps.old + 8 }
     {
         let place = app.get() - 1;

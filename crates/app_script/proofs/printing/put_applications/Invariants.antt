@@ -5,4 +5,4 @@ use Rattle.app_script.specs.ScriptSpelling.{app_lines, ended}
 use Rattle.app_script.proofs.printing.put_applications.Given as goal
 
 abbrev pub invariant-loop-app : goal.invariant-loop-app
-invariant-loop-app g l = Puts g.K.Sink.written g.K.Sink.faults l.initial.sink l.sink l.initial.page l.page (flat_map (λ app. ended (app_lines app)) (take l.app-index l.apps))
+invariant-loop-app g l = Puts l.initial.sink l.sink l.initial.page l.page (flat_map (λ app. ended (app_lines app)) (take l.app-index l.apps))

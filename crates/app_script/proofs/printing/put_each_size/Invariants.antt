@@ -4,4 +4,4 @@ use Rattle.text_page.specs.Pieces.{Puts}
 use Rattle.app_script.proofs.printing.put_each_size.Given as goal
 
 abbrev pub invariant-loop-i : goal.invariant-loop-i
-invariant-loop-i g l = Puts g.K.Sink.written g.K.Sink.faults l.initial.sink l.sink l.initial.page l.page (flat_map (λ size. 32 ∷ decimal size) (take l.i l.sizes))
+invariant-loop-i g l = Puts l.initial.sink l.sink l.initial.page l.page (flat_map (λ size. 32 ∷ decimal size) (take l.i l.sizes))

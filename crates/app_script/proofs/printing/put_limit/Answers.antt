@@ -1,4 +1,4 @@
-use Rattle.std.proofs.Common.{[], ◌∙◌, sym, refl, append-nil}
+use Rattle.std.proofs.Common.{[], ◌∙◌, sym, append-nil}
 use Rattle.text_page.proofs.Putting.{◌▸◌, puts_as, waits_behind}
 use Rattle.app_script.proofs.PrintLemmas.{set_lines_usual, set_lines_other}
 use Rattle.app_script.proofs.printing.put_limit.Goals as goal
@@ -11,4 +11,4 @@ returns-then-value-usual_limit g c =
 pub returns-else-value-usual_limit : goal.returns-else-value-usual_limit
 returns-else-value-usual_limit g c =
     puts_as _ (sym (set_lines_usual c.args.name c.args.value (c.if-value-usual_limit.false ∙ c.usual_limit.ensures)))
-    (waits_behind c.args.sink.now c.args.page.now c.args.page.now [] (sym (append-nil c.args.page.now.text)) refl)
+    (waits_behind c.args.sink.now c.args.page.now c.args.page.now [] (sym (append-nil c.args.page.now)))

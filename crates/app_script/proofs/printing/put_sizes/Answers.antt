@@ -1,4 +1,4 @@
-use Rattle.std.proofs.Common.{◌≡◌, true, false, [], sym, refl, append-nil}
+use Rattle.std.proofs.Common.{◌≡◌, true, false, [], sym, append-nil}
 use Rattle.fsw_base.specs.Blocks.{usual_sizes}
 use Rattle.script_words.specs.Text.{is_same}
 use Rattle.text_page.proofs.Putting.{◌▸◌, puts_as, waits_behind}
@@ -13,4 +13,4 @@ returns-then-not-are_usual g c =
 pub returns-else-not-are_usual : goal.returns-else-not-are_usual
 returns-else-not-are_usual g c =
     let same : true ≡ is_same c.args.sizes.now usual_sizes = c.if-not-are_usual.ensures in
-    puts_as _ (sym (sizes_lines_usual c.args.sizes.now (sym same))) (waits_behind c.args.sink.now c.args.page.now c.args.page.now [] (sym (append-nil c.args.page.now.text)) refl)
+    puts_as _ (sym (sizes_lines_usual c.args.sizes.now (sym same))) (waits_behind c.args.sink.now c.args.page.now c.args.page.now [] (sym (append-nil c.args.page.now)))

@@ -29,18 +29,18 @@ turned_away c x live row pipe =
 
 pub returns-then-ignores-clause-rows : goal.returns-then-ignores-clause-rows
 returns-then-ignores-clause-rows c = λ x live.
-    let found = pipe_here c.args.pipes.now.live c.args.subs.now c.args.sub x c.are_in_order.ensures c.requires.queued live in
+    let found = pipe_here c.args.pipes.now.live c.args.subs.now c.args.sub x c.recall_order.ensures c.requires.queued live in
     refused c.args.pipes.now.live x found.0 found.1 c.args.sender c.args.number (turned_away c x live found.0 found.1)
 
 pub returns-then-ignores-clause-taken : goal.returns-then-ignores-clause-taken
 returns-then-ignores-clause-taken c = λ x live.
-    let found = pipe_here c.args.pipes.now.live c.args.subs.now c.args.sub x c.are_in_order.ensures c.requires.queued live in
+    let found = pipe_here c.args.pipes.now.live c.args.subs.now c.args.sub x c.recall_order.ensures c.requires.queued live in
     sym (taken_by c.args.pipes.now.live x found.0 found.1 c.args.sender c.args.number ∙ ap (λ b. cond {A = ℕ} b 1 0) (turned_away c x live found.0 found.1))
 
 pub try_put-requires : goal.try_put-requires
 try_put-requires c =
     let it = some_there (live_at c.args.subs.now c.args.sub) c.requires.live in
-    let found = pipe_here c.args.pipes.now.live c.args.subs.now c.args.sub it.0 c.are_in_order.ensures c.requires.queued it.1 in
+    let found = pipe_here c.args.pipes.now.live c.args.subs.now c.args.sub it.0 c.recall_order.ensures c.requires.queued it.1 in
     record { live = ap (λ n. is_some (pipe_row c.args.pipes.now.live n)) (pipe_is c.args.subs.now c.args.sub it.0 c.at-pipe.result c.at-pipe.ensures it.1) ∙ ap is_some found.1.here }
 
 -- Where the pipe is full. --
@@ -60,20 +60,20 @@ stays c x live row pipe =
 
 pub returns-then-is_err-clause-rows : goal.returns-then-is_err-clause-rows
 returns-then-is_err-clause-rows c = λ x live.
-    let found = pipe_here c.args.pipes.now.live c.args.subs.now c.args.sub x c.are_in_order.ensures c.requires.queued live in
+    let found = pipe_here c.args.pipes.now.live c.args.subs.now c.args.sub x c.recall_order.ensures c.requires.queued live in
     ap (map row_in) (stays c x live found.0 found.1)
     ∙ refused c.args.pipes.now.live x found.0 found.1 c.args.sender c.args.number (full c.args.pipes.now.live x found.0 found.1 c.args.sender c.args.number (at_depth c x live found.0 found.1))
 
 pub returns-then-is_err-clause-taken : goal.returns-then-is_err-clause-taken
 returns-then-is_err-clause-taken c = λ x live.
-    let found = pipe_here c.args.pipes.now.live c.args.subs.now c.args.sub x c.are_in_order.ensures c.requires.queued live in
+    let found = pipe_here c.args.pipes.now.live c.args.subs.now c.args.sub x c.recall_order.ensures c.requires.queued live in
     sym (taken_by c.args.pipes.now.live x found.0 found.1 c.args.sender c.args.number
     ∙ ap (λ b. cond {A = ℕ} b 1 0) (full c.args.pipes.now.live x found.0 found.1 c.args.sender c.args.number (at_depth c x live found.0 found.1)))
 
 pub returns-then-is_err-clause-queued : goal.returns-then-is_err-clause-queued
 returns-then-is_err-clause-queued c =
     let it = some_there (live_at c.args.subs.now c.args.sub) c.requires.live in
-    let found = pipe_here c.args.pipes.now.live c.args.subs.now c.args.sub it.0 c.are_in_order.ensures c.requires.queued it.1 in
+    let found = pipe_here c.args.pipes.now.live c.args.subs.now c.args.sub it.0 c.recall_order.ensures c.requires.queued it.1 in
     subst (λ rows. AreQueued rows c.args.subs.now) (sym (stays c it.0 it.1 found.0 found.1)) c.requires.queued
 
 -- Where the pipe takes it. --
@@ -97,7 +97,7 @@ takes_it c x live row pipe =
 
 pub returns-clause-rows : goal.returns-clause-rows
 returns-clause-rows c = λ x live.
-    let found = pipe_here c.args.pipes.now.live c.args.subs.now c.args.sub x c.are_in_order.ensures c.requires.queued live in
+    let found = pipe_here c.args.pipes.now.live c.args.subs.now c.args.sub x c.recall_order.ensures c.requires.queued live in
     let item : Item = record { desc = c.args.number - 1; number = c.args.number; sub = c.args.sub } in
     ap (λ (p : Pipes). map row_in p.live) c.try_put.ensures.after
     ∙ ap (λ n. map row_in (table.with_row (with_item item) n c.args.pipes.now.live)) (pipe_is c.args.subs.now c.args.sub x c.at-pipe.result c.at-pipe.ensures live)
@@ -105,7 +105,7 @@ returns-clause-rows c = λ x live.
 
 pub returns-clause-taken : goal.returns-clause-taken
 returns-clause-taken c = λ x live.
-    let found = pipe_here c.args.pipes.now.live c.args.subs.now c.args.sub x c.are_in_order.ensures c.requires.queued live in
+    let found = pipe_here c.args.pipes.now.live c.args.subs.now c.args.sub x c.recall_order.ensures c.requires.queued live in
     sym (taken_by c.args.pipes.now.live x found.0 found.1 c.args.sender c.args.number ∙ ap (λ b. cond {A = ℕ} b 1 0) (takes_it c x live found.0 found.1))
 
 pub returns-clause-subs : goal.returns-clause-subs
@@ -114,11 +114,11 @@ returns-clause-subs c = ap still c.queued.ensures ∙ still-with_change c.args.s
 pub returns-clause-queued : goal.returns-clause-queued
 returns-clause-queued c =
     let it = some_there (live_at c.args.subs.now c.args.sub) c.requires.live in
-    let found = pipe_here c.args.pipes.now.live c.args.subs.now c.args.sub it.0 c.are_in_order.ensures c.requires.queued it.1 in
+    let found = pipe_here c.args.pipes.now.live c.args.subs.now c.args.sub it.0 c.recall_order.ensures c.requires.queued it.1 in
     let item : Item = record { desc = c.args.number - 1; number = c.args.number; sub = c.args.sub } in
     let rows : c.try_put.new.self.live ≡ table.with_row (with_item item) it.0.pipe c.args.pipes.now.live =
     ap (λ (p : Pipes). p.live) c.try_put.ensures.after
     ∙ ap (λ n. table.with_row (with_item item) n c.args.pipes.now.live) (pipe_is c.args.subs.now c.args.sub it.0 c.at-pipe.result c.at-pipe.ensures it.1) in
     subst (λ s. AreQueued c.try_put.new.self.live s) (sym c.queued.ensures)
     (subst (λ l. AreQueued l (with_change c.args.subs.now c.args.sub one_more)) (sym rows)
-    (queued_more c.args.pipes.now.live c.args.subs.now c.args.sub it.0 found.0 item c.are_in_order-2.ensures c.requires.queued it.1 found.1 refl (room c it.0 it.1 found.0 found.1)))
+    (queued_more c.args.pipes.now.live c.args.subs.now c.args.sub it.0 found.0 item c.recall_order-2.ensures c.requires.queued it.1 found.1 refl (room c it.0 it.1 found.0 found.1)))

@@ -23,7 +23,7 @@ loop-sub-preserved g c =
       routed = c.end_subscription.ensures.routed;
       stays =
           ap (λ s. filter stays s.live) c.end_subscription.ensures.after
-          ∙ stays_without subs.live c.in-Some.sub one.0 stays c.are_in_order.ensures.rising one.1 (ap not (eq-eqb one.0.pipe c.args.pipe one.2))
+          ∙ stays_without subs.live c.in-Some.sub one.0 stays c.recall_order.ensures.rising one.1 (ap not (eq-eqb one.0.pipe c.args.pipe one.2))
           ∙ c.loop-sub.invariant.stays;
       frame = same_frame c.args.subs.now subs c.end_subscription.new.subs (without subs c.in-Some.sub).live c.end_subscription.ensures.after c.loop-sub.invariant.frame;
       same = same_routing c.args.routes.now c.loop-sub.routes c.end_subscription.new.routes c.end_subscription.ensures.same c.loop-sub.invariant.same;

@@ -15,7 +15,7 @@ remove_dest-requires-clause-there g c =
     let subs = c.args.subs.now in
     let routes = c.args.routes.now in
     let at = at_row (live_at subs c.args.sub) c.at-id.result c.at-id.ensures in
-    is_dest subs routes c.args.sub at.0 c.in-Some.route c.are_in_order.ensures.rising at.1 c.requires.routed (ap (route_of routes.routes) at.2 ∙ sym c.route_of.ensures ∙ c.in-Some.is)
+    is_dest subs routes c.args.sub at.0 c.in-Some.route c.recall_order.ensures.rising at.1 c.requires.routed (ap (route_of routes.routes) at.2 ∙ sym c.route_of.ensures ∙ c.in-Some.is)
 
 pub returns-clause-routed : goal.returns-clause-routed
 returns-clause-routed g c =
@@ -24,7 +24,7 @@ returns-clause-routed g c =
     let at = at_row (live_at subs c.args.sub) c.at-id.result c.at-id.ensures in
     let left : AreRouted (without subs c.args.sub) c.match-route_of.routes = elim c.match-route_of.branch [
       | in-Some w ↦
-          ended_routed subs routes c.args.sub at.0 w.in-Some.route c.are_in_order.ensures.rising at.1 c.requires.routed
+          ended_routed subs routes c.args.sub at.0 w.in-Some.route c.recall_order.ensures.rising at.1 c.requires.routed
           (ap (route_of routes.routes) at.2 ∙ sym c.route_of.ensures ∙ w.in-Some.is) c.match-route_of.routes (w.routes-is ∙ w.remove_dest.ensures.after)
       | in_default w ↦ absurd (has_route subs routes c.args.sub at.0 at.1 c.requires.routed (ap (route_of routes.routes) at.2 ∙ sym c.route_of.ensures ∙ w.in_default.is))
     ] in
@@ -37,7 +37,7 @@ returns-clause-ways g c =
     let at = at_row (live_at subs c.args.sub) c.at-id.result c.at-id.ensures in
     elim c.match-route_of.branch [
       | in-Some w ↦
-          ended_ways subs routes c.args.sub at.0 w.in-Some.route c.are_in_order.ensures.rising at.1 c.requires.routed
+          ended_ways subs routes c.args.sub at.0 w.in-Some.route c.recall_order.ensures.rising at.1 c.requires.routed
           (ap (route_of routes.routes) at.2 ∙ sym c.route_of.ensures ∙ w.in-Some.is) c.match-route_of.routes (w.routes-is ∙ w.remove_dest.ensures.after)
       | in_default w ↦ ap ways_of w.routes-is
     ]
@@ -52,7 +52,7 @@ returns-clause-cost g c = λ s live.
     elim c.match-route_of.branch [
       | in-Some w ↦
           let is = ap (route_of routes.routes) at.2 ∙ sym c.route_of.ensures ∙ w.in-Some.is in
-          let long = route_length subs routes c.args.sub at.0 w.in-Some.route c.are_in_order.ensures.rising at.1 c.requires.routed is in
+          let long = route_length subs routes c.args.sub at.0 w.in-Some.route c.recall_order.ensures.rising at.1 c.requires.routed is in
           omega (arith, ap (λ t. length (of_id t.id subs)) same, long, w.steps-is, w.remove_dest.ensures.cost)
       | in_default w ↦ omega (arith, w.steps-is)
     ]

@@ -1,5 +1,5 @@
 use Rattle.std.proofs.Common.{◌∙◌, ◌-◌, ap, sym}
-use Rattle.es_pool.specs.Account.{cost_of}
+use Rattle.fsw_base.specs.PoolAccounts.{cost_of}
 use Rattle.es_pool.proofs.Law.{rest_alike, same_figures}
 use Rattle.es_pool.proofs.agreement.shows_alike.Goals as goal
 

@@ -1,5 +1,5 @@
 use Rattle.std.proofs.Common.{◌≡◌, ◌+◌, drop}
-use Rattle.es_pool.specs.Account.{cost_of}
+use Rattle.fsw_base.specs.PoolAccounts.{cost_of}
 use Rattle.es_pool.proofs.plain.cost_of.Given as goal
 
 abbrev pub invariant-loop-class : goal.invariant-loop-class

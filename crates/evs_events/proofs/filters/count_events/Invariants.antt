@@ -1,5 +1,5 @@
 use Rattle.std.proofs.Common.{◌≡◌, ◌++◌, take, drop}
-use Rattle.evs_events.specs.Filters.{counted}
+use Rattle.fsw_base.specs.EventFilters.{counted}
 use Rattle.evs_events.proofs.filters.count_events.Given as goal
 
 -- the filters seen are done, the others are as they were

@@ -1,4 +1,4 @@
-use Rattle.evs_events.specs.Filters.{after_reset}
+use Rattle.fsw_base.specs.EventFilters.{after_reset}
 use Rattle.evs_events.proofs.MapInPlace.{map_in_place_more}
 use Rattle.evs_events.proofs.filters.restart_counts.Goals as goal
 

@@ -1,5 +1,5 @@
 use Rattle.std.proofs.Common.{◌≡◌, ◌++◌, take, drop}
-use Rattle.evs_events.specs.Filters.{restarted}
+use Rattle.fsw_base.specs.EventFilters.{restarted}
 use Rattle.evs_events.proofs.filters.restart_counts.Given as goal
 
 -- the filters seen are done, the others are as they were

@@ -1,8 +1,8 @@
 use Rattle.std.proofs.Common.{append-nil, ◌∙◌}
-use Rattle.std.proofs.lemmas.Result.{on_err_weaker, on_ok_weaker}
+use Rattle.std.proofs.lemmas.Result.{on_err_weaker}
 use Rattle.fsw_base.specs.ScriptFaults.{fault_name}
 use Rattle.host_run.specs.Serve.{fault_text}
-use Rattle.text_page.proofs.Putting.{◌▸◌, puts_as, puts_never_falls, puts_part, puts_rose, puts_whole}
+use Rattle.text_page.proofs.Putting.{◌▸◌, on_ok_both, puts_as, puts_never_falls, puts_part, puts_rose, puts_whole}
 use Rattle.host_run.proofs.fault_line.write_fault.Goals as goal
 
 pub returns : goal.returns
@@ -13,8 +13,11 @@ returns g c =
     (c.put.ensures ▸ c.put_number.ensures ▸ c.put-2.ensures ▸ named ▸ c.put-4.ensures ▸ c.finish.ensures.puts) in
     let blank = c.new-page.ensures in
     record {
-      ok = on_ok_weaker c.finish.result (puts_whole blank all) c.finish.ensures.ok;
-      err = on_err_weaker c.finish.result (λ set. puts_part blank all) c.finish.ensures.err;
-      cause = on_err_weaker c.finish.result (puts_rose blank all) c.finish.ensures.err;
-      never_falls = puts_never_falls blank all;
+      ok = on_ok_both c.finish.result (puts_whole c.requires blank all) c.finish.ensures.none_failed c.finish.ensures.ok;
+      none_failed = c.finish.ensures.none_failed;
+      err = on_err_weaker c.finish.result (λ set. puts_part c.requires blank all) c.finish.ensures.failed;
+      failed = c.finish.ensures.failed;
+      cause = on_err_weaker c.finish.result (puts_rose c.requires all) c.finish.ensures.failed;
+      never_falls = puts_never_falls c.requires all;
+      same_sink = all.same_sink;
     }

@@ -1,13 +1,15 @@
-use Rattle.std.proofs.Common.{◌≡◌, ◌≤◌, ◌-◌, vec_len, vec_capacity}
+use Rattle.std.proofs.Common.{◌≡◌, ◌≤◌, ◌-◌, false, vec_len, vec_capacity}
 use Rattle.host_run.specs.Input.{input_of}
 use Rattle.host_run.proofs.reading.read_all.Given as goal
 
 abbrev pub invariant-loop-piece : goal.invariant-loop-piece
 invariant-loop-piece g l = record {
-  input : g.S.Source.left l.initial.source ≡ input_of l.kept.items (g.S.Source.left l.source);
+  none_failed : l.source.failed ≡ false;
+  input : l.initial.source.left ≡ input_of l.kept.items l.source.left;
   room : 1048577 ≤ vec_capacity l.kept;
   fits : vec_len l.kept ≤ 1048577;
-  faults : g.S.Source.faults l.initial.source ≤ g.S.Source.faults l.source;
+  faults : l.initial.source.faults ≤ l.source.faults;
+  same_source : l.source.source ≡ l.initial.source.source;
 }
 
 abbrev pub decreases-loop-piece : goal.decreases-loop-piece

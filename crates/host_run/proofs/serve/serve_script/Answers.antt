@@ -4,10 +4,10 @@ use Rattle.host_run.specs.Audit.{IsShown}
 use Rattle.host_run.proofs.Ends.{report-rotation}
 use Rattle.host_run.proofs.serve.serve_script.Goals as goal
 
-pub returns-in-Ok-write_report : goal.returns-in-Ok-write_report
-returns-in-Ok-write_report g c = record {
-  written = subst (Grew (g.K.Sink.written c.args.sink.now) (g.K.Sink.written c.write_report.new.sink))
+pub returns-in-Ok-write_report-clause-end : goal.returns-in-Ok-write_report-clause-end
+returns-in-Ok-write_report-clause-end g c = record {
+  written = subst (Grew c.args.sink.now.written c.write_report.new.sink.written)
       (report-rotation c.args.script.now c.in-Ok.finished.bus.log c.as_slice.result.now c.in-Ok.ensures.history
       (ap (map (λ list. list.receipts)) c.as_slice.ensures.value ∙ c.in-Ok.ensures.receipts)) c.in-Ok-write_report.ensures.ok;
-  shown = subst (IsShown (g.A.Audit.shown c.args.audit.now) (g.A.Audit.shown c.closed.new.self)) c.in-Ok.ensures.history c.closed.ensures;
+  shown = subst (IsShown c.args.audit.now.shown c.closed.new.self.shown) c.in-Ok.ensures.history c.closed.ensures.shown;
 }

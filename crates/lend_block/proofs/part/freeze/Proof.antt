@@ -5,7 +5,7 @@ use Rattle.lend_block.proofs.Fields.{words_at, PartWords, part_made, DeedWords, 
 use Rattle.lend_block.proofs.Steps.{ℕ, ◌^◌, List, [], ◌∷◌, ◌++◌, refl, arith, proved, leaves, also, Lft, Share, Fml, Incl-refl, ftrue, fsep, fex, feq, flft, SProp, emp, fact_i, tables, SliceRefMutOf, u8, no, RattleType, Valss, owns, Ptr, block_ptr, MutBor, types_at, plain, named_lft, mut_slice_vals, mut_slice_Tells, nothing, Stays, stay_dropped, walk_of, Goes-spent_slice, named, Val, vstruct, vcons, vnil, of_list, alloc_all, pass_all, free_all, look_at, look_in_at, get, sets, ‵, raw, ◌⊛◌, later, ◌$◌, ◌∵◌, !, qed, by, move, keep, split, join, fsplit, fjoin, fjoin3, fpick, fpack, use0, use2, await, feq_i, agg, sub, whole, stop, fld, hop, from, addr, no_more, and_then, returns, enter}
 use Rattle.lend_block.proofs.part.freeze.Code as code
 use Rattle.lend_block.proofs.part.freeze.Statement.{statement}
-use Rattle.lend_block.specs.Owned.{readable, borrow_owns}
+use Rattle.lend_block.specs.Inside.{readable, borrow_owns}
 use Rattle.lend_block.specs.contracts.part.Deed as deed
 use Rattle.lend_block.specs.contracts.part.Part as part
 use Rattle.lend_block.specs.contracts.part.freeze as f

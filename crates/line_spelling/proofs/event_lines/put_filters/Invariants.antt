@@ -5,4 +5,4 @@ use Rattle.line_spelling.specs.Spelling.{filter_text}
 use Rattle.line_spelling.proofs.event_lines.put_filters.Given as goal
 
 abbrev pub invariant-loop-i : goal.invariant-loop-i
-invariant-loop-i g l = Puts g.K.Sink.written g.K.Sink.faults l.initial.sink l.sink l.initial.page l.page (flat_map (λ item. 32 ∷ filter_text item) (take l.i l.filters))
+invariant-loop-i g l = Puts l.initial.sink l.sink l.initial.page l.page (flat_map (λ item. 32 ∷ filter_text item) (take l.i l.filters))

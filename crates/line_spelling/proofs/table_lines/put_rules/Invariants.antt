@@ -5,4 +5,4 @@ use Rattle.line_spelling.specs.Spelling.{rule_text}
 use Rattle.line_spelling.proofs.table_lines.put_rules.Given as goal
 
 abbrev pub invariant-loop-i : goal.invariant-loop-i
-invariant-loop-i g l = Puts g.K.Sink.written g.K.Sink.faults l.initial.sink l.sink l.initial.page l.page (flat_map (λ item. 32 ∷ rule_text item) (take l.i l.rules))
+invariant-loop-i g l = Puts l.initial.sink l.sink l.initial.page l.page (flat_map (λ item. 32 ∷ rule_text item) (take l.i l.rules))

@@ -4,4 +4,4 @@ use Rattle.run_report.specs.ReceiptText.{application_text}
 use Rattle.run_report.proofs.receipts.put_application.Given as goal
 
 abbrev pub invariant-loop-i : goal.invariant-loop-i
-invariant-loop-i g l = Puts g.K.Sink.written g.K.Sink.faults l.initial.sink l.sink l.initial.page l.page (application_text l.app (take l.i l.list.receipts))
+invariant-loop-i g l = Puts l.initial.sink l.sink l.initial.page l.page (application_text l.app (take l.i l.list.receipts))

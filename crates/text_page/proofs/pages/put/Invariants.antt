@@ -5,7 +5,7 @@ use Rattle.text_page.proofs.pages.put.Given as goal
 abbrev pub invariant-loop-taken : goal.invariant-loop-taken
 invariant-loop-taken g l = record {
   within : l.taken ≤ length l.text;
-  puts : Puts g.K.Sink.written g.K.Sink.faults l.initial.sink l.sink l.initial.page l.page (take l.taken l.text);
+  puts : Puts l.initial.sink l.sink l.initial.page l.page (take l.taken l.text);
 }
 
 abbrev pub decreases-loop-taken : goal.decreases-loop-taken

@@ -4,4 +4,4 @@ use Rattle.text_page.specs.Texts.{hex_bytes}
 use Rattle.text_page.proofs.pieces.put_hex_bytes.Given as goal
 
 abbrev pub invariant-loop-byte : goal.invariant-loop-byte
-invariant-loop-byte g l = Puts g.K.Sink.written g.K.Sink.faults l.initial.sink l.sink l.initial.page l.page (hex_bytes (take l.byte-index l.bytes))
+invariant-loop-byte g l = Puts l.initial.sink l.sink l.initial.page l.page (hex_bytes (take l.byte-index l.bytes))

@@ -1,12 +1,14 @@
-use Rattle.std.proofs.Common.{length, take, ◌-◌, ◌≤◌}
+use Rattle.std.proofs.Common.{length, take, false, ◌-◌, ◌≡◌, ◌≤◌}
 use Rattle.text_page.specs.Pieces.{Grew}
 use Rattle.text_page.proofs.writes.write_text.Given as goal
 
 abbrev pub invariant-loop-taken : goal.invariant-loop-taken
 invariant-loop-taken g l = record {
   within : l.taken ≤ length l.bytes;
-  grew : Grew (g.K.Sink.written l.initial.sink) (g.K.Sink.written l.sink) (take l.taken l.bytes);
-  faults : g.K.Sink.faults l.initial.sink ≤ g.K.Sink.faults l.sink;
+  none_failed : l.sink.failed ≡ false;
+  grew : Grew l.initial.sink.written l.sink.written (take l.taken l.bytes);
+  faults : l.initial.sink.faults ≤ l.sink.faults;
+  same_sink : l.sink.sink ≡ l.initial.sink.sink;
 }
 
 abbrev pub decreases-loop-taken : goal.decreases-loop-taken

@@ -24,7 +24,7 @@ loop-number-preserved g c =
     record {
       pipes =
           ap (λ t. filter (λ row. not (eqb row.owner app)) t.pipes) c.delete_pipe.ensures
-          ∙ rows_stay before.pipes app number one.0 one.1 one.2 c.are_in_order.ensures
+          ∙ rows_stay before.pipes app number one.0 one.1 one.2 c.recall_order.ensures
           ∙ c.loop-number.invariant.pipes;
       subscriptions =
           ap (λ t. filter (λ sub. not (owns_row first.pipes app sub.pipe)) t.subscriptions) c.delete_pipe.ensures

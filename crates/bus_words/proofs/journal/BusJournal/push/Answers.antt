@@ -19,7 +19,7 @@ invariant_of-self c =
     let longer = length-stored a.bytes.items now.items call c.stored-call.result stored in
     let bytes : c.len.result - c.len-start.result ≡ call_bytes call = omega (arith, a.bytes.ok, now.ok) in
     let room = subst (λ (l : List Allowance). HasRoom l app (call_bytes call)) (sym (ap (λ (l : Log). l.left) c.self.view_is)) c.requires in
-    let laid = IsLaidOut-push a.rows.items a.bytes.items now.items (vec_capacity a.rows) (vec_capacity a.bytes) (vec_capacity now) a.left.items call row c.self.invariant room stored c.stored-call.ensures.capacity in
+    let laid = IsLaidOut-push a.rows.items a.bytes.items now.items (vec_capacity a.rows) (vec_capacity a.bytes) (vec_capacity now) a.left.items call row c.self.invariant room stored (omega (arith, c.stored-call.ensures.capacity)) in
     let left : c.charge.new.left.items ≡ charged a.left.items app (call_bytes call) = c.charge.ensures ∙ ap (charged a.left.items app) bytes in
     rw (c.push_reserved.ensures.items, c.push_reserved.ensures.capacity, left) laid
 

@@ -1,25 +1,25 @@
-use Rattle.std.proofs.Common.{◌≡◌, ℕ, ◌+◌, ◌<◌, ◌≤◌, ◌^◌, ◌∙◌, Bool, true, false, length, get_or, set, sym, refl, subst, ap, arith}
+use Rattle.std.proofs.Common.{ℕ, ◌+◌, ◌<◌, ◌∙◌, true, false, length, get_or, set, sym, subst, ap, arith}
 use Rattle.std.proofs.lemmas.List.{get_or_default}
-use Rattle.es_pool.specs.Pool.{PoolState, Draws, Reuses, counted}
+use Rattle.es_pool.specs.Pool.{PoolState, Draws, Reuses}
 use Rattle.es_pool.specs.Fields.{state_of}
 use Rattle.es_pool.specs.declared.blocks.CutBlock.{CutBlock}
 use Rattle.es_pool.proofs.Totals.{block}
-use Rattle.es_pool.proofs.Keeps.{Reused, reused_read}
+use Rattle.es_pool.proofs.Keeps.{reused_read}
 use Rattle.es_pool.proofs.pool.Pool.reuse.Goals as goal
 
 pub overflow_add-self : goal.overflow_add-self
 overflow_add-self g c =
     let s = c.self.inside in
     let h : c.args.class < length s.sizes = omega (arith, c.requires.class, ap (λ v. length v.sizes) c.self.view_is) in
-    let done = reused_read (state_of s) s.rest s.in_use s.made.items s.free c.pop.new.self s.blocks.cap c.args.class c.in-Some.block c.at.result 0 c.self.invariant h c.in-Some.ensures.front c.in-Some.ensures.after c.at.ensures in
+    let done = reused_read (state_of s) s.rest s.in_use s.made.items s.free c.pop.new.self s.blocks.cap c.args.class c.in-Some.block c.at.result 0 c.self.invariant.kept h c.in-Some.ensures.front c.in-Some.ensures.after c.at.ensures in
     omega (arith, done.fits)
 
 pub invariant_of-self : goal.invariant_of-self
 invariant_of-self g c =
     let s = c.self.inside in
     let h : c.args.class < length s.sizes = omega (arith, c.requires.class, ap (λ v. length v.sizes) c.self.view_is) in
-    let done = reused_read (state_of s) s.rest s.in_use s.made.items s.free c.pop.new.self s.blocks.cap c.args.class c.in-Some.block c.at.result c.saturating_add-self-inside.result c.self.invariant h c.in-Some.ensures.front c.in-Some.ensures.after c.at.ensures in
-    done.kept
+    let done = reused_read (state_of s) s.rest s.in_use s.made.items s.free c.pop.new.self s.blocks.cap c.args.class c.in-Some.block c.at.result c.saturating_add-self-inside.result c.self.invariant.kept h c.in-Some.ensures.front c.in-Some.ensures.after c.at.ensures in
+    record { kept = done.kept; out = ap (λ (n : ℕ). n + 1) c.self.invariant.out ∙ sym done.out }
 
 pub returns-clause-drawn : goal.returns-clause-drawn
 returns-clause-drawn g c =
@@ -27,7 +27,7 @@ returns-clause-drawn g c =
     let k = c.args.class in
     let n = c.in-Some.block in
     let h : k < length s.sizes = omega (arith, c.requires.class, ap (λ v. length v.sizes) c.self.view_is) in
-    let done = reused_read (state_of s) s.rest s.in_use s.made.items s.free c.pop.new.self s.blocks.cap k n c.at.result c.saturating_add-self-inside.result c.self.invariant h c.in-Some.ensures.front c.in-Some.ensures.after c.at.ensures in
+    let done = reused_read (state_of s) s.rest s.in_use s.made.items s.free c.pop.new.self s.blocks.cap k n c.at.result c.saturating_add-self-inside.result c.self.invariant.kept h c.in-Some.ensures.front c.in-Some.ensures.after c.at.ensures in
     let to : ℕ → PoolState = λ requests. record (state_of s) { blocks = set s.blocks.items n (block k true); requests = requests } in
     subst (λ (v : PoolState). Draws v (to c.saturating_add-self-inside.result) k n) c.self.view_is
     (Reuses done.within done.was_free (ap to c.saturating_add-self-inside.ensures))
@@ -38,6 +38,24 @@ returns-clause-was_not_out g c =
     let k = c.args.class in
     let n = c.in-Some.block in
     let h : k < length s.sizes = omega (arith, c.requires.class, ap (λ v. length v.sizes) c.self.view_is) in
-    let done = reused_read (state_of s) s.rest s.in_use s.made.items s.free c.pop.new.self s.blocks.cap k n c.at.result 0 c.self.invariant h c.in-Some.ensures.front c.in-Some.ensures.after c.at.ensures in
+    let done = reused_read (state_of s) s.rest s.in_use s.made.items s.free c.pop.new.self s.blocks.cap k n c.at.result 0 c.self.invariant.kept h c.in-Some.ensures.front c.in-Some.ensures.after c.at.ensures in
     ap (λ (v : PoolState). (get_or v.blocks n (block 0 false)).out) (sym c.self.view_is)
     ∙ (ap (λ (b : CutBlock). b.out) (get_or_default s.blocks.items n (block 0 false) (block k true) done.within ∙ done.was_free))
+
+pub overflow_add-self-in-Some : goal.overflow_add-self-in-Some
+overflow_add-self-in-Some g c =
+    let s = c.self.inside in
+    let k = c.args.class in
+    let n = c.in-Some.block in
+    let h : k < length s.sizes = omega (arith, c.requires.class, ap (λ v. length v.sizes) c.self.view_is) in
+    let done = reused_read (state_of s) s.rest s.in_use s.made.items s.free c.pop.new.self s.blocks.cap k n c.at.result 0 c.self.invariant.kept h c.in-Some.ensures.front c.in-Some.ensures.after c.at.ensures in
+    omega (arith, done.out_fits, c.self.invariant.out)
+
+pub returns-clause-was_cut : goal.returns-clause-was_cut
+returns-clause-was_cut g c =
+    let s = c.self.inside in
+    let k = c.args.class in
+    let n = c.in-Some.block in
+    let h : k < length s.sizes = omega (arith, c.requires.class, ap (λ v. length v.sizes) c.self.view_is) in
+    let done = reused_read (state_of s) s.rest s.in_use s.made.items s.free c.pop.new.self s.blocks.cap k n c.at.result 0 c.self.invariant.kept h c.in-Some.ensures.front c.in-Some.ensures.after c.at.ensures in
+    subst (λ (v : PoolState). n < length v.blocks) c.self.view_is done.within

@@ -1,4 +1,4 @@
-use Rattle.std.proofs.Common.{◌≡◌, ◌∙◌, ◌-◌, true, false, get_or, set, refl, ap}
+use Rattle.std.proofs.Common.{◌≡◌, ◌∙◌, ◌-◌, true, false, set, refl, ap, arith}
 use Rattle.std.proofs.lemmas.List.{get_or_read}
 use Rattle.es_pool.specs.Pool.{PoolState, is_out}
 use Rattle.es_pool.specs.Fields.{state_of}
@@ -13,7 +13,7 @@ push-requires-clause-loose g c =
     let n = c.args.block in
     let out : is_out (state_of s) n ≡ true = ap (λ v. is_out v n) c.self.view_is ∙ c.requires in
     let class = ap (λ (b : CutBlock). b.class) (get_or_read s.blocks.items n c.index.result.now (inside_from_out s.blocks.items n out) c.index.ensures (block 0 true)) in
-    let done = back (state_of s) s.rest s.in_use s.made.items s.free s.blocks.cap c.index.result.now.class n c.at.result c.self.invariant out class c.at.ensures in
+    let done = back (state_of s) s.rest s.in_use s.made.items s.free s.blocks.cap c.index.result.now.class n c.at.result c.self.invariant.kept out class c.at.ensures in
     done.loose
 
 pub invariant_of-self : goal.invariant_of-self
@@ -22,6 +22,18 @@ invariant_of-self g c =
     let n = c.args.block in
     let out : is_out (state_of s) n ≡ true = ap (λ v. is_out v n) c.self.view_is ∙ c.requires in
     let class = ap (λ (b : CutBlock). b.class) (get_or_read s.blocks.items n c.index.result.now (inside_from_out s.blocks.items n out) c.index.ensures (block 0 true)) in
-    let done = back (state_of s) s.rest s.in_use s.made.items s.free s.blocks.cap c.index.result.now.class n c.at.result c.self.invariant out class c.at.ensures in
+    let done = back (state_of s) s.rest s.in_use s.made.items s.free s.blocks.cap c.index.result.now.class n c.at.result c.self.invariant.kept out class c.at.ensures in
     let now : PoolState = record (state_of s) { blocks = set s.blocks.items n (block c.index.result.now.class false) } in
-    kept_at now now s.rest (s.in_use - c.at.result) s.made.items _ c.push.new.self s.blocks.cap s.blocks.cap refl c.push.ensures.after refl done.kept
+    record {
+      kept = kept_at now now s.rest (s.in_use - c.at.result) s.made.items _ c.push.new.self s.blocks.cap s.blocks.cap refl c.push.ensures.after refl done.kept;
+      out = omega (arith, done.out, c.self.invariant.out);
+    }
+
+pub overflow_sub-self-2 : goal.overflow_sub-self-2
+overflow_sub-self-2 g c =
+    let s = c.self.inside in
+    let n = c.args.block in
+    let out : is_out (state_of s) n ≡ true = ap (λ v. is_out v n) c.self.view_is ∙ c.requires in
+    let class = ap (λ (b : CutBlock). b.class) (get_or_read s.blocks.items n c.index.result.now (inside_from_out s.blocks.items n out) c.index.ensures (block 0 true)) in
+    let done = back (state_of s) s.rest s.in_use s.made.items s.free s.blocks.cap c.index.result.now.class n c.at.result c.self.invariant.kept out class c.at.ensures in
+    omega (arith, done.out, c.self.invariant.out)

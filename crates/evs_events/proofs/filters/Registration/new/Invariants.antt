@@ -1,5 +1,5 @@
 use Rattle.std.proofs.Common.{◌≡◌, length, take}
-use Rattle.evs_events.specs.Filters.{fresh_filters}
+use Rattle.fsw_base.specs.EventFilters.{fresh_filters}
 use Rattle.evs_events.proofs.filters.Registration.new.Given as goal
 
 -- a filter for each pair so far

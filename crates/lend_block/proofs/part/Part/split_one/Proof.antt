@@ -6,7 +6,7 @@ use Rattle.lend_block.proofs.Fields.{words_at, PartWords, part_told, part_made}
 use Rattle.lend_block.proofs.Steps.{◌≡◌, ℕ, ◌-◌, ◌^◌, ◌<◌, ◌≤◌, List, [], ◌∷◌, sym, refl, ap, ◌∙◌, arith, proved, leaves, also, Lft, Fml, ftrue, fsep, flft, full_share, SProp, emp, fact, fact_i, tables, Is, shows, cell_at, RattleType, owns, Ptr, block_ptr, block_of, count_of, mut_vals, mut_Tells, contraction, types_at, plain, named_lft, nothing, peeks, heard, opens, closes, Stays, stay_ref, walk_of, Goes-ref, named, Val, vptr, alloc_all, pass_all, free_all, look_at, get, through, sets, ‵, raw, ◌⊛◌, ◌$◌, ◌∵◌, !, qed, by, move, keep, split, join, fsplit, fsplit3, fjoin, fjoin3, use0, use1, rewrite, feq_i, agg, sub, whole, look_in, stop, fld, load, of_opd, no_more, and_then, returns, enter}
 use Rattle.lend_block.proofs.part.Part.split_one.Code as code
 use Rattle.lend_block.proofs.part.Part.split_one.Statement.{statement}
-use Rattle.lend_block.specs.Owned.{readable}
+use Rattle.lend_block.specs.Inside.{readable}
 use Rattle.lend_block.specs.contracts.part.Part as part
 use Rattle.lend_block.specs.contracts.part.Part.split_one as f
 use denote.Triple.Clauses.{at_exit}

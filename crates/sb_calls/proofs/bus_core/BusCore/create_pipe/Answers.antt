@@ -16,7 +16,7 @@ use Rattle.sb_calls.proofs.bus_core.BusCore.create_pipe.Goals as goal
 pub create_pipe-number-requires-clause-room : goal.create_pipe-number-requires-clause-room
 create_pipe-number-requires-clause-room c =
     let a = c.self.inside in
-    let why = from_core a c.args.self.now c.self.view_is c.self.invariant (λ limits s. create_cause limits s c.args.depth c.args.name.now) None (sym c.create_cause.ensures ∙ c.in_default.is) in
+    let why = from_core a c.args.self.now c.self.view_is c.self.invariant (λ limits history s. create_cause limits s c.args.depth c.args.name.now) None (sym c.create_cause.ensures ∙ c.in_default.is) in
     let below = pipes_within (limits_of a.config) (means a) c.args.depth c.args.name.now why in
     let same = length-map a.tables.pipes (pipe_in (kept_in a.journal.entries a.sends.items)) in
     let most = ap (λ (r : Room). r.pipes) c.self.invariant.keeps.room in
@@ -33,7 +33,7 @@ create_pipe-number-requires-clause-numbers c =
 pub create_pipe-number-requires-clause-depth : goal.create_pipe-number-requires-clause-depth
 create_pipe-number-requires-clause-depth c =
     let a = c.self.inside in
-    let why = from_core a c.args.self.now c.self.view_is c.self.invariant (λ limits s. create_cause limits s c.args.depth c.args.name.now) None (sym c.create_cause.ensures ∙ c.in_default.is) in
+    let why = from_core a c.args.self.now c.self.view_is c.self.invariant (λ limits history s. create_cause limits s c.args.depth c.args.name.now) None (sym c.create_cause.ensures ∙ c.in_default.is) in
     let within = depth_within (limits_of a.config) (means a) c.args.depth c.args.name.now why in
     let most = ap (λ (r : Room). r.depth) c.self.invariant.keeps.room in
     omega (arith, within, most)
@@ -41,7 +41,7 @@ create_pipe-number-requires-clause-depth c =
 pub invariant_of-self : goal.invariant_of-self
 invariant_of-self c =
     let a = c.self.inside in
-    let why = from_core a c.args.self.now c.self.view_is c.self.invariant (λ limits s. create_cause limits s c.args.depth c.args.name.now) None (sym c.create_cause.ensures ∙ c.in_default.is) in
+    let why = from_core a c.args.self.now c.self.view_is c.self.invariant (λ limits history s. create_cause limits s c.args.depth c.args.name.now) None (sym c.create_cause.ensures ∙ c.in_default.is) in
     let named = let P : Option (List ℕ) → Type 0 = λ o. IfSome o (λ t. t ≡ c.args.name.now) in subst P c.unwrap-text.ensures c.try_new.ensures.value in
     made_stands a c.create_pipe-number.new.self c.push.new.self c.args.self.now c.args.app c.args.depth c.args.name.now c.create_pipe-number.result
     (record { is = c.self.view_is; stands = c.self.invariant; may = c.requires.may }) why (c.create_pipe-number.ensures.after ∙ ap (λ n. with_new a.tables c.args.app n c.args.depth) named) c.create_pipe-number.ensures.number c.push.ensures
@@ -49,7 +49,7 @@ invariant_of-self c =
 pub returns : goal.returns
 returns c =
     let a = c.self.inside in
-    let why = from_core a c.args.self.now c.self.view_is c.self.invariant (λ limits s. create_cause limits s c.args.depth c.args.name.now) None (sym c.create_cause.ensures ∙ c.in_default.is) in
+    let why = from_core a c.args.self.now c.self.view_is c.self.invariant (λ limits history s. create_cause limits s c.args.depth c.args.name.now) None (sym c.create_cause.ensures ∙ c.in_default.is) in
     let named = let P : Option (List ℕ) → Type 0 = λ o. IfSome o (λ t. t ≡ c.args.name.now) in subst P c.unwrap-text.ensures c.try_new.ensures.value in
     made_does a c.create_pipe-number.new.self c.push.new.self c.args.self.now c.args.app c.args.depth c.args.name.now c.create_pipe-number.result
     (record { is = c.self.view_is; stands = c.self.invariant; may = c.requires.may }) why (c.create_pipe-number.ensures.after ∙ ap (λ n. with_new a.tables c.args.app n c.args.depth) named) c.create_pipe-number.ensures.number c.push.ensures

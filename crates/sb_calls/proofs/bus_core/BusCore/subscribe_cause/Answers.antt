@@ -1,10 +1,10 @@
-use Rattle.std.proofs.Common.{true, false, length, Some, None, refl, sym, ◌∙◌, arith}
+use Rattle.std.proofs.Common.{true, false, length, Some, None, refl, ap, sym, ◌∙◌, arith}
 use Rattle.fsw_base.specs.Limits.{limits_of}
 use Rattle.fsw_base.specs.declared.statuses.SbStatus.TheVariants.{BadArgument, MaxMsgsMet, MaxDestsMet}
-use Rattle.bus_words.specs.Bus.{is_subscribed, route}
+use Rattle.bus_words.specs.Bus.{State, is_subscribed, route}
 use Rattle.bus_words.specs.Machine.{subscribe_cause}
 use Rattle.sb_calls.specs.Inside.{means}
-use Rattle.sb_calls.proofs.Refusals.{at_core, subscribe_checked, bad_subscription, lacks_route, at_least, not_at_least}
+use Rattle.sb_calls.proofs.Refusals.{at_core, state_is, subscribe_checked, bad_subscription, lacks_route, at_least, not_at_least}
 use Rattle.sb_calls.proofs.bus_core.BusCore.subscribe_cause.Goals as goal
 
 pub returns-then-is_bad_subscription : goal.returns-then-is_bad_subscription
@@ -18,15 +18,15 @@ returns-then-is_bad_subscription c =
     at_core a c.args.self.now c.self.view_is c.self.invariant (λ limits s. subscribe_cause limits s app id pipe) (Some BadArgument)
     (subscribe_checked (limits_of a.config) (means a) app id pipe true (is_subscribed (means a).subscriptions id pipe) _ _ (bad_subscription a app id pipe true bad) refl refl refl)
 
-pub returns-then-is_subscribed : goal.returns-then-is_subscribed
-returns-then-is_subscribed c =
+pub returns-then-there : goal.returns-then-there
+returns-then-there c =
     let a = c.self.inside in
     let app = c.args.app in
     let id = c.args.id in
     let pipe = c.args.pipe in
     let bad =
     sym c.is_bad_subscription.ensures ∙ c.if-is_bad_subscription.false in
-    let live = sym c.is_subscribed.ensures ∙ c.if-is_subscribed.true in
+    let live = ap (λ (s : State). is_subscribed s.subscriptions id pipe) (state_is a c.args.self.now c.self.view_is c.self.invariant) ∙ sym c.requires ∙ c.if-there.true in
     at_core a c.args.self.now c.self.view_is c.self.invariant (λ limits s. subscribe_cause limits s app id pipe) None
     (subscribe_checked (limits_of a.config) (means a) app id pipe false true _ _ (bad_subscription a app id pipe false bad) live refl refl)
 
@@ -38,7 +38,7 @@ returns-then-lacks_route c =
     let pipe = c.args.pipe in
     let bad =
     sym c.is_bad_subscription.ensures ∙ c.if-is_bad_subscription.false in
-    let live = sym c.is_subscribed.ensures ∙ c.if-is_subscribed.false in
+    let live = ap (λ (s : State). is_subscribed s.subscriptions id pipe) (state_is a c.args.self.now c.self.view_is c.self.invariant) ∙ sym c.requires ∙ c.if-there.false in
     let lacks =
     sym c.lacks_route.ensures ∙ c.if-lacks_route.true in
     at_core a c.args.self.now c.self.view_is c.self.invariant (λ limits s. subscribe_cause limits s app id pipe) (Some MaxMsgsMet)
@@ -52,7 +52,7 @@ returns-then-dests_of-self c =
     let pipe = c.args.pipe in
     let bad =
     sym c.is_bad_subscription.ensures ∙ c.if-is_bad_subscription.false in
-    let live = sym c.is_subscribed.ensures ∙ c.if-is_subscribed.false in
+    let live = ap (λ (s : State). is_subscribed s.subscriptions id pipe) (state_is a c.args.self.now c.self.view_is c.self.invariant) ∙ sym c.requires ∙ c.if-there.false in
     let lacks =
     sym c.lacks_route.ensures ∙ c.if-lacks_route.false in
     let full = at_least a.config.dests (length (route a.tables.subscriptions id)) (omega (arith, c.dests_of.ensures, c.if-dests_of-self.true)) in
@@ -67,7 +67,7 @@ returns c =
     let pipe = c.args.pipe in
     let bad =
     sym c.is_bad_subscription.ensures ∙ c.if-is_bad_subscription.false in
-    let live = sym c.is_subscribed.ensures ∙ c.if-is_subscribed.false in
+    let live = ap (λ (s : State). is_subscribed s.subscriptions id pipe) (state_is a c.args.self.now c.self.view_is c.self.invariant) ∙ sym c.requires ∙ c.if-there.false in
     let lacks =
     sym c.lacks_route.ensures ∙ c.if-lacks_route.false in
     let full = not_at_least a.config.dests (length (route a.tables.subscriptions id)) (omega (arith, c.dests_of.ensures, c.if-dests_of-self.false)) in

@@ -19,7 +19,7 @@ pub id_of-id-requires : goal.id_of-id-requires
 id_of-id-requires g c =
     let a = c.self.inside in
     let bytes = c.args.bytes.now in
-    let why = from_core a c.args.self.now c.self.view_is c.self.invariant (λ limits s. transmit_cause limits s bytes) None (sym c.transmit_cause.ensures ∙ c.in_default.is) in
+    let why = from_core a c.args.self.now c.self.view_is c.self.invariant (λ limits history s. transmit_cause limits s bytes) None (sym c.transmit_cause.ensures ∙ c.in_default.is) in
     let least = IsMessage-length bytes (is_message (limits_of a.config) (means a) bytes why) in
     omega (arith, least)
 
@@ -27,7 +27,7 @@ pub count_for-count-requires-clause-message : goal.count_for-count-requires-clau
 count_for-count-requires-clause-message g c =
     let a = c.self.inside in
     let bytes = c.args.bytes.now in
-    let why = from_core a c.args.self.now c.self.view_is c.self.invariant (λ limits s. transmit_cause limits s bytes) None (sym c.transmit_cause.ensures ∙ c.in_default.is) in
+    let why = from_core a c.args.self.now c.self.view_is c.self.invariant (λ limits history s. transmit_cause limits s bytes) None (sym c.transmit_cause.ensures ∙ c.in_default.is) in
     let least = IsMessage-length bytes (is_message (limits_of a.config) (means a) bytes why) in
     omega (arith, least)
 
@@ -59,7 +59,7 @@ pub invariant_of-self : goal.invariant_of-self
 invariant_of-self g c =
     let a = c.self.inside in
     let bytes = c.args.bytes.now in
-    let why = from_core a c.args.self.now c.self.view_is c.self.invariant (λ limits s. transmit_cause limits s bytes) None (sym c.transmit_cause.ensures ∙ c.in_default.is) in
+    let why = from_core a c.args.self.now c.self.view_is c.self.invariant (λ limits history s. transmit_cause limits s bytes) None (sym c.transmit_cause.ensures ∙ c.in_default.is) in
     let least = IsMessage-length bytes (is_message (limits_of a.config) (means a) bytes why) in
     let lengths =
     ap (λ n. length (route a.tables.subscriptions n)) (sym c.id_of-id.ensures) ∙ sym c.dests_of.ensures in
@@ -85,7 +85,7 @@ pub returns-clause-does : goal.returns-clause-does
 returns-clause-does g c =
     let a = c.self.inside in
     let bytes = c.args.bytes.now in
-    let why = from_core a c.args.self.now c.self.view_is c.self.invariant (λ limits s. transmit_cause limits s bytes) None (sym c.transmit_cause.ensures ∙ c.in_default.is) in
+    let why = from_core a c.args.self.now c.self.view_is c.self.invariant (λ limits history s. transmit_cause limits s bytes) None (sym c.transmit_cause.ensures ∙ c.in_default.is) in
     let least = IsMessage-length bytes (is_message (limits_of a.config) (means a) bytes why) in
     let lengths =
     ap (λ n. length (route a.tables.subscriptions n)) (sym c.id_of-id.ensures) ∙ sym c.dests_of.ensures in

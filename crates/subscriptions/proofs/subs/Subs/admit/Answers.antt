@@ -12,7 +12,7 @@ returns-in-Some c =
     let s = c.self.inside in
     let sub = c.args.sub in
     let held = ap (λ xs. held_at xs sub.slot sub.number) (sym c.deref.ensures.value) ∙ (sym c.held.ensures ∙ c.in-Some.is) in
-    let found = sym (ap (λ v. live_at v sub) c.self.view_is) ∙ live_found s.slots.items s.free.items s.newest.items s.made sub c.in-Some.place c.self.invariant.0 held in
+    let found = sym (ap (λ v. live_at v sub) c.self.view_is) ∙ live_found s.slots.items s.free.items s.made sub c.in-Some.place c.self.invariant.0 held in
     over_limit c.args.self.now sub (held_in sub.slot c.in-Some.place) found c.if-place.true
 
 pub returns-in_default : goal.returns-in_default
@@ -20,7 +20,7 @@ returns-in_default c =
     let s = c.self.inside in
     let sub = c.args.sub in
     let held = ap (λ xs. held_at xs sub.slot sub.number) (sym c.deref.ensures.value) ∙ (sym c.held.ensures ∙ c.in-Some.is) in
-    let found = sym (ap (λ v. live_at v sub) c.self.view_is) ∙ live_found s.slots.items s.free.items s.newest.items s.made sub c.in-Some.place c.self.invariant.0 held in
+    let found = sym (ap (λ v. live_at v sub) c.self.view_is) ∙ live_found s.slots.items s.free.items s.made sub c.in-Some.place c.self.invariant.0 held in
     inside c.args.self.now sub (held_in sub.slot c.in-Some.place) found c.if-place.false
 
 pub returns-in_default-2 : goal.returns-in_default-2

@@ -15,7 +15,7 @@ returns-then-place-pipe-clause-some c =
     let slot = c.loop-slot.slot in
     let inside : slot < length s.slots.items = omega (arith, c.loop-slot-test.true, c.self.invariant.4) in
     let here = sym (get_or_read s.slots.items slot c.index.result.now inside c.index.ensures None) ∙ c.in-Some.is in
-    let found = live_in s.slots.items s.free.items s.newest.items s.made slot c.in-Some.place c.self.invariant.0 here in
+    let found = live_in s.slots.items s.free.items s.made slot c.in-Some.place c.self.invariant.0 here in
     let any = any_from_find (goes_by (record { slot = slot; number = c.in-Some.place.number })) (λ s. nat_eq s.pipe c.args.pipe) (live_upto s.slots.items s.made) (held_in slot c.in-Some.place) found (eq-eqb c.in-Some.place.pipe c.args.pipe c.if-place-pipe.true) in
     ((λ _. sym (ap (λ v. list_any (λ s. nat_eq s.pipe c.args.pipe) v.live) c.self.view_is) ∙ any), (λ _. refl))
 
@@ -25,7 +25,7 @@ returns-then-place-pipe-clause-own c =
     let slot = c.loop-slot.slot in
     let inside : slot < length s.slots.items = omega (arith, c.loop-slot-test.true, c.self.invariant.4) in
     let here = sym (get_or_read s.slots.items slot c.index.result.now inside c.index.ensures None) ∙ c.in-Some.is in
-    let found = live_in s.slots.items s.free.items s.newest.items s.made slot c.in-Some.place c.self.invariant.0 here in
+    let found = live_in s.slots.items s.free.items s.made slot c.in-Some.place c.self.invariant.0 here in
     ap (option_map (λ s. s.pipe)) (sym (ap (λ v. live_at v (record { slot = slot; number = c.in-Some.place.number })) c.self.view_is) ∙ found) ∙ ap Some c.if-place-pipe.true
 
 pub returns-clause-some : goal.returns-clause-some

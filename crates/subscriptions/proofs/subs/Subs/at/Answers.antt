@@ -16,4 +16,4 @@ returns c =
     let s = c.self.inside in
     let sub = c.args.sub in
     let held = ap (λ xs. held_at xs sub.slot sub.number) (sym c.deref.ensures.value) ∙ (sym c.held.ensures ∙ c.unwrap-place.ensures) in
-    ap (option_map row_of) (sym (ap (λ v. live_at v sub) c.self.view_is) ∙ live_found s.slots.items s.free.items s.newest.items s.made sub c.unwrap-place.result c.self.invariant.0 held)
+    ap (option_map row_of) (sym (ap (λ v. live_at v sub) c.self.view_is) ∙ live_found s.slots.items s.free.items s.made sub c.unwrap-place.result c.self.invariant.0 held)

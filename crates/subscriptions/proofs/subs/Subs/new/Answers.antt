@@ -1,4 +1,4 @@
--- Every slot is free and every chain empty.
+-- Every slot is free.
 use Rattle.std.proofs.Common.{◌≡◌, length, replicate, None, sym, ap, subst, ◌∙◌, arith}
 use Rattle.std.proofs.lemmas.List.{length-replicate}
 use Rattle.subscriptions.specs.Slots.{AreKept}
@@ -10,7 +10,7 @@ pub invariant_of-result : goal.invariant_of-result
 invariant_of-result c =
     let kept = kept_opened c.args.room c.in_ok-free.free.items c.in_ok-free.ensures.all c.in_ok-free.ensures.each in
     let all : length c.in_ok-slots.slots.items ≡ c.args.room = ap length c.in_ok-slots.ensures ∙ length-replicate c.args.room None in (
-      subst (λ ys. AreKept c.in_ok-slots.slots.items c.in_ok-free.free.items ys 0) (sym c.in_ok-newest.ensures) (subst (λ xs. AreKept xs c.in_ok-free.free.items (replicate 8192 None) 0) (sym c.in_ok-slots.ensures) kept),
+      subst (λ xs. AreKept xs c.in_ok-free.free.items 0) (sym c.in_ok-slots.ensures) kept,
       omega (arith, all),
       omega (arith, all, c.in_ok-free.ensures.room),
       top_opened c.in_ok-slots.slots.items c.args.room c.in_ok-slots.ensures,

@@ -13,7 +13,7 @@ overflow_add-place c =
     let s = c.self.inside in
     let sub = c.args.sub in
     let held = ap (λ xs. held_at xs sub.slot sub.number) (sym c.deref.ensures.value) ∙ (sym c.held.ensures ∙ c.in-Some.is) in
-    let found = sym (ap (λ v. live_at v sub) c.self.view_is) ∙ live_found s.slots.items s.free.items s.newest.items s.made sub c.in-Some.place c.self.invariant.0 held in
+    let found = sym (ap (λ v. live_at v sub) c.self.view_is) ∙ live_found s.slots.items s.free.items s.made sub c.in-Some.place c.self.invariant.0 held in
     let fits = c.requires (held_in sub.slot c.in-Some.place) found in
     omega (arith, fits)
 
@@ -30,7 +30,7 @@ invariant_of-self c =
     let sub = c.args.sub in
     let held = ap (λ xs. held_at xs sub.slot sub.number) (sym c.deref.ensures.value) ∙ (sym c.held.ensures ∙ c.in-Some.is) in
     let all : length c.set_waiting.new.slots.items ≡ length s.slots.items = ap length c.set_waiting.ensures.items ∙ length-set s.slots.items sub.slot (with_waiting (c.in-Some.place.waiting + 1) (get_or s.slots.items sub.slot None)) in (
-      kept_after c.set_waiting.new.slots.items s.slots.items s.free.items s.newest.items s.made sub c.in-Some.place (c.in-Some.place.waiting + 1) c.self.invariant.0 held c.set_waiting.ensures.items,
+      kept_after c.set_waiting.new.slots.items s.slots.items s.free.items s.made sub c.in-Some.place (c.in-Some.place.waiting + 1) c.self.invariant.0 held c.set_waiting.ensures.items,
       omega (arith, all, c.self.invariant.1),
       omega (arith, all, c.self.invariant.2),
       subst (λ xs. IsTop xs s.top) (sym c.set_waiting.ensures.items) (top_waiting s.slots.items sub.slot s.top (c.in-Some.place.waiting + 1) c.self.invariant.3),
@@ -42,7 +42,7 @@ returns-in-Some c =
     let s = c.self.inside in
     let sub = c.args.sub in
     let held = ap (λ xs. held_at xs sub.slot sub.number) (sym c.deref.ensures.value) ∙ (sym c.held.ensures ∙ c.in-Some.is) in
-    shown_waiting c.set_waiting.new.slots.items s.slots.items s.free.items s.newest.items s.made sub c.in-Some.place (c.in-Some.place.waiting + 1) one_more c.self.invariant.0 held refl c.set_waiting.ensures.items
+    shown_waiting c.set_waiting.new.slots.items s.slots.items s.free.items s.made sub c.in-Some.place (c.in-Some.place.waiting + 1) one_more c.self.invariant.0 held refl c.set_waiting.ensures.items
     ∙ ap (λ v. with_change v sub one_more) c.self.view_is
 
 pub returns-in_default : goal.returns-in_default

@@ -1,4 +1,4 @@
-use Rattle.std.proofs.Common.{◌≡◌, ◌+◌, ◌-◌, ◌<◌, ◌≤◌, ◌∙◌, ◌∷◌, [], List, ℕ, length, get_or, set, refl, ap, arith}
+use Rattle.std.proofs.Common.{◌≡◌, ◌+◌, ◌-◌, ◌<◌, ◌∙◌, ◌∷◌, [], List, ℕ, length, get_or, set, refl, ap, arith}
 use Rattle.std.proofs.lemmas.List.{get_or_read, length-set}
 use Rattle.bucket_list.specs.Lists.{times}
 use Rattle.zero_copy.specs.Held.{Held, held_by}

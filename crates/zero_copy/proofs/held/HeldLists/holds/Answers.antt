@@ -1,9 +1,9 @@
-use Rattle.std.proofs.Common.{◌≡◌, ◌+◌, ◌-◌, ◌<◌, ◌≤◌, ◌∙◌, [], length, get_or, ap, subst, sym, arith}
+use Rattle.std.proofs.Common.{◌≡◌, ◌-◌, ◌<◌, ◌∙◌, [], length, get_or, ap, arith}
 use Rattle.std.proofs.lemmas.List.{get_or_read}
 use Rattle.bucket_list.specs.Lists.{times_in}
 use Rattle.zero_copy.specs.Rings.{rings}
-use Rattle.zero_copy.specs.Held.{IsHeldBy, held_by}
-use Rattle.zero_copy.proofs.Changes.{length-rings, owner_test, desc_in}
+use Rattle.zero_copy.specs.Held.{held_by}
+use Rattle.zero_copy.proofs.Changes.{length-rings, owner_test}
 use Rattle.zero_copy.proofs.held.HeldLists.holds.Goals as goal
 
 pub index-requires : goal.index-requires

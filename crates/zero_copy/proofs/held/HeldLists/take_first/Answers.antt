@@ -1,11 +1,11 @@
-use Rattle.std.proofs.Common.{◌≡◌, ◌+◌, ◌-◌, ◌<◌, ◌≤◌, ◌∙◌, ◌∷◌, [], List, ℕ, Bool, true, false, length, get_or, set, drop, refl, sym, subst, ap, arith}
+use Rattle.std.proofs.Common.{◌≡◌, ◌+◌, ◌-◌, ◌<◌, ◌≤◌, ◌∙◌, ◌∷◌, [], length, get_or, set, drop, refl, sym, subst, ap, arith}
 use Rattle.std.proofs.lemmas.List.{get_or_read, get_or-set_same, set-get_or, nil_from_length}
 use Rattle.bucket_list.specs.Lists.{times_in}
 use Rattle.bucket_list.proofs.Linked.{empty_or_not}
 use Rattle.zero_copy.specs.Held.{Held, held_by, without}
 use Rattle.zero_copy.specs.Rings.{rings}
 use Rattle.zero_copy.proofs.Links.{first_in}
-use Rattle.zero_copy.proofs.Changes.{length-rings, first_read, without_head, once_listed}
+use Rattle.zero_copy.proofs.Changes.{length-rings, desc_in, first_read, without_head, once_listed}
 use Rattle.zero_copy.proofs.held.HeldLists.take_first.Goals as goal
 
 pub index-requires : goal.index-requires
@@ -117,3 +117,20 @@ returns-clause-after g c =
     let front : ds ≡ c.read-first.result ∷ drop 1 ds = sym same ∙ (first ∙ ap (λ ns. c.read-first.result ∷ drop 1 ns) same) in
     let gone : without c.read-first.result ds ≡ drop 1 ds = without_head c.read-first.result (drop 1 ds) ds front (λ q. subst (λ ns. times_in ns q ≤ 1) same (once_listed s.next s.prev s.counts.items s.owners.items s.descs k c.self.invariant h q)) in
     c.let_go.ensures.after ∙ ap (λ ns. let v : Held = record { descs = c.args.self.now.descs; lists = set c.args.self.now.lists (c.args.app - 1) ns } in v) gone
+
+pub returns-clause-exists : goal.returns-clause-exists
+returns-clause-exists g c =
+    let s = c.self.inside in
+    let k = c.get-place.result - 1 in
+    let h : k < length s.counts.items = omega (arith, c.requires, c.get-place.ensures.first, c.get-place.ensures.value, length-rings s.next s.descs s.counts.items, ap (λ v. length v.lists) c.self.view_is) in
+    let count = get_or_read s.counts.items k c.index.result.now h c.index.ensures 0 in
+    let some : 0 < c.index.result.now = omega (arith, c.if-index-eq0.false) in
+    let first = first_read s.next s.prev s.counts.items s.owners.items s.descs k (s.descs + k) c.read-first.result c.index.result.now c.self.invariant h some count refl c.read-first.ensures.value in
+    let there : 0 < times_in (get_or (rings s.next s.descs s.counts.items) k []) c.read-first.result =
+    subst (λ ns. 0 < times_in ns c.read-first.result) (sym first) (first_in c.read-first.result (drop 1 (get_or (rings s.next s.descs s.counts.items) k []))) in
+    omega (
+      arith,
+      desc_in s.next s.prev s.counts.items s.owners.items s.descs k c.read-first.result c.self.invariant h there,
+      ap (λ (v : Held). v.descs) c.let_go.ensures.after,
+      ap (λ (v : Held). v.descs) c.self.view_is,
+    )

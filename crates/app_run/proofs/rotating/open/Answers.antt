@@ -1,0 +1,16 @@
+use Rattle.std.proofs.Common.{◌∙◌, sym, subst, List}
+use Rattle.fsw_base.specs.declared.config.Budget.{Budget}
+use Rattle.fsw_base.specs.Limits.{limits_of}
+use Rattle.bus_words.specs.Log.{AreBudgets}
+use Rattle.app_run.proofs.OpenLaws.{are-budgets, opened-is}
+use Rattle.app_run.proofs.rotating.open.Goals as goal
+
+pub new-requires : goal.new-requires
+new-requires c =
+    subst (λ (bs : List Budget). AreBudgets bs) (sym (c.deref.ensures.value ∙ c.in_ok-budgets.ensures))
+    (are-budgets c.args.script.now c.recall_ranges.ensures.run c.recall_ranges.ensures.text.some c.recall_ranges.ensures.text.few)
+
+pub returns-clause-bus : goal.returns-clause-bus
+returns-clause-bus c =
+    opened-is c.args.script.now c.in_ok-bus.bus (limits_of c.config.result.now) c.in_ok-budgets.budgets.items c.deref.result.now c.in_ok-bus.ensures
+    c.config.ensures c.deref.ensures.value c.in_ok-budgets.ensures

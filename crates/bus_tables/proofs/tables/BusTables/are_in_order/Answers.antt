@@ -1,9 +1,0 @@
-use Rattle.std.proofs.Common.{subst}
-use Rattle.bus_tables.specs.Tables.{Tables, IsRising}
-use Rattle.bus_tables.proofs.Readers.{rising_there}
-use Rattle.bus_tables.proofs.tables.BusTables.are_in_order.Goals as goal
-
-pub returns : goal.returns
-returns c =
-    let P : Tables → Type 0 = λ t. IsRising 0 t.pipes in
-    subst P c.self.view_is (rising_there 0 c.self.inside.pipes.live c.are_in_order.ensures)

@@ -1,0 +1,182 @@
+"""Proves the crates that the program is made of, several at a time, and builds it.
+
+How far it is stands in one line on standard error, which is kept up to date on a terminal;
+elsewhere there is a line for each crate. What the prover prints goes to a file. What is proved
+stays, so a build that was interrupted goes on where it was.
+"""
+import fcntl
+import os
+import re
+import signal
+import subprocess
+import sys
+import time
+
+sys.dont_write_bytecode = True  # nothing is left beside the sources
+
+from kit import CRATE, PROGRAM, TOP, stop_without_kit, tell
+
+OUT = os.path.dirname(PROGRAM)
+LOG = os.path.join(OUT, "build.log")
+BEGAN = os.path.join(OUT, "build.began")
+# What a proof takes of memory, in bytes, with some room.
+MEMORY = 3 << 30
+EXPECTED = "the first time takes 15 to 20 minutes on four processors"
+NEXT = "./fsw lockstep < examples/first.fsw"
+
+
+def libraries():
+    """The libraries that each crate uses, by crates.txt."""
+    uses = {}
+    with open(os.path.join(TOP, "crates.txt"), encoding="utf-8") as file:
+        for line in file:
+            names, colon, below = line.partition("#")[0].partition(":")
+            if colon:
+                uses[names.split()[0]] = below.split()
+    return uses
+
+
+def crates_in_order():
+    """The crates of the program, each with those below it, in the order in which rt takes them."""
+    uses = libraries()
+
+    def below(name):
+        found = {}
+        for library in uses[name]:
+            if library in uses:
+                found.update(dict.fromkeys([*below(library), library]))
+        return list(found)
+
+    top = os.path.basename(CRATE)
+    names = sorted([*below(top), top], key=lambda name: len(below(name)))
+    return {name: below(name) for name in names}
+
+
+def lanes():
+    """How many crates are proved at a time: as many as processors and memory allow, up to four."""
+    with open("/proc/meminfo", encoding="utf-8") as file:
+        free = re.search(r"MemAvailable:\s+(\d+) kB", file.read())
+    room = int(free[1]) * 1024 // MEMORY if free else 1
+    return max(1, min(4, len(os.sched_getaffinity(0)), room))
+
+
+class Progress:
+    """The line that says how far the build is."""
+
+    def __init__(self, crates, at_once):
+        self.crates, self.at_once, self.proved, self.shown = crates, at_once, [], ""
+        self.began, self.is_terminal = time.monotonic(), sys.stderr.isatty()
+        self.waits = False
+
+    def time(self):
+        seconds = int(time.monotonic() - self.began)
+        return f"{seconds // 60}:{seconds % 60:02}"
+
+    def count(self):
+        return f"{len(self.proved)} of {len(self.crates)} crates proved"
+
+    def at_work(self):
+        """The next crates in order, but those that wait for one below."""
+        taken = [name for name in self.crates if name not in self.proved][: self.at_once]
+        names = [name for name in taken if all(it in self.proved for it in self.crates[name])]
+        return "waiting for another rt" if self.waits else ", ".join(names) or "the last lines"
+
+    def show(self, text):
+        """Puts the time and the text in the place of the line before them, on a terminal."""
+        line = f"fsw: {self.time()}, {text}"
+        if self.is_terminal and line != self.shown:
+            self.shown = line
+            width = os.get_terminal_size(sys.stderr.fileno()).columns or 80
+            sys.stderr.write(f"\r\033[K{line[: width - 1]}")
+            sys.stderr.flush()
+
+    def look(self, log):
+        """Reads on in what rt prints, where a crate that has ended begins with its name."""
+        said = log.read()
+        self.waits = "waiting for" in said if said else self.waits
+        for name in re.findall(r"^== (\w+)$", said, re.M):
+            if name in self.crates and name not in self.proved:
+                self.proved.append(name)
+                if not self.is_terminal:
+                    tell(f"{self.time()}, {self.count()}: {name}")
+        self.show(f"{self.count()}, now {self.at_work()}")
+
+    def end(self, text):
+        if self.is_terminal:
+            sys.stderr.write("\r\033[K")
+        tell(text)
+
+
+def run(words, script, look):
+    """The status of rt with these words; all that it prints is added to the log."""
+    with open(LOG, "ab") as log, open(LOG, encoding="utf-8", errors="replace") as said:
+        said.seek(0, os.SEEK_END)
+        # In a session of its own, so that all of it ends where this ends.
+        how = dict(stdin=script, stdout=log, stderr=log, start_new_session=True)
+        rt = subprocess.Popen(["rt", *words], cwd=CRATE, **how)
+        try:
+            while rt.poll() is None:
+                time.sleep(0.2)
+                look(said)
+            look(said)
+        finally:
+            if rt.poll() is None:
+                os.killpg(rt.pid, signal.SIGTERM)
+            rt.wait()
+        return rt.returncode
+
+
+def build(progress):
+    """Proves and builds all; says what failed, or nothing."""
+    proof = ["all", "check", "--jobs", str(progress.at_once)]
+    if run(proof, subprocess.DEVNULL, progress.look):
+        with open(LOG, encoding="utf-8", errors="replace") as log:
+            failed = re.findall(r"^(\w+): failed \(\d+\)$", log.read(), re.M)
+        return f"{', '.join(failed) or 'the sources'} could not be proved"
+    # rt builds a program in order to run it, here on the crate's own example.
+    with open(os.path.join(CRATE, "stdin"), "rb") as script:
+        show = lambda _: progress.show("building the program")
+        if run(["run", "--", "lockstep"], script, show):
+            return "the program could not be built"
+    return ""
+
+
+def build_alone():
+    """Builds, where no other build is at work here; the status of the run."""
+    crates, at_once = crates_in_order(), lanes()
+    tell(f"proving {len(crates)} crates, {at_once} at a time; {EXPECTED}")
+    progress = Progress(crates, at_once)
+    open(LOG, "wb").close()
+    os.utime(BEGAN)
+    try:
+        failed = build(progress)
+    except KeyboardInterrupt:
+        so_far = f"interrupted at {progress.time()}, {progress.count()}"
+        progress.end(f"{so_far}: ./fsw build goes on from there")
+        return 128 + signal.SIGINT
+    if failed:
+        progress.end(f"{failed}: what the prover says is in {os.path.relpath(LOG)}")
+        return 1
+    # The program is as old as the build's beginning, so that a change meanwhile counts as newer.
+    os.utime(PROGRAM, ns=(os.stat(BEGAN).st_mtime_ns,) * 2)
+    progress.end(f"the program is proved and built, in {progress.time()}: {NEXT}")
+    return 0
+
+
+def main():
+    stop_without_kit()
+    # Told to end otherwise than by Ctrl-C, it ends rt too.
+    for number in (signal.SIGTERM, signal.SIGHUP):
+        signal.signal(number, lambda number, _: sys.exit(128 + number))
+    os.makedirs(OUT, exist_ok=True)
+    with open(BEGAN, "ab") as began:
+        try:
+            fcntl.flock(began, fcntl.LOCK_EX | fcntl.LOCK_NB)
+        except BlockingIOError:
+            tell("another ./fsw build is at work here: wait for it to end")
+            return 1
+        return build_alone()
+
+
+if __name__ == "__main__":
+    sys.exit(main())
