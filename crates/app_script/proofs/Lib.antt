@@ -6,11 +6,8 @@ pub mod ReadWalk
 pub mod InRange
 pub mod RunRanges
 pub mod ReadScripts
-pub mod PrintLemmas
-pub mod LinesAgain
-pub mod SettingsBack
-pub mod AppsBack
 pub mod ItemSteps
 pub mod ItemsTell
+pub mod Leading
 pub mod ItemsPass
 pub mod LanguageLaw

@@ -2,7 +2,6 @@ pub mod Forms
 pub mod Items
 pub mod Built
 pub mod Script
-pub mod ScriptSpelling
 pub mod ScriptRanges
 pub mod Ranges
 pub mod Grammar
