@@ -1,10 +1,9 @@
 -- Items in the order of a script are taken in.
-use Rattle.std.proofs.Common.{◌≡◌, ℕ, ◌+◌, ◌<◌, ◌≤◌, Bool, true, false, cond, not, nat_le, nat_lt, List, [], ◌∷◌, ◌++◌, length, map, fold, Result, Ok, Err, refl, ap, sym, ◌∙◌, subst, arith, append_assoc, append-nil}
+use Rattle.std.proofs.Common.{◌≡◌, ℕ, ◌+◌, ◌<◌, ◌≤◌, Bool, true, false, cond, not, nat_le, nat_lt, List, [], ◌∷◌, ◌++◌, length, map, fold, Ok, Err, refl, ap, sym, ◌∙◌, subst, arith, append_assoc, append-nil}
 use Rattle.std.specs.List.{list_any, flat_map}
 use Rattle.std.proofs.lemmas.Bool.{le-ltb, lt-leb}
 use Rattle.std.proofs.lemmas.List.{length-append}
 use Rattle.std.proofs.lemmas.Grind.{fold-append}
-use Rattle.fsw_base.specs.declared.script_faults.FaultKind.{FaultKind}
 use Rattle.fsw_base.specs.declared.script_faults.FaultKind.TheVariants.{Misplaced, OutOfRange, Repeated, TooManyApps}
 use Rattle.fsw_base.specs.Limits.{Limits, usual_limits}
 use Rattle.script_words.specs.Readings.{◌>>=◌}

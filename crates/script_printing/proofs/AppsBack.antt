@@ -1,12 +1,11 @@
 -- The applications of a script are read again from their spelling, and so is the whole script.
-use Rattle.std.proofs.Common.{◌≡◌, ℕ, suc, ◌+◌, ◌<◌, ◌≤◌, Bool, true, false, cond, not, ◌&&◌, ◌||◌, eqb, ltb, nat_le, nat_lt, List, [], ◌∷◌, ◌++◌, length, map, Option, Some, None, Result, Ok, Err, refl, ap, sym, ◌∙◌, subst, arith, append_assoc, append-nil, codes, decimal}
+use Rattle.std.proofs.Common.{◌≡◌, ℕ, ◌+◌, ◌<◌, ◌≤◌, Bool, true, false, cond, not, ◌&&◌, ◌||◌, eqb, nat_le, nat_lt, List, [], ◌∷◌, ◌++◌, length, map, Option, Some, None, Ok, Err, refl, ap, sym, ◌∙◌, subst, arith, append_assoc, append-nil, codes}
 use Rattle.std.specs.List.{list_all, list_any, flat_map, starts_with}
-use Rattle.std.proofs.lemmas.Bool.{eqb-true, ne_eqb, le-ltb, lt-leb, leb-true, le-leb}
+use Rattle.std.proofs.lemmas.Bool.{eqb-true, ne_eqb, le-ltb, lt-leb, leb-true}
 use Rattle.std.proofs.lemmas.List.{length-append}
-use Rattle.std.proofs.lemmas.Grind.{flat_map-append}
 use Rattle.fsw_base.specs.Limits.{Limits}
 use Rattle.script_words.specs.Readings.{◌>>=◌}
-use Rattle.script_words.specs.Text.{is_same, is_text, has_bytes, lines_of, words_of, behind_word}
+use Rattle.script_words.specs.Text.{is_same, is_text, has_bytes, words_of, behind_word}
 use Rattle.script_words.specs.Counts.{Word, next, none, one}
 use Rattle.script_words.specs.Numbers.{is_digit}
 use Rattle.script_lines.specs.declared.line.Line.{Line}
@@ -15,27 +14,26 @@ use Rattle.script_lines.specs.BusLines.{bus_word}
 use Rattle.script_lines.specs.MemoryLines.{memory_word}
 use Rattle.script_lines.specs.EventLines.{event_word}
 use Rattle.script_lines.specs.TableLines.{table_word}
-use Rattle.script_lines.specs.CallLines.{table_or_show, event_or_table, memory_or_event, call_word, call_line_of}
-use Rattle.line_spelling.specs.Spelling.{spaced, behind, line_text}
+use Rattle.script_lines.specs.CallLines.{table_or_show, event_or_table, memory_or_event, call_word}
+use Rattle.line_spelling.specs.Spelling.{spaced, line_text}
 use Rattle.line_spelling.specs.Ranges.{is_visible, is_readable}
-use Rattle.line_spelling.specs.ReadsBack.{IsReadAs}
-use Rattle.line_spelling.proofs.Booleans.{and_first, and_second, both, all_append, all_weaker, between, at_least, at_most, differ}
-use Rattle.line_spelling.proofs.WordLemmas.{is_word, IsWord, AreWords, no_words, ◌◃◌, keyword}
+use Rattle.line_spelling.proofs.Booleans.{and_first, and_second, both, all_weaker, between, at_least, at_most}
+use Rattle.line_spelling.proofs.WordLemmas.{IsWord, AreWords, no_words, ◌◃◌, keyword}
 use Rattle.line_spelling.proofs.LinesBack.{reads_back}
 use Rattle.app_script.specs.declared.forms.Form.{Form}
-use Rattle.app_script.specs.declared.forms.Form.TheVariants.{Script, Set, Sizes, Seq, App, Call}
+use Rattle.app_script.specs.declared.forms.Form.TheVariants.{App, Call}
 use Rattle.app_script.specs.Forms.{call_form, form_of, is_misplaced}
 use Rattle.app_script.specs.Script.{Application, ScriptText}
 use Rattle.script_settings.specs.Settings.{is_name_byte, is_app_name, app_of}
-use Rattle.script_settings.specs.Accounts.{account_of, charge_of, counted}
+use Rattle.script_settings.specs.Accounts.{account_of, charge_of}
 use Rattle.fsw_base.specs.declared.script_faults.FaultKind.TheVariants.{LineTooLong, BadByte}
-use Rattle.app_script.specs.Grammar.{Progress, opening, apps_of, after_app, after_call, after_form, after_words, after_line, after_lines, at_line, progress_of, grammar, ◌>=>◌}
+use Rattle.app_script.specs.Grammar.{Progress, opening, apps_of, after_app, after_call, after_form, after_words, after_line, after_lines, at_line, grammar, ◌>=>◌}
 use Rattle.script_printing.specs.ScriptSpelling.{app_lines, ended, set_lines, sizes_lines, seq_text, spelled_lines, spelled_script}
 use Rattle.app_script.specs.ScriptRanges.{have_new_names, is_application, all_calls, all_bytes, IsScript}
 use Rattle.app_script.proofs.ScriptLemmas.{account_of_push}
 use Rattle.app_script.proofs.Leading.{Calling, Ready, account_grows, nothing_taken, progress_back, grammar_back}
 use Rattle.script_printing.proofs.PrintLemmas.{same_numbers}
-use Rattle.script_printing.proofs.LinesAgain.{lines_again, Leads, leads_none, leads_one, leads_then, known_line, IsSpaced, spaced_line}
+use Rattle.script_printing.proofs.LinesAgain.{lines_again, Leads, leads_none, leads_one, leads_then, known_line, spaced_line}
 use Rattle.script_printing.proofs.SettingsBack.{Starting, settings_lead}
 
 -- ---- the form of a call line

@@ -1,16 +1,15 @@
 -- Lines that end with line feeds fall into these lines again, and are read one after another.
-use Rattle.std.proofs.Common.{◌≡◌, ℕ, suc, ◌+◌, ◌-◌, ◌≤◌, Bool, true, false, cond, ◌&&◌, eqb, ltb, List, [], ◌∷◌, ◌++◌, length, map, take, drop, Option, Some, None, Result, Ok, Err, refl, ap, sym, ◌∙◌, subst, arith, append_assoc, append-nil, codes}
+use Rattle.std.proofs.Common.{◌≡◌, ℕ, suc, ◌+◌, ◌-◌, ◌≤◌, true, false, cond, ◌&&◌, eqb, List, [], ◌∷◌, ◌++◌, length, map, take, drop, Some, Ok, Err, refl, ap, sym, ◌∙◌, subst, arith, append_assoc, codes}
 use Rattle.std.specs.List.{list_all, slice_split, onto_first, ends_with, starts_with}
 use Rattle.std.specs.Cmp.Lexicographic.{pointwise}
-use Rattle.std.proofs.lemmas.Bool.{ne_eqb, le-ltb, leb-true}
+use Rattle.std.proofs.lemmas.Bool.{ne_eqb, le-ltb}
 use Rattle.std.proofs.lemmas.List.{length-append}
 use Rattle.std.proofs.lemmas.List.Splits.{slice_split-cons_no}
-use Rattle.fsw_base.specs.declared.script_faults.FaultKind.{FaultKind}
-use Rattle.script_words.specs.Text.{is_feed, is_text, without_return, without_empty_last, lines_of, words_of, behind_word, has_bytes, is_same}
+use Rattle.script_words.specs.Text.{is_feed, is_text, without_return, without_empty_last, lines_of, words_of, behind_word, has_bytes}
 use Rattle.script_words.specs.Counts.{Word}
 use Rattle.line_spelling.specs.Ranges.{is_visible}
 use Rattle.line_spelling.specs.Spelling.{spaced, behind}
-use Rattle.line_spelling.proofs.Booleans.{and_first, and_second, both, all_append, all_weaker}
+use Rattle.line_spelling.proofs.Booleans.{and_first, and_second, all_append, all_weaker}
 use Rattle.line_spelling.proofs.PieceLemmas.{spaced_parts}
 use Rattle.line_spelling.proofs.WordLemmas.{is_word, visible_is_text, words-first, words-behind, behind-first, AreWords, words_are_text}
 use Rattle.app_script.specs.declared.forms.Form.{Form}

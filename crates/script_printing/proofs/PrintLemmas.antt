@@ -1,5 +1,5 @@
 -- Texts of lines that are put one behind another.
-use Rattle.std.proofs.Common.{◌≡◌, ℕ, zero, suc, ◌+◌, ◌<◌, ◌≤◌, Bool, true, false, ◌&&◌, eqb, List, [], ◌∷◌, ◌++◌, length, map, get_or, cond, codes, decimal, refl, ap, sym, ◌∙◌, arith, append_assoc, append-nil}
+use Rattle.std.proofs.Common.{◌≡◌, ℕ, suc, ◌<◌, Bool, true, false, ◌&&◌, eqb, List, [], ◌∷◌, ◌++◌, length, map, get_or, cond, codes, decimal, refl, ap, sym, ◌∙◌, arith, append_assoc, append-nil}
 use Rattle.std.specs.List.{flat_map}
 use Rattle.std.proofs.lemmas.Grind.{flat_map-append}
 use Rattle.std.proofs.lemmas.Bool.{eq-eqb, eqb-true, ne_eqb}
@@ -9,7 +9,7 @@ use Rattle.script_words.specs.Text.{is_same}
 use Rattle.script_settings.specs.declared.settings.LimitName.{LimitName}
 use Rattle.app_script.specs.ScriptRanges.{limit_of}
 use Rattle.script_printing.specs.ScriptSpelling.{limit_word, set_lines_of, set_lines, sizes_lines, seq_text, app_lines, ended, spelled_lines, spelled_script}
-use Rattle.app_script.specs.Script.{Application, ScriptText}
+use Rattle.app_script.specs.Script.{Application}
 use Rattle.line_spelling.specs.Spelling.{spaced, behind}
 use Rattle.line_spelling.proofs.PieceLemmas.{spaced_parts}
 

@@ -1,34 +1,31 @@
 -- The settings of a script are read again from their spelling.
-use Rattle.std.proofs.Common.{◌≡◌, ℕ, suc, ◌+◌, ◌<◌, ◌≤◌, Bool, true, false, cond, not, ◌&&◌, ◌||◌, eqb, ltb, nat_le, nat_lt, List, [], ◌∷◌, ◌++◌, length, map, Option, Some, None, Result, Ok, Err, refl, ap, sym, ◌∙◌, subst, arith, append_assoc, append-nil, codes, decimal, inl, inr, ◌⊎◌}
+use Rattle.std.proofs.Common.{◌≡◌, ℕ, ◌+◌, ◌<◌, Bool, true, false, cond, not, ◌&&◌, ◌||◌, eqb, ltb, nat_le, List, [], ◌∷◌, ◌++◌, length, map, Some, Ok, refl, ap, sym, ◌∙◌, subst, arith, append_assoc, append-nil, codes, decimal}
 use Rattle.std.specs.List.{list_all, list_any, flat_map}
-use Rattle.std.proofs.lemmas.Bool.{eq-eqb, eqb-true, ne_eqb, eqb-false, le-ltb, lt-ltb, ltb-true, leb-true, le-leb, lt-leb, cases_lt}
+use Rattle.std.proofs.lemmas.Bool.{eqb-true, ne_eqb, eqb-false, lt-ltb, ltb-true, leb-true, le-leb, lt-leb}
 use Rattle.std.proofs.lemmas.List.{length-append}
 use Rattle.fsw_base.specs.Limits.{Limits, usual_limits}
 use Rattle.fsw_base.specs.Blocks.{are_block_sizes, are_rising_from, usual_sizes}
 use Rattle.fsw_base.specs.Starts.{are_distinct_ids, are_count_starts, is_start}
 use Rattle.text_page.specs.Texts.{hex_id}
-use Rattle.script_words.specs.Readings.{◌>>=◌}
-use Rattle.script_words.specs.Lists.{each}
 use Rattle.script_words.specs.Numbers.{number_of}
-use Rattle.script_words.specs.Text.{is_same, words_of, behind_word}
+use Rattle.script_words.specs.Text.{is_same}
 use Rattle.script_words.specs.Counts.{Word, next, none, one, two, few}
-use Rattle.line_spelling.specs.Spelling.{spaced, behind}
+use Rattle.line_spelling.specs.Spelling.{spaced}
 use Rattle.line_spelling.proofs.Booleans.{and_first, and_second, both, all_append, all_weaker}
-use Rattle.line_spelling.proofs.WordLemmas.{is_word, IsWord, AreWords, no_words, ◌◃◌, keyword}
-use Rattle.line_spelling.proofs.SpelledNumbers.{number_of-decimal, decimal_word, number_reads, number_fits, within_reads, within_most, id_reads, id_fits}
+use Rattle.line_spelling.proofs.WordLemmas.{IsWord, AreWords, no_words, ◌◃◌, keyword}
+use Rattle.line_spelling.proofs.SpelledNumbers.{number_reads, number_fits, within_reads, within_most, id_reads, id_fits}
 use Rattle.line_spelling.proofs.SpelledWords.{each-same, elements_fit, map_length}
 use Rattle.script_settings.specs.declared.settings.LimitName.{LimitName}
 use Rattle.script_settings.specs.declared.settings.LimitName.TheVariants.{MsgIds, Pipes, Dests, Depth, MsgMax, Pool, AppPool, Tables, Handles, TableMax, TablePool}
 use Rattle.app_script.specs.declared.forms.Form.TheVariants.{Set, Sizes, Seq}
-use Rattle.app_script.specs.Forms.{form_of, is_misplaced}
-use Rattle.app_script.specs.Script.{Application, ScriptText}
+use Rattle.app_script.specs.Forms.{form_of}
 use Rattle.script_settings.specs.Settings.{limit_name, limit_number, least, greatest, with_limit, is_among, limit_named, set_of, some_words, sizes_within, sizes_of, seq_of}
-use Rattle.app_script.specs.Grammar.{Progress, opening, after_set, after_sizes, after_seq, after_form, after_line, after_lines}
-use Rattle.app_script.specs.ScriptRanges.{limit_of, all_limits}
+use Rattle.app_script.specs.Grammar.{Progress, opening, after_set, after_sizes, after_seq, after_form, after_line}
+use Rattle.app_script.specs.ScriptRanges.{limit_of}
 use Rattle.script_printing.specs.ScriptSpelling.{limit_word, set_lines_of, set_lines, sizes_lines, seq_text}
 use Rattle.app_script.specs.ScriptRanges.{are_limits}
 use Rattle.script_printing.proofs.PrintLemmas.{same_numbers}
-use Rattle.script_printing.proofs.LinesAgain.{Leads, leads_none, leads_one, leads_then, known_line, IsSpaced, spaced_line}
+use Rattle.script_printing.proofs.LinesAgain.{Leads, leads_none, leads_one, leads_then, known_line, spaced_line}
 
 -- ---- limits
 

@@ -1,4 +1,4 @@
-use Rattle.std.proofs.Common.{ℕ, ◌∷◌, ◌<◌, ◌≤◌, length, take, get_or, decimal, ap, ◌∙◌, arith}
+use Rattle.std.proofs.Common.{◌∷◌, ◌<◌, ◌≤◌, length, get_or, decimal, ap, ◌∙◌, arith}
 use Rattle.std.specs.List.{flat_map}
 use Rattle.std.proofs.lemmas.List.{take_all}
 use Rattle.std.proofs.lemmas.Option.{slice_get-get_or}
