@@ -22,6 +22,7 @@ BEGAN = os.path.join(OUT, "build.began")
 # What a proof takes of memory, in bytes, with some room.
 MEMORY = 3 << 30
 EXPECTED = "the first time takes 15 to 20 minutes on four processors"
+PROVED = re.compile("logic=proved ")
 NEXT = "./fsw lockstep < examples/first.fsw"
 
 
@@ -60,13 +61,19 @@ def lanes():
     return max(1, min(4, len(os.sched_getaffinity(0)), room))
 
 
+def is_proof(said):
+    """Whether rt says of a crate that it is proved, or nothing but notes of its own: it was."""
+    lines = said.splitlines()
+    return all(it.startswith("rt: ") for it in lines) or any(PROVED.match(it) for it in lines)
+
+
 class Progress:
     """The line that says how far the build is."""
 
     def __init__(self, crates, at_once):
         self.crates, self.at_once, self.proved, self.shown = crates, at_once, [], ""
         self.began, self.is_terminal = time.monotonic(), sys.stderr.isatty()
-        self.waits = False
+        self.said, self.waits = "", False
 
     def time(self):
         seconds = int(time.monotonic() - self.began)
@@ -91,11 +98,16 @@ class Progress:
             sys.stderr.flush()
 
     def look(self, log):
-        """Reads on in what rt prints, where a crate that has ended begins with its name."""
-        said = log.read()
-        self.waits = "waiting for" in said if said else self.waits
-        for name in re.findall(r"^== (\w+)$", said, re.M):
-            if name in self.crates and name not in self.proved:
+        """Reads on in what rt prints: for each crate that has ended its name, and what was said."""
+        more = log.read()
+        self.said += more
+        if more:
+            # The rest of it may come later.
+            return
+        parts = re.split(r"^== (\w+)\n", self.said, flags=re.M)
+        self.waits = bool(re.search(r"^rt: .*waiting for", parts[-1], re.M))
+        for name, said in zip(parts[1::2], parts[2::2]):
+            if name in self.crates and name not in self.proved and is_proof(said):
                 self.proved.append(name)
                 if not self.is_terminal:
                     tell(f"{self.time()}, {self.count()}: {name}")
@@ -118,7 +130,8 @@ def run(words, script, look):
             while rt.poll() is None:
                 time.sleep(0.2)
                 look(said)
-            look(said)
+            for _ in range(2):
+                look(said)
         finally:
             if rt.poll() is None:
                 os.killpg(rt.pid, signal.SIGTERM)
