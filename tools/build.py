@@ -4,6 +4,7 @@ How far it is stands in one line on standard error, which is kept up to date on 
 elsewhere there is a line for each crate. What the prover prints goes to a file. What is proved
 stays, so a build that was interrupted goes on where it was.
 """
+import contextlib
 import fcntl
 import os
 import re
@@ -53,12 +54,20 @@ def crates_in_order():
     return {name: below(name) for name in names}
 
 
+def free_memory():
+    """The bytes that are free here, under a container's limit too."""
+    with open("/proc/meminfo", encoding="utf-8") as file:
+        free = 1024 * int(re.search(r"MemAvailable:\s+(\d+) kB", file.read())[1])
+    with contextlib.suppress(OSError, ValueError):
+        with open("/sys/fs/cgroup/memory.max", encoding="utf-8") as limit:
+            with open("/sys/fs/cgroup/memory.current", encoding="utf-8") as used:
+                free = min(free, int(limit.read()) - int(used.read()))
+    return free
+
+
 def lanes():
     """How many crates are proved at a time: as many as processors and memory allow, up to four."""
-    with open("/proc/meminfo", encoding="utf-8") as file:
-        free = re.search(r"MemAvailable:\s+(\d+) kB", file.read())
-    room = int(free[1]) * 1024 // MEMORY if free else 1
-    return max(1, min(4, len(os.sched_getaffinity(0)), room))
+    return max(1, min(4, len(os.sched_getaffinity(0)), free_memory() // MEMORY))
 
 
 def is_proof(said):
