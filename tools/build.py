@@ -4,6 +4,7 @@ How far it is stands in one line on standard error, which is kept up to date on 
 elsewhere there is a line for each crate. What the prover prints goes to a file. What is proved
 stays, so a build that was interrupted goes on where it was.
 """
+import contextlib
 import fcntl
 import os
 import re
@@ -22,6 +23,7 @@ BEGAN = os.path.join(OUT, "build.began")
 # What a proof takes of memory, in bytes, with some room.
 MEMORY = 3 << 30
 EXPECTED = "the first time takes 15 to 20 minutes on four processors"
+PROVED = re.compile("logic=proved ")
 NEXT = "./fsw lockstep < examples/first.fsw"
 
 
@@ -52,12 +54,26 @@ def crates_in_order():
     return {name: below(name) for name in names}
 
 
+def free_memory():
+    """The bytes that are free here, under a container's limit too."""
+    with open("/proc/meminfo", encoding="utf-8") as file:
+        free = 1024 * int(re.search(r"MemAvailable:\s+(\d+) kB", file.read())[1])
+    with contextlib.suppress(OSError, ValueError):
+        with open("/sys/fs/cgroup/memory.max", encoding="utf-8") as limit:
+            with open("/sys/fs/cgroup/memory.current", encoding="utf-8") as used:
+                free = min(free, int(limit.read()) - int(used.read()))
+    return free
+
+
 def lanes():
     """How many crates are proved at a time: as many as processors and memory allow, up to four."""
-    with open("/proc/meminfo", encoding="utf-8") as file:
-        free = re.search(r"MemAvailable:\s+(\d+) kB", file.read())
-    room = int(free[1]) * 1024 // MEMORY if free else 1
-    return max(1, min(4, len(os.sched_getaffinity(0)), room))
+    return max(1, min(4, len(os.sched_getaffinity(0)), free_memory() // MEMORY))
+
+
+def is_proof(said):
+    """Whether rt says of a crate that it is proved, or nothing but notes of its own: it was."""
+    lines = said.splitlines()
+    return all(it.startswith("rt: ") for it in lines) or any(PROVED.match(it) for it in lines)
 
 
 class Progress:
@@ -66,7 +82,7 @@ class Progress:
     def __init__(self, crates, at_once):
         self.crates, self.at_once, self.proved, self.shown = crates, at_once, [], ""
         self.began, self.is_terminal = time.monotonic(), sys.stderr.isatty()
-        self.waits = False
+        self.said, self.waits = "", False
 
     def time(self):
         seconds = int(time.monotonic() - self.began)
@@ -91,11 +107,16 @@ class Progress:
             sys.stderr.flush()
 
     def look(self, log):
-        """Reads on in what rt prints, where a crate that has ended begins with its name."""
-        said = log.read()
-        self.waits = "waiting for" in said if said else self.waits
-        for name in re.findall(r"^== (\w+)$", said, re.M):
-            if name in self.crates and name not in self.proved:
+        """Reads on in what rt prints: for each crate that has ended its name, and what was said."""
+        more = log.read()
+        self.said += more
+        if more:
+            # The rest of it may come later.
+            return
+        parts = re.split(r"^== (\w+)\n", self.said, flags=re.M)
+        self.waits = bool(re.search(r"^rt: .*waiting for", parts[-1], re.M))
+        for name, said in zip(parts[1::2], parts[2::2]):
+            if name in self.crates and name not in self.proved and is_proof(said):
                 self.proved.append(name)
                 if not self.is_terminal:
                     tell(f"{self.time()}, {self.count()}: {name}")
@@ -118,7 +139,8 @@ def run(words, script, look):
             while rt.poll() is None:
                 time.sleep(0.2)
                 look(said)
-            look(said)
+            for _ in range(2):
+                look(said)
         finally:
             if rt.poll() is None:
                 os.killpg(rt.pid, signal.SIGTERM)

@@ -9,8 +9,8 @@ use std::sync::ledger::Ledger;
 
 /// A row of links or of list heads: contracts see the numbers that stand there, in order of place.
 ///
-/// Each reading and each writing counts one step, and there is no other way to the numbers. So a structure that keeps
-/// its links here counts them all.
+/// Each reading and each writing counts one step, and there is no other way to the numbers. So a
+/// structure that keeps its links here counts them all.
 #[derive(Drop)]
 pub struct Links {
     // The numbers, by place.

@@ -8,12 +8,12 @@ use std::alloc::{AllocError, Global};
 use std::marker::Model;
 use std::sync::ledger::Ledger;
 
-/// Lists over nodes 0, 1, 2 and so on, linked by index. Contracts see how many nodes there is room for, how many there
-/// are, and the node numbers of each list, front first.
+/// Lists over nodes 0, 1, 2 and so on, linked by index. Contracts see how many nodes there is room
+/// for, how many there are, and the node numbers of each list, front first.
 #[derive(Drop)]
 pub struct Lists {
-    /// At each node, the node behind it in its list. What stands at a list's last node, or at a node in no list, says
-    /// nothing.
+    /// At each node, the node behind it in its list. What stands at a list's last node, or at a
+    /// node in no list, says nothing.
     links: Links,
     /// At each list, its first node. What stands at an empty list says nothing.
     heads: Links,
@@ -31,16 +31,25 @@ impl Model for Lists {
 
     ghost use Rattle.bucket_list.specs.Chains.{chains, AreLinked};
 
-    ghost view = { λ s. record { room = length s.links; nodes = s.nodes; lists = chains s.links s.heads s.counts.items } };
+    ghost view = { λ s.
+        record {
+          room = length s.links;
+          nodes = s.nodes;
+          lists = chains s.links s.heads s.counts.items;
+        } };
 
     ghost invariant = { λ s. AreLinked s.links s.heads s.counts.items s.nodes };
 }
 
 impl Lists {
-    /// Room for `nodes` nodes, none of which exists yet, and `lists` empty lists, numbered from 0. No later call takes
-    /// memory.
+    /// Room for `nodes` nodes, none of which exists yet, and `lists` empty lists, numbered from 0.
+    /// No later call takes memory.
+    ///
+    /// # Errors
+    /// `AllocError` where memory runs out.
     pub fn new(alloc: Global, nodes: u32, lists: u32) -> Result<Lists, AllocError>
-        ensures { IfOk result (λ s. s ≡ record { room = nodes; nodes = 0; lists = replicate lists [] }) }
+        ensures { IfOk result
+            (λ s. s ≡ record { room = nodes; nodes = 0; lists = replicate lists [] }) }
     {
         let links = Links::new(alloc, nodes)?;
         let heads = Links::new(alloc, lists)?;
@@ -77,7 +86,9 @@ impl Lists {
         requires list { list < length self.old.lists }
         requires node { node < self.old.nodes }
         requires loose { IsLoose self.old node }
-        ensures after { self.new ≡ record self.old { lists = slice_set self.old.lists list (node ∷ listed_at self.old list) } }
+        ensures after { self.new ≡
+            record
+            self.old { lists = slice_set self.old.lists list (node ∷ listed_at self.old list) } }
         ensures cost { steps.new ≤ steps.old + 4 }
     {
         let behind = self.heads.read(list, steps);
@@ -86,12 +97,16 @@ impl Lists {
         self.counts[list as usize] += 1;
     }
 
-    /// Takes the front node of a list, which is then in no list; `None` exactly where the list is empty. At most 4 steps.
+    /// Takes the front node of a list, which is then in no list; `None` exactly where the list is
+    /// empty. At most 4 steps.
     pub fn pop<L: Ledger>(&mut self, list: u32, steps: &mut Steps<L>) -> Option<u32>
         requires { list < length self.old.lists }
         ensures none { IsNone result ↔ (listed_at self.old list ≡ []) }
-        ensures front { IfSome result (λ node. listed_at self.old list ≡ node ∷ listed_at self.new list) }
-        ensures after { self.new ≡ record self.old { lists = slice_set self.old.lists list (drop 1 (listed_at self.old list)) } }
+        ensures front { IfSome result
+            (λ node. listed_at self.old list ≡ node ∷ listed_at self.new list) }
+        ensures after { self.new ≡
+            record
+            self.old { lists = slice_set self.old.lists list (drop 1 (listed_at self.old list)) } }
         ensures loose { IfSome result (IsLoose self.new) }
         ensures exists { IfSome result (λ node. node < self.new.nodes) }
         ensures cost { steps.new ≤ steps.old + 4 }

@@ -6,13 +6,15 @@ use std::sync::ledger::{Blank, Book, Ledger, Share};
 
 /// How many steps were taken: contracts see the number.
 ///
-/// One step is one reading or writing of a link or of a list's head. A call that takes `steps: &mut Steps<L>` says in
-/// its contract how far it moves the number. Only [`Steps::tick`] moves it, and it cannot be set back or copied.
+/// One step is one reading or writing of a link or of a list's head. A call that takes `steps: &mut
+/// Steps<L>` says in its contract how far it moves the number. Only [`Steps::tick`] moves it, and
+/// it cannot be set back or copied.
 #[derive(Drop)]
 pub struct Steps<L: Ledger> {
     /// Its total is the number of steps.
     book: Book<L>,
-    /// What every step is added to. It has a part of the ledger, without which nothing can be added.
+    /// What every step is added to. It has a part of the ledger, without which nothing can be
+    /// added.
     share: Share<L>,
 }
 
@@ -25,8 +27,8 @@ impl<L: Ledger> Model for Steps<L> {
 }
 
 impl<L: Ledger> Steps<L> {
-    /// A count of no steps, over a fresh ledger of at least one part: `Steps::new(Blank::new(1))`, in a function that is
-    /// generic over `L: Ledger` and that is called with `Brand` for `L`.
+    /// A count of no steps, over a fresh ledger of at least one part: `Steps::new(Blank::new(1))`,
+    /// in a function that is generic over `L: Ledger` and that is called with `Brand` for `L`.
     pub fn new(blank: Blank) -> Steps<L>
         requires name { blank.name ≡ L.name }
         requires parts { blank.parts ≡ L.parts }

@@ -38,7 +38,7 @@ pub fn set_function_code(bytes: &mut [u8], code: u8) -> bool
     }
 }
 
-/// Whether the bytes are of a command with a secondary header.
+// Whether the bytes are of a command with a secondary header.
 fn holds_function_code(bytes: &[u8]) -> bool
     ensures { result ≡ has_function_code bytes.now }
 {

@@ -6,7 +6,7 @@ ghost use Rattle.ccsds_msg.specs.Message.{header_of, header_or_fault, fault, fro
 use crate::packet::{Header, MsgFault};
 use byteorder::{BigEndian, ByteOrder};
 
-/// The least size of a packet in bytes: its header and one byte of data (section 4.1.4.1).
+// The least size of a packet in bytes: its header and one byte of data (section 4.1.4.1).
 const LEAST_SIZE: usize = 7;
 
 /// Reads the header of bytes that are to be one whole message.
@@ -81,7 +81,7 @@ pub fn count_of(bytes: &[u8]) -> u16
     BigEndian::read_u16(&bytes[2..]) % 16384
 }
 
-/// The sequence flags, 0 to 3 (section 4.1.3.4.2).
+// The sequence flags, 0 to 3 (section 4.1.3.4.2).
 fn flags_of(bytes: &[u8]) -> u8
     requires { 6 ≤ length bytes.now }
     ensures { result ≡ message_flags bytes.now }
@@ -89,7 +89,7 @@ fn flags_of(bytes: &[u8]) -> u8
     (BigEndian::read_u16(&bytes[2..]) / 16384 % 4) as u8
 }
 
-/// The fields of the header, whatever they are.
+// The fields of the header, whatever they are.
 fn fields(bytes: &[u8]) -> Header
     requires { 6 ≤ length bytes.now }
     ensures { result ≡ header_of bytes.now }
@@ -102,7 +102,7 @@ fn fields(bytes: &[u8]) -> Header
     }
 }
 
-/// The header, unless its id is not valid.
+// The header, unless its id is not valid.
 fn with_valid_id(header: Header) -> Result<Header, MsgFault>
     ensures { result ≡ header_or_fault (id_fault header.id) header }
 {

@@ -29,8 +29,8 @@ pub fn print_counts(rt: &impl Print, alloc: Global, id: u16, packet: &mut [u8]) 
     println!(rt; "{}", hexadecimal(alloc, packet)?)
 }
 
-/// Makes the slice a packet of this id and count. The header is first written with another count,
-/// so that both calls show in what is printed.
+// Makes the slice a packet of this id and count. The header is first written with another count,
+// so that both calls show in what is printed.
 fn make_packet(packet: &mut [u8], id: u16, count: u16)
     requires least { 7 ≤ length packet.old }
     requires most { length packet.old ≤ 65542 }
@@ -43,7 +43,7 @@ fn make_packet(packet: &mut [u8], id: u16, count: u16)
     set_count(packet, count);
 }
 
-/// Two lower case digits for each byte.
+// Two lower case digits for each byte.
 fn hexadecimal(alloc: Global, bytes: &[u8]) -> Result<String, AllocError> {
     let mut text = String::new(alloc);
     for byte in bytes {

@@ -16,7 +16,7 @@ use sb_calls::BusCore;
 use std::alloc::Global;
 use text_page::{Page, finish, put, put_number};
 
-/// As many ids, pipes and destinations as there can be.
+// As many ids, pipes and destinations as there can be.
 const LIMITS: [Limit; 4] = [
     Limit::MsgIds(1024),
     Limit::Pipes(256),
@@ -24,7 +24,7 @@ const LIMITS: [Limit; 4] = [
     Limit::Depth(4),
 ];
 
-/// With what the bus is filled.
+// With what the bus is filled.
 #[derive(Clone, Copy)]
 enum Filling {
     // Pipes, 16 of each application.
@@ -115,8 +115,8 @@ fn subscription(id: u16, pipe: u32) -> BusCall<'static> {
     }
 }
 
-/// Has the first application send a message of this id; how many pipes it reached. An id of at most
-/// 64 destinations takes at most 32 + 4 * 64 steps, whatever else is there.
+// Has the first application send a message of this id; how many pipes it reached. An id of at most
+// 64 destinations takes at most 32 + 4 * 64 steps, whatever else is there.
 fn reached<L: Ledger>(core: &mut BusCore, id: u16, steps: &mut Steps<L>) -> u32
     ensures cost { length (route (state_of core.old).subscriptions id) ≤ 64
         → steps.new ≤ steps.old + (32 + 4 * 64) }

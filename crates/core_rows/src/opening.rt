@@ -4,14 +4,14 @@ ghost use Rattle.bus_words.specs.Log.{AreBudgets};
 use crate::example::Limit;
 use fsw_base::{Budget, Config, CountStarts};
 
-/// What each application may add: more than any example asks for.
+// What each application may add: more than any example asks for.
 const BUDGET: Budget = Budget {
     entries: 1000,
     bytes: 1_000_000,
     buffers: 0,
 };
 
-/// The budgets of as many applications as there can be.
+// The budgets of as many applications as there can be.
 static BUDGETS: [Budget; 16] = [BUDGET; 16];
 
 /// The budgets of so many applications, 1 to 16.

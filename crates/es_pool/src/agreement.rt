@@ -12,23 +12,35 @@ use fsw_base::BlockSizes;
 use std::alloc::{AllocError, Global};
 
 /// A pool and a plain pool of `bytes` bytes with these block sizes, of which nothing is cut.
+///
+/// # Errors
+/// `AllocError` where memory runs out.
 pub fn pool_and_plain(
     alloc: Global,
     bytes: u32,
     sizes: &BlockSizes,
 ) -> Result<(Pool, PlainPool), AllocError>
     ensures account { IfOk result (λ both. IsAccountOf both.0 both.1) }
-    ensures uncut { IfOk result (λ both. both.0 ≡ record { bytes = bytes; most = bytes; sizes = sizes.now; blocks = []; requests = 0; errors = 0 }) }
+    ensures uncut { IfOk result
+        (λ both. both.0 ≡
+        record {
+          bytes = bytes;
+          most = bytes;
+          sizes = sizes.now;
+          blocks = [];
+          requests = 0;
+          errors = 0;
+        }) }
 {
     let pool = Pool::new(alloc, bytes, sizes.again())?;
     let plain = PlainPool::new(alloc, bytes, sizes.again())?;
     Ok((pool, plain))
 }
 
-/// Makes the calls on both pools, in order, and answers whether the two gave the same answer and then showed the same
-/// figures at each of them. They always do: whatever the calls, the pool is led as its own contract says, the plain pool's
-/// account moves by its own calls, a return with the class that its block has, and it stays the account of the pool. At
-/// most 8 steps a call.
+/// Makes the calls on both pools, in order, and answers whether the two gave the same answer and
+/// then showed the same figures at each of them. They always do: whatever the calls, the pool is
+/// led as its own contract says, the plain pool's account moves by its own calls, a return with the
+/// class that its block has, and it stays the account of the pool. At most 8 steps a call.
 pub fn agree<L: Ledger>(
     pool: &mut Pool,
     plain: &mut PlainPool,

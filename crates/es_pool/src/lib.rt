@@ -1,9 +1,11 @@
-//! Memory pools of the Executive Services, by account: which block serves a request, and what can still be drawn.
+//! Memory pools of the Executive Services, by account: which block serves a request, and what can
+//! still be drawn.
 //!
-//! A pool has block sizes. A request takes the smallest size that is large enough: a free block of that size where there
-//! is one, else one cut from the rest, which costs 16 bytes more than its size. A returned block is free in its own size
-//! (cFE Executive Services, memory pools). Every answer is that of an account on paper, no call but `new` takes memory,
-//! and a draw or a return takes at most 8 steps, however many blocks are out.
+//! A pool has block sizes. A request takes the smallest size that is large enough: a free block of
+//! that size where there is one, else one cut from the rest, which costs 16 bytes more than its
+//! size. A returned block is free in its own size (cFE Executive Services, memory pools). Every
+//! answer is that of an account on paper, no call but `new` takes memory, and a draw or a return
+//! takes at most 8 steps, however many blocks are out.
 //!
 //! ```
 //! /// Draws a block, gives it back and draws once more.

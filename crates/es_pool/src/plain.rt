@@ -1,4 +1,5 @@
-//! A plain, slow pool: the account alone, as one would write it on paper. The pool is measured against it.
+//! A plain, slow pool: the account alone, as one would write it on paper. The pool is measured
+//! against it.
 ghost use Rattle.std.specs.Prelude.{◌≡◌, ℕ, ◌+◌, ◌<◌, ◌≤◌, ◌^◌, ◌-◌, ◌↔◌, Some, length, slice_index, replicate, IsTrue, IsOk, IfOk, IfErr, OnErr};
 ghost use Rattle.fsw_base.specs.Blocks.{class_of};
 ghost use Rattle.fsw_base.specs.PoolAccounts.{Account, cost_of, has_room, has_room_for, after_draw, after_return, after_refusal};
@@ -8,8 +9,9 @@ use fsw_base::{BlockSizes, EsStatus, PoolStats};
 use std::alloc::{AllocError, Global};
 use std::marker::Model;
 
-/// A pool that keeps two numbers for each block size: how many blocks are out, and the greatest number that ever were.
-/// It adds up what was made at each request, so it is slow; it has no block numbers and no free lists.
+/// A pool that keeps two numbers for each block size: how many blocks are out, and the greatest
+/// number that ever were. It adds up what was made at each request, so it is slow; it has no block
+/// numbers and no free lists.
 #[derive(Drop)]
 pub struct PlainPool {
     /// The pool's bytes.
@@ -40,8 +42,20 @@ impl Model for PlainPool {
 
 impl PlainPool {
     /// A pool of `bytes` bytes with these block sizes, of which nothing was made.
+    ///
+    /// # Errors
+    /// `AllocError` where memory runs out.
     pub fn new(alloc: Global, bytes: u32, sizes: BlockSizes) -> Result<PlainPool, AllocError>
-        ensures { IfOk result (λ pool. pool ≡ record { bytes = bytes; sizes = sizes; made = replicate (length sizes) 0; out = replicate (length sizes) 0; requests = 0; errors = 0 }) }
+        ensures { IfOk result
+            (λ pool. pool ≡
+            record {
+              bytes = bytes;
+              sizes = sizes;
+              made = replicate (length sizes) 0;
+              out = replicate (length sizes) 0;
+              requests = 0;
+              errors = 0;
+            }) }
     {
         let classes = sizes.count();
         let made = zeros(alloc, classes)?;
@@ -56,8 +70,12 @@ impl PlainPool {
         })
     }
 
-    /// Draws a block for `size` bytes, and answers its class. `ErrMemBlockSize` exactly where no block size is large
-    /// enough, or there is no room for one more block.
+    /// Draws a block for `size` bytes, and answers its class. `ErrMemBlockSize` exactly where no
+    /// block size is large enough, or there is no room for one more block.
+    ///
+    /// # Errors
+    /// `ErrMemBlockSize` if and only if no block size is large enough, or there is no room for one
+    /// more block.
     pub fn get(&mut self, size: u32) -> Result<u32, EsStatus>
         ensures given { IsOk result ↔ IsTrue (has_room self.old size) }
         ensures only_error { IfErr result (λ e. e ≡ EsStatus.ErrMemBlockSize) }
@@ -95,7 +113,13 @@ impl PlainPool {
 
     /// The pool's figures, added up anew.
     pub fn stats(&self) -> PoolStats
-        ensures { result ≡ record { size = self.now.bytes; requests = self.now.requests; errors = self.now.errors; free = self.now.bytes - cost_of self.now.made self.now.sizes } }
+        ensures { result ≡
+            record {
+              size = self.now.bytes;
+              requests = self.now.requests;
+              errors = self.now.errors;
+              free = self.now.bytes - cost_of self.now.made self.now.sizes;
+            } }
     {
         PoolStats {
             size: self.bytes,

@@ -11,8 +11,9 @@ use std::marker::Model;
 
 /// A memory pool, by account: it says which block serves a request, and holds no bytes itself.
 ///
-/// Contracts see its bytes, its block sizes, the blocks cut so far in order of their numbers, each with its class and
-/// whether it is out, and the counts of blocks drawn and of puts refused. A class is a block size, by its place.
+/// Contracts see its bytes, its block sizes, the blocks cut so far in order of their numbers, each
+/// with its class and whether it is out, and the counts of blocks drawn and of puts refused. A
+/// class is a block size, by its place.
 #[derive(Drop)]
 pub struct Pool {
     /// The block sizes.
@@ -52,9 +53,22 @@ impl Model for Pool {
 }
 
 impl Pool {
-    /// A pool of `bytes` bytes with these block sizes, of which nothing is cut. All its memory is taken here.
+    /// A pool of `bytes` bytes with these block sizes, of which nothing is cut. All its memory is
+    /// taken here.
+    ///
+    /// # Errors
+    /// `AllocError` where memory runs out.
     pub fn new(alloc: Global, bytes: u32, sizes: BlockSizes) -> Result<Pool, AllocError>
-        ensures { IfOk result (λ pool. pool ≡ record { bytes = bytes; most = bytes; sizes = sizes; blocks = []; requests = 0; errors = 0 }) }
+        ensures { IfOk result
+            (λ pool. pool ≡
+            record {
+              bytes = bytes;
+              most = bytes;
+              sizes = sizes;
+              blocks = [];
+              requests = 0;
+              errors = 0;
+            }) }
     {
         let classes = sizes.count();
         let room = bytes / (sizes.at(0) + OVERHEAD);
@@ -96,17 +110,22 @@ impl Pool {
         }
     }
 
-    /// Draws a block for `size` bytes: of the smallest block size that is large enough, a free one where there is one,
-    /// else one cut from the rest. A larger free block is never taken in its place. At most 8 steps.
+    /// Draws a block for `size` bytes: of the smallest block size that is large enough, a free one
+    /// where there is one, else one cut from the rest. A larger free block is never taken in its
+    /// place. At most 8 steps.
     ///
-    /// `ErrMemBlockSize` exactly where no block size is large enough, or no block is free and the rest is too small.
+    /// # Errors
+    /// `ErrMemBlockSize` exactly where no block size is large enough, or no block is free and the
+    /// rest is too small.
     pub fn get<L: Ledger>(&mut self, size: u32, steps: &mut Steps<L>) -> Result<BlockNo, EsStatus>
         ensures given { IsOk result ↔ IsTrue (fits self.old size 1) }
         ensures only_error { IfErr result (λ e. e ≡ EsStatus.ErrMemBlockSize) }
         ensures drawn { IfOk result (DrawsFor self.old self.new size) }
         ensures was_not_out { IfOk result (λ block. is_out self.old block ≡ false) }
         ensures is_out { IfOk result (λ block. is_out self.new block ≡ true) }
-        ensures rest_sufficed { IfOk result (λ block. length self.old.blocks ≤ block → size_at self.new block + overhead ≤ rest_of self.old) }
+        ensures rest_sufficed { IfOk result
+            (λ block. length self.old.blocks ≤ block →
+            size_at self.new block + overhead ≤ rest_of self.old) }
         ensures unchanged { OnErr result (self.new ≡ self.old) }
         ensures cost { steps.new ≤ steps.old + 8 }
     {
@@ -125,15 +144,21 @@ impl Pool {
         }
     }
 
-    /// Gives a block back: it is then free in its own size. At most 8 steps. A refused put is counted.
+    /// Gives a block back: it is then free in its own size. At most 8 steps. A refused put is
+    /// counted.
     ///
-    /// `BufferNotInPool` exactly where the block was never cut, `PoolBlockInvalid` exactly where it is free now.
+    /// # Errors
+    /// `BufferNotInPool` exactly where the block was never cut, `PoolBlockInvalid` exactly where it
+    /// is free now.
     pub fn put<L: Ledger>(&mut self, block: BlockNo, steps: &mut Steps<L>) -> Result<(), EsStatus>
         ensures ok { IsOk result ↔ IsTrue (is_out self.old block) }
-        ensures not_in_pool { (result ≡ Err EsStatus.BufferNotInPool) ↔ (length self.old.blocks ≤ block) }
-        ensures invalid { (result ≡ Err EsStatus.PoolBlockInvalid) ↔ IsTrue (is_free self.old block) }
+        ensures not_in_pool { (result ≡ Err EsStatus.BufferNotInPool) ↔
+            (length self.old.blocks ≤ block) }
+        ensures invalid { (result ≡ Err EsStatus.PoolBlockInvalid) ↔
+            IsTrue (is_free self.old block) }
         ensures given_back { OnOk result (self.new ≡ given_back self.old block) }
-        ensures refused { OnErr result (self.new ≡ record self.old { errors = counted self.old.errors }) }
+        ensures refused { OnErr result
+            (self.new ≡ record self.old { errors = counted self.old.errors }) }
         ensures cost { steps.new ≤ steps.old + 8 }
     {
         if self.blocks.len() <= block as usize {
@@ -157,7 +182,13 @@ impl Pool {
 
     /// The pool's figures: its bytes, the blocks drawn, the puts refused and the bytes never cut.
     pub fn stats(&self) -> PoolStats
-        ensures { result ≡ record { size = self.now.bytes; requests = self.now.requests; errors = self.now.errors; free = rest_of self.now } }
+        ensures { result ≡
+            record {
+              size = self.now.bytes;
+              requests = self.now.requests;
+              errors = self.now.errors;
+              free = rest_of self.now;
+            } }
     {
         PoolStats {
             size: self.bytes,
@@ -177,7 +208,12 @@ impl Pool {
     /// The figures of a block size, by its place.
     pub fn class(&self, i: u32) -> ClassStats
         requires { i < length self.now.sizes }
-        ensures { result ≡ record { size = slice_index self.now.sizes i; made = made_in self.now.blocks i; free = free_in self.now.blocks i } }
+        ensures { result ≡
+            record {
+              size = slice_index self.now.sizes i;
+              made = made_in self.now.blocks i;
+              free = free_in self.now.blocks i;
+            } }
     {
         ClassStats {
             size: self.sizes.at(i),
@@ -223,8 +259,8 @@ impl Pool {
         self.most / (self.sizes.at(0) + OVERHEAD)
     }
 
-    /// What was cut is paid for by the pool's bytes, each block has one of the sizes, and no more blocks were cut than
-    /// ever can be. Does nothing.
+    /// What was cut is paid for by the pool's bytes, each block has one of the sizes, and no more
+    /// blocks were cut than ever can be. Does nothing.
     pub fn recall_whole(&self)
         ensures { IsWhole self.now }
     {

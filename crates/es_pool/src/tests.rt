@@ -24,7 +24,8 @@ fn drawn_twice<L: Ledger>(pool: &mut Pool, steps: &mut Steps<L>) -> Result<Block
     pool.get(64, steps)
 }
 
-/// Two blocks of 64 bytes fill the pool; then nothing smaller, no second return and nothing larger is given.
+/// Two blocks of 64 bytes fill the pool; then nothing smaller, no second return and nothing larger
+/// is given.
 fn draws_and_returns<L: Ledger, R: Abort>(rt: &R, pool: &mut Pool, blank: Blank)
     requires name { blank.name ≡ L.name }
     requires parts { blank.parts ≡ L.parts }

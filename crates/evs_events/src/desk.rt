@@ -27,9 +27,13 @@ pub struct EventDesk {
     log: EventLog,
     // The counts, as `EventCounts` has them.
     sent: u32,
+    // Events that a filter held back.
     filtered: u32,
+    // Events whose text was cut.
     cut: u32,
+    // Calls that were refused.
     refused: u32,
+    // Events that a full log lost, or lines that it dropped.
     lost: u32,
 }
 
@@ -38,12 +42,24 @@ impl Model for EventDesk {
 
     ghost Value = { Desk };
 
-    ghost view = { λ d. record { registrations = d.registrations; log = d.log; sent = d.sent; filtered = d.filtered; cut = d.cut; refused = d.refused; lost = d.lost } };
+    ghost view = { λ d.
+        record {
+          registrations = d.registrations;
+          log = d.log;
+          sent = d.sent;
+          filtered = d.filtered;
+          cut = d.cut;
+          refused = d.refused;
+          lost = d.lost;
+        } };
 }
 
 impl EventDesk {
-    /// A desk at which nobody is registered, with an empty log in mode 1. It takes the memory of all
-    /// log lines; AllocError where there isn't enough.
+    /// A desk at which nobody is registered, with an empty log in mode 1. It takes the memory of
+    /// all log lines; AllocError where there isn't enough.
+    ///
+    /// # Errors
+    /// `AllocError` where memory runs out.
     pub fn new(alloc: Global) -> Result<EventDesk, AllocError>
         ensures { IfOk result (λ desk. desk ≡ new_desk) }
     {
@@ -78,6 +94,7 @@ impl EventDesk {
     /// none is for its id: then it is logged, with the first [`MAX_TEXT`] bytes of its text, which
     /// may have any length. Passed or not, the filter counts it.
     ///
+    /// # Errors
     /// AppNotRegistered exactly where the application isn't registered; the refusal is counted.
     #[tactic(auto, unfolding(fsw_base::specs::EventDesk::sent))]
     pub fn send(
@@ -112,8 +129,9 @@ impl EventDesk {
 
     /// Sets the count of an application's filter for this event id to 0.
     ///
-    /// AppNotRegistered exactly where the application isn't registered; else EvtNotRegistered exactly
-    /// where none of its filters is for this id. A refusal is counted.
+    /// # Errors
+    /// AppNotRegistered exactly where the application isn't registered; else EvtNotRegistered
+    /// exactly where none of its filters is for this id. A refusal is counted.
     #[tactic(auto, unfolding(fsw_base::specs::EventDesk::reset))]
     pub fn reset_filter(&mut self, app: AppNo, id: u16) -> Result<(), EvsStatus>
         ensures refusal { result_err result ≡ reset_refusal self.old app id }

@@ -13,7 +13,8 @@ pub struct Filter {
     id: u16,
     // Ones where the count must have zeros for an event to pass.
     mask: u16,
-    // The events of this id since the registration or the last reset, passed or not; stops at 65535.
+    // The events of this id since the registration or the last reset, passed or not; stops at
+    // 65535.
     count: u16,
 }
 

@@ -2,8 +2,8 @@
 //! for events and with which filters, a log of the latest events, and counts of what became of
 //! them. Applications are numbered 1 to 16; the services' own events have number 0.
 //!
-//! Each call answers and leaves exactly what the definitions of `EventDesk.antt` (of `fsw_base`) say, and no call
-//! takes memory once the desk is made.
+//! Each call answers and leaves exactly what the definitions of `EventDesk.antt` (of `fsw_base`)
+//! say, and no call takes memory once the desk is made.
 //!
 //! The caller below is proved, in `tests.rt`.
 //!
@@ -11,7 +11,8 @@
 //! /// Registers an application, and tells by a service event that it is ready.
 //! fn start(desk: &mut EventDesk, app: AppNo, filters: &FilterList)
 //!     ensures {
-//!         desk.new ≡ served (registered desk.old app filters.now) 1 EventKind.Information (codes "ready")
+//!         desk.new ≡
+//!         served (registered desk.old app filters.now) 1 EventKind.Information (codes "ready")
 //!     }
 //! {
 //!     desk.register(app, filters);

@@ -26,8 +26,11 @@ pub struct LogLine<'a> {
 /// An event as the log keeps it, with a text of its own.
 #[derive(Drop)]
 pub struct StoredLine {
+    // The application's number; 0 for a service.
     app: u32,
+    // The event id.
     id: u16,
+    // The kind of the event.
     kind: EventKind,
     // The first bytes of the event's text, as many as fit.
     text: ArrayVec<u8, MAX_TEXT>,

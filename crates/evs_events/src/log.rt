@@ -61,6 +61,7 @@ impl LogMode {
 pub struct EventLog {
     // The oldest first.
     lines: HeapCircularBuffer<StoredLine>,
+    // What a full log drops.
     mode: LogMode,
 }
 
@@ -79,6 +80,9 @@ impl Model for EventLog {
 
 impl EventLog {
     /// A log without lines, in mode 1, with the memory for all its lines.
+    ///
+    /// # Errors
+    /// `AllocError` where memory runs out.
     pub fn new(alloc: Global) -> Result<EventLog, AllocError>
         ensures { IfOk result (λ log. log ≡ empty_log) }
     {

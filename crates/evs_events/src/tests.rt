@@ -11,7 +11,8 @@ const INFORMATION: EventKind = EventKind::Information;
 
 // The caller that the crate's head shows.
 fn start(desk: &mut EventDesk, app: AppNo, filters: &FilterList)
-    ensures { desk.new ≡ served (registered desk.old app filters.now) 1 EventKind.Information (codes "ready") }
+    ensures { desk.new ≡
+        served (registered desk.old app filters.now) 1 EventKind.Information (codes "ready") }
 {
     desk.register(app, filters);
     desk.service(1, EventKind::Information, b"ready");

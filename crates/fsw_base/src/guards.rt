@@ -11,6 +11,7 @@ use std::marker::Model;
 /// Who has only the guard can't reach the source in another way.
 #[derive(Drop)]
 pub struct SourceGuard<'s, S: Source> {
+    // What it guards.
     source: &'s mut S,
     // Whether a read has failed.
     failed: bool,
@@ -21,13 +22,25 @@ impl<'s, S: Source> Model for SourceGuard<'s, S> {
 
     ghost Value = { GuardedSource };
 
-    ghost view = { λ g. record { source = g.source.ghost_name; left = S.left g.source.now; faults = S.faults g.source.now; failed = g.failed } };
+    ghost view = { λ g.
+        record {
+          source = g.source.ghost_name;
+          left = S.left g.source.now;
+          faults = S.faults g.source.now;
+          failed = g.failed;
+        } };
 }
 
 impl<'s, S: Source> SourceGuard<'s, S> {
     /// A guard through which nothing was read yet.
     pub fn new(source: &'s mut S) -> SourceGuard<'s, S>
-        ensures { result ≡ record { source = source.entry.ghost_name; left = S.left source.old; faults = S.faults source.old; failed = false } }
+        ensures { result ≡
+            record {
+              source = source.entry.ghost_name;
+              left = S.left source.old;
+              faults = S.faults source.old;
+              failed = false;
+            } }
     {
         SourceGuard {
             source,
@@ -65,6 +78,7 @@ impl<'s, S: Source> SourceGuard<'s, S> {
 /// Who has only the guard can't reach the sink in another way.
 #[derive(Drop)]
 pub struct SinkGuard<'k, K: Sink> {
+    // What it guards.
     sink: &'k mut K,
     // Whether a write has failed.
     failed: bool,
@@ -77,13 +91,27 @@ impl<'k, K: Sink> Model for SinkGuard<'k, K> {
 
     ghost Value = { GuardedSink };
 
-    ghost view = { λ g. record { sink = g.sink.ghost_name; written = K.written g.sink.now; faults = K.faults g.sink.now; failed = g.failed; untouched = g.untouched } };
+    ghost view = { λ g.
+        record {
+          sink = g.sink.ghost_name;
+          written = K.written g.sink.now;
+          faults = K.faults g.sink.now;
+          failed = g.failed;
+          untouched = g.untouched;
+        } };
 }
 
 impl<'k, K: Sink> SinkGuard<'k, K> {
     /// A guard through which nothing was written yet.
     pub fn new(sink: &'k mut K) -> SinkGuard<'k, K>
-        ensures { result ≡ record { sink = sink.entry.ghost_name; written = K.written sink.old; faults = K.faults sink.old; failed = false; untouched = true } }
+        ensures { result ≡
+            record {
+              sink = sink.entry.ghost_name;
+              written = K.written sink.old;
+              faults = K.faults sink.old;
+              failed = false;
+              untouched = true;
+            } }
     {
         SinkGuard {
             sink,

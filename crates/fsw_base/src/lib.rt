@@ -2,7 +2,8 @@
 //! small value types, and the traits through which the core meets the outside.
 //!
 //! It promises that each type keeps its range, and that a source or a sink tells a failure only
-//! where its count of faults rose. Behind a guard nothing is asked of them any more after a failure.
+//! where its count of faults rose. Behind a guard nothing is asked of them any more after a
+//! failure.
 //!
 //! ```text
 //! let app = AppNo::try_new(3).unwrap();       // applications are numbered 1 to 16

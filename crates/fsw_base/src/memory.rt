@@ -1,4 +1,5 @@
-//! A source and a sink in memory, read and written in small pieces, whose calls fail when they are told to.
+//! A source and a sink in memory, read and written in small pieces, whose calls fail when they are
+//! told to.
 ghost use Rattle.std.specs.Prelude.{◌≡◌, ℕ, ◌+◌, ◌<◌, ◌≤◌, [], length, vec_len, vec_capacity, IfOk};
 ghost use Rattle.fsw_base.specs.Outside.{Reads, Writes, Rose};
 ghost use Rattle.fsw_base.specs.Memory.{Supply, Store, read_answer, after_read, write_answer, after_write, is_listed};
@@ -8,7 +9,8 @@ use crate::reserved::extend_reserved;
 use std::alloc::{AllocError, Global};
 use std::marker::Model;
 
-/// A source over a slice that gives at most a piece at a time, and fails at the calls that it is told.
+/// A source over a slice that gives at most a piece at a time, and fails at the calls that it is
+/// told.
 #[derive(Drop)]
 pub struct MemSource<'a> {
     // Not read yet.
@@ -26,7 +28,14 @@ pub struct MemSource<'a> {
 impl<'a> Model for MemSource<'a> {
     ghost Value = { Supply };
 
-    ghost view = { λ s. record { left = s.left.now; piece = s.piece; fails = s.fails.now; calls = s.calls; faults = s.faults } };
+    ghost view = { λ s.
+        record {
+          left = s.left.now;
+          piece = s.piece;
+          fails = s.fails.now;
+          calls = s.calls;
+          faults = s.faults;
+        } };
 
     ghost invariant = { λ s. 1 ≤ s.piece };
 }
@@ -35,7 +44,8 @@ impl<'a> MemSource<'a> {
     /// A source of these bytes. Call number n, from 1, fails where `fails` lists n.
     pub fn new(bytes: &'a [u8], piece: usize, fails: &'a [u32]) -> MemSource<'a>
         requires { 1 ≤ piece }
-        ensures { result ≡ record { left = bytes.now; piece = piece; fails = fails.now; calls = 0; faults = 0 } }
+        ensures { result ≡
+            record { left = bytes.now; piece = piece; fails = fails.now; calls = 0; faults = 0 } }
     {
         MemSource {
             left: bytes,
@@ -77,7 +87,8 @@ impl Source for MemSource<'_> {
     }
 }
 
-/// A sink of limited room that takes at most a piece at a time, and fails at the calls that it is told.
+/// A sink of limited room that takes at most a piece at a time, and fails at the calls that it is
+/// told.
 #[derive(Drop)]
 pub struct MemSink<'a> {
     // What was written.
@@ -97,14 +108,26 @@ pub struct MemSink<'a> {
 impl<'a> Model for MemSink<'a> {
     ghost Value = { Store };
 
-    ghost view = { λ s. record { written = s.written.items; room = s.room; piece = s.piece; fails = s.fails.now; calls = s.calls; faults = s.faults } };
+    ghost view = { λ s.
+        record {
+          written = s.written.items;
+          room = s.room;
+          piece = s.piece;
+          fails = s.fails.now;
+          calls = s.calls;
+          faults = s.faults;
+        } };
 
-    ghost invariant = { λ s. (1 ≤ s.piece) × (vec_len s.written + s.room ≤ vec_capacity s.written) };
+    ghost invariant = { λ s. (1 ≤ s.piece) ×
+        (vec_len s.written + s.room ≤ vec_capacity s.written) };
 }
 
 impl<'a> MemSink<'a> {
     /// A sink with room for so many bytes. Call number n, from 1, fails where `fails` lists n, and
     /// so does a call that finds no room left.
+    ///
+    /// # Errors
+    /// `AllocError` where memory runs out.
     pub fn new(
         alloc: Global,
         room: usize,
@@ -112,7 +135,16 @@ impl<'a> MemSink<'a> {
         fails: &'a [u32],
     ) -> Result<MemSink<'a>, AllocError>
         requires { 1 ≤ piece }
-        ensures { IfOk result (λ sink. sink ≡ record { written = []; room = room; piece = piece; fails = fails.now; calls = 0; faults = 0 }) }
+        ensures { IfOk result
+            (λ sink. sink ≡
+            record {
+              written = [];
+              room = room;
+              piece = piece;
+              fails = fails.now;
+              calls = 0;
+              faults = 0;
+            }) }
     {
         Ok(MemSink {
             written: Vec::with_capacity(alloc, room)?,

@@ -7,7 +7,9 @@ use std::io::{Read, Stdin, Stdout, Write};
 /// Standard input. It doesn't tell its bytes, so nothing is claimed of what it holds.
 #[derive(Drop)]
 pub struct StdSource {
+    // What is read.
     input: Stdin,
+    // How many reads have failed.
     faults: u64,
 }
 
@@ -38,7 +40,9 @@ impl Source for StdSource {
 /// Standard output. It doesn't tell its bytes, so nothing is claimed of what it received.
 #[derive(Drop)]
 pub struct StdSink {
+    // What is written to.
     output: Stdout,
+    // How many writes have failed.
     faults: u64,
 }
 

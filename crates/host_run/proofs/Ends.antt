@@ -3,6 +3,7 @@ use Rattle.std.proofs.Common.{◌≡◌, ◌⊎◌, ℕ, ◌<◌, List, ◌++◌
 use Rattle.std.specs.List.{range_with_len}
 use Rattle.fsw_base.specs.Outside.{Rose}
 use Rattle.fsw_base.specs.declared.script_faults.ScriptFault.{ScriptFault}
+use Rattle.bus_words.specs.declared.history.Entry.{Entry}
 use Rattle.bus_words.specs.Log.{Log}
 use Rattle.bus_words.specs.ReceiptLists.{Receipts}
 use Rattle.run_report.specs.Report.{report_text, report_of}
@@ -115,3 +116,24 @@ pub report-rotation : (script : ScriptText) (log : Log) (lists : List Receipts) 
     map (λ list. list.receipts) lists ≡ map (receipts_told script (rotation script)) (range_with_len 1 (length script.apps)) →
     report_of log lists ≡ rotation_report script
 report-rotation script log lists history told = ap (λ entries. report_text entries (map (λ list. list.receipts) lists)) history ∙ ap (report_text (rotation script)) told
+
+-- the same run in other words, where what guards told is what the traits tell
+pub lockstep-as : {result : HostStatus} {fed fed' fed₂ fed₂' : Fed} {old new old₂ new₂ : Made} → fed₂ ≡ fed → fed₂' ≡ fed' → old₂ ≡ old → new₂ ≡ new →
+    Lockstep result fed₂ fed₂' old₂ new₂ → Lockstep result fed fed' old new
+lockstep-as {result} {fed} {fed'} {fed₂} {fed₂'} {old} {new} {old₂} {new₂} one two three four ends =
+    subst (λ n. Lockstep result fed fed' old n) four (subst (λ o. Lockstep result fed fed' o new₂) three
+    (subst (λ f. Lockstep result fed f old₂ new₂) two (subst (λ f. Lockstep result f fed₂' old₂ new₂) one ends)))
+
+pub other-as : {result : HostStatus} {fed fed' fed₂ fed₂' : Fed} {old new old₂ new₂ : Made} → fed₂ ≡ fed → fed₂' ≡ fed' → old₂ ≡ old → new₂ ≡ new →
+    OtherWords result fed₂ fed₂' old₂ new₂ → OtherWords result fed fed' old new
+other-as {result} {fed} {fed'} {fed₂} {fed₂'} {old} {new} {old₂} {new₂} one two three four ends =
+    subst (λ n. OtherWords result fed fed' old n) four (subst (λ o. OtherWords result fed fed' o new₂) three
+    (subst (λ f. OtherWords result fed f old₂ new₂) two (subst (λ f. OtherWords result f fed₂' old₂ new₂) one ends)))
+
+pub fed-as : {left left' : Option (List ℕ)} {faults faults' : ℕ} → left ≡ left' → faults ≡ faults' →
+    (let f : Fed = record { left = left; faults = faults } in f) ≡ record { left = left'; faults = faults' }
+fed-as one two = cc
+
+pub made-as : {written written' : Option (List ℕ)} {faults faults' : ℕ} {shown shown' : Option (List (List Entry))} → written ≡ written' → faults ≡ faults' → shown ≡ shown' →
+    (let m : Made = record { written = written; faults = faults; shown = shown } in m) ≡ record { written = written'; faults = faults'; shown = shown' }
+made-as one two three = cc

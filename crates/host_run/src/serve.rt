@@ -70,7 +70,27 @@ pub fn serve<R, S: Source, K: Sink, G: Gate, A: Audit>(
         (made_by K.written K.faults A.shown sink.old audit.old)
         (made_by K.written K.faults A.shown sink.new audit.new) }
 {
-    // From here on all three are reached through their guards alone, until these give them back.
+    serve_guarded(alloc, words, source, sink, audit)
+}
+
+// Does what the words say, with the source, the sink and the audit behind guards: below here they are
+// reached in no other way.
+fn serve_guarded<S: Source, K: Sink, A: Audit>(
+    alloc: Global,
+    words: &Words,
+    source: &mut S,
+    sink: &mut K,
+    audit: &mut A,
+) -> HostStatus
+    ensures lockstep { is_lockstep words.now ≡ true → Lockstep result
+        (fed_by S.left S.faults source.old) (fed_by S.left S.faults source.new)
+        (made_by K.written K.faults A.shown sink.old audit.old)
+        (made_by K.written K.faults A.shown sink.new audit.new) }
+    ensures other_words { is_lockstep words.now ≡ false → OtherWords result
+        (fed_by S.left S.faults source.old) (fed_by S.left S.faults source.new)
+        (made_by K.written K.faults A.shown sink.old audit.old)
+        (made_by K.written K.faults A.shown sink.new audit.new) }
+{
     let mut source = SourceGuard::new(source);
     let mut sink = SinkGuard::new(sink);
     let mut audit = AuditGuard::new(audit);

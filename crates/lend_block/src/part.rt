@@ -17,6 +17,7 @@ use std::slice;
 pub(crate) struct Part<'r> {
     /// The first byte of the block.
     ptr: *const u8,
+    // The lifetime of the loan.
     marker: PhantomData<&'r u8>,
     /// The bytes of the block.
     pub(crate) ghost bytes: { List ℕ },
@@ -39,6 +40,7 @@ impl<'r> Model for Part<'r> {
 pub(crate) struct Deed<'r> {
     /// The first byte of the block.
     ptr: *mut u8,
+    // The lifetime of the loan.
     marker: PhantomData<&'r u8>,
     /// The borrow that comes back.
     pub(crate) ghost block: { MutBor (List ℕ) },

@@ -9,7 +9,7 @@ use crate::words::{
 };
 use fsw_base::{Scope, Sink, SinkGuard};
 use text_page::{Page, put};
-// Puts the line of `create`.
+/// Puts the line of `create`.
 pub(crate) fn put_create<K: Sink>(
     sink: &mut SinkGuard<'_, K>,
     page: &mut Page,
@@ -25,7 +25,7 @@ pub(crate) fn put_create<K: Sink>(
     put_name_word(sink, page, name);
 }
 
-// Puts the line of `opts`.
+/// Puts the line of `opts`.
 pub(crate) fn put_opts<K: Sink>(sink: &mut SinkGuard<'_, K>, page: &mut Page, pipe: u32, bits: u8)
     ensures { Puts sink.old sink.new page.old page.new (line_text (SetOpts pipe bits)) }
 {
@@ -34,7 +34,7 @@ pub(crate) fn put_opts<K: Sink>(sink: &mut SinkGuard<'_, K>, page: &mut Page, pi
     put_figure(sink, page, bits);
 }
 
-// Puts the line of `find`.
+/// Puts the line of `find`.
 pub(crate) fn put_find<K: Sink>(
     sink: &mut SinkGuard<'_, K>,
     page: &mut Page,
@@ -48,7 +48,7 @@ pub(crate) fn put_find<K: Sink>(
     put_name_word(sink, page, name);
 }
 
-// Puts the line of `sub`.
+/// Puts the line of `sub`.
 pub(crate) fn put_subscribe<K: Sink>(
     sink: &mut SinkGuard<'_, K>,
     page: &mut Page,
@@ -66,7 +66,7 @@ pub(crate) fn put_subscribe<K: Sink>(
     put_scope_word(sink, page, scope);
 }
 
-// Puts the line of `unsub`.
+/// Puts the line of `unsub`.
 pub(crate) fn put_unsubscribe<K: Sink>(
     sink: &mut SinkGuard<'_, K>,
     page: &mut Page,
@@ -80,7 +80,7 @@ pub(crate) fn put_unsubscribe<K: Sink>(
     put_register(sink, page, b'p', pipe);
 }
 
-// Puts the line of `send`.
+/// Puts the line of `send`.
 pub(crate) fn put_send<K: Sink>(
     sink: &mut SinkGuard<'_, K>,
     page: &mut Page,
@@ -98,7 +98,7 @@ pub(crate) fn put_send<K: Sink>(
     put_mode_word(sink, page, inc);
 }
 
-// Puts the line of `sendraw`.
+/// Puts the line of `sendraw`.
 pub(crate) fn put_send_raw<K: Sink>(
     sink: &mut SinkGuard<'_, K>,
     page: &mut Page,

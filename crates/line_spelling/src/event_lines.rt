@@ -7,7 +7,7 @@ ghost use Rattle.line_spelling.specs.Spelling.{line_text, behind, filter_text, t
 use crate::words::{put_figure, put_filter_word, put_word};
 use fsw_base::{EventKind, FilterList, Sink, SinkGuard};
 use text_page::{Page, put};
-// Puts the line of `evreg`.
+/// Puts the line of `evreg`.
 pub(crate) fn put_register_events<K: Sink>(
     sink: &mut SinkGuard<'_, K>,
     page: &mut Page,
@@ -28,7 +28,7 @@ fn put_filters<K: Sink>(sink: &mut SinkGuard<'_, K>, page: &mut Page, filters: &
     }
 }
 
-// Puts the line of `event`; it ends behind the type where there is no text.
+/// Puts the line of `event`; it ends behind the type where there is no text.
 pub(crate) fn put_send_event<K: Sink>(
     sink: &mut SinkGuard<'_, K>,
     page: &mut Page,
@@ -53,7 +53,7 @@ fn put_event_text<K: Sink>(sink: &mut SinkGuard<'_, K>, page: &mut Page, text: &
     }
 }
 
-// Puts the line of `evreset`.
+/// Puts the line of `evreset`.
 pub(crate) fn put_reset_filter<K: Sink>(sink: &mut SinkGuard<'_, K>, page: &mut Page, id: u16)
     ensures { Puts sink.old sink.new page.old page.new (line_text (ResetFilter id)) }
 {
@@ -61,7 +61,7 @@ pub(crate) fn put_reset_filter<K: Sink>(sink: &mut SinkGuard<'_, K>, page: &mut 
     put_figure(sink, page, id);
 }
 
-// Puts the line of `logmode`.
+/// Puts the line of `logmode`.
 pub(crate) fn put_log_mode<K: Sink>(sink: &mut SinkGuard<'_, K>, page: &mut Page, mode: u8)
     ensures { Puts sink.old sink.new page.old page.new (line_text (LogMode mode)) }
 {

@@ -9,13 +9,15 @@ ghost use Rattle.line_spelling.specs.Spelling.{line_text};
 ghost use Rattle.line_spelling.specs.Ranges.{is_readable};
 ghost use Rattle.line_spelling.specs.ReadsBack.{IsReadAs};
 
-/// The spelling of every line that a script can have is a line of a script, and is read as that line.
+/// The spelling of every line that a script can have is a line of a script, and is read as that
+/// line.
 pub fn printed_lines_read_back()
     ensures { (line : Line) → is_readable line ≡ true → IsReadAs (line_text line) line }
 {}
 
-/// Each number, register, name and text of a call line is in its range: what is read as one, behind a first
-/// word and of a text's bytes, is a line that a script can have.
+/// Each number, register, name and text of a call line is in its range: what is read as one, behind
+/// a first word and of a text's bytes, is a line that a script can have.
 pub fn read_lines_are_readable()
-    ensures { (first : CallWord) (rest : List ℕ) (line : Line) → list_all is_text rest ≡ true → call_line_of first rest ≡ Ok line → is_readable line ≡ true }
+    ensures { (first : CallWord) (rest : List ℕ) (line : Line) → list_all is_text rest ≡ true →
+        call_line_of first rest ≡ Ok line → is_readable line ≡ true }
 {}

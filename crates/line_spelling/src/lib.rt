@@ -1,10 +1,12 @@
-//! The one spelling in which call lines are printed, so that a script can be written and read again.
+//! The one spelling in which call lines are printed, so that a script can be written and read
+//! again.
 //!
-//! It promises that a sink is given exactly a line's spelling, and that the grammar of call lines reads
-//! the spelling of every line that a script can have as that line.
+//! It promises that a sink is given exactly a line's spelling, and that the grammar of call lines
+//! reads the spelling of every line that a script can have as that line.
 //!
 //! ```text
-//! print_line(sink, &mut page, &Line::Subscribe { id: 0x0801, pipe: 0, limit: 4, scope: Scope::Global });
+//! print_line(sink, &mut page,
+//! &Line::Subscribe { id: 0x0801, pipe: 0, limit: 4, scope: Scope::Global });
 //! // sub 0x0801 p0 4 global
 //! ```
 #![tactic(auto)]

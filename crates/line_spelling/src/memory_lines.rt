@@ -6,7 +6,7 @@ ghost use Rattle.line_spelling.specs.Spelling.{line_text};
 use crate::words::{put_bytes_word, put_figure, put_id_word, put_mode_word, put_register};
 use fsw_base::{Sink, SinkGuard};
 use text_page::{Page, put};
-// Puts the line of `alloc`.
+/// Puts the line of `alloc`.
 pub(crate) fn put_allocate<K: Sink>(
     sink: &mut SinkGuard<'_, K>,
     page: &mut Page,
@@ -20,7 +20,7 @@ pub(crate) fn put_allocate<K: Sink>(
     put_figure(sink, page, size);
 }
 
-// Puts the line of `xmit`.
+/// Puts the line of `xmit`.
 pub(crate) fn put_transmit_buffer<K: Sink>(
     sink: &mut SinkGuard<'_, K>,
     page: &mut Page,
@@ -34,7 +34,7 @@ pub(crate) fn put_transmit_buffer<K: Sink>(
     put_mode_word(sink, page, inc);
 }
 
-// Puts the line of `pool`.
+/// Puts the line of `pool`.
 pub(crate) fn put_pool_create<K: Sink>(
     sink: &mut SinkGuard<'_, K>,
     page: &mut Page,
@@ -48,7 +48,7 @@ pub(crate) fn put_pool_create<K: Sink>(
     put_figure(sink, page, bytes);
 }
 
-// Puts the line of `pget`.
+/// Puts the line of `pget`.
 pub(crate) fn put_pool_get<K: Sink>(
     sink: &mut SinkGuard<'_, K>,
     page: &mut Page,
@@ -64,7 +64,7 @@ pub(crate) fn put_pool_get<K: Sink>(
     put_figure(sink, page, size);
 }
 
-// Puts the line of `pput`.
+/// Puts the line of `pput`.
 pub(crate) fn put_pool_put<K: Sink>(
     sink: &mut SinkGuard<'_, K>,
     page: &mut Page,
@@ -78,7 +78,7 @@ pub(crate) fn put_pool_put<K: Sink>(
     put_register(sink, page, b'm', grant);
 }
 
-// Puts the line of `form`.
+/// Puts the line of `form`.
 pub(crate) fn put_form<K: Sink>(
     sink: &mut SinkGuard<'_, K>,
     page: &mut Page,
@@ -94,7 +94,7 @@ pub(crate) fn put_form<K: Sink>(
     put_figure(sink, page, fill);
 }
 
-// Puts the line of `put`.
+/// Puts the line of `put`.
 pub(crate) fn put_bytes<K: Sink>(
     sink: &mut SinkGuard<'_, K>,
     page: &mut Page,

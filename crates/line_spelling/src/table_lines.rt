@@ -9,7 +9,7 @@ use crate::words::{put_content_word, put_figure, put_name_word, put_register, pu
 use fsw_base::{Sink, SinkGuard};
 use script_lines::{Content, RuleList};
 use text_page::{Page, put};
-// Puts the line of `treg`.
+/// Puts the line of `treg`.
 pub(crate) fn put_table_register<K: Sink>(
     sink: &mut SinkGuard<'_, K>,
     page: &mut Page,
@@ -19,7 +19,8 @@ pub(crate) fn put_table_register<K: Sink>(
     option: u32,
     rules: &RuleList,
 )
-    ensures { Puts sink.old sink.new page.old page.new (line_text (TableRegister handle name.now size option rules.now)) }
+    ensures { Puts sink.old sink.new page.old page.new
+        (line_text (TableRegister handle name.now size option rules.now)) }
 {
     put(sink, page, b"treg");
     put_register(sink, page, b't', handle);
@@ -38,7 +39,7 @@ fn put_rules<K: Sink>(sink: &mut SinkGuard<'_, K>, page: &mut Page, rules: &Rule
     }
 }
 
-// Puts the line of a load, with its first word, `tstage` or `tload`.
+/// Puts the line of a load, with its first word, `tstage` or `tload`.
 pub(crate) fn put_load<K: Sink>(
     sink: &mut SinkGuard<'_, K>,
     page: &mut Page,
@@ -47,7 +48,8 @@ pub(crate) fn put_load<K: Sink>(
     offset: u32,
     content: &Content,
 )
-    ensures { Puts sink.old sink.new page.old page.new (spaced (word.now ∷ table_word handle ∷ decimal offset ∷ content_text content.now ∷ [])) }
+    ensures { Puts sink.old sink.new page.old page.new
+        (spaced (word.now ∷ table_word handle ∷ decimal offset ∷ content_text content.now ∷ [])) }
 {
     put(sink, page, word);
     put_register(sink, page, b't', handle);
@@ -55,7 +57,7 @@ pub(crate) fn put_load<K: Sink>(
     put_content_word(sink, page, content);
 }
 
-// Puts the line of `tshare`.
+/// Puts the line of `tshare`.
 pub(crate) fn put_table_share<K: Sink>(
     sink: &mut SinkGuard<'_, K>,
     page: &mut Page,

@@ -9,7 +9,7 @@ use itoa::Integer;
 use script_lines::{Content, Rule};
 use text_page::{Page, put, put_hex_bytes, put_hex_id, put_name, put_number};
 
-// Puts a word.
+/// Puts a word.
 pub(crate) fn put_word<K: Sink>(sink: &mut SinkGuard<'_, K>, page: &mut Page, word: &[u8])
     ensures { Puts sink.old sink.new page.old page.new (32 ∷ word.now) }
 {
@@ -17,7 +17,7 @@ pub(crate) fn put_word<K: Sink>(sink: &mut SinkGuard<'_, K>, page: &mut Page, wo
     put(sink, page, word);
 }
 
-// Puts a register: its letter and its number.
+/// Puts a register: its letter and its number.
 pub(crate) fn put_register<K: Sink>(
     sink: &mut SinkGuard<'_, K>,
     page: &mut Page,
@@ -30,7 +30,7 @@ pub(crate) fn put_register<K: Sink>(
     put_number(sink, page, number);
 }
 
-// Puts a line of a first word and one register.
+/// Puts a line of a first word and one register.
 pub(crate) fn put_alone<K: Sink>(
     sink: &mut SinkGuard<'_, K>,
     page: &mut Page,
@@ -38,13 +38,14 @@ pub(crate) fn put_alone<K: Sink>(
     letter: u8,
     number: u32,
 )
-    ensures { Puts sink.old sink.new page.old page.new (spaced (word.now ∷ (letter ∷ decimal number) ∷ [])) }
+    ensures { Puts sink.old sink.new page.old page.new
+        (spaced (word.now ∷ (letter ∷ decimal number) ∷ [])) }
 {
     put(sink, page, word);
     put_register(sink, page, letter, number);
 }
 
-// Puts a number in decimal.
+/// Puts a number in decimal.
 pub(crate) fn put_figure<K: Sink, N: Integer>(
     sink: &mut SinkGuard<'_, K>,
     page: &mut Page,
@@ -56,7 +57,7 @@ pub(crate) fn put_figure<K: Sink, N: Integer>(
     put_number(sink, page, number);
 }
 
-// Puts a message id.
+/// Puts a message id.
 pub(crate) fn put_id_word<K: Sink>(sink: &mut SinkGuard<'_, K>, page: &mut Page, id: u16)
     ensures { Puts sink.old sink.new page.old page.new (32 ∷ hex_id id) }
 {
@@ -64,7 +65,7 @@ pub(crate) fn put_id_word<K: Sink>(sink: &mut SinkGuard<'_, K>, page: &mut Page,
     put_hex_id(sink, page, id);
 }
 
-// Puts a name, or a hyphen for the empty one.
+/// Puts a name, or a hyphen for the empty one.
 pub(crate) fn put_name_word<K: Sink>(sink: &mut SinkGuard<'_, K>, page: &mut Page, name: &[u8])
     ensures { Puts sink.old sink.new page.old page.new (32 ∷ name_text name.now) }
 {
@@ -72,7 +73,7 @@ pub(crate) fn put_name_word<K: Sink>(sink: &mut SinkGuard<'_, K>, page: &mut Pag
     put_name(sink, page, name);
 }
 
-// Puts bytes as their digits.
+/// Puts bytes as their digits.
 pub(crate) fn put_bytes_word<K: Sink>(sink: &mut SinkGuard<'_, K>, page: &mut Page, bytes: &[u8])
     ensures { Puts sink.old sink.new page.old page.new (32 ∷ hex_bytes bytes.now) }
 {
@@ -80,7 +81,7 @@ pub(crate) fn put_bytes_word<K: Sink>(sink: &mut SinkGuard<'_, K>, page: &mut Pa
     put_hex_bytes(sink, page, bytes);
 }
 
-// Puts a subscription's scope.
+/// Puts a subscription's scope.
 pub(crate) fn put_scope_word<K: Sink>(sink: &mut SinkGuard<'_, K>, page: &mut Page, scope: Scope)
     ensures { Puts sink.old sink.new page.old page.new (32 ∷ scope_text scope) }
 {
@@ -90,7 +91,7 @@ pub(crate) fn put_scope_word<K: Sink>(sink: &mut SinkGuard<'_, K>, page: &mut Pa
     }
 }
 
-// Puts whether a send gives its message the next sequence count.
+/// Puts whether a send gives its message the next sequence count.
 pub(crate) fn put_mode_word<K: Sink>(sink: &mut SinkGuard<'_, K>, page: &mut Page, inc: bool)
     ensures { Puts sink.old sink.new page.old page.new (32 ∷ mode_text inc) }
 {
@@ -101,7 +102,7 @@ pub(crate) fn put_mode_word<K: Sink>(sink: &mut SinkGuard<'_, K>, page: &mut Pag
     }
 }
 
-// Puts the bytes of a load: their digits, or how many there are and the first one.
+/// Puts the bytes of a load: their digits, or how many there are and the first one.
 pub(crate) fn put_content_word<K: Sink>(
     sink: &mut SinkGuard<'_, K>,
     page: &mut Page,
@@ -120,7 +121,7 @@ pub(crate) fn put_content_word<K: Sink>(
     }
 }
 
-// Puts an event id and its mask.
+/// Puts an event id and its mask.
 pub(crate) fn put_filter_word<K: Sink>(
     sink: &mut SinkGuard<'_, K>,
     page: &mut Page,
@@ -134,7 +135,7 @@ pub(crate) fn put_filter_word<K: Sink>(
     put_hex_id(sink, page, filter.1);
 }
 
-// Puts a rule: the place of a byte, and the least and the greatest value that it may have.
+/// Puts a rule: the place of a byte, and the least and the greatest value that it may have.
 pub(crate) fn put_rule_word<K: Sink>(sink: &mut SinkGuard<'_, K>, page: &mut Page, rule: Rule)
     ensures { Puts sink.old sink.new page.old page.new (32 ∷ rule_text rule) }
 {

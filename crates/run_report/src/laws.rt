@@ -16,8 +16,10 @@ ghost use Rattle.run_report.specs.Report.{report_text};
 pub fn reports_tell_applications_and_answers()
     ensures lines { (one other : List Entry) → All IsPlain one → All IsPlain other →
         entries_text one ≡ entries_text other → TellTheSame one other }
-    ensures reports { (one other : List Entry) (receipts others : List (List Receipt)) → All IsPlain one → All IsPlain other →
+    ensures reports { (one other : List Entry) (receipts others : List (List Receipt)) →
+        All IsPlain one → All IsPlain other →
         report_text one receipts ≡ report_text other others → TellTheSame one other }
-    ensures legal { (limits : Limits) (apps : ℕ) (history : List Entry) → IsLegal limits apps history →
+    ensures legal { (limits : Limits) (apps : ℕ) (history : List Entry) →
+        IsLegal limits apps history →
         All (λ e. IsTrue (can_answer e.call e.answer)) history }
 {}

@@ -9,7 +9,8 @@ use text_page::{Page, put, put_hex_bytes, put_hex_id, put_number};
 
 /// Puts the receipts of the applications 1, 2, 3 and so on.
 pub fn put_receipts<K: Sink>(sink: &mut SinkGuard<'_, K>, page: &mut Page, receipts: &[ReceiptList])
-    ensures { Puts sink.old sink.new page.old page.new (receipts_text (map (λ list. list.receipts) receipts.now)) }
+    ensures { Puts sink.old sink.new page.old page.new
+        (receipts_text (map (λ list. list.receipts) receipts.now)) }
 {
     for (i, list) in receipts.iter().enumerate() {
         put_application(sink, page, i + 1, list);

@@ -12,15 +12,20 @@ use sb_calls::BusCore;
 use text_page::{Page, finish, put};
 
 /// Writes the report of a bus, as [`write_journal`] does that of its journal.
+///
+/// # Errors
+/// As [`write_journal`].
 pub fn write_report<K: Sink>(
     bus: &BusCore,
     receipts: &[ReceiptList],
     sink: &mut SinkGuard<'_, K>,
 ) -> Result<(), WriteFault>
     requires { sink.old.failed ≡ false }
-    ensures ok { OnOk result (Grew sink.old.written sink.new.written (report_of bus.now.log receipts.now)) }
+    ensures ok { OnOk result
+        (Grew sink.old.written sink.new.written (report_of bus.now.log receipts.now)) }
     ensures none_failed { OnOk result (sink.new.failed ≡ false) }
-    ensures err { OnErr result (CutShort sink.old.written sink.new.written (report_of bus.now.log receipts.now)) }
+    ensures err { OnErr result
+        (CutShort sink.old.written sink.new.written (report_of bus.now.log receipts.now)) }
     ensures failed { OnErr result (sink.new.failed ≡ true) }
     ensures cause { OnErr result (Rose sink.old.faults sink.new.faults) }
     ensures never_falls { sink.old.faults ≤ sink.new.faults }
@@ -31,22 +36,24 @@ pub fn write_report<K: Sink>(
 
 /// Writes the report of a journal and of the receipts of the applications 1, 2, 3 and so on.
 ///
-/// The sink is given the text in pages of 4096 bytes, of which it may take less at a time. No memory
-/// is taken. No write through this guard may have failed before.
+/// The sink is given the text in pages of 4096 bytes, of which it may take less at a time. No
+/// memory is taken. No write through this guard may have failed before.
 ///
 /// # Errors
 /// `WriteFault` only where a write failed, so that the sink's count of faults rose in this call (or
-/// stands at its last value); the sink then has a front of the text, and after the failed write nothing
-/// more is written.
+/// stands at its last value); the sink then has a front of the text, and after the failed write
+/// nothing more is written.
 pub fn write_journal<K: Sink>(
     journal: &BusJournal,
     receipts: &[ReceiptList],
     sink: &mut SinkGuard<'_, K>,
 ) -> Result<(), WriteFault>
     requires { sink.old.failed ≡ false }
-    ensures ok { OnOk result (Grew sink.old.written sink.new.written (report_of journal.now receipts.now)) }
+    ensures ok { OnOk result
+        (Grew sink.old.written sink.new.written (report_of journal.now receipts.now)) }
     ensures none_failed { OnOk result (sink.new.failed ≡ false) }
-    ensures err { OnErr result (CutShort sink.old.written sink.new.written (report_of journal.now receipts.now)) }
+    ensures err { OnErr result
+        (CutShort sink.old.written sink.new.written (report_of journal.now receipts.now)) }
     ensures failed { OnErr result (sink.new.failed ≡ true) }
     ensures cause { OnErr result (Rose sink.old.faults sink.new.faults) }
     ensures never_falls { sink.old.faults ≤ sink.new.faults }

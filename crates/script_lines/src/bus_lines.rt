@@ -46,7 +46,7 @@ ghost use Rattle.script_lines.specs.BusLines.{pipe_alone, create_of, opts_of, fi
 ghost use Rattle.script_lines.specs.BusLines.{subscribed, sub_of, unsub_of, sent, send_of};
 ghost use Rattle.script_lines.specs.BusLines.{hex_word, sendraw_of, bus_line_of, bus_word};
 
-// The word as the first one of such a line.
+/// The word as the first one of such a line.
 #[tactic(auto, unfolding(crate::specs::BusLines::bus_word))]
 pub(crate) fn bus_word(word: &[u8]) -> Option<BusWord>
     ensures { result ≡ bus_word word.now }
@@ -196,7 +196,7 @@ fn send(rest: &[u8]) -> Result<Line, FaultKind>
     sent(id, size, fill, inc)
 }
 
-// A word that spells bytes.
+/// A word that spells bytes.
 #[tactic(auto, unfolding(crate::specs::BusLines::hex_word))]
 pub(crate) fn hex_word(word: &[u8]) -> Result<(), FaultKind>
     ensures { Reads (λ x. x) result (hex_word word.now) }
@@ -219,7 +219,7 @@ fn sendraw(alloc: Global, rest: &[u8]) -> Result<Line, LineFail>
     Ok(Line::SendRaw { bytes, inc })
 }
 
-// The line with this first word, from the words behind it.
+/// The line with this first word, from the words behind it.
 #[tactic(auto, unfolding(crate::specs::BusLines::bus_line_of))]
 pub(crate) fn bus_line(alloc: Global, first: BusWord, rest: &[u8]) -> Result<Line, LineFail>
     ensures { Gives (λ line. line) result (bus_line_of first (words_of rest.now)) }

@@ -35,7 +35,7 @@ pub enum EventWord {
     Figures,
 }
 
-// The word as the first one of such a line.
+/// The word as the first one of such a line.
 #[tactic(auto, unfolding(crate::specs::EventLines::event_word))]
 pub(crate) fn event_word(word: &[u8]) -> Option<EventWord>
     ensures { result ≡ event_word word.now }
@@ -213,7 +213,7 @@ fn logmode(rest: &[u8]) -> Result<Line, FaultKind>
     Ok(Line::LogMode { mode: mode as u8 })
 }
 
-// The line with this first word, from the line behind it.
+/// The line with this first word, from the line behind it.
 #[tactic(auto, unfolding(crate::specs::EventLines::event_line_of))]
 pub(crate) fn event_line(alloc: Global, first: EventWord, rest: &[u8]) -> Result<Line, LineFail>
     ensures { Gives (λ line. line) result (event_line_of first rest.now) }

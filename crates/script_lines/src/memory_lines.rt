@@ -39,7 +39,7 @@ pub enum MemoryWord {
     PoolFigures,
 }
 
-// The word as the first one of such a line.
+/// The word as the first one of such a line.
 #[tactic(auto, unfolding(crate::specs::MemoryLines::memory_word))]
 pub(crate) fn memory_word(word: &[u8]) -> Option<MemoryWord>
     ensures { result ≡ memory_word word.now }
@@ -163,7 +163,7 @@ fn pstats(rest: &[u8]) -> Result<Line, FaultKind>
     Ok(Line::PoolFigures { pool })
 }
 
-// The line with this first word, from the words behind it.
+/// The line with this first word, from the words behind it.
 #[tactic(auto, unfolding(crate::specs::MemoryLines::memory_line_of))]
 pub(crate) fn memory_line(alloc: Global, first: MemoryWord, rest: &[u8]) -> Result<Line, LineFail>
     ensures { Gives (λ line. line) result (memory_line_of first (words_of rest.now)) }

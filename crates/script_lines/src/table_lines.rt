@@ -44,7 +44,7 @@ pub enum TableWord {
     Status,
 }
 
-// The word as the first one of such a line.
+/// The word as the first one of such a line.
 #[tactic(auto, unfolding(crate::specs::TableLines::table_word))]
 pub(crate) fn table_word(word: &[u8]) -> Option<TableWord>
     ensures { result ≡ table_word word.now }
@@ -236,7 +236,7 @@ fn load(alloc: Global, rest: &[u8]) -> Result<(u32, u32, Content), LineFail>
     load_within(alloc, handle, place, word, filling)
 }
 
-// The line with this first word, from the words behind it.
+/// The line with this first word, from the words behind it.
 #[tactic(auto, unfolding(crate::specs::TableLines::table_line_of))]
 pub(crate) fn table_line(alloc: Global, first: TableWord, rest: &[u8]) -> Result<Line, LineFail>
     ensures { Gives (λ line. line) result (table_line_of first (words_of rest.now)) }
@@ -298,7 +298,7 @@ fn shown(word: &[u8]) -> Result<Line, FaultKind>
     }
 }
 
-// The line that shows a pipe or a table.
+/// The line that shows a pipe or a table.
 #[tactic(auto, unfolding(crate::specs::TableLines::show_of))]
 pub(crate) fn show(rest: &[u8]) -> Result<Line, FaultKind>
     ensures { Reads (λ line. line) result (show_of (words_of rest.now)) }

@@ -28,7 +28,7 @@ fn is_hex_digit(byte: u8) -> bool
     (48 <= byte && byte <= 57) || (65 <= byte && byte <= 70) || (97 <= byte && byte <= 102)
 }
 
-// What a hexadecimal digit stands for.
+/// What a hexadecimal digit stands for.
 #[tactic(auto, unfolding(crate::specs::Numbers::digit_value))]
 pub(crate) fn digit_value(byte: u8) -> u8
     ensures value { result ≡ digit_value byte }

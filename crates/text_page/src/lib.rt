@@ -1,8 +1,8 @@
-//! Text for a sink, put together on a page of 4096 bytes: numbers, ids, names and bytes in the forms in
-//! which reports and scripts have them.
+//! Text for a sink, put together on a page of 4096 bytes: numbers, ids, names and bytes in the
+//! forms in which reports and scripts have them.
 //!
-//! It promises that the sink is given the pieces in order and nothing else, and after a failed write
-//! nothing more.
+//! It promises that the sink is given the pieces in order and nothing else, and after a failed
+//! write nothing more.
 //!
 //! ```text
 //! let mut page = Page::new();

@@ -47,8 +47,8 @@ impl Page {
     }
 }
 
-/// Puts a piece of text on the page. A full page is written out first. After a failed write nothing is
-/// written any more, and what is put is lost.
+/// Puts a piece of text on the page. A full page is written out first. After a failed write nothing
+/// is written any more, and what is put is lost.
 pub fn put<K: Sink>(sink: &mut SinkGuard<'_, K>, page: &mut Page, text: &[u8])
     ensures { Puts sink.old sink.new page.old page.new text.now }
 {
@@ -59,6 +59,9 @@ pub fn put<K: Sink>(sink: &mut SinkGuard<'_, K>, page: &mut Page, text: &[u8])
 }
 
 /// Writes what still waits; an error where this write failed or one before.
+///
+/// # Errors
+/// `WriteFault` if and only if this write failed or one before.
 pub fn finish<K: Sink>(sink: &mut SinkGuard<'_, K>, page: &mut Page) -> Result<(), WriteFault>
     ensures puts { Puts sink.old sink.new page.old page.new [] }
     ensures ok { OnOk result (page.new ≡ []) }

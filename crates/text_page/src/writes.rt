@@ -5,8 +5,8 @@ ghost use Rattle.text_page.specs.Pieces.{Grew, CutShort};
 
 use fsw_base::{Sink, SinkGuard, WriteAnswer, WriteFault};
 
-/// Writes the bytes in as many calls as the sink needs, and stops at the first that fails. No memory
-/// is taken. No write through this guard may have failed before.
+/// Writes the bytes in as many calls as the sink needs, and stops at the first that fails. No
+/// memory is taken. No write through this guard may have failed before.
 ///
 /// # Errors
 /// `WriteFault` only where a write failed, so that the sink's count of faults rose in this call, or

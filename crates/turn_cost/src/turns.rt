@@ -9,7 +9,7 @@ use std::alloc::{AllocError, Global};
 use std::sync::Wait;
 use turn_lock::{Seat, TurnLock};
 
-/// Takes a turn and does nothing in it.
+// Takes a turn and does nothing in it.
 fn idle_turn<R: Wait>(rt: &R, lock: &TurnLock<Visits>, seat: &mut Seat<usize, u64>)
     requires seat { IsReady seat.old lock.now.name }
     ensures seat { IsReady seat.new lock.now.name }
@@ -20,7 +20,7 @@ fn idle_turn<R: Wait>(rt: &R, lock: &TurnLock<Visits>, seat: &mut Seat<usize, u6
     lock.leave(seat, turn);
 }
 
-/// Takes so many turns.
+// Takes so many turns.
 fn idle_turns<R: Wait>(rt: &R, lock: &TurnLock<Visits>, seat: &mut Seat<usize, u64>, turns: u64)
     requires seat { IsReady seat.old lock.now.name }
     ensures seat { IsReady seat.new lock.now.name }
@@ -32,7 +32,7 @@ fn idle_turns<R: Wait>(rt: &R, lock: &TurnLock<Visits>, seat: &mut Seat<usize, u
     }
 }
 
-/// Takes a turn and notes a visit in it, if there is room.
+// Takes a turn and notes a visit in it, if there is room.
 fn note_turn<R: Wait>(
     rt: &R,
     lock: &TurnLock<Visits>,

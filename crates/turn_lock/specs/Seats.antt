@@ -16,12 +16,13 @@ pub record SeatView (F E : Type 0) : Type 0 where
   pub lock : TableId
   pub knows : List (View F E)
 
--- a turn: which lock it is of, what its seat knows, the value, and whether it is marked as having made an entry
+-- a turn: which lock it is of, what its seat knows, the value, whether it is marked as having made an entry, and how often its seat looked until it came, of which nothing is said
 pub record TurnView (T F E : Type 0) : Type 0 where
   pub lock : TableId
   pub view : View F E
   pub value : T
   pub marked : Bool
+  pub looks : ℕ
 
 -- one of two histories begins the other, and the longer one is kept
 abbrev pub KeepsLonger : {E : Type 0} → List (ℕ × E) → List (ℕ × E) → List (ℕ × E) → Type 0

@@ -20,27 +20,28 @@ use std::thread;
 /// The place in the table with which a seat makes its steps.
 pub(crate) type Place<T> = Seat<Option<T>, View<<T as Historied>::Fixed, <T as Historied>::Event>>;
 
-/// The tickets drawn so far, modulo 2^64.
+// The tickets drawn so far, modulo 2^64.
 const TICKET: usize = 0;
 
-/// The ticket that is served, modulo 2^64.
+// The ticket that is served, modulo 2^64.
 const SERVING: usize = 1;
 
-/// The entries published so far, modulo 2^64.
+// The entries published so far, modulo 2^64.
 const COUNT: usize = 2;
 
-/// The slot, which has the value while no turn is out.
+// The slot, which has the value while no turn is out.
 const VALUE: usize = 0;
 
 /// How often a thread looks before it sleeps. A turn is short, so that most waits end before.
 pub(crate) const LOOKS: u32 = 100;
 
-/// How many numbers the half of a word has that a sleep compares.
+// How many numbers the half of a word has that a sleep compares.
 const HALF: u64 = 4294967296;
 
 /// The table of the lock: three words and one slot.
 #[derive(Drop)]
 pub(crate) struct Board<T: Historied> {
+    // The words and the slot.
     table: Table<Option<T>, View<T::Fixed, T::Event>, Snapshot<T>, Turns<T>, Global>,
     ghost three: { table.shared.table_id.words ≡ 3 },
     ghost one: { table.shared.table_id.slots ≡ 1 },
@@ -50,12 +51,14 @@ pub(crate) struct Board<T: Historied> {
 /// 2^64. Who waits for that turn may sleep, and only `Board::wake` gives the place back; this
 /// can't be dropped, so that whoever passes a turn on wakes, and wakes afterwards.
 pub(crate) struct Passed<T: Historied> {
+    // The seat's place, which waking gives back.
     place: Place<T>,
+    // The ticket that is served now, modulo 2^64.
     next: u64,
     ghost passed: { place.me.0.stage ≡ Away },
 }
 
-/// The low half of a word, which is the one that a sleep compares and a pass moves.
+// The low half of a word, which is the one that a sleep compares and a pass moves.
 fn low_half(word: u64) -> u32
     ensures { result ≡ word % HALF }
 {
@@ -105,8 +108,8 @@ impl<T: Historied> Board<T> {
         self.table.shared.fetch_add::<Draw>(place, TICKET, 1)
     }
 
-    /// Reads which ticket is served, modulo 2^64. Where it is this place's, the slot is out with
-    /// it.
+    // Reads which ticket is served, modulo 2^64. Where it is this place's, the slot is out with
+    // it.
     fn look(&self, place: &mut Place<T>) -> u64
         requires table { place.old.table_id ≡ self.now.table.shared.table_id }
         requires waits { (place.old.me.0.stage ≡ Waits) × (place.old.me.1 ≡ []) }
@@ -141,8 +144,8 @@ impl<T: Historied> Board<T> {
         unreachable!()
     }
 
-    /// Sleeps if this ticket, which is not the place's own, is still served, until a turn is passed
-    /// on. It may return early.
+    // Sleeps if this ticket, which is not the place's own, is still served, until a turn is passed
+    // on. It may return early.
     fn sleep<R: Wait>(&self, rt: &R, place: &Place<T>, serving: u64)
         requires other { place.now.me.0.ticket % wrap ≢ serving }
     {
@@ -196,7 +199,7 @@ impl<T: Historied> Board<T> {
         }
     }
 
-    /// Serves the next ticket, with the slot home again, and answers the one served before.
+    // Serves the next ticket, with the slot home again, and answers the one served before.
     fn serve_next(&self, place: &mut Place<T>) -> u64
         requires table { place.old.table_id ≡ self.now.table.shared.table_id }
         requires served { place.old.me.0.stage ≡ Has }

@@ -11,8 +11,8 @@ use std::marker::Model;
 /// The value of the lock while one seat has its turn. Who makes an entry in the value's history
 /// marks the turn, so that the lock can count the entries. A turn can't be dropped, only left.
 ///
-/// Contracts see which lock it is of, the value, whether it is marked, and what the turn's seat
-/// knows, with the history seen at entry.
+/// Contracts see which lock it is of, the value, whether it is marked, what the turn's seat knows,
+/// with the history seen at entry, and how often that seat looked.
 pub struct Turn<T: Historied> {
     /// The place of the turn's seat, which the slot is out with.
     pub(crate) place: Place<Option<T>, View<T::Fixed, T::Event>>,
@@ -37,6 +37,7 @@ impl<T: Historied> Model for Turn<T> {
       view = rested_view t.place.me.0;
       value = t.value;
       marked = t.marked;
+      looks = t.looks;
     } };
 
     ghost invariant = { λ t. (t.place.me.0.stage ≡ Has) × (t.place.me.1 ≡ (0, None) ∷ []) };
@@ -46,8 +47,10 @@ impl<T: Historied> Turn<T> {
     ghost use Rattle.turn_lock.specs.Lending.{LendsValue};
 
     /// How often the seat looked until this turn came, for tests and for tuning: a seat that waits
-    /// long sleeps, and then looks no oftener than turns are passed on. No clause speaks of it.
-    pub fn looks(&self) -> u32 {
+    /// long sleeps, and then looks no oftener than turns are passed on. Nothing is claimed of it.
+    pub fn looks(&self) -> u32
+        ensures { result ≡ self.now.looks }
+    {
         self.looks
     }
 

@@ -15,14 +15,16 @@ use fsw_base::AppNo;
 use std::alloc::{AllocError, Global};
 use std::marker::Model;
 
-/// The descriptors that each application holds. Contracts see how many descriptors there are, and each application's
-/// list, the one held last first; no descriptor is in two lists.
+/// The descriptors that each application holds. Contracts see how many descriptors there are, and
+/// each application's list, the one held last first; no descriptor is in two lists.
 ///
-/// Each list is a ring through the descriptors and an anchor of its own, so letting go of any descriptor needs no search.
+/// Each list is a ring through the descriptors and an anchor of its own, so letting go of any
+/// descriptor needs no search.
 #[derive(Drop)]
 pub struct HeldLists {
-    /// At each descriptor in a list, the one behind it; at its last one, the anchor. Behind the descriptors stand the
-    /// anchors, in order of application: at each the first of its list, or itself.
+    /// At each descriptor in a list, the one behind it; at its last one, the anchor. Behind the
+    /// descriptors stand the anchors, in order of application: at each the first of its list, or
+    /// itself.
     next: Links,
     /// The same in the other direction.
     prev: Links,
@@ -47,8 +49,8 @@ impl Model for HeldLists {
 }
 
 impl HeldLists {
-    /// Empty lists for `apps` applications over descriptors 0 to `descs` - 1, together fewer than 2^32. No later call
-    /// takes memory.
+    /// Empty lists for `apps` applications over descriptors 0 to `descs` - 1, together fewer than
+    /// 2^32. No later call takes memory.
     ///
     /// # Errors
     ///
@@ -71,20 +73,23 @@ impl HeldLists {
         })
     }
 
-    /// No descriptor is held twice, by one application or by two, and each that is held is below their number. Does
-    /// nothing.
+    /// No descriptor is held twice, by one application or by two, and each that is held is below
+    /// their number. Does nothing.
     pub fn recall_apart(&self)
         ensures { AreApart self.now }
     {
         let _ = &self.counts;
     }
 
-    /// Puts a descriptor that no application holds to the front of an application's list. At most 8 steps.
+    /// Puts a descriptor that no application holds to the front of an application's list. At most 8
+    /// steps.
     pub fn hold<L: Ledger>(&mut self, app: AppNo, desc: u32, steps: &mut Steps<L>)
         requires app { app ≤ length self.old.lists }
         requires desc { desc < self.old.descs }
         requires let_go { IsLetGo self.old desc }
-        ensures after { self.new ≡ record self.old { lists = slice_set self.old.lists (app - 1) (desc ∷ held_by self.old app) } }
+        ensures after { self.new ≡
+            record
+            self.old { lists = slice_set self.old.lists (app - 1) (desc ∷ held_by self.old app) } }
         ensures cost { steps.new ≤ steps.old + 8 }
     {
         let place = app.get() - 1;
@@ -98,11 +103,17 @@ impl HeldLists {
         self.owners[desc as usize] = place + 1;
     }
 
-    /// Takes a descriptor that an application holds out of its list; the others stay in their order. At most 8 steps.
+    /// Takes a descriptor that an application holds out of its list; the others stay in their
+    /// order. At most 8 steps.
     pub fn let_go<L: Ledger>(&mut self, app: AppNo, desc: u32, steps: &mut Steps<L>)
         requires app { app ≤ length self.old.lists }
         requires held { IsHeldBy self.old app desc }
-        ensures after { self.new ≡ record self.old { lists = slice_set self.old.lists (app - 1) (without desc (held_by self.old app)) } }
+        ensures after { self.new ≡
+            record
+            self.old {
+              lists = slice_set self.old.lists (app - 1)
+                  (without desc (held_by self.old app));
+            } }
         ensures let_go { IsLetGo self.new desc }
         ensures cost { steps.new ≤ steps.old + 4 }
     {
@@ -115,12 +126,18 @@ impl HeldLists {
         self.owners[desc as usize] = 0;
     }
 
-    /// Takes the first descriptor out of an application's list; None exactly where it holds none. At most 8 steps.
+    /// Takes the first descriptor out of an application's list; None exactly where it holds none.
+    /// At most 8 steps.
     pub fn take_first<L: Ledger>(&mut self, app: AppNo, steps: &mut Steps<L>) -> Option<u32>
         requires { app ≤ length self.old.lists }
         ensures none { IsNone result ↔ (held_by self.old app ≡ []) }
         ensures first { IfSome result (λ desc. held_by self.old app ≡ desc ∷ held_by self.new app) }
-        ensures after { self.new ≡ record self.old { lists = slice_set self.old.lists (app - 1) (drop 1 (held_by self.old app)) } }
+        ensures after { self.new ≡
+            record
+            self.old {
+              lists = slice_set self.old.lists (app - 1)
+                  (drop 1 (held_by self.old app));
+            } }
         ensures let_go { IfSome result (IsLetGo self.new) }
         ensures exists { IfSome result (λ desc. desc < self.new.descs) }
         ensures cost { steps.new ≤ steps.old + 8 }

@@ -1,11 +1,14 @@
-//! The buffers that each application holds: one list of descriptors per application, linked by index in both directions.
+//! The buffers that each application holds: one list of descriptors per application, linked by
+//! index in both directions.
 //!
-//! The Software Bus keeps in them which buffers an application has allocated and not sent yet (cFE Software Bus, zero
-//! copy). A descriptor is in one list at most, letting go of one and taking the first need no search, no call but `new`
-//! takes memory, and a call takes at most 8 steps, however many buffers and applications there are.
+//! The Software Bus keeps in them which buffers an application has allocated and not sent yet (cFE
+//! Software Bus, zero copy). A descriptor is in one list at most, letting go of one and taking the
+//! first need no search, no call but `new` takes memory, and a call takes at most 8 steps, however
+//! many buffers and applications there are.
 //!
 //! ```
-//! /// Two buffers are held, the older one is let go of, and the newer one comes first, in at most 28 steps.
+//! /// Two buffers are held, the older one is let go of, and the newer one comes first, in at most
+//! /// 28 steps.
 //! fn newer<L: Ledger>(held: &mut HeldLists, app: AppNo, steps: &mut Steps<L>) -> Option<u32>
 //!     requires app { app ≡ 1 }
 //!     requires lists { held.old ≡ record { descs = 2; lists = [] ∷ [] } }

@@ -7,7 +7,8 @@ use fsw_base::AppNo;
 use std::marker::Brand;
 use std::test::Fail;
 
-/// Two buffers are held, the older one is let go of, and the newer one comes first, in at most 28 steps.
+/// Two buffers are held, the older one is let go of, and the newer one comes first, in at most 28
+/// steps.
 fn newer<L: Ledger>(held: &mut HeldLists, app: AppNo, steps: &mut Steps<L>) -> Option<u32>
     requires app { app ≡ 1 }
     requires lists { held.old ≡ record { descs = 2; lists = [] ∷ [] } }

@@ -14,13 +14,13 @@ use std::thread;
 use std::thread::{Threads, join};
 use std::time::{Clock, Duration};
 
-/// How many turns each of two threads takes.
+// How many turns each of two threads takes.
 const TURNS: u32 = 4000;
 
-/// A lock and two seats.
+// A lock and two seats.
 type Opened<'r> = (TurnLock<Pad<'r>>, Seat<usize, u8>, Seat<usize, u8>);
 
-/// A lock over no pairs, and seats for applications 1 and 2.
+// A lock over no pairs, and seats for applications 1 and 2.
 fn open<'r>(alloc: Global, bytes: &'r mut [u8]) -> Result<Opened<'r>, AllocError>
     ensures one { IfOk result (λ r. IsReady r.1 r.0.name × ((view_of r.1).app ≡ 1)) }
     ensures two { IfOk result (λ r. IsReady r.2 r.0.name × ((view_of r.2).app ≡ 2)) }
@@ -35,7 +35,7 @@ fn open<'r>(alloc: Global, bytes: &'r mut [u8]) -> Result<Opened<'r>, AllocError
     Ok((lock, one, two))
 }
 
-/// Takes a turn, lets others run so many times in it, and answers how often it looked before.
+// Takes a turn, lets others run so many times in it, and answers how often it looked before.
 fn take_turn<'r, R: Wait>(
     rt: &R,
     lock: &TurnLock<Pad<'r>>,
@@ -54,7 +54,7 @@ fn take_turn<'r, R: Wait>(
     looks
 }
 
-/// Takes turns of all lengths around that at which another thread goes to sleep.
+// Takes turns of all lengths around that at which another thread goes to sleep.
 fn take_turns<'r, B: LockName, R: Wait>(rt: &R, lock: &TurnLock<Pad<'r>>, mut seat: Seat<usize, u8>)
     requires lock { lock.now.name ≡ B.name }
     requires seat { IsReady seat B.name }
@@ -64,7 +64,7 @@ fn take_turns<'r, B: LockName, R: Wait>(rt: &R, lock: &TurnLock<Pad<'r>>, mut se
     }
 }
 
-/// Two threads take turns of all lengths.
+// Two threads take turns of all lengths.
 fn take_turns_in_two_threads<'r, B: LockName + Send + Sync, R: Threads + Wait + Sync>(
     rt: &R,
     lock: &TurnLock<Pad<'r>>,
@@ -86,7 +86,7 @@ fn take_turns_in_two_threads<'r, B: LockName + Send + Sync, R: Threads + Wait + 
     );
 }
 
-/// Takes a turn of five milliseconds.
+// Takes a turn of five milliseconds.
 fn linger<'r, B: LockName, R: Wait + Clock>(
     rt: &R,
     lock: &TurnLock<Pad<'r>>,
@@ -100,7 +100,7 @@ fn linger<'r, B: LockName, R: Wait + Clock>(
     lock.leave(&mut seat, turn);
 }
 
-/// Asks for a turn a little later, and answers how often it looked until the turn came.
+// Asks for a turn a little later, and answers how often it looked until the turn came.
 fn looks_behind<'r, B: LockName, R: Wait + Clock>(
     rt: &R,
     lock: &TurnLock<Pad<'r>>,
@@ -113,7 +113,7 @@ fn looks_behind<'r, B: LockName, R: Wait + Clock>(
     take_turn(rt, lock, &mut seat, 0)
 }
 
-/// One thread has a long turn, and another waits for its own meanwhile: how often it looked.
+// One thread has a long turn, and another waits for its own meanwhile: how often it looked.
 fn looks_in_a_long_turn<'r, B: LockName + Send + Sync, R: Threads + Wait + Clock + Sync>(
     rt: &R,
     lock: &TurnLock<Pad<'r>>,
@@ -136,7 +136,7 @@ fn looks_in_a_long_turn<'r, B: LockName + Send + Sync, R: Threads + Wait + Clock
     looks
 }
 
-/// Takes turns until the history has an entry, and sleeps in between; answers how many turns.
+// Takes turns until the history has an entry, and sleeps in between; answers how many turns.
 fn turns_until_an_entry<'r, B: LockName, R: Wait>(
     rt: &R,
     lock: &TurnLock<Pad<'r>>,
@@ -157,7 +157,7 @@ fn turns_until_an_entry<'r, B: LockName, R: Wait>(
     unreachable!()
 }
 
-/// Takes a turn, and answers how many entries the history has.
+// Takes a turn, and answers how many entries the history has.
 fn entries_in_a_turn<'r, R: Wait>(
     rt: &R,
     lock: &TurnLock<Pad<'r>>,
@@ -173,7 +173,7 @@ fn entries_in_a_turn<'r, R: Wait>(
     entries
 }
 
-/// Adds a pair a little later, and wakes who sleeps until then.
+// Adds a pair a little later, and wakes who sleeps until then.
 fn add_and_wake<'r, B: LockName, R: Wait + Clock>(
     rt: &R,
     lock: &TurnLock<Pad<'r>>,
@@ -189,7 +189,7 @@ fn add_and_wake<'r, B: LockName, R: Wait + Clock>(
     lock.wake();
 }
 
-/// One thread sleeps until the history has an entry, which another makes: how many turns it took.
+// One thread sleeps until the history has an entry, which another makes: how many turns it took.
 fn turns_beside_an_entry<'r, B: LockName + Send + Sync, R: Threads + Wait + Clock + Sync>(
     rt: &R,
     lock: &TurnLock<Pad<'r>>,

@@ -2,13 +2,13 @@ use Rattle.host_run.proofs.Ends.{causes-lockstep, completes-lockstep, ends-other
 use Rattle.host_run.proofs.serve.serve.Goals as goal
 
 pub returns-clause-causes : goal.returns-clause-causes
-returns-clause-causes g c = λ words. causes-lockstep _ _ _ _ _ (c.serve_words.ensures.lockstep words)
+returns-clause-causes g c = λ words. causes-lockstep _ _ _ _ _ (c.serve_guarded.ensures.lockstep words)
 
 pub returns-clause-usage_or_fault : goal.returns-clause-usage_or_fault
-returns-clause-usage_or_fault g c = λ words. ends-other _ _ _ _ _ (c.serve_words.ensures.other_words words)
+returns-clause-usage_or_fault g c = λ words. ends-other _ _ _ _ _ (c.serve_guarded.ensures.other_words words)
 
 pub returns-clause-complete : goal.returns-clause-complete
-returns-clause-complete g c = λ words. completes-lockstep _ _ _ _ _ (c.serve_words.ensures.lockstep words)
+returns-clause-complete g c = λ words. completes-lockstep _ _ _ _ _ (c.serve_guarded.ensures.lockstep words)
 
 pub returns-clause-headline : goal.returns-clause-headline
-returns-clause-headline g c = λ words. headline-lockstep _ _ _ _ _ (c.serve_words.ensures.lockstep words)
+returns-clause-headline g c = λ words. headline-lockstep _ _ _ _ _ (c.serve_guarded.ensures.lockstep words)

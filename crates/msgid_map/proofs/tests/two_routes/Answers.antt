@@ -1,4 +1,4 @@
-use Rattle.std.proofs.Common.{◌≡◌, ◌∙◌, ap, refl, rules, arith}
+use Rattle.std.proofs.Common.{rules}
 use Rattle.std.specs.FinMap.{gets}
 use Rattle.msgid_map.proofs.tests.two_routes.Goals as goal
 
