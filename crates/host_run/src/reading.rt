@@ -59,7 +59,7 @@ fn read_piece<S: Source>(source: &mut S, piece: &mut [u8], kept: &mut Vec<u8>) -
 {
     let answer = source.read(piece);
     if let ReadAnswer::Got(count) = answer {
-        let _ = kept.extend_from_slice(&piece[..count]);
+        fsw_base::extend_reserved(kept, &piece[..count]);
     }
     answer
 }
