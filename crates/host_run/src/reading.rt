@@ -70,7 +70,7 @@ fn read_piece<S: Source>(
 {
     let answer = source.read(piece);
     if let ReadAnswer::Got(count) = answer {
-        let _ = kept.extend_from_slice(&piece[..count]);
+        fsw_base::extend_reserved(kept, &piece[..count]);
     }
     answer
 }
