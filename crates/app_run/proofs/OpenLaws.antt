@@ -18,11 +18,11 @@ use Rattle.script_lines.specs.declared.line.Line.TheVariants.{Create, Find, Send
 use Rattle.script_settings.specs.declared.account.Account.{Account}
 use Rattle.script_settings.specs.Accounts.{no_calls, charge_of, waits_of, buffers_of, counted, account_of, budget_of}
 use Rattle.app_script.specs.Ranges.{IsInRange}
-use Rattle.app_script.specs.Rotation.{Running, SoFar, rotated, rotations, starting, enough, before_all, rotation}
+use Rattle.script_runs.specs.Rotation.{Running, SoFar, rotated, rotations, starting, enough, before_all, rotation}
 use Rattle.app_script.specs.Script.{Application, ScriptText, app_at}
-use Rattle.app_script.specs.Told.{receipts_told, seen_from, told}
-use Rattle.app_script.specs.Trace.{first_registers}
-use Rattle.app_script.proofs.Merged.{rotation-ends}
+use Rattle.script_runs.specs.Told.{receipts_told, seen_from, told}
+use Rattle.script_runs.specs.Trace.{first_registers}
+use Rattle.script_runs.proofs.Merged.{rotation-ends}
 use Rattle.app_run.specs.Lines.{line_bytes, entries_due, bytes_due}
 use Rattle.app_run.specs.Openings.{budgets_for, opened}
 use Rattle.app_run.specs.Rounds.{all_beginning, all_going, AreNumbered, AllStand, AllTold, HasTold, Rotates, RotatesTimes, told_on}

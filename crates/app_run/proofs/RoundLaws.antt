@@ -12,11 +12,11 @@ use Rattle.bus_words.specs.Entries.{call_bytes}
 use Rattle.bus_words.specs.Log.{allowance_of, charged}
 use Rattle.bus_words.specs.Machine.{IsLegal, step, may_call}
 use Rattle.sb_calls.specs.Core.{Core, Does, IsLegalCore, apps_of, state_of}
-use Rattle.app_script.specs.Rotation.{Running, SoFar, turn, rotated}
+use Rattle.script_runs.specs.Rotation.{Running, SoFar, turn, rotated}
 use Rattle.app_script.specs.Script.{ScriptText}
-use Rattle.app_script.specs.Told.{receipts_told, seen_from}
-use Rattle.app_script.proofs.LastMessages.{legal-last, receipt-other}
-use Rattle.app_script.proofs.LegalSteps.{caller-first, standing-step}
+use Rattle.script_runs.specs.Told.{receipts_told, seen_from}
+use Rattle.script_runs.proofs.LastMessages.{legal-last, receipt-other}
+use Rattle.script_runs.proofs.LegalSteps.{caller-first, standing-step}
 use Rattle.app_run.specs.Rounds.{all_going, AreNumbered, AllStand, AllTold, AreTurned, HasTold, Rotates, MovesOn, StepsIf, to_come, told_on}
 use Rattle.app_run.specs.Lines.{bytes_due}
 use Rattle.app_run.specs.Runners.{Progress, going}

@@ -14,7 +14,7 @@ use Rattle.bus_words.specs.Bus.{State, Standing, Active, Waiting, Ended, Sending
 use Rattle.bus_words.specs.Machine.{step, cause, decided, refused_state, sent_along, received}
 use Rattle.script_lines.specs.declared.line.Line.{Line}
 use Rattle.script_lines.specs.declared.line.Line.TheVariants.{Create, Delete, SetOpts, GetOpts, Find, PipeName, Subscribe, Unsubscribe, Send, SendRaw, Receive, Pend}
-use Rattle.app_script.specs.Trace.{call_of}
+use Rattle.script_runs.specs.Trace.{call_of}
 use Rattle.app_run.specs.Lines.{pipe_waited_for}
 use Rattle.app_run.specs.Runners.{standing_for}
 

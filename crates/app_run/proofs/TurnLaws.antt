@@ -34,11 +34,11 @@ use Rattle.sb_calls.specs.Core.{Core, Does, MayCall, apps_of, state_of, is_withi
 use Rattle.script_lines.specs.declared.line.Line.{Line}
 use Rattle.script_lines.specs.declared.line.Line.TheVariants.{Create, Delete, SetOpts, GetOpts, Find, PipeName, Subscribe, Unsubscribe, Send, SendRaw, Receive, Pend}
 use Rattle.script_settings.specs.Accounts.{waits_of}
-use Rattle.app_script.specs.Messages.{fill_byte, sent_message}
+use Rattle.script_runs.specs.Messages.{fill_byte, sent_message}
 use Rattle.app_script.specs.Ranges.{IsLineInRange}
-use Rattle.app_script.specs.Rotation.{Running, SoFar, after_call, after_look, answer_to, turn, turn_in, active_turn, line_turn}
-use Rattle.app_script.specs.Told.{got_in, shown}
-use Rattle.app_script.specs.Trace.{call_of, registers_after}
+use Rattle.script_runs.specs.Rotation.{Running, SoFar, after_call, after_look, answer_to, turn, turn_in, active_turn, line_turn}
+use Rattle.script_runs.specs.Told.{got_in, shown}
+use Rattle.script_runs.specs.Trace.{call_of, registers_after}
 use Rattle.app_run.specs.Callers.{Caller}
 use Rattle.app_run.specs.Lines.{MayRun, pipe_waited_for, line_bytes, entries_due, bytes_due}
 use Rattle.app_run.specs.Runners.{Progress, standing_for}

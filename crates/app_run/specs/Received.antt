@@ -4,7 +4,7 @@ use Rattle.bus_words.specs.declared.calls.BusAnswer.{BusAnswer}
 use Rattle.bus_words.specs.declared.history.Call.{Call}
 use Rattle.bus_words.specs.declared.receipts.Receipt.{Receipt}
 use Rattle.sb_calls.specs.Core.{state_of}
-use Rattle.app_script.specs.Told.{got_in}
+use Rattle.script_runs.specs.Told.{got_in}
 use Rattle.app_run.specs.Callers.{Caller}
 
 -- the receipts of a line's call that was so answered, with the bus as it is now

@@ -7,9 +7,9 @@ use Rattle.fsw_base.specs.Limits.{Limits}
 use Rattle.bus_words.specs.Bus.{State, Standing, Active, Waiting, Ended, standing_of}
 use Rattle.sb_calls.specs.Core.{Core, apps_of}
 use Rattle.script_lines.specs.declared.line.Line.{Line}
-use Rattle.app_script.specs.Rotation.{Running, SoFar, rotated, rotations}
+use Rattle.script_runs.specs.Rotation.{Running, SoFar, rotated, rotations}
 use Rattle.app_script.specs.Script.{ScriptText}
-use Rattle.app_script.specs.Told.{Seen, seen_from, receipts_of, receipts_told, told}
+use Rattle.script_runs.specs.Told.{Seen, seen_from, receipts_of, receipts_told, told}
 use Rattle.app_run.specs.Runners.{Progress, beginning, going}
 use Rattle.app_run.specs.Turns.{so_far, Stands, TakesTurn}
 

@@ -3,8 +3,8 @@ use Rattle.std.specs.Prelude.{ℕ, Bool, false, List, [], ◌∷◌, Option, Som
 use Rattle.bus_words.specs.declared.receipts.Receipt.{Receipt}
 use Rattle.bus_words.specs.Bus.{Standing, Active, Waiting, Ended}
 use Rattle.app_script.specs.Script.{ScriptText, app_at}
-use Rattle.app_script.specs.Trace.{first_registers}
-use Rattle.app_script.specs.Rotation.{Running}
+use Rattle.script_runs.specs.Trace.{first_registers}
+use Rattle.script_runs.specs.Rotation.{Running}
 
 -- An application of a run: its number, the lines left and its registers; the pipe that it waits on; whether it has ended;
 -- and its receipts so far.

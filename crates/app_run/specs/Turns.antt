@@ -9,9 +9,9 @@ use Rattle.bus_words.specs.Bus.{Standing, Active, Waiting, Ended, standing_of}
 use Rattle.bus_words.specs.Log.{allowance_of}
 use Rattle.sb_calls.specs.Core.{Core, Does, apps_of, state_of}
 use Rattle.script_lines.specs.declared.line.Line.{Line}
-use Rattle.app_script.specs.Trace.{call_of}
-use Rattle.app_script.specs.Rotation.{Running, SoFar, after_call, after_look, answer_to, turn}
-use Rattle.app_script.specs.Told.{got_in, shown}
+use Rattle.script_runs.specs.Trace.{call_of}
+use Rattle.script_runs.specs.Rotation.{Running, SoFar, after_call, after_look, answer_to, turn}
+use Rattle.script_runs.specs.Told.{got_in, shown}
 use Rattle.app_run.specs.declared.runner.Turned.{Turned}
 use Rattle.app_run.specs.declared.runner.Turned.TheVariants as turned
 use Rattle.app_run.specs.Callers.{Caller}

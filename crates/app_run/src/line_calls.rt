@@ -1,8 +1,8 @@
 //! The call that a line makes.
 ghost use Rattle.std.specs.Prelude.{◌≡◌, ◌≤◌, length};
-ghost use Rattle.app_script.specs.Messages.{sent_message};
+ghost use Rattle.script_runs.specs.Messages.{sent_message};
 ghost use Rattle.app_script.specs.Ranges.{IsLineInRange};
-ghost use Rattle.app_script.specs.Trace.{call_of};
+ghost use Rattle.script_runs.specs.Trace.{call_of};
 ghost use Rattle.app_run.specs.Callers.{MayCallBus, Answers};
 ghost use Rattle.app_run.specs.Lines.{MayRun, IsRun, message_size};
 
@@ -16,7 +16,7 @@ use script_lines::Line;
 
 /// Makes the call of a line, its registers filled in, and tells what it was answered; None for a line
 /// that makes no call.
-#[tactic(auto, unfolding(app_script::specs::Trace::call_of, app_script::specs::Ranges::IsLineInRange, crate::specs::Lines::message_size))]
+#[tactic(auto, unfolding(script_runs::specs::Trace::call_of, app_script::specs::Ranges::IsLineInRange, crate::specs::Lines::message_size))]
 pub(crate) fn run_line<C: Calls>(
     calls: &mut C,
     registers: &[u32; 64],

@@ -1,7 +1,7 @@
 //! The message that a `send` line makes.
 ghost use Rattle.std.specs.Prelude.{◌≡◌, ◌≤◌, length, map};
 ghost use Rattle.std.specs.List.{range_with_len};
-ghost use Rattle.app_script.specs.Messages.{fill_byte, sent_message};
+ghost use Rattle.script_runs.specs.Messages.{fill_byte, sent_message};
 
 use ccsds_msg::write_header;
 

@@ -1,6 +1,6 @@
 //! An application's registers of pipes.
 ghost use Rattle.std.specs.Prelude.{◌≡◌, slice_index, slice_set};
-ghost use Rattle.app_script.specs.Trace.{number_of, registers_after};
+ghost use Rattle.script_runs.specs.Trace.{number_of, registers_after};
 
 use bus_words::BusAnswer;
 use script_lines::Line;
@@ -39,7 +39,7 @@ fn number_of(answer: &BusAnswer) -> u32
 }
 
 /// The registers once a line's call was so answered.
-#[tactic(auto, unfolding(app_script::specs::Trace::registers_after))]
+#[tactic(auto, unfolding(script_runs::specs::Trace::registers_after))]
 pub(crate) fn note(registers: &mut [u32; 64], line: &Line, answer: &BusAnswer)
     ensures { registers.new ≡ registers_after registers.old line.now answer.now }
 {

@@ -3,8 +3,8 @@ ghost use Rattle.std.specs.Prelude.{◌≡◌, ◌+◌, ◌*◌, ◌<◌, ◌≤
 ghost use Rattle.std.specs.List.{range_with_len};
 ghost use Rattle.sb_calls.specs.Core.{apps_of};
 ghost use Rattle.script_settings.specs.Accounts.{budget_of};
-ghost use Rattle.app_script.specs.Rotation.{rotation, rotations, enough};
-ghost use Rattle.app_script.specs.Told.{receipts_told};
+ghost use Rattle.script_runs.specs.Rotation.{rotation, rotations, enough};
+ghost use Rattle.script_runs.specs.Told.{receipts_told};
 ghost use Rattle.app_script.specs.Script.{ScriptText};
 ghost use Rattle.app_run.specs.Openings.{opened};
 ghost use Rattle.app_run.specs.Turns.{so_far, Stands};

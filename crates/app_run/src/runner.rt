@@ -3,8 +3,8 @@ ghost use Rattle.std.specs.Prelude.{◌≡◌, ◌<◌, ◌≤◌, ◌-◌, ◌+
 ghost use Rattle.std.specs.Option.{option_to_list};
 ghost use Rattle.app_script.specs.Script.{app_at};
 ghost use Rattle.bus_words.specs.Receipts.{receipt_in};
-ghost use Rattle.app_script.specs.Trace.{call_of};
-ghost use Rattle.app_script.specs.Told.{shown};
+ghost use Rattle.script_runs.specs.Trace.{call_of};
+ghost use Rattle.script_runs.specs.Told.{shown};
 ghost use Rattle.sb_calls.specs.Core.{state_of};
 ghost use Rattle.app_run.specs.Lines.{message_size, pipe_waited_for, most_receipts};
 ghost use Rattle.app_run.specs.Received.{got_of};
@@ -237,7 +237,7 @@ fn take_receipt<C: Calls>(calls: &mut C, pipe: u32, receipts: &mut ReceiptList)
 }
 
 // Adds the receipt of a line that was so answered: one where it got a message.
-#[tactic(auto, unfolding(app_script::specs::Trace::call_of))]
+#[tactic(auto, unfolding(script_runs::specs::Trace::call_of))]
 fn receive<C: Calls>(
     calls: &mut C,
     registers: &[u32; 64],
@@ -261,7 +261,7 @@ fn receive<C: Calls>(
 }
 
 // Adds the receipts of a line that makes no call.
-#[tactic(auto, unfolding(app_script::specs::Told::shown))]
+#[tactic(auto, unfolding(script_runs::specs::Told::shown))]
 fn show<C: Calls>(calls: &mut C, registers: &[u32; 64], line: &Line, receipts: &mut ReceiptList)
     requires { 1 ≤ receipts.old.room }
     ensures receipts { receipts.new.receipts ≡ receipts.old.receipts ++ shown (C.caller calls.old).app (state_of (C.caller calls.old).core) registers.now line.now }

@@ -1,5 +1,5 @@
 -- A script that a text can be is within the bounds of a run.
-use Rattle.std.proofs.Common.{◌≡◌, ℕ, ◌+◌, ◌≤◌, Bool, true, ◌&&◌, not, nat_le, nat_lt, List, [], ◌∷◌, length, All, sum_by, ap, refl, sym, ◌∙◌, arith, codes}
+use Rattle.std.proofs.Common.{◌≡◌, ℕ, ◌+◌, ◌≤◌, true, ◌&&◌, not, nat_le, nat_lt, List, [], ◌∷◌, length, All, sum_by, ap, refl, sym, ◌∙◌, arith, codes}
 use Rattle.std.specs.List.{list_all}
 use Rattle.std.proofs.lemmas.Bool.{leb-true}
 use Rattle.std.proofs.lemmas.List.Elements.{All-nil, All-cons}

@@ -1,10 +1,9 @@
 -- Items in the order of a script are taken in.
-use Rattle.std.proofs.Common.{◌≡◌, ℕ, ◌+◌, ◌<◌, ◌≤◌, Bool, true, false, cond, not, nat_le, nat_lt, List, [], ◌∷◌, ◌++◌, length, map, fold, Result, Ok, Err, refl, ap, sym, ◌∙◌, subst, arith, append_assoc, append-nil}
+use Rattle.std.proofs.Common.{◌≡◌, ℕ, ◌+◌, ◌<◌, ◌≤◌, Bool, true, false, cond, not, nat_le, nat_lt, List, [], ◌∷◌, ◌++◌, length, map, fold, Ok, Err, refl, ap, sym, ◌∙◌, subst, arith, append_assoc, append-nil}
 use Rattle.std.specs.List.{list_any, flat_map}
 use Rattle.std.proofs.lemmas.Bool.{le-ltb, lt-leb}
 use Rattle.std.proofs.lemmas.List.{length-append}
 use Rattle.std.proofs.lemmas.Grind.{fold-append}
-use Rattle.fsw_base.specs.declared.script_faults.FaultKind.{FaultKind}
 use Rattle.fsw_base.specs.declared.script_faults.FaultKind.TheVariants.{Misplaced, OutOfRange, Repeated, TooManyApps}
 use Rattle.fsw_base.specs.Limits.{Limits, usual_limits}
 use Rattle.script_words.specs.Readings.{◌>>=◌}
@@ -19,7 +18,7 @@ use Rattle.app_script.specs.ScriptRanges.{have_new_names, all_calls, all_bytes}
 use Rattle.app_script.specs.Grammar.{Progress, opening, apps_of, after_call}
 use Rattle.app_script.proofs.ScriptLemmas.{account_of_push}
 use Rattle.app_script.proofs.ReadScripts.{set_starts}
-use Rattle.app_script.proofs.AppsBack.{Calling, Ready, account_grows, nothing_taken}
+use Rattle.app_script.proofs.Leading.{Calling, Ready, account_grows, nothing_taken}
 use Rattle.app_script.proofs.ItemSteps.{is_again, is_past, set_to, begun_by, after_item, taken, all_taken}
 use Rattle.app_script.proofs.ItemsTell.{Given, nothing_given, given_more, front_of, called}
 

@@ -1,10 +1,9 @@
 -- What was taken in, item by item, stands in the order of a script.
-use Rattle.std.proofs.Common.{◌≡◌, ℕ, ◌+◌, Bool, true, false, cond, not, ◌||◌, eqb, nat_le, nat_lt, List, [], ◌∷◌, ◌++◌, length, map, Result, Ok, Err, refl, ap, sym, ◌∙◌, subst, append_assoc, append-nil}
+use Rattle.std.proofs.Common.{◌≡◌, ◌+◌, Bool, true, false, cond, not, ◌||◌, eqb, nat_le, nat_lt, List, [], ◌∷◌, ◌++◌, length, map, Ok, Err, refl, ap, sym, ◌∙◌, subst, append_assoc, append-nil}
 use Rattle.std.specs.List.{list_any, flat_map}
 use Rattle.std.proofs.lemmas.List.{map_push}
 use Rattle.std.proofs.lemmas.List.Sums.{fold_push}
 use Rattle.std.proofs.lemmas.Grind.{flat_map-append}
-use Rattle.fsw_base.specs.declared.script_faults.FaultKind.{FaultKind}
 use Rattle.fsw_base.specs.declared.script_faults.FaultKind.TheVariants.{Misplaced, OutOfRange, Repeated, TooManyApps, TooManyCalls, TooManyBytes}
 use Rattle.fsw_base.specs.Limits.{Limits, usual_limits}
 use Rattle.script_words.specs.Readings.{◌>>=◌}
@@ -21,7 +20,7 @@ use Rattle.app_script.specs.Script.{Application}
 use Rattle.app_script.specs.Grammar.{Progress, opening, apps_of, after_call}
 use Rattle.app_script.proofs.ScriptLemmas.{list_any_push}
 use Rattle.app_script.proofs.ReadScripts.{set_starts}
-use Rattle.app_script.proofs.ItemSteps.{is_again, is_past, named_after, sized_after, set_to, begun_by, after_item, is_out, taken, all_taken, passes}
+use Rattle.app_script.proofs.ItemSteps.{is_again, is_past, named_after, sized_after, set_to, begun_by, after_item, taken, all_taken, passes}
 
 -- ---- settings
 

@@ -28,7 +28,7 @@ use Rattle.app_script.specs.Forms.{form_of, is_misplaced}
 use Rattle.script_settings.specs.Settings.{least, greatest, with_limit, is_among, limit_named, set_of, some_words, sizes_within, sizes_of, seq_of, is_app_name, app_of, script_of}
 use Rattle.script_settings.specs.Accounts.{account_of, charge_of}
 use Rattle.app_script.specs.Script.{Application, ScriptText}
-use Rattle.app_script.specs.ScriptSpelling.{limit_of}
+use Rattle.app_script.specs.ScriptRanges.{limit_of}
 use Rattle.app_script.specs.ScriptRanges.{are_limits, have_new_names, is_application, IsScript}
 use Rattle.app_script.specs.Grammar.{Progress, opening, apps_of, after_set, after_sizes, after_seq, after_app, after_call, after_form, after_known, after_words, after_line, progress_of, grammar, built_script, ◌>=>◌}
 use Rattle.app_script.proofs.ScriptLemmas.{list_all_push, starts_push}

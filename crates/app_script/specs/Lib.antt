@@ -2,7 +2,6 @@ pub mod Forms
 pub mod Items
 pub mod Built
 pub mod Script
-pub mod ScriptSpelling
 pub mod ScriptRanges
 pub mod Ranges
 pub mod Grammar
@@ -12,7 +11,3 @@ pub mod Whole
 pub mod AppParts
 pub mod ReadingParts
 pub mod ScriptParts
-pub mod Messages
-pub mod Trace
-pub mod Rotation
-pub mod Told

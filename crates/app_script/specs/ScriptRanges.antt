@@ -6,10 +6,29 @@ use Rattle.fsw_base.specs.Blocks.{are_block_sizes}
 use Rattle.fsw_base.specs.Starts.{are_count_starts}
 use Rattle.script_words.specs.Text.{is_same}
 use Rattle.line_spelling.specs.Ranges.{is_readable}
+use Rattle.script_settings.specs.declared.settings.LimitName.{LimitName}
+use Rattle.script_settings.specs.declared.settings.LimitName.TheVariants.{MsgIds, Pipes, Dests, Depth, MsgMax, Pool, AppPool, Tables, Handles, TableMax, TablePool}
 use Rattle.script_settings.specs.Settings.{least, greatest, is_app_name}
 use Rattle.script_settings.specs.Accounts.{account_of}
 use Rattle.app_script.specs.Script.{Application, ScriptText}
-use Rattle.app_script.specs.ScriptSpelling.{limit_of, all_limits}
+
+-- the value that a limit has
+abbrev pub limit_of : Limits → LimitName → ℕ
+limit_of limits MsgIds = limits.msgids
+limit_of limits Pipes = limits.pipes
+limit_of limits Dests = limits.dests
+limit_of limits Depth = limits.depth
+limit_of limits MsgMax = limits.msgmax
+limit_of limits Pool = limits.pool
+limit_of limits AppPool = limits.apppool
+limit_of limits Tables = limits.tables
+limit_of limits Handles = limits.handles
+limit_of limits TableMax = limits.tablemax
+limit_of limits TablePool = limits.tablepool
+
+-- the limits, in the order in which they are printed
+abbrev pub all_limits : List LimitName
+all_limits = MsgIds ∷ Pipes ∷ Dests ∷ Depth ∷ MsgMax ∷ Pool ∷ AppPool ∷ Tables ∷ Handles ∷ TableMax ∷ TablePool ∷ []
 
 -- each limit in its range
 abbrev pub are_limits : Limits → Bool

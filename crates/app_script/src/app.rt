@@ -9,7 +9,7 @@ use std::marker::Model;
 
 /// An application: its name, its call lines in order, and what they take.
 #[derive(Drop)]
-pub(crate) struct App {
+pub struct App {
     // Its name.
     name: ByteText,
     // Its call lines, in order.
@@ -33,7 +33,7 @@ impl Model for App {
 impl App {
     ghost use Rattle.script_settings.specs.Accounts.{account_of, charge_of, budget_of};
 
-    // An application without lines.
+    /// An application without lines.
     #[tactic(auto, unfolding(script_settings::specs::Accounts::account_of))]
     pub(crate) fn new(alloc: Global, name: ByteText) -> App
         ensures { result ≡ record { name = name; lines = [] } }
@@ -45,30 +45,30 @@ impl App {
         }
     }
 
-    // Its name.
-    pub(crate) fn name(&self) -> &[u8]
+    /// Its name, 1 to 19 letters, digits or underscores.
+    pub fn name(&self) -> &[u8]
         ensures { result.now ≡ self.now.name }
     {
         self.name.as_slice()
     }
 
-    // How many call lines it has.
-    pub(crate) fn lines(&self) -> usize
+    /// How many call lines it has.
+    pub fn lines(&self) -> usize
         ensures count { result ≡ length self.now.lines }
         ensures few { result ≤ 20000 }
     {
         self.lines.len()
     }
 
-    // The line at a place; places count from 0.
-    pub(crate) fn line(&self, i: usize) -> &Line
+    /// The call line at a place, in the script's order; places count from 0.
+    pub fn line(&self, i: usize) -> &Line
         requires { i < length self.now.lines }
         ensures { slice_get self.now.lines i ≡ Some result.now }
     {
         &self.lines[i]
     }
 
-    // What its lines may add to a run.
+    /// What its lines may add to a run.
     #[tactic(auto, unfolding(script_settings::specs::Accounts::budget_of))]
     pub(crate) fn budget(&self) -> Budget
         ensures { result ≡ budget_of self.now.lines }
@@ -76,20 +76,21 @@ impl App {
         self.account.budget()
     }
 
-    // The charge of a line that follows its lines, in bytes.
+    /// The charge of a line that follows its lines, in bytes.
     pub(crate) fn charge(&self, line: &Line) -> usize
         ensures { result ≡ charge_of (account_of self.now.lines) line.now }
     {
         self.account.charge(line)
     }
 
-    // One line more.
+    /// One line more.
     #[tactic(auto, using(crate::proofs::ScriptLemmas::account_of_push))]
     pub(crate) fn push(&mut self, line: Line, charge: u32) -> Result<(), AllocError>
         requires charge { charge ≡ charge_of (account_of self.old.lines) line }
         requires calls { length self.old.lines < 20000 }
         requires bytes { (account_of self.old.lines).bytes + charge ≤ 16777216 }
-        ensures ok { OnOk result (self.new ≡ record self.old { lines = self.old.lines ++ line ∷ [] }) }
+        ensures ok { OnOk result
+            (self.new ≡ record self.old { lines = self.old.lines ++ line ∷ [] }) }
         ensures err { OnErr result (self.new ≡ self.old) }
     {
         self.lines.reserve(1)?;

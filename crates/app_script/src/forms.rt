@@ -5,9 +5,9 @@ ghost use Rattle.app_script.specs.Forms.{call_form, form_of, is_misplaced};
 use script_lines::{CallWord, call_word};
 use script_words::text::is_same;
 
-/// The form of a line.
+/// The form of a line, by its first word.
 #[derive(Clone, Copy)]
-pub(crate) enum Form {
+pub enum Form {
     /// `script`
     Script,
     /// `set`
@@ -33,7 +33,7 @@ fn call_form(word: &[u8]) -> Option<Form>
     }
 }
 
-// The form of the line with this first word; None where no line begins so.
+/// The form of the line with this first word; None where no line begins so.
 #[tactic(auto, unfolding(crate::specs::Forms::form_of))]
 pub(crate) fn form_of(word: &[u8]) -> Option<Form>
     ensures { result ≡ form_of word.now }
@@ -53,7 +53,7 @@ pub(crate) fn form_of(word: &[u8]) -> Option<Form>
     }
 }
 
-// Whether a line of this form stands where it may not.
+/// Whether a line of this form stands where it may not.
 pub(crate) fn is_misplaced(form: Form, begun: bool, started: bool) -> bool
     ensures { result ≡ is_misplaced form begun started }
 {

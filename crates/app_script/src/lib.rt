@@ -1,9 +1,10 @@
-//! The script language: what up to sixteen applications do with the message core, as a text of lines.
-//! A script is read whole before anything runs, and the first faulty line is told with what is wrong.
+//! The script language: what up to sixteen applications do with the message core, as a text of
+//! lines. A script is read whole before anything runs, and the first faulty line is told with what
+//! is wrong.
 //!
-//! It promises that a text is read exactly where it is a script whose lines are all built, and then as
-//! that script, else its first fault is told; that a script is printed in exactly its one spelling; and
-//! that this spelling of a script whose parts are in their ranges reads back.
+//! It promises that a text is read exactly where it is a script whose lines are all built, and then
+//! as that script, else its first fault is told; and that a text is a script exactly where its
+//! lines, without the skipped ones, are a script's in their order, ranges and numbers.
 //!
 //! ```text
 //! let script = read_script(alloc, b"app A\ncreate p0 4 TLM\nrecv p0\n")?;
@@ -11,7 +12,6 @@
 //! script.lines(app)                    // 2
 //! script.line(app, 1)                  // Line::Receive { pipe: 0 }
 //! script.budget(app).entries           // 3: one a call line, and one for the end
-//! print_script(&script, &mut sink)?;   // app A, create p0 4 TLM, recv p0, a line each
 //! ```
 #![tactic(auto)]
 
@@ -19,16 +19,13 @@ mod app;
 mod fail;
 mod forms;
 mod laws;
-mod printing;
 mod reading;
 mod script;
 
+pub use app::App;
 pub use fail::ReadFail;
-pub use laws::{
-    last_messages_stay, printed_scripts_read_back, read_scripts_are_in_range, rotations_merge,
-    texts_are_scripts,
-};
-pub use printing::print_script;
+pub use forms::Form;
+pub use laws::{read_scripts_are_in_range, texts_are_scripts};
 pub use script::{Script, read_script};
 pub use script_lines::{BoxedRules, ByteText, Content, Line, MAX_RULES, Rule, RuleList};
 

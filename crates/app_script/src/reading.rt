@@ -38,19 +38,23 @@ const MAX_CHARGE: usize = 16_777_216;
 pub(crate) struct Reading {
     // A line that isn't skipped came before.
     begun: bool,
-    // The limits, without the counts at which ids start; which of them were set; whether the block
-    // sizes were.
+    // The limits, without the counts at which ids start.
     config: Config,
+    // Which limits were set.
     named: Vec<LimitName>,
+    // Whether the block sizes were.
     sized: bool,
     // The counts at which ids start.
     starts: ArrayVec<(u16, u16), MAX_STARTS>,
-    // An application has begun; those before it, and the present one.
+    // An application has begun.
     started: bool,
+    // The applications before the present one.
     done: Vec<App>,
+    // The present one, once one has begun.
     present: App,
-    // The call lines so far, and the sum of their charges.
+    // The call lines so far.
     calls: u32,
+    // The sum of their charges.
     charged: u32,
 }
 
@@ -122,7 +126,7 @@ impl Reading {
     ghost use Rattle.app_script.specs.declared.forms.Form.TheVariants as form;
     ghost use Rattle.script_words.specs.Text.{words_of, behind_word};
 
-    // Nothing was read yet.
+    /// Nothing was read yet.
     #[tactic(auto, unfolding(script_settings::specs::Accounts::account_of))]
     pub(crate) fn new(alloc: Global, name: ByteText) -> Reading
         requires { name ≡ [] }
@@ -146,7 +150,8 @@ impl Reading {
     #[tactic(auto, unfolding(crate::specs::Grammar::after_set, crate::specs::Items::item_of))]
     fn set(&mut self, rest: &[u8]) -> Result<bool, LineFail>
         ensures read { Moves result self.new (after_set self.old (words_of rest.now)) }
-        ensures built { IfOk result (λ built. built ≡ is_built_reading (item_of form.Set rest.now)) }
+        ensures built { IfOk result
+            (λ built. built ≡ is_built_reading (item_of form.Set rest.now)) }
     {
         let (name, value) = set(rest)?;
         if is_among(name, self.named.as_slice()) {
@@ -161,7 +166,8 @@ impl Reading {
     #[tactic(auto, unfolding(crate::specs::Grammar::after_sizes, crate::specs::Items::item_of))]
     fn sizes(&mut self, rest: &[u8]) -> Result<bool, LineFail>
         ensures read { Moves result self.new (after_sizes self.old (words_of rest.now)) }
-        ensures built { IfOk result (λ built. built ≡ is_built_reading (item_of form.Sizes rest.now)) }
+        ensures built { IfOk result
+            (λ built. built ≡ is_built_reading (item_of form.Sizes rest.now)) }
     {
         let sizes = sizes(rest)?;
         if self.sized {
@@ -289,12 +295,7 @@ impl Reading {
 
     // A line with this first word, if it is one.
     #[tactic(auto, unfolding(crate::specs::Grammar::after_known))]
-    fn known(
-        &mut self,
-        alloc: Global,
-        form: Option<Form>,
-        rest: &[u8],
-    ) -> Result<bool, LineFail>
+    fn known(&mut self, alloc: Global, form: Option<Form>, rest: &[u8]) -> Result<bool, LineFail>
         ensures read { Moves result self.new (after_known self.old form rest.now) }
         ensures built { IfOk result (λ built. built ≡ is_built_reading (item_known form rest.now)) }
     {
@@ -313,8 +314,10 @@ impl Reading {
     // A line's words; a line without one, or whose first begins with a hash sign, is skipped.
     #[tactic(auto, unfolding(crate::specs::Grammar::after_words, crate::specs::Built::is_built_line, crate::specs::Items::is_skipped, crate::specs::Items::item_in))]
     fn words(&mut self, alloc: Global, line: &[u8]) -> Result<bool, LineFail>
-        ensures read { Moves result self.new (after_words self.old (words_of line.now) (behind_word line.now)) }
-        ensures built { IfOk result (λ built. built ≡ is_built_line (words_of line.now) (behind_word line.now)) }
+        ensures read { Moves result self.new
+            (after_words self.old (words_of line.now) (behind_word line.now)) }
+        ensures built { IfOk result
+            (λ built. built ≡ is_built_line (words_of line.now) (behind_word line.now)) }
     {
         match first_word(line) {
             None => Ok(true),
@@ -327,11 +330,12 @@ impl Reading {
         }
     }
 
-    // The next line; and whether it is built.
+    /// The next line; and whether it is built.
     #[tactic(auto, unfolding(crate::specs::Grammar::after_line))]
     pub(crate) fn line(&mut self, alloc: Global, line: &[u8]) -> Result<bool, LineFail>
         ensures read { Moves result self.new (after_line self.old line.now) }
-        ensures built { IfOk result (λ built. built ≡ is_built_line (words_of line.now) (behind_word line.now)) }
+        ensures built { IfOk result
+            (λ built. built ≡ is_built_line (words_of line.now) (behind_word line.now)) }
     {
         if line.len() > MAX_LINE {
             return Err(LineFail::Fault(FaultKind::LineTooLong));
@@ -342,18 +346,19 @@ impl Reading {
         self.words(alloc, line)
     }
 
-    // Whether an application has begun.
+    /// Whether an application has begun.
     pub(crate) fn has_started(&self) -> bool
         ensures { result ≡ self.now.started }
     {
         self.started
     }
 
-    // The script that was read, where an application has begun.
+    /// The script that was read, where an application has begun.
     pub(crate) fn into_script(self) -> Result<Script, AllocError>
         requires text { IsScript (record { limits = self.limits; apps = apps_of self }) }
         requires started { IsTrue self.started }
-        ensures { IfOk result (λ script. script ≡ record { limits = self.limits; apps = apps_of self }) }
+        ensures { IfOk result
+            (λ script. script ≡ record { limits = self.limits; apps = apps_of self }) }
     {
         let Reading {
             begun: _,

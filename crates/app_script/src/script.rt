@@ -24,7 +24,9 @@ const MAX_SCRIPT: usize = 1_048_576;
 /// A script: the limits that it configures, and its applications with their call lines.
 #[derive(Drop)]
 pub struct Script {
+    // The limits that it configures.
     config: Config,
+    // Its applications, in order of number.
     apps: Vec<App>,
 }
 
@@ -44,7 +46,7 @@ impl Script {
     ghost use Rattle.app_script.specs.Script.{app_at};
     ghost use Rattle.script_settings.specs.Accounts.{budget_of};
 
-    // The script of what was read.
+    /// The script of what was read.
     pub(crate) fn new(config: Config, apps: Vec<App>) -> Script
         requires { IsScript (record { limits = limits_of config; apps = apps.items }) }
         ensures { result ≡ record { limits = limits_of config; apps = apps.items } }
@@ -52,8 +54,8 @@ impl Script {
         Script { config, apps }
     }
 
-    /// Tells what is true of every script, and does nothing at run time: its limits, names and call lines
-    /// are in the ranges of a text, and all of it is within the bounds of a run.
+    /// Tells what is true of every script, and does nothing at run time: its limits, names and call
+    /// lines are in the ranges of a text, and all of it is within the bounds of a run.
     pub fn recall_ranges(&self)
         ensures text { IsScript self.now }
         ensures run { IsInRange self.now }
@@ -77,8 +79,8 @@ impl Script {
         self.apps.len() as u32
     }
 
-    // Its applications in order.
-    pub(crate) fn applications(&self) -> &[App]
+    /// Its applications, in order of number.
+    pub fn applications(&self) -> &[App]
         ensures { result.now ≡ self.now.apps }
     {
         self.apps.as_slice()
@@ -93,8 +95,8 @@ impl Script {
         app.name()
     }
 
-    /// What an application may add to a run: an entry for each of its call lines, one more for each that
-    /// may wait, and one for its end; the sum of its charges in bytes; its `alloc` lines.
+    /// What an application may add to a run: an entry for each of its call lines, one more for each
+    /// that may wait, and one for its end; the sum of its charges in bytes; its `alloc` lines.
     pub fn budget(&self, app: AppNo) -> Budget
         requires { app ≤ length self.now.apps }
         ensures { result ≡ budget_of (app_at self.now app).lines }
@@ -145,11 +147,7 @@ fn noted(built: bool, number: u32, unbuilt: Option<u32>) -> Option<u32>
 }
 
 // Reads line by line; and tells the first line that isn't built yet.
-fn read_lines(
-    alloc: Global,
-    reading: &mut Reading,
-    bytes: &[u8],
-) -> Result<Option<u32>, ReadFail>
+fn read_lines(alloc: Global, reading: &mut Reading, bytes: &[u8]) -> Result<Option<u32>, ReadFail>
     requires { length bytes.now ≤ 1048576 }
     ensures read { MovesScript result reading.new (after_lines 1 reading.old (lines_of bytes.now)) }
     ensures unbuilt { IfOk result (λ unbuilt. unbuilt ≡ unbuilt_line bytes.now) }
@@ -169,8 +167,8 @@ fn read_lines(
     Ok(unbuilt)
 }
 
-// Reads all lines, into a reading that is as it was opened; and tells the first line that isn't built
-// yet.
+// Reads all lines, into a reading that is as it was opened; and tells the first line that isn't
+// built yet.
 #[tactic(auto, unfolding(crate::specs::Grammar::progress_of))]
 fn read_all(alloc: Global, reading: &mut Reading, bytes: &[u8]) -> Result<Option<u32>, ReadFail>
     requires { reading.old ≡ opening }
@@ -195,13 +193,15 @@ fn read_all(alloc: Global, reading: &mut Reading, bytes: &[u8]) -> Result<Option
     }
 }
 
-/// Reads a script of at most 1,048,576 bytes.
+/// Reads a script of at most 1,048,576 bytes, in one pass, with memory in proportion to them.
 ///
-/// The fault is that of the first faulty line, with the line's number from 1: the first in the order of
-/// [`FaultKind`]. `TooLarge` and `NoApp` are faults of the whole, with the number 0. `NotYet` comes only
-/// where the bytes are a script, at the first line that this program doesn't run yet.
-///
-/// One pass over the bytes, and memory in proportion to them.
+/// # Errors
+/// `Fault` where they are no script: that of the first faulty line, with the line's number from 1;
+/// the first in the order of [`FaultKind`]. `TooLarge` and `NoApp` are faults of the whole, with
+/// the number
+/// 0. `NotYet` comes only where the bytes are a script, at the first line that this program doesn't
+///    run
+/// yet. `Memory` where memory runs out.
 #[tactic(auto, unfolding(crate::specs::Grammar::grammar, crate::specs::Grammar::built_script))]
 pub fn read_script(alloc: Global, bytes: &[u8]) -> Result<Script, ReadFail>
     ensures { GivesScript result (built_script bytes.now) }

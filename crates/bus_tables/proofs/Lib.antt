@@ -12,4 +12,5 @@ mod Counting
 mod Makings
 mod MakingsRouted
 mod Readers
+mod UsesCounted
 mod FirstOf

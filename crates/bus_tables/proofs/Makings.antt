@@ -8,13 +8,15 @@ use Rattle.pipe_table.specs.Table as pipes
 use Rattle.pipe_table.specs.Table.{PipeRow, pipe_row, with_bits}
 use Rattle.subscriptions.specs.Subs.{Subscribed}
 use Rattle.bus_tables.specs.Rows.{Row, with_row}
-use Rattle.bus_tables.specs.Tied.{row_in, waiting_at, IsCounted, IsQueued, AreQueued}
+use Rattle.bus_tables.specs.Tied.{row_in, waiting_at, IsCounted, IsPlaced, IsQueued, AreQueued}
+use Rattle.bus_tables.proofs.OffersRows.{of_row_kept}
 
 -- A change that keeps number and queue. --
 
 -- a change of a row that leaves its number and what waits on it
 pub record Keeps (change : PipeRow → PipeRow) : Type 0 where
   pub number : (row : PipeRow) → (change row).number ≡ row.number
+  pub place : (row : PipeRow) → (change row).place ≡ row.place
   pub queue : (row : PipeRow) → (change row).queue ≡ row.queue
 
 -- a row, changed where it has the number
@@ -57,6 +59,7 @@ module _ (change : PipeRow → PipeRow) (number : ℕ) (keeps : Keeps change) wh
       let Are : PipeRow → Type 0 = λ row. All (IsQueued subscribed row.number) row.queue in
       record {
         counted = All-weaker (IsCounted rows) (IsCounted (pipes.with_row change number rows)) (λ s is. waiting_changed rows s.pipe s.number ∙ is) subscribed.live queued.counted;
+        placed = All-weaker (IsPlaced rows) (IsPlaced (pipes.with_row change number rows)) (λ s is. of_row_kept (λ (r : PipeRow). r.place) change number s.pipe rows keeps.number keeps.place ∙ is) subscribed.live queued.placed;
         items = All-map Are (changed change number) rows (All-weaker Are (λ row. Are (changed change number row)) same rows queued.items);
       }
     where
@@ -68,7 +71,7 @@ module _ (change : PipeRow → PipeRow) (number : ℕ) (keeps : Keeps change) wh
 
 -- option bits are no part of either
 pub bits_keep : (bits : ℕ) → Keeps (with_bits bits)
-bits_keep bits = record { number = λ row. refl; queue = λ row. refl }
+bits_keep bits = record { number = λ row. refl; place = λ row. refl; queue = λ row. refl }
 
 -- a change of one row is that change of the row that contracts see
 pub rows_changed : (change : PipeRow → PipeRow) (next : Row → Row) → ((row : PipeRow) → row_in (change row) ≡ next (row_in row)) →
@@ -95,13 +98,15 @@ found_more {U} f p (row ∷ rows) more u is = by_test (p row) (found_more f p ro
     by_test false ih here = ih here
 
 -- what waits stays counted where an empty pipe is added
-pub queued_more : (rows : List PipeRow) (subscribed : Subscribed) (number : ℕ) (name : List ℕ) (owner depth : ℕ) → AreQueued rows subscribed →
-    AreQueued (rows ++ pipes.new_row number name owner depth ∷ []) subscribed
-queued_more rows subscribed number name owner depth queued =
-    let row = pipes.new_row number name owner depth in
+pub queued_more : (rows : List PipeRow) (subscribed : Subscribed) (number place : ℕ) (name : List ℕ) (owner depth : ℕ) → AreQueued rows subscribed →
+    AreQueued (rows ++ pipes.new_row number place name owner depth ∷ []) subscribed
+queued_more rows subscribed number place name owner depth queued =
+    let row = pipes.new_row number place name owner depth in
     let Are : PipeRow → Type 0 = λ r. All (IsQueued subscribed r.number) r.queue in
     record {
       counted = All-weaker (IsCounted rows) (IsCounted (rows ++ row ∷ []))
           (λ s is. found_more (λ r. waiting_at r s.number) (λ r. eqb r.number s.pipe) rows (row ∷ []) s.waiting is) subscribed.live queued.counted;
+      placed = All-weaker (IsPlaced rows) (IsPlaced (rows ++ row ∷ []))
+          (λ s is. found_more (λ (r : PipeRow). r.place) (λ r. eqb r.number s.pipe) rows (row ∷ []) s.place is) subscribed.live queued.placed;
       items = All-append Are rows (row ∷ []) queued.items (All-cons Are row [] (All-nil (IsQueued subscribed number)) (All-nil Are));
     }

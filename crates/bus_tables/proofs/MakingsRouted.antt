@@ -1,5 +1,5 @@
 -- A new subscription: a route for its id, a destination there, and nothing of it that waits.
-use Rattle.std.proofs.Common.{◌≡◌, ℕ, zero, suc, ◌+◌, ◌<◌, ◌≤◌, ◌&&◌, ◌||◌, Bool, true, false, cond, eqb, ltb, List, [], ◌∷◌, ◌++◌, length, map, filter, find, count_by, get_or, Option, Some, None, is_some, Result, Ok, Err, refl, ap, sym, ◌∙◌, subst, arith}
+use Rattle.std.proofs.Common.{◌≡◌, ℕ, zero, suc, ◌+◌, ◌*◌, ◌<◌, ◌≤◌, ◌&&◌, ◌||◌, Bool, true, false, cond, eqb, ltb, List, [], ◌∷◌, ◌++◌, length, map, filter, find, count_by, sum_by, get_or, Option, Some, None, is_some, Result, Ok, Err, refl, ap, sym, ◌∙◌, subst, arith}
 use Rattle.std.specs.List.{All, list_any}
 use Rattle.std.specs.Option.{option_map}
 use Rattle.std.specs.Result.{OnOk}
@@ -8,7 +8,8 @@ use Rattle.std.proofs.lemmas.Bool.Decides.{nat_tests}
 use Rattle.std.proofs.lemmas.Result.{MatchResult-at_ok}
 use Rattle.std.proofs.lemmas.List.{length-map, map_push, get_or-set_same, get_or-set_other}
 use Rattle.std.proofs.lemmas.List.Elements.{All-nil, All-cons, All-head, All-tail, All-append, All-weaker, filter-append}
-use Rattle.std.proofs.lemmas.List.Sums.{sum_by-cons, sum_by_push}
+use Rattle.std.proofs.lemmas.List.Sums.{sum_by-cons, sum_by_push, length-filter}
+use Rattle.std.proofs.Math.Nat.{mul-le-mul_right, suc-mul}
 use Rattle.std.proofs.Math.Seq.{map-set_same}
 use Rattle.fsw_base.proofs.Lists.{list_any-map, filter-map}
 use Rattle.fsw_base.specs.declared.statuses.SbStatus.{SbStatus}
@@ -20,7 +21,7 @@ use Rattle.subscriptions.specs.Subs.{Subscription, Subscribed, number_of}
 use Rattle.routing.specs.Dests.{Dest}
 use Rattle.routing.specs.Routing.{Route, Routing, fresh_route, route_at, dests_at, route_from, route_of, with_dests}
 use Rattle.bus_tables.specs.Rows.{Row, RouteRow, with_route}
-use Rattle.bus_tables.specs.Tied.{row_in, sub_in, way_in, tables_in, of_id, waiting_at, IsCounted, IsOf, IsQueued, AreQueued, AreRouted, ties}
+use Rattle.bus_tables.specs.Tied.{row_in, sub_in, way_in, tables_in, of_id, waiting_at, IsCounted, IsPlaced, IsOf, IsQueued, AreQueued, AreRouted, ties}
 use Rattle.bus_tables.proofs.Readers.{way_there}
 use Rattle.bus_tables.proofs.Counting.{found, route_from-set}
 
@@ -162,6 +163,95 @@ dests_few subscribed r id route routed way =
     ∙ sym (length-map (of_id id subscribed) sub_in)
     ∙ ap length (sym (filter-map (λ (sub : bus.Subscription). eqb sub.id id) sub_in subscribed.live))
 
+-- live subscriptions are no more than their ids' routes have
+each_counted : (number : ℕ) (live : List Subscription) (routes : List Route) → All (λ s. is_some (route_from number routes s.id) ≡ true) live →
+    length live ≤ sum_by (λ r. count_by (λ s. eqb s.id r.id) live) routes
+each_counted number [] routes all = omega arith
+each_counted number (s ∷ live) routes all =
+    let one : 1 ≤ sum_by (λ r. cond {A = ℕ} (eqb s.id r.id) 1 0) routes = has_one number routes (All-head (λ t. is_some (route_from number routes t.id) ≡ true) s live all) in
+    let rest = each_counted number live routes (All-tail (λ t. is_some (route_from number routes t.id) ≡ true) s live all) in
+    omega (arith, one, rest, both routes)
+  where
+    turned : (a b : ℕ) → eqb a b ≡ eqb b a
+    turned a b = grind (arith, nat_tests)
+
+    has_one : (number : ℕ) (routes : List Route) → is_some (route_from number routes s.id) ≡ true → 1 ≤ sum_by (λ r. cond {A = ℕ} (eqb s.id r.id) 1 0) routes
+    has_one number [] none = absurd (cc (none))
+    has_one number (r ∷ routes) some =
+        by_test (eqb r.id s.id) some (has_one (number + 1) routes)
+        (sum_by-cons (λ (q : Route). cond {A = ℕ} (eqb s.id q.id) 1 0) r routes ∙ ap (λ b. cond {A = ℕ} b 1 0 + sum_by (λ (q : Route). cond {A = ℕ} (eqb s.id q.id) 1 0) routes) (turned s.id r.id))
+      where
+        by_test : (b : Bool) → is_some (cond {A = Option ℕ} b (Some number) (route_from (number + 1) routes s.id)) ≡ true → (is_some (route_from (number + 1) routes s.id) ≡ true → 1 ≤ sum_by (λ (q : Route). cond {A = ℕ} (eqb s.id q.id) 1 0) routes) →
+            sum_by (λ (q : Route). cond {A = ℕ} (eqb s.id q.id) 1 0) (r ∷ routes) ≡ cond {A = ℕ} b 1 0 + sum_by (λ (q : Route). cond {A = ℕ} (eqb s.id q.id) 1 0) routes → 1 ≤ sum_by (λ (q : Route). cond {A = ℕ} (eqb s.id q.id) 1 0) (r ∷ routes)
+        by_test true is ih total = omega (arith, total)
+        by_test false is ih total = omega (arith, total, ih is)
+
+    both : (routes : List Route) → sum_by (λ r. count_by (λ t. eqb t.id r.id) (s ∷ live)) routes ≡ sum_by (λ r. cond {A = ℕ} (eqb s.id r.id) 1 0) routes + sum_by (λ r. count_by (λ t. eqb t.id r.id) live) routes
+    both [] = refl
+    both (r ∷ routes) =
+        omega (
+          arith,
+          both routes,
+          sum_by-cons (λ (q : Route). count_by (λ t. eqb t.id q.id) (s ∷ live)) r routes,
+          sum_by-cons (λ (q : Route). cond {A = ℕ} (eqb s.id q.id) 1 0) r routes,
+          sum_by-cons (λ (q : Route). count_by (λ t. eqb t.id q.id) live) r routes,
+          sum_by-cons (λ (t : Subscription). cond {A = ℕ} (eqb t.id r.id) 1 0) s live,
+        )
+
+-- a sum of terms that are at most a bound, one of them below it
+sum_most : (f : Route → ℕ) (most : ℕ) (routes : List Route) → ((i : ℕ) → i < length routes → f (get_or routes i (fresh_route 0)) ≤ most) → sum_by f routes ≤ length routes * most
+sum_most f most [] each = omega arith
+sum_most f most (r ∷ routes) each =
+    let one = each 0 (omega arith) in
+    let rest = sum_most f most routes (λ i within. each (suc i) (omega (arith, within))) in
+    omega (arith, one, rest, sum_by-cons f r routes, suc-mul (length routes) most)
+
+sum_below : (f : Route → ℕ) (most : ℕ) (routes : List Route) (place : ℕ) → ((i : ℕ) → i < length routes → f (get_or routes i (fresh_route 0)) ≤ most) → place < length routes → f (get_or routes place (fresh_route 0)) < most → sum_by f routes < length routes * most
+sum_below f most [] place each within less = absurd (omega (arith, within))
+sum_below f most (r ∷ routes) zero each within less =
+    let rest = sum_most f most routes (λ i inside. each (suc i) (omega (arith, inside))) in
+    omega (arith, less, rest, sum_by-cons f r routes, suc-mul (length routes) most)
+sum_below f most (r ∷ routes) (suc place) each within less =
+    let one = each 0 (omega arith) in
+    let rest = sum_below f most routes place (λ i inside. each (suc i) (omega (arith, inside))) (omega (arith, within)) less in
+    omega (arith, one, rest, sum_by-cons f r routes, suc-mul (length routes) most)
+
+-- there is room for one more where its route has room
+pub room_left : (subscribed : Subscribed) (r : Routing) (id route : ℕ) → AreRouted subscribed r → route_of r.routes id ≡ Some route → length r.routes ≤ r.msgids → ((place : ℕ) → length (dests_at r place) ≤ r.dests) →
+    length (dests_at r route) < r.dests → length subscribed.live < r.msgids * r.dests
+room_left subscribed r id route routed way fit few less =
+    let counted = each_counted 0 subscribed.live r.routes routed.ways in
+    let below = sum_below (λ q. count_by (λ s. eqb s.id q.id) subscribed.live) r.dests r.routes route (λ i within. most i within) (found r id route way).within last in
+    let wide = mul-le-mul_right r.dests fit in
+    omega (arith, counted, below, wide)
+  where
+    as_many : (other place : ℕ) → route_of r.routes other ≡ Some place → count_by (λ s. eqb s.id other) subscribed.live ≡ length (dests_at r place)
+    as_many other place is =
+        sym (length-filter (λ s. eqb s.id other) subscribed.live)
+        ∙ sym (length-map (of_id other subscribed) number_of)
+        ∙ ap length (sym (routed.dests other place is))
+        ∙ length-map (dests_at r place) (λ (dest : Dest). dest.1)
+
+    some_place : (number : ℕ) (routes : List Route) (i : ℕ) → i < length routes → (place : ℕ) × (route_from number routes (get_or routes i (fresh_route 0)).id ≡ Some place)
+    some_place number [] i within = absurd (omega (arith, within))
+    some_place number (q ∷ routes) zero within = (number, ap (λ b. cond {A = Option ℕ} b (Some number) (route_from (number + 1) routes q.id)) (eq-eqb q.id q.id refl))
+    some_place number (q ∷ routes) (suc i) within = by_test (eqb q.id (get_or routes i (fresh_route 0)).id) (some_place (number + 1) routes i (omega (arith, within)))
+      where
+        by_test : (b : Bool) → (place : ℕ) × (route_from (number + 1) routes (get_or routes i (fresh_route 0)).id ≡ Some place) →
+            (place : ℕ) × (cond {A = Option ℕ} b (Some number) (route_from (number + 1) routes (get_or routes i (fresh_route 0)).id) ≡ Some place)
+        by_test true rest = (number, refl)
+        by_test false rest = rest
+
+    most : (i : ℕ) → i < length r.routes → count_by (λ s. eqb s.id (get_or r.routes i (fresh_route 0)).id) subscribed.live ≤ r.dests
+    most i within =
+        let at = some_place 0 r.routes i within in
+        omega (arith, as_many (get_or r.routes i (fresh_route 0)).id at.0 at.1, few at.0)
+
+    last : count_by (λ s. eqb s.id (get_or r.routes route (fresh_route 0)).id) subscribed.live < r.dests
+    last =
+        let named : (route_at r route).id ≡ id = (found r id route way).named in
+        omega (arith, ap (λ n. count_by (λ s. eqb s.id n) subscribed.live) named, as_many id route way, less)
+
 -- so it is taken
 pub taken : (P : Type 0) (n limit : ℕ) (r : Result (Unit {0}) SbStatus) → n < limit → r ≡ cond (ltb n limit) (Ok tt) (Err MaxDestsMet) → OnOk r P → P
 taken P n limit r few is given = MatchResult-at_ok (λ u. P) (λ e. Unit {0}) tt (is ∙ ap (λ b. cond b (Ok tt) (Err MaxDestsMet)) (less n limit few)) given
@@ -286,13 +376,14 @@ none_waits subscribed pipe number (item ∷ queue) above all =
     other a b less = grind (arith, nat_tests)
 
 -- what waits stays counted where a subscription is made of which nothing waits
-pub queued_more : (rows : List PipeRow) (subscribed : Subscribed) (s : Subscription) → AreQueued rows subscribed → is_some (pipe_row rows s.pipe) ≡ true →
+pub queued_more : (rows : List PipeRow) (subscribed : Subscribed) (s : Subscription) → AreQueued rows subscribed → is_some (pipe_row rows s.pipe) ≡ true → IsPlaced rows s →
     s.number ≡ subscribed.made + 1 → s.waiting ≡ 0 → AreQueued rows (record subscribed { made = s.number; live = subscribed.live ++ s ∷ [] })
-queued_more rows subscribed s queued live number nothing =
+queued_more rows subscribed s queued live place number nothing =
     let Are : Subscribed → PipeRow → Type 0 = λ b row. All (IsQueued b row.number) row.queue in
     let next : Subscribed = record subscribed { made = s.number; live = subscribed.live ++ s ∷ [] } in
     record {
       counted = All-append (IsCounted rows) subscribed.live (s ∷ []) queued.counted (All-cons (IsCounted rows) s [] (by_row (pipe_row rows s.pipe) refl live) (All-nil (IsCounted rows)));
+      placed = All-append (IsPlaced rows) subscribed.live (s ∷ []) queued.placed (All-cons (IsPlaced rows) s [] place (All-nil (IsPlaced rows)));
       items = All-weaker (Are subscribed) (Are next) (λ row are. All-weaker (IsQueued subscribed row.number) (IsQueued next row.number) (each row.number) row.queue are) rows queued.items;
     }
   where

@@ -9,7 +9,7 @@ use Rattle.std.proofs.lemmas.List.Sums.{sum_by_push}
 use Rattle.fsw_base.proofs.Lists.{count_by-map}
 use Rattle.pipe_queue.specs.declared.item.Item.{Item}
 use Rattle.pipe_table.specs.Table as table
-use Rattle.pipe_table.specs.Table.{PipeRow, pipe_row, with_item}
+use Rattle.pipe_table.specs.Table.{PipeRow, pipe_row, place_of, with_item}
 use Rattle.subscriptions.specs.declared.words.SubNo.{SubNo}
 use denote.Enum.Bare.{sameb}
 use Rattle.subscriptions.specs.contracts.words.Verdict.{the_type}
@@ -18,7 +18,7 @@ use Rattle.subscriptions.specs.declared.words.Verdict.{Verdict}
 use Rattle.subscriptions.specs.declared.words.Verdict.TheVariants.{Inside, OverLimit}
 use Rattle.subscriptions.specs.Subs.{Subscribed, Subscription, row_of, goes_by, live_at, verdict_of, verdict_at, one_more, with_change, AreInOrder}
 use Rattle.bus_tables.specs.Rows.{Row, with_row, takes, offered_row, row_takes}
-use Rattle.bus_tables.specs.Tied.{item_in, row_in, sub_in, waiting_at, still, IsCounted, IsOf, IsQueued, AreQueued}
+use Rattle.bus_tables.specs.Tied.{item_in, row_in, sub_in, waiting_at, still, IsCounted, IsPlaced, IsOf, IsQueued, AreQueued}
 use Rattle.bus_tables.proofs.OffersLists.{all_both, found_is, found_passes}
 use Rattle.bus_tables.proofs.OffersRows.{changed, only_row, pipe_row-with_row, of_row_kept, row_of-rows, rows_changed, rows_kept, rows_unchanged}
 use Rattle.bus_tables.proofs.OffersSubs.{only_sub, still-with_change, all_still, queued_still}
@@ -34,6 +34,13 @@ number-with_item : (item : Item) (row : PipeRow) → (with_item item row).number
 number-with_item item row = by_test (eqb (length row.queue) row.depth)
   where
     by_test : (b : Bool) → (cond {A = PipeRow} b row (record row { queue = row.queue ++ item ∷ [] })).number ≡ row.number
+    by_test true = refl
+    by_test false = refl
+
+place-with_item : (item : Item) (row : PipeRow) → (with_item item row).place ≡ row.place
+place-with_item item row = by_test (eqb (length row.queue) row.depth)
+  where
+    by_test : (b : Bool) → (cond {A = PipeRow} b row (record row { queue = row.queue ++ item ∷ [] })).place ≡ row.place
     by_test true = refl
     by_test false = refl
 
@@ -210,6 +217,10 @@ module _ (rows : List PipeRow) (subs : Subscribed) (sub : SubNo) (s : Subscripti
       by_number true is = by_room (eqb-true r.number s.pipe is) (eqb (length r.queue) r.depth)
       by_number false is = old
 
+  changed_placed : (t : Subscription) → IsPlaced (table.with_row (with_item item) s.pipe rows) t → (b : Bool) → IsPlaced (table.with_row (with_item item) s.pipe rows) (cond {A = Subscription} b (one_more t) t)
+  changed_placed t is true = is
+  changed_placed t is false = is
+
   -- what waits is counted
   pub queued_more : AreQueued (table.with_row (with_item item) s.pipe rows) (with_change subs sub one_more)
   queued_more = record {
@@ -217,6 +228,10 @@ module _ (rows : List PipeRow) (subs : Subscribed) (sub : SubNo) (s : Subscripti
         All-map (IsCounted (table.with_row (with_item item) s.pipe rows)) (λ t. cond {A = Subscription} (goes_by sub t) (one_more t) t) subs.live
         (all_both (IsCounted rows) (λ t. t.number ≡ s.number → t ≡ s) (λ t. IsCounted (table.with_row (with_item item) s.pipe rows) (cond {A = Subscription} (goes_by sub t) (one_more t) t))
         (λ t is single. counted t is single (goes_by sub t) refl) subs.live queued.counted only);
+    placed =
+        All-map (IsPlaced (table.with_row (with_item item) s.pipe rows)) (λ t. cond {A = Subscription} (goes_by sub t) (one_more t) t) subs.live
+        (All-weaker (IsPlaced rows) (λ t. IsPlaced (table.with_row (with_item item) s.pipe rows) (cond {A = Subscription} (goes_by sub t) (one_more t) t))
+        (λ t is. changed_placed t (of_row_kept (λ (r : PipeRow). r.place) (with_item item) s.pipe t.pipe rows (number-with_item item) (place-with_item item) ∙ is) (goes_by sub t)) subs.live queued.placed);
     items =
         All-map (λ r. All (IsQueued after r.number) r.queue) (changed (with_item item) s.pipe) rows
         (All-weaker (λ r. All (IsQueued subs r.number) r.queue) (λ r. All (IsQueued after (changed (with_item item) s.pipe r).number) (changed (with_item item) s.pipe r).queue)
@@ -226,6 +241,12 @@ module _ (rows : List PipeRow) (subs : Subscribed) (sub : SubNo) (s : Subscripti
 -- What the calls tell. --
 
 -- the pipe of a live subscription
+pub placed_is : (rows : List PipeRow) (subs : Subscribed) (sub : SubNo) (s : Subscription) (row : SubRow) → AreQueued rows subs → option_map row_of (live_at subs sub) ≡ Some row → live_at subs sub ≡ Some s →
+    place_of rows row.pipe ≡ Some row.place
+placed_is rows subs sub s row queued is live =
+    let same : row_of s ≡ row = cc (is, live) in
+    subst (λ (r : SubRow). place_of rows r.pipe ≡ Some r.place) same (found_is (IsPlaced rows) (goes_by sub) subs.live s queued.placed live)
+
 pub pipe_is : (subs : Subscribed) (sub : SubNo) (s : Subscription) (row : SubRow) → option_map row_of (live_at subs sub) ≡ Some row → live_at subs sub ≡ Some s → row.pipe ≡ s.pipe
 pipe_is subs sub s row is live =
     let same : row_of s ≡ row = cc (is, live) in

@@ -10,7 +10,7 @@ use Rattle.pipe_table.specs.Table.{PipeRow, without_row}
 use Rattle.subscriptions.specs.Subs as subs
 use Rattle.bus_tables.specs.Rows.{Row, owns_row}
 use Rattle.bus_tables.specs.Tables.{Tables, IsRising}
-use Rattle.bus_tables.specs.Tied.{AreQueued, IsCounted, IsQueued, waiting_at}
+use Rattle.bus_tables.specs.Tied.{AreQueued, IsCounted, IsPlaced, IsQueued, waiting_at}
 use Rattle.bus_tables.proofs.EndingsLists.{found_all, found_any, found_passes, filter_whole, filter_shorter, filter_within, find_within, none_any, not_found}
 use Rattle.bus_tables.proofs.Endings.{and_left}
 use Rattle.bus_tables.proofs.Ties.{queued_left}
@@ -26,6 +26,7 @@ pub queued_removed : (rows : List PipeRow) (subscribed : subs.Subscribed) (numbe
     AreQueued (without_row number rows) (record subscribed { live = filter (λ s. not (eqb s.pipe number)) subscribed.live })
 queued_removed rows subscribed number queued = record {
   counted = λ k d within. recount (get_or left.live k d) (filter_passes (λ s. not (eqb s.pipe number)) subscribed.live k d within) (few.counted k d within);
+  placed = λ k d within. replaced (get_or left.live k d) (filter_passes (λ s. not (eqb s.pipe number)) subscribed.live k d within) (few.placed k d within);
   items = All-filter (λ row. not (eqb row.number number)) (λ row. All (IsQueued left row.number) row.queue) rows few.items;
 }
   where
@@ -40,6 +41,12 @@ queued_removed rows subscribed number queued = record {
         ap (option_map (λ row. waiting_at row s.number))
         (find_within (λ row. eqb row.number s.pipe) (λ row. not (eqb row.number number)) (λ row same. other_number row.number s.pipe number apart same) rows)
         ∙ counted
+
+    replaced : (s : subs.Subscription) → not (eqb s.pipe number) ≡ true → IsPlaced rows s → IsPlaced (without_row number rows) s
+    replaced s apart placed =
+        ap (option_map (λ (row : PipeRow). row.place))
+        (find_within (λ row. eqb row.number s.pipe) (λ row. not (eqb row.number number)) (λ row same. other_number row.number s.pipe number apart same) rows)
+        ∙ placed
 
 -- An application's pipes. --
 

@@ -13,10 +13,10 @@ use Rattle.routing.specs.Routing.{Routing}
 use Rattle.bus_tables.specs.declared.tables.BusTables.TheInside.{Inside}
 use Rattle.bus_tables.specs.Rows.{Row, with_row, after_take, first_item}
 use Rattle.bus_tables.specs.Tables.{Tables}
-use Rattle.bus_tables.specs.Tied.{item_in, row_in, sub_in, tables_in, waiting_at, uncounted, still, frame, IsCounted, IsOf, IsQueued, AreQueued, AreTied}
+use Rattle.bus_tables.specs.Tied.{item_in, row_in, sub_in, tables_in, waiting_at, uncounted, still, frame, IsCounted, IsPlaced, IsOf, IsQueued, AreQueued, AreTied}
 use Rattle.bus_tables.proofs.Offers.{goes_by_parts}
 use Rattle.bus_tables.proofs.OffersLists.{all_both, found_is, found_passes}
-use Rattle.bus_tables.proofs.OffersRows.{changed, pipe_row-with_row}
+use Rattle.bus_tables.proofs.OffersRows.{changed, pipe_row-with_row, of_row_kept}
 use Rattle.bus_tables.proofs.OffersSubs.{live_still, still-with_change, queued_still, routed_still}
 
 -- What contracts see. --
@@ -26,7 +26,7 @@ pub tables_after : (old pipes : Pipes) (before subs : Subscribed) (routing : Rou
     tables_in pipes subs routing ≡ record (tables_in old before routing) { pipes = rows }
 tables_after old pipes before subs routing rows framed same seen =
     ap (λ (p : Pipes). let t : Tables = record (tables_in p subs routing) { pipes = map row_in pipes.live } in t) framed
-    ∙ ap (λ (s : Subscribed). let t : Tables = record (tables_in old before routing) { pipes = map row_in pipes.live; subscriptions = map sub_in subs.live; subscriptions_made = s.made; room = record (tables_in old s routing).room { subscriptions = s.room } } in t) same
+    ∙ ap (λ (s : Subscribed). let t : Tables = record (tables_in old before routing) { pipes = map row_in pipes.live; subscriptions = map sub_in subs.live; subscriptions_made = s.made } in t) same
     ∙ ap (λ l. let t : Tables = record (tables_in old before routing) { pipes = map row_in pipes.live; subscriptions = l } in t) (sym (bare subs.live) ∙ ap (map sub_in) (live_still before subs same) ∙ bare before.live)
     ∙ ap (λ l. let t : Tables = record (tables_in old before routing) { pipes = l } in t) seen
   where
@@ -36,7 +36,7 @@ tables_after old pipes before subs routing rows framed same seen =
 
 -- the tables stay tied
 pub tied_after : (old pipes : Pipes) (before subs : Subscribed) (routing : Routing) → AreTied old before routing → still subs ≡ still before → AreQueued pipes.live subs → AreTied pipes subs routing
-tied_after old pipes before subs routing tied same queued = record { queued = queued; routed = routed_still before subs routing same tied.routed }
+tied_after old pipes before subs routing tied same queued = record { queued = queued; routed = routed_still before subs routing same tied.routed; room = ap (λ (s : Subscribed). s.room) same ∙ tied.room }
 
 -- the rows after a receive
 pub taken_rows : (number : ℕ) (rows : List PipeRow) → map row_in (table.with_row taken_row number rows) ≡ with_row after_take number (map row_in rows)
@@ -108,6 +108,10 @@ module _ (rows : List PipeRow) (subs : Subscribed) (number : ℕ) (queued : AreQ
       by_test r all true = All-drop (IsQueued after r.number) 1 r.queue all
       by_test r all false = all
 
+  -- a pipe stays where it lies
+  stays_placed : (t : Subscription) → IsPlaced rows t → IsPlaced (table.with_row taken_row number rows) t
+  stays_placed t is = of_row_kept (λ (r : PipeRow). r.place) taken_row number t.pipe rows (λ r. refl) (λ r. refl) ∙ is
+
   -- where none waits
   pub none_taken : oldest_on rows number ≡ None → AreQueued (table.with_row taken_row number rows) subs
   none_taken none = record {
@@ -116,6 +120,7 @@ module _ (rows : List PipeRow) (subs : Subscribed) (number : ℕ) (queued : AreQ
         (λ t is. of_found_kept (λ r. waiting_at r t.number) taken_row number t.pipe rows (λ r. refl)
         (λ row here. behind_none (λ i. eqb i.sub.number t.number) row.queue (ap (option_and_then (λ r. slice_get r.queue 0)) (sym here) ∙ none)) ∙ is)
         subs.live queued.counted;
+    placed = All-weaker (IsPlaced rows) (IsPlaced (table.with_row taken_row number rows)) (λ t is. stays_placed t is) subs.live queued.placed;
     items = items subs refl;
   }
 
@@ -182,12 +187,20 @@ module _ (rows : List PipeRow) (subs : Subscribed) (number : ℕ) (queued : AreQ
             let more = behind_first (λ i. eqb i.sub.number t.number) row.queue item row_there.2 ∙ ap (λ b. cond {A = ℕ} b 1 0 + waiting_at (taken_row row) t.number) apart in
             subst (λ q. waiting_at (taken_row q) t.number ≡ waiting_at q t.number) same (omega (arith, more))
 
+    changed_placed : (t : Subscription) → IsPlaced (table.with_row taken_row number rows) t → (b : Bool) → IsPlaced (table.with_row taken_row number rows) (cond {A = Subscription} b (one_fewer t) t)
+    changed_placed t is true = is
+    changed_placed t is false = is
+
     pub one_taken : AreQueued (table.with_row taken_row number rows) (with_change subs item.sub one_fewer)
     one_taken = record {
       counted =
           All-map (IsCounted (table.with_row taken_row number rows)) (λ t. cond {A = Subscription} (goes_by item.sub t) (one_fewer t) t) subs.live
           (all_both (IsCounted rows) (IsOf number item) (λ t. IsCounted (table.with_row taken_row number rows) (cond {A = Subscription} (goes_by item.sub t) (one_fewer t) t))
           (λ t is own. counted t is own (goes_by item.sub t) refl) subs.live queued.counted its.own);
+      placed =
+          All-map (IsPlaced (table.with_row taken_row number rows)) (λ t. cond {A = Subscription} (goes_by item.sub t) (one_fewer t) t) subs.live
+          (All-weaker (IsPlaced rows) (λ t. IsPlaced (table.with_row taken_row number rows) (cond {A = Subscription} (goes_by item.sub t) (one_fewer t) t))
+          (λ t is. changed_placed t (stays_placed t is) (goes_by item.sub t)) subs.live queued.placed);
       items = items (with_change subs item.sub one_fewer) (still-with_change subs item.sub one_fewer (λ t. refl));
     }
 

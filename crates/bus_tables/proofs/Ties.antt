@@ -15,7 +15,7 @@ use Rattle.subscriptions.specs.Subs.{Subscription, Subscribed, number_of, goes_b
 use Rattle.routing.specs.Routing.{Routing, dests_at, route_of}
 use Rattle.bus_tables.specs.Rows.{Row}
 use Rattle.bus_tables.specs.Tables.{Tables}
-use Rattle.bus_tables.specs.Tied.{row_in, tables_in, ways_of, AreRouted, AreQueued, IsQueued, IsOf, IsCounted, of_id, sub_in, first_of, ties}
+use Rattle.bus_tables.specs.Tied.{row_in, tables_in, ways_of, AreRouted, AreQueued, IsQueued, IsOf, IsCounted, IsPlaced, of_id, sub_in, first_of, ties}
 use Rattle.bus_tables.proofs.EndingsLists.{any_found, found_all, found_passes, found_only, filter_alike, filter_empty, filter_whole, not_none, not_found}
 use Rattle.bus_tables.proofs.Endings.{and_left, own_number, goes, rising_above}
 
@@ -143,6 +143,7 @@ none_tied subs id pipe none =
 pub queued_left : (rows : List PipeRow) (subs : Subscribed) (stays : Subscription → Bool) → AreQueued rows subs → AreQueued rows (record subs { live = filter stays subs.live })
 queued_left rows subs stays queued = record {
   counted = All-filter stays (IsCounted rows) subs.live queued.counted;
+  placed = All-filter stays (IsPlaced rows) subs.live queued.placed;
   items =
       All-weaker (λ row. All (IsQueued subs row.number) row.queue) (λ row. All (IsQueued left row.number) row.queue)
       (λ row all. All-weaker (IsQueued subs row.number) (IsQueued left row.number) (λ item one. record { made = one.made; own = All-filter stays (IsOf row.number item) subs.live one.own }) row.queue all)

@@ -4,13 +4,11 @@ use Rattle.fsw_base.specs.Limits.{Limits}
 use Rattle.bus_words.specs.Bus.{Subscription}
 use Rattle.bus_tables.specs.Rows.{Row, RouteRow}
 
--- How many pipes may be live, their greatest depth and how many may be created; how many subscriptions may be live; how many
--- ids may have a route, and how many subscriptions each; and the counts at which ids start.
+-- How many pipes may be live and their greatest depth; how many ids may have a route, and how many subscriptions each; and the
+-- counts at which ids start.
 pub record Room : Type 0 where
   pub pipes : ℕ
   pub depth : ℕ
-  pub numbers : ℕ
-  pub subscriptions : ℕ
   pub msgids : ℕ
   pub dests : ℕ
   pub starts : List (ℕ × ℕ)
@@ -25,21 +23,19 @@ pub record Tables : Type 0 where
   pub routes : List RouteRow
   pub room : Room
 
--- the room that these limits give, for so many creations and subscriptions
-abbrev pub room_for : Limits → ℕ → Room
-room_for limits numbers = record {
+-- the room that these limits give
+abbrev pub room_for : Limits → Room
+room_for limits = record {
   pipes = limits.pipes;
   depth = limits.depth;
-  numbers = numbers;
-  subscriptions = numbers;
   msgids = limits.msgids;
   dests = limits.dests;
   starts = limits.starts;
 }
 
 -- nothing was created yet
-abbrev pub opened : Limits → ℕ → Tables
-opened limits numbers = record { pipes = []; pipes_created = 0; subscriptions = []; subscriptions_made = 0; routes = []; room = room_for limits numbers }
+abbrev pub opened : Limits → Tables
+opened limits = record { pipes = []; pipes_created = 0; subscriptions = []; subscriptions_made = 0; routes = []; room = room_for limits }
 
 -- the numbers rise, all of them above this one
 abbrev pub IsRising : ℕ → List Row → Type 0

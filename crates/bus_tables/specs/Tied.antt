@@ -1,11 +1,11 @@
 -- How the three tables belong together: what waits on the pipes is counted at its subscriptions, and the destinations of an
 -- id are its subscriptions.
-use Rattle.std.specs.Prelude.{◌≡◌, ℕ, ◌≤◌, ◌==◌, ◌&&◌, Bool, true, List, [], map, filter, find, count_by, Option, Some, is_some}
+use Rattle.std.specs.Prelude.{◌≡◌, ℕ, ◌*◌, ◌≤◌, ◌==◌, ◌&&◌, Bool, true, List, [], map, filter, find, count_by, Option, Some, is_some}
 use Rattle.std.specs.List.{All}
 use Rattle.std.specs.Option.{option_map}
 use Rattle.bus_words.specs.Bus.{Subscription}
 use Rattle.pipe_queue.specs.declared.item.Item.{Item}
-use Rattle.pipe_table.specs.Table.{Pipes, PipeRow, pipe_row}
+use Rattle.pipe_table.specs.Table.{Pipes, PipeRow, pipe_row, place_of}
 use Rattle.routing.specs.Routing.{Route, Routing, route_of, dests_at}
 use Rattle.subscriptions.specs.Subs as subs
 use Rattle.subscriptions.specs.declared.words.SubNo.{SubNo}
@@ -45,8 +45,6 @@ tables_in pipes subscribed routing = record {
   room = record {
     pipes = pipes.room;
     depth = pipes.depth;
-    numbers = pipes.numbers;
-    subscriptions = subscribed.room;
     msgids = routing.msgids;
     dests = routing.dests;
     starts = routing.starts;
@@ -72,9 +70,14 @@ pub record IsQueued (subscribed : subs.Subscribed) (pipe : ℕ) (item : Item) : 
   pub made : item.sub.number ≤ subscribed.made
   pub own : All (IsOf pipe item) subscribed.live
 
--- what waits is counted
+-- a subscription knows where its pipe lies
+abbrev pub IsPlaced : List PipeRow → subs.Subscription → Type 0
+IsPlaced rows s = place_of rows s.pipe ≡ Some s.place
+
+-- what waits is counted, and each pipe lies where its subscriptions say
 pub record AreQueued (rows : List PipeRow) (subscribed : subs.Subscribed) : Type 0 where
   pub counted : All (IsCounted rows) subscribed.live
+  pub placed : All (IsPlaced rows) subscribed.live
   pub items : All (λ row. All (IsQueued subscribed row.number) row.queue) rows
 
 -- Subscriptions and routes. --
@@ -101,6 +104,8 @@ pub record AreRouted (subscribed : subs.Subscribed) (routing : Routing) : Type 0
 pub record AreTied (pipes : Pipes) (subscribed : subs.Subscribed) (routing : Routing) : Type 0 where
   pub queued : AreQueued pipes.live subscribed
   pub routed : AreRouted subscribed routing
+  -- there is room for the subscriptions of as many routes as there may be
+  pub room : subscribed.room ≡ routing.msgids * routing.dests
 
 -- What a change leaves. --
 

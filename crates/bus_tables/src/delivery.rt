@@ -9,7 +9,7 @@ ghost use Rattle.bus_tables.specs.Tied.{AreQueued, AreRouted, row_in, sub_in, st
 use bucket_list::{Ledger, Steps};
 use fsw_base::AppNo;
 use pipe_queue::Item;
-use pipe_table::PipeTable;
+use pipe_table::{PipeNo, PipeTable};
 use routing::Routes;
 use subscriptions::{SubNo, Subs, Verdict};
 
@@ -66,7 +66,11 @@ fn offer(pipes: &mut PipeTable, subs: &mut Subs, sub: SubNo, sender: AppNo, numb
     // Do nothing; the proof learns of them that no two pipes, and no two subscriptions, have one number.
     pipes.recall_order();
     subs.recall_order();
-    let pipe = subs.at(sub).pipe;
+    let row = subs.at(sub);
+    let pipe = PipeNo {
+        number: row.pipe,
+        place: row.place,
+    };
     if pipes.ignores(pipe, sender) || subs.admit(sub) == Verdict::OverLimit {
         return 0;
     }

@@ -14,7 +14,7 @@
 //!     app: AppNo,
 //!     steps: &mut Steps<L>,
 //! ) -> Option<ItemRow>
-//!     requires { tables.old ≡ opened usual_limits 1 }
+//!     requires { tables.old ≡ opened usual_limits }
 //!     ensures { result ≡ Some (record { number = 1; subscription = 1 }) }
 //! {
 //!     let pipe = tables.create_pipe(name, app, 4);
@@ -32,5 +32,7 @@ mod pairs;
 mod tables;
 #[cfg(test)]
 mod tests;
+mod uses;
 
 pub use tables::{BusTables, ItemRow};
+pub use uses::recall_uses;

@@ -1,5 +1,5 @@
 //! The tables.
-ghost use Rattle.std.specs.Prelude.{◌≡◌, ◌==◌, ◌&&◌, ◌+◌, ◌*◌, ◌%◌, ◌<◌, ◌≤◌, ◌^◌, ◌++◌, ◌∷◌, [], not, length, map, filter, find, true, false, IfOk, IsTrue};
+ghost use Rattle.std.specs.Prelude.{◌≡◌, ℕ, ◌==◌, ◌&&◌, ◌+◌, ◌*◌, ◌%◌, ◌<◌, ◌≤◌, ◌^◌, ◌++◌, ◌∷◌, [], not, length, map, filter, find, count_by, true, false, IfOk, IsTrue};
 ghost use Rattle.std.specs.List.{list_any};
 ghost use Rattle.std.specs.Option.{option_map};
 ghost use Rattle.std.specs.Str.{bytes_eq};
@@ -56,17 +56,16 @@ impl Model for BusTables {
 }
 
 impl BusTables {
-    /// No pipe, subscription or route, with the room that the limits ask for, and for `numbers` pipes and subscriptions in
-    /// all. No later call takes memory.
+    /// No pipe, subscription or route, with the room that the limits ask for. No later call takes memory.
     ///
     /// # Errors
     /// Where memory runs out.
-    pub fn new(alloc: Global, config: &Config, numbers: u32) -> Result<BusTables, AllocError>
-        ensures { IfOk result (λ tables. tables ≡ opened (limits_of config.now) numbers) }
+    pub fn new(alloc: Global, config: &Config) -> Result<BusTables, AllocError>
+        ensures { IfOk result (λ tables. tables ≡ opened (limits_of config.now)) }
     {
         Ok(BusTables {
-            pipes: PipeTable::new(alloc, config.pipes, config.depth, numbers)?,
-            subs: Subs::new(alloc, numbers)?,
+            pipes: PipeTable::new(alloc, config.pipes, config.depth)?,
+            subs: Subs::new(alloc, config.msgids * config.dests)?,
             routes: Routes::new(alloc, config.msgids, config.dests, config.starts.again())?,
         })
     }
@@ -99,7 +98,7 @@ impl BusTables {
         self.pipes.name(number)
     }
 
-    /// The number of the live pipe of this name. Looks at every number given.
+    /// The number of the live pipe of this name. Looks at every live pipe.
     pub fn find(&self, name: &[u8]) -> Option<u32>
         ensures { result ≡ option_map (λ row. row.number) (find (λ row. bytes_eq row.name name.now) self.now.pipes) }
     {
@@ -139,6 +138,13 @@ impl BusTables {
         self.routes.route_of(id).is_some()
     }
 
+    /// How many subscriptions are live. Takes a constant time.
+    pub fn subscriptions_len(&self) -> u32
+        ensures { result ≡ length self.now.subscriptions }
+    {
+        self.subs.len()
+    }
+
     /// How many ids have a route.
     pub fn routes_len(&self) -> u32
         ensures { result ≡ length self.now.routes }
@@ -156,6 +162,13 @@ impl BusTables {
         }
     }
 
+    /// No id has two routes. Does nothing.
+    pub fn recall_routes(&self)
+        ensures { (id : ℕ) → count_by (λ route. route.id == id) self.now.routes ≤ 1 }
+    {
+        self.routes.recall_routes();
+    }
+
     /// The live pipes stand in order of number. Does nothing.
     pub fn recall_order(&self)
         ensures { IsRising 0 self.now.pipes }
@@ -166,7 +179,7 @@ impl BusTables {
     /// Creates a pipe that holds up to `depth` messages, and answers its number: one more than were created.
     pub fn create_pipe(&mut self, name: &PipeText, owner: AppNo, depth: u32) -> u32
         requires room { length self.old.pipes < self.old.room.pipes }
-        requires numbers { self.old.pipes_created < self.old.room.numbers }
+        requires number { self.old.pipes_created + 1 < 2 ^ 32 }
         requires some { 1 ≤ depth }
         requires depth { depth ≤ self.old.room.depth }
         ensures number { result ≡ self.old.pipes_created + 1 }
@@ -175,7 +188,7 @@ impl BusTables {
           pipes_created = self.old.pipes_created + 1;
         } }
     {
-        self.pipes.create(name, owner, depth)
+        self.pipes.create(name, owner, depth).number
     }
 
     /// Ends the live pipe of this number, with its subscriptions and what waits on it; no effect where none is live. Looks
@@ -190,7 +203,7 @@ impl BusTables {
         self.pipes.remove(number);
     }
 
-    /// The number of the live pipe that was created first of the application's. Looks at every number given.
+    /// The number of the live pipe that was created first of the application's. Looks at every live pipe.
     pub fn first_of(&self, app: AppNo) -> Option<u32>
         ensures { result ≡ option_map (λ row. row.number) (find (λ row. row.owner == app) self.now.pipes) }
     {
@@ -245,7 +258,6 @@ impl BusTables {
         requires new { is_subscribed self.old.subscriptions id pipe ≡ false }
         requires way { has_way self.old.routes id ≡ false → length self.old.routes < self.old.room.msgids }
         requires dests { length (route self.old.subscriptions id) < self.old.room.dests }
-        requires room { length self.old.subscriptions < self.old.room.subscriptions }
         requires number { self.old.subscriptions_made + 1 < 2 ^ 32 }
         ensures after { self.new ≡ record self.old {
           subscriptions = self.old.subscriptions ++ record { number = self.old.subscriptions_made + 1; id = id; pipe = pipe; limit = limit; scope = scope } ∷ [];
@@ -254,8 +266,11 @@ impl BusTables {
         } }
         ensures cost { steps.new ≤ steps.old + 8 }
     {
+        let place = self.pipes.place_of(pipe).unwrap();
         let route = route_for(&mut self.routes, id);
-        let sub = self.subs.add(id, pipe, limit, scope);
+        // Does nothing; the proof learns of it that there is room for all subscriptions that routes may have.
+        self.routes.recall_routes();
+        let sub = self.subs.add(id, pipe, place, limit, scope);
         let _ = self.routes.add_dest(route, sub, steps);
     }
 

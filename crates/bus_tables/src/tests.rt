@@ -18,7 +18,7 @@ fn first_waiting<L: Ledger>(
     app: AppNo,
     steps: &mut Steps<L>,
 ) -> Option<ItemRow>
-    requires { tables.old ≡ opened usual_limits 1 }
+    requires { tables.old ≡ opened usual_limits }
     ensures { result ≡ Some (record { number = 1; subscription = 1 }) }
 {
     let pipe = tables.create_pipe(name, app, 4);
@@ -37,7 +37,7 @@ fn first_counted<L: Ledger>(
     requires name { blank.name ≡ L.name }
     requires parts { blank.parts ≡ L.parts }
     requires some_part { 0 < blank.parts }
-    requires tables { tables.old ≡ opened usual_limits 1 }
+    requires tables { tables.old ≡ opened usual_limits }
 {
     let mut steps = Steps::<L>::new(blank);
     first_waiting(tables, name, app, &mut steps)
@@ -45,7 +45,7 @@ fn first_counted<L: Ledger>(
 
 #[test]
 fn the_first_message_waits(rt: HostRuntime) -> Result<(), Fail> {
-    let mut tables = BusTables::new(rt.alloc(), &Config::usual(), 1)?;
+    let mut tables = BusTables::new(rt.alloc(), &Config::usual())?;
     let app = AppNo::try_new(1).ok_or("an application's number")?;
     let name = PipeText::try_new(b"TLM").ok_or("a name")?;
     let first = first_counted::<Brand>(&mut tables, &name, app, Blank::new(1));
@@ -70,7 +70,7 @@ fn come_and_go<L: Ledger, R: Abort>(
     requires name { blank.name ≡ L.name }
     requires parts { blank.parts ≡ L.parts }
     requires some_part { 0 < blank.parts }
-    requires tables { tables.old ≡ opened usual_limits 2 }
+    requires tables { tables.old ≡ opened usual_limits }
 {
     let mut steps = Steps::<L>::new(blank);
     let first = tables.create_pipe(name, app, 4);
@@ -97,7 +97,7 @@ fn come_and_go<L: Ledger, R: Abort>(
 
 #[test]
 fn pipes_and_subscriptions_come_and_go(rt: HostRuntime) -> Result<(), Fail> {
-    let mut tables = BusTables::new(rt.alloc(), &Config::usual(), 2)?;
+    let mut tables = BusTables::new(rt.alloc(), &Config::usual())?;
     let app = AppNo::try_new(1).ok_or("an application's number")?;
     let name = PipeText::try_new(b"TLM").ok_or("a name")?;
     come_and_go::<Brand, HostRuntime>(&rt, &mut tables, &name, app, Blank::new(1));

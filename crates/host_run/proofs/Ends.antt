@@ -8,10 +8,10 @@ use Rattle.bus_words.specs.Log.{Log}
 use Rattle.bus_words.specs.ReceiptLists.{Receipts}
 use Rattle.run_report.specs.Report.{report_text, report_of}
 use Rattle.app_script.specs.Grammar.{built_script}
-use Rattle.app_script.specs.Rotation.{rotation}
+use Rattle.script_runs.specs.Rotation.{rotation}
 use Rattle.app_script.specs.Script.{ScriptText}
-use Rattle.app_script.specs.Told.{receipts_told}
-use Rattle.app_script.proofs.Merged.{rotation-legal, rotation-merges}
+use Rattle.script_runs.specs.Told.{receipts_told}
+use Rattle.script_runs.proofs.Merged.{rotation-legal, rotation-merges}
 use Rattle.host_run.proofs.Sizes.{length-built_script}
 use Rattle.host_run.specs.Input.{most_input, IsWhole, IsTooLarge}
 use Rattle.host_run.specs.Serve.{Fed, Made, Lockstep, Read, TooLong, SourceFailed, NoRoom, OtherWords, EndsInput, EndsScript, EndsRefused, HasCauses, Completes, Headline, too_large, rotation_report}

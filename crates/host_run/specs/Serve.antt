@@ -11,10 +11,10 @@ use Rattle.bus_words.specs.Machine.{IsLegal}
 use Rattle.text_page.specs.Pieces.{Grew, CutShort}
 use Rattle.run_report.specs.Report.{report_text}
 use Rattle.app_script.specs.Grammar.{built_script}
-use Rattle.app_script.specs.Rotation.{rotation}
+use Rattle.script_runs.specs.Rotation.{rotation}
 use Rattle.app_script.specs.Script.{ScriptText}
-use Rattle.app_script.specs.Told.{receipts_told}
-use Rattle.app_script.specs.Trace.{Merges}
+use Rattle.script_runs.specs.Told.{receipts_told}
+use Rattle.script_runs.specs.Trace.{Merges}
 use Rattle.host_run.specs.Audit.{IsShown, GuardedAudit}
 use Rattle.host_run.specs.Input.{IsWhole, IsTooLarge, IsPartRead}
 use Rattle.host_run.specs.declared.status.HostStatus.{HostStatus}

@@ -1,15 +1,11 @@
 -- Pipes that stand under their numbers: looking one up, changing, adding and removing one.
-use Rattle.std.proofs.Common.{◌≡◌, ℕ, zero, suc, ◌+◌, ◌-◌, ◌<◌, Bool, true, false, ◌&&◌, ◌||◌, cond, eqb, List, [], ◌∷◌, ◌++◌, length, filter, find, set, get_or, Option, Some, None, refl, ap, sym, ◌∙◌, subst, arith}
-use Rattle.std.specs.List.{list_any}
-use Rattle.std.specs.Option.{IsSome, option_map, option_map_or, option_to_list, is_some}
+use Rattle.std.proofs.Common.{◌≡◌, ℕ, zero, suc, ◌+◌, ◌<◌, ◌≤◌, Bool, true, false, ◌&&◌, ◌||◌, not, cond, eqb, List, [], ◌∷◌, ◌++◌, length, filter, find, set, get_or, Option, Some, None, refl, ap, sym, ◌∙◌, subst, arith}
+use Rattle.std.specs.List.{list_any, remove}
+use Rattle.std.specs.Option.{option_map, option_map_or, option_to_list, is_some}
 use Rattle.std.proofs.lemmas.Bool.Decides.{nat_tests}
 use Rattle.std.proofs.lemmas.List.{length-set, get_or-set_same, get_or-set_other}
-use Rattle.pipe_table.specs.Table.{PipeRow, pipe_row, with_row}
-use Rattle.pipe_table.specs.Places.{PlaceState, pipe_in, pipe_of, place_under, live_in, AreFiled}
-
--- the number of the pipe in a place
-abbrev pub number_in : List PlaceState → ℕ → Option ℕ
-number_in places place = option_map (λ pipe. pipe.number) (pipe_in places place)
+use Rattle.pipe_table.specs.Table.{PipeRow, pipe_row, place_of, with_row, without_row}
+use Rattle.pipe_table.specs.Places.{PlaceState, pipe_in, pipe_of, known_of, known_in, place_under, live_in, AreRising, AreOrdered, AreFiled}
 
 -- no place
 abbrev pub nowhere : PlaceState
@@ -18,72 +14,71 @@ nowhere = record { pipe = None; room = 0 }
 pub some_is : {X : Type 0} (x y : X) → Some x ≡ Some y → x ≡ y
 some_is x y is = ap (λ o. option_map_or (λ z. z) o x) is
 
--- what stands at a number has this number
+-- a place has the pipe of this number, which knows it
 pub record StandsAt (places : List PlaceState) (place number : ℕ) : Type 0 where
   pub there : place < length places
-  pub has : number_in places place ≡ Some number
+  pub row : PipeRow
+  pub has : pipe_in places place ≡ Some row
+  pub numbered : row.number ≡ number
+  pub placed : row.place ≡ place
 
-pub filed_at : (k : ℕ) (places : List PlaceState) (numbers : List (Option ℕ)) (j p : ℕ) → AreFiled k places numbers → get_or numbers j None ≡ Some p → StandsAt places p (k + j)
-filed_at k places [] j p filed is = absurd (cc (is))
-filed_at k places (None ∷ numbers) zero p filed is = absurd (cc (is))
-filed_at k places (None ∷ numbers) (suc j) p filed is =
-    subst (λ n. StandsAt places p n) (omega arith) (filed_at (k + 1) places numbers j p filed is)
-filed_at k places (Some q ∷ numbers) zero p filed is =
-    subst (λ n. StandsAt places p n) (omega arith) (subst (λ x. StandsAt places x k) (some_is q p is) (record { there = filed.0; has = filed.1 }))
-filed_at k places (Some q ∷ numbers) (suc j) p filed is =
-    subst (λ n. StandsAt places p n) (omega arith) (filed_at (k + 1) places numbers j p filed.2 is)
+pub stands_here : (places : List PlaceState) (place number : ℕ) → place < length places → known_in places place ≡ Some (number, place) → StandsAt places place number
+stands_here places place number there known = by_pipe (pipe_in places place) refl known
+  where
+    by_pipe : (o : Option PipeRow) → pipe_in places place ≡ o → option_map known_of o ≡ Some (number, place) → StandsAt places place number
+    by_pipe None has is = absurd (cc (is))
+    by_pipe (Some row) has is =
+        let told : ℕ × ℕ = (number, place) in
+        let both : known_of row ≡ told = some_is (known_of row) told is in
+        record { there = there; row = row; has = has; numbered = ap (λ (p : ℕ × ℕ). p.0) both; placed = ap (λ (p : ℕ × ℕ). p.1) both }
+
+-- Tests of numbers. --
+
+pub same_number : (m n : ℕ) → m ≡ n → eqb m n ≡ true
+same_number m n is = grind (arith, nat_tests)
+
+pub other_number : (m n : ℕ) → (m ≡ n → ⊥) → eqb m n ≡ false
+other_number m n ne = grind (arith, nat_tests)
+
+pub is_same : (m n : ℕ) → eqb m n ≡ true → m ≡ n
+is_same m n is = grind (arith, nat_tests)
+
+pub is_other : (m n : ℕ) → eqb m n ≡ false → m ≡ n → ⊥
+is_other m n is same = grind (arith, nat_tests)
 
 -- Looking up. --
 
-pub no_lower : (k n : ℕ) (places : List PlaceState) (numbers : List (Option ℕ)) → AreFiled k places numbers → n < k → filter (λ row. eqb row.number n) (live_in places numbers) ≡ []
-no_lower k n places [] filed below = refl
-no_lower k n places (None ∷ numbers) filed below = no_lower (k + 1) n places numbers filed (omega arith)
-no_lower k n places (Some p ∷ numbers) filed below = by_pipe (no_lower (k + 1) n places numbers filed.2 (omega arith)) (pipe_in places p) filed.1
-  where
-    other : (m : ℕ) → m ≡ k → n < k → eqb m n ≡ false
-    other m is less = grind (arith, nat_tests)
-
-    by_pipe : filter (λ row. eqb row.number n) (live_in places numbers) ≡ [] → (o : Option PipeRow) → option_map (λ pipe. pipe.number) o ≡ Some k →
-        filter (λ row. eqb row.number n) (option_to_list o ++ live_in places numbers) ≡ []
-    by_pipe ih None is = absurd (cc (is))
-    by_pipe ih (Some row) is =
-        ap (λ b. cond {A = List PipeRow} b (row ∷ filter (λ r. eqb r.number n) (live_in places numbers)) (filter (λ r. eqb r.number n) (live_in places numbers))) (other row.number (some_is row.number k is) below)
-        ∙ ih
+-- no pipe has a number below
+pub no_lower : (below n : ℕ) (places : List PlaceState) (numbers at : List ℕ) → AreFiled below places numbers at → n ≤ below → filter (λ row. eqb row.number n) (live_in places at) ≡ []
+no_lower below n places [] [] filed low = refl
+no_lower below n places [] (p ∷ at) filed low = absurd filed
+no_lower below n places (m ∷ numbers) [] filed low = absurd filed
+no_lower below n places (m ∷ numbers) (p ∷ at) filed low =
+    let stands = stands_here places p m filed.1 filed.2 in
+    ap (λ o. filter (λ row. eqb row.number n) (option_to_list o ++ live_in places at)) stands.has
+    ∙ ap (λ b. cond {A = List PipeRow} b (stands.row ∷ filter (λ r. eqb r.number n) (live_in places at)) (filter (λ r. eqb r.number n) (live_in places at)))
+    (other_number stands.row.number n (λ same. omega (arith, same, stands.numbered, low, filed.0)))
+    ∙ no_lower m n places numbers at filed.3 (omega (arith, low, filed.0))
 
 -- the pipe of a number is the one in the place that stands under it
-pub filed_filter : (k : ℕ) (places : List PlaceState) (numbers : List (Option ℕ)) (i : ℕ) → AreFiled k places numbers →
-    filter (λ row. eqb row.number (k + i)) (live_in places numbers) ≡ option_to_list (pipe_of places (get_or numbers i None))
-filed_filter k places [] i filed = refl
-filed_filter k places (None ∷ numbers) zero filed = no_lower (k + 1) (k + 0) places numbers filed (omega arith)
-filed_filter k places (None ∷ numbers) (suc i) filed =
-    subst (λ n. filter (λ row. eqb row.number n) (live_in places numbers) ≡ option_to_list (pipe_of places (get_or numbers i None))) (omega arith)
-    (filed_filter (k + 1) places numbers i filed)
-filed_filter k places (Some p ∷ numbers) zero filed = by_pipe (pipe_in places p) filed.1
+pub row_here : (below : ℕ) (places : List PlaceState) (numbers at : List ℕ) (number : ℕ) → AreFiled below places numbers at →
+    filter (λ row. eqb row.number number) (live_in places at) ≡ option_to_list (pipe_of places (place_under numbers at number))
+row_here below places [] [] number filed = refl
+row_here below places [] (p ∷ at) number filed = absurd filed
+row_here below places (m ∷ numbers) [] number filed = absurd filed
+row_here below places (m ∷ numbers) (p ∷ at) number filed =
+    let stands = stands_here places p m filed.1 filed.2 in
+    ap (λ o. filter (λ row. eqb row.number number) (option_to_list o ++ live_in places at)) stands.has
+    ∙ ap (λ n. cond {A = List PipeRow} (eqb n number) (stands.row ∷ filter (λ r. eqb r.number number) (live_in places at)) (filter (λ r. eqb r.number number) (live_in places at))) stands.numbered
+    ∙ by_test stands.row stands.has (row_here m places numbers at number filed.3) (eqb m number) refl
   where
-    same : (m : ℕ) → m ≡ k → eqb m (k + 0) ≡ true
-    same m is = grind (arith, nat_tests)
-
-    by_pipe : (o : Option PipeRow) → option_map (λ pipe. pipe.number) o ≡ Some k →
-        filter (λ row. eqb row.number (k + 0)) (option_to_list o ++ live_in places numbers) ≡ option_to_list o
-    by_pipe None is = absurd (cc (is))
-    by_pipe (Some row) is =
-        ap (λ b. cond {A = List PipeRow} b (row ∷ filter (λ r. eqb r.number (k + 0)) (live_in places numbers)) (filter (λ r. eqb r.number (k + 0)) (live_in places numbers))) (same row.number (some_is row.number k is))
-        ∙ ap (λ l. row ∷ l) (no_lower (k + 1) (k + 0) places numbers filed.2 (omega arith))
-filed_filter k places (Some p ∷ numbers) (suc i) filed =
-    by_pipe
-    (subst (λ n. filter (λ row. eqb row.number n) (live_in places numbers) ≡ option_to_list (pipe_of places (get_or numbers i None))) (omega arith)
-    (filed_filter (k + 1) places numbers i filed.2))
-    (pipe_in places p) filed.1
-  where
-    other : (m : ℕ) → m ≡ k → eqb m (k + suc i) ≡ false
-    other m is = grind (arith, nat_tests)
-
-    by_pipe : filter (λ row. eqb row.number (k + suc i)) (live_in places numbers) ≡ option_to_list (pipe_of places (get_or numbers i None)) → (o : Option PipeRow) → option_map (λ pipe. pipe.number) o ≡ Some k →
-        filter (λ row. eqb row.number (k + suc i)) (option_to_list o ++ live_in places numbers) ≡ option_to_list (pipe_of places (get_or numbers i None))
-    by_pipe ih None is = absurd (cc (is))
-    by_pipe ih (Some row) is =
-        ap (λ b. cond {A = List PipeRow} b (row ∷ filter (λ r. eqb r.number (k + suc i)) (live_in places numbers)) (filter (λ r. eqb r.number (k + suc i)) (live_in places numbers))) (other row.number (some_is row.number k is))
-        ∙ ih
+    by_test : (row : PipeRow) → pipe_in places p ≡ Some row → filter (λ r. eqb r.number number) (live_in places at) ≡ option_to_list (pipe_of places (place_under numbers at number)) → (b : Bool) → eqb m number ≡ b →
+        cond {A = List PipeRow} b (row ∷ filter (λ r. eqb r.number number) (live_in places at)) (filter (λ r. eqb r.number number) (live_in places at))
+        ≡ option_to_list (pipe_of places (cond {A = Option ℕ} b (Some p) (place_under numbers at number)))
+    by_test row has ih true is =
+        ap (λ l. row ∷ l) (no_lower m number places numbers at filed.3 (omega (arith, is_same m number is)))
+        ∙ ap option_to_list (sym has)
+    by_test row has ih false is = ih
 
 -- the first of those that pass
 abbrev pub first_in : {X : Type 0} → List X → Option X
@@ -115,41 +110,13 @@ first_of_one : {X : Type 0} (o : Option X) → first_in (option_to_list o) ≡ o
 first_of_one None = refl
 first_of_one (Some x) = refl
 
-pub filed_find : (k : ℕ) (places : List PlaceState) (numbers : List (Option ℕ)) (i : ℕ) → AreFiled k places numbers →
-    pipe_row (live_in places numbers) (k + i) ≡ pipe_of places (get_or numbers i None)
-filed_find k places numbers i filed =
-    find-filter (λ row. eqb row.number (k + i)) (live_in places numbers)
-    ∙ ap first_in (filed_filter k places numbers i filed)
-    ∙ first_of_one (pipe_of places (get_or numbers i None))
-
--- By number. --
-
-pub under_suc : (numbers : List (Option ℕ)) (i : ℕ) → place_under numbers (suc i) ≡ get_or numbers i None
-under_suc numbers i =
-    ap (λ b. cond {A = Option ℕ} b None (get_or numbers (suc i - 1) None)) (nonzero i) ∙ ap (λ n. get_or numbers n None) (pred i)
-  where
-    nonzero : (n : ℕ) → eqb (suc n) 0 ≡ false
-    nonzero n = grind (arith, nat_tests)
-
-    pred : (n : ℕ) → suc n - 1 ≡ n
-    pred n = omega arith
-
--- the pipe of a number, wherever it stands
-pub row_here : (places : List PlaceState) (numbers : List (Option ℕ)) (number : ℕ) → AreFiled 1 places numbers →
-    filter (λ row. eqb row.number number) (live_in places numbers) ≡ option_to_list (pipe_of places (place_under numbers number))
-row_here places numbers zero filed = no_lower 1 0 places numbers filed (omega arith)
-row_here places numbers (suc i) filed =
-    subst (λ n. filter (λ row. eqb row.number n) (live_in places numbers) ≡ option_to_list (pipe_of places (get_or numbers i None))) (omega arith)
-    (filed_filter 1 places numbers i filed)
-    ∙ ap (λ o. option_to_list (pipe_of places o)) (sym (under_suc numbers i))
-
 -- it is found there
-pub found_here : (places : List PlaceState) (numbers : List (Option ℕ)) (number : ℕ) → AreFiled 1 places numbers →
-    pipe_row (live_in places numbers) number ≡ pipe_of places (place_under numbers number)
-found_here places numbers number filed =
-    find-filter (λ row. eqb row.number number) (live_in places numbers)
-    ∙ ap first_in (row_here places numbers number filed)
-    ∙ first_of_one (pipe_of places (place_under numbers number))
+pub found_here : (places : List PlaceState) (numbers at : List ℕ) (number : ℕ) → AreFiled 0 places numbers at →
+    pipe_row (live_in places at) number ≡ pipe_of places (place_under numbers at number)
+found_here places numbers at number filed =
+    find-filter (λ row. eqb row.number number) (live_in places at)
+    ∙ ap first_in (row_here 0 places numbers at number filed)
+    ∙ first_of_one (pipe_of places (place_under numbers at number))
 
 any_of_one : (q : PipeRow → Bool) (o : Option PipeRow) → list_any q (option_to_list o) ≡ option_map_or q o false
 any_of_one q None = refl
@@ -160,12 +127,16 @@ any_of_one q (Some row) = by_test (q row)
     by_test false = refl
 
 -- whether it is there and passes a test
-pub passes_here : (q : PipeRow → Bool) (places : List PlaceState) (numbers : List (Option ℕ)) (number : ℕ) → AreFiled 1 places numbers →
-    list_any (λ row. eqb row.number number && q row) (live_in places numbers) ≡ option_map_or q (pipe_of places (place_under numbers number)) false
-passes_here q places numbers number filed =
-    list_any-filter (λ row. eqb row.number number) q (live_in places numbers)
-    ∙ ap (list_any q) (row_here places numbers number filed)
-    ∙ any_of_one q (pipe_of places (place_under numbers number))
+pub passes_found : (q : PipeRow → Bool) (rows : List PipeRow) (number : ℕ) → list_any (λ row. eqb row.number number && q row) (rows) ≡ list_any q (filter (λ row. eqb row.number number) rows)
+passes_found q rows number = list_any-filter (λ row. eqb row.number number) q rows
+
+pub passes_here : (q : PipeRow → Bool) (places : List PlaceState) (numbers at : List ℕ) (number : ℕ) → AreFiled 0 places numbers at →
+    list_any (λ row. eqb row.number number && q row) (live_in places at) ≡ option_map_or q (pipe_row (live_in places at) number) false
+passes_here q places numbers at number filed =
+    list_any-filter (λ row. eqb row.number number) q (live_in places at)
+    ∙ ap (list_any q) (row_here 0 places numbers at number filed)
+    ∙ any_of_one q (pipe_of places (place_under numbers at number))
+    ∙ ap (λ o. option_map_or q o false) (sym (found_here places numbers at number filed))
 
 pub any-find : {X : Type 0} (p : X → Bool) (xs : List X) → list_any p xs ≡ is_some (find p xs)
 any-find p [] = refl
@@ -175,14 +146,93 @@ any-find {X} p (x ∷ xs) = at (p x) (any-find p xs)
     at true ih = refl
     at false ih = ih
 
+-- By index. --
+
+-- numbers that are filed rise
+rises : (below : ℕ) (places : List PlaceState) (numbers at : List ℕ) → AreFiled below places numbers at → AreRising below numbers
+rises below places [] at filed = tt
+rises below places (m ∷ numbers) [] filed = absurd filed
+rises below places (m ∷ numbers) (p ∷ at) filed = (filed.0, rises m places numbers at filed.3)
+
+-- as many places as numbers
+pub as_many : (below : ℕ) (places : List PlaceState) (numbers at : List ℕ) → AreFiled below places numbers at → length numbers ≡ length at
+as_many below places [] [] filed = refl
+as_many below places [] (p ∷ at) filed = absurd filed
+as_many below places (m ∷ numbers) [] filed = absurd filed
+as_many below places (m ∷ numbers) (p ∷ at) filed = omega (arith, as_many m places numbers at filed.3)
+
+pub ordered : (places : List PlaceState) (numbers at : List ℕ) → AreFiled 0 places numbers at → AreOrdered numbers at
+ordered places numbers at filed = record { rising = rises 0 places numbers at filed; all = as_many 0 places numbers at filed }
+
+-- a number is above the one that all are above
+above_below : (below : ℕ) (numbers : List ℕ) (i : ℕ) → AreRising below numbers → i < length numbers → below < get_or numbers i 0
+above_below below [] i rising within = absurd (omega (arith, within))
+above_below below (m ∷ numbers) zero rising within = rising.0
+above_below below (m ∷ numbers) (suc i) rising within = omega (arith, rising.0, above_below m numbers i rising.1 (omega (arith, within)))
+
+-- numbers rise
+pub rising_all : (below : ℕ) (numbers : List ℕ) → AreRising below numbers → (i j : ℕ) → i ≤ j → j < length numbers → get_or numbers i 0 ≤ get_or numbers j 0
+rising_all below [] rising i j le within = absurd (omega (arith, within))
+rising_all below (m ∷ numbers) rising zero zero le within = omega arith
+rising_all below (m ∷ numbers) rising zero (suc j) le within = omega (arith, above_below m numbers j rising.1 (omega (arith, within)))
+rising_all below (m ∷ numbers) rising (suc i) zero le within = absurd (omega (arith, le))
+rising_all below (m ∷ numbers) rising (suc i) (suc j) le within = rising_all m numbers rising.1 i j (omega (arith, le)) (omega (arith, within))
+
+-- the place under a number is at the number's index
+pub under_index : (below : ℕ) (numbers at : List ℕ) (i number : ℕ) → AreRising below numbers → length numbers ≡ length at → i < length numbers → get_or numbers i 0 ≡ number → place_under numbers at number ≡ Some (get_or at i 0)
+under_index below [] at i number rising all within is = absurd (omega (arith, within))
+under_index below (m ∷ numbers) [] i number rising all within is = absurd (omega (arith, all))
+under_index below (m ∷ numbers) (p ∷ at) zero number rising all within is = ap (λ b. cond {A = Option ℕ} b (Some p) (place_under numbers at number)) (same_number m number is)
+under_index below (m ∷ numbers) (p ∷ at) (suc i) number rising all within is =
+    ap (λ b. cond {A = Option ℕ} b (Some p) (place_under numbers at number))
+    (other_number m number (λ same. omega (arith, same, is, above_below m numbers i rising.1 (omega (arith, within)))))
+    ∙ under_index m numbers at i number rising.1 (omega (arith, all)) (omega (arith, within)) is
+
+-- a number that stands nowhere has no place
+pub under_none : (numbers at : List ℕ) (number : ℕ) → ((k : ℕ) → k < length numbers → get_or numbers k 0 ≡ number → ⊥) → place_under numbers at number ≡ None
+under_none [] at number none = refl
+under_none (m ∷ numbers) [] number none = refl
+under_none (m ∷ numbers) (p ∷ at) number none =
+    ap (λ b. cond {A = Option ℕ} b (Some p) (place_under numbers at number)) (other_number m number (none 0 (omega arith)))
+    ∙ under_none numbers at number (λ k within. none (suc k) (omega (arith, within)))
+
+-- what stands at a number has this number
+pub stands_under : (below : ℕ) (places : List PlaceState) (numbers at : List ℕ) (number place : ℕ) → AreFiled below places numbers at → place_under numbers at number ≡ Some place → StandsAt places place number
+stands_under below places [] at number place filed is = absurd (cc (is))
+stands_under below places (m ∷ numbers) [] number place filed is = absurd filed
+stands_under below places (m ∷ numbers) (p ∷ at) number place filed is = by_test (λ rest. stands_under m places numbers at number place filed.3 rest) (eqb m number) refl is
+  where
+    by_test : (place_under numbers at number ≡ Some place → StandsAt places place number) → (b : Bool) → eqb m number ≡ b → cond {A = Option ℕ} b (Some p) (place_under numbers at number) ≡ Some place → StandsAt places place number
+    by_test ih true same here =
+        let itself : p ≡ place = some_is p place here in
+        subst (λ q. StandsAt places q number) itself (subst (λ n. StandsAt places p n) (is_same m number same) (stands_here places p m filed.1 filed.2))
+    by_test ih false other rest = ih rest
+
+-- the pipe of a number that stands in a place
+pub read_some : (places : List PlaceState) (numbers at : List ℕ) (number place : ℕ) → AreFiled 0 places numbers at → place_under numbers at number ≡ Some place →
+    pipe_row (live_in places at) number ≡ pipe_in places place
+read_some places numbers at number place filed is = found_here places numbers at number filed ∙ ap (pipe_of places) is
+
+pub read_none : (places : List PlaceState) (numbers at : List ℕ) (number : ℕ) → AreFiled 0 places numbers at → place_under numbers at number ≡ None →
+    pipe_row (live_in places at) number ≡ None
+read_none places numbers at number filed is = found_here places numbers at number filed ∙ ap (pipe_of places) is
+
+-- the place of a number is the one that its pipe tells
+pub place_seen : (places : List PlaceState) (numbers at : List ℕ) (number : ℕ) → AreFiled 0 places numbers at → place_under numbers at number ≡ place_of (live_in places at) number
+place_seen places numbers at number filed = by_place (place_under numbers at number) refl
+  where
+    by_place : (o : Option ℕ) → place_under numbers at number ≡ o → o ≡ place_of (live_in places at) number
+    by_place None is = sym (ap (option_map (λ (row : PipeRow). row.place)) (read_none places numbers at number filed is))
+    by_place (Some place) is =
+        let stands = stands_under 0 places numbers at number place filed is in
+        sym (ap (option_map (λ (row : PipeRow). row.place)) (read_some places numbers at number place filed is ∙ stands.has) ∙ ap Some stands.placed)
+
 -- Changing. --
 
--- a place where no number stands
-abbrev pub IsApart : List (Option ℕ) → ℕ → Type 0
-IsApart numbers p = (j : ℕ) → get_or numbers j None ≡ Some p → ⊥
-
-apart_rest : (at : Option ℕ) (numbers : List (Option ℕ)) (p : ℕ) → IsApart (at ∷ numbers) p → IsApart numbers p
-apart_rest at numbers p apart j is = apart (suc j) is
+-- none of these places is this one
+abbrev pub IsApart : List ℕ → ℕ → Type 0
+IsApart [] p = Unit {0}
+IsApart (q ∷ at) p = (q ≡ p → ⊥) × IsApart at p
 
 -- what another place has stays
 pub pipe_elsewhere : (places : List PlaceState) (p q : ℕ) (x : PlaceState) → (q ≡ p → ⊥) → pipe_in (set places p x) q ≡ pipe_in places q
@@ -191,139 +241,182 @@ pipe_elsewhere places p q x other = ap (λ (s : PlaceState). s.pipe) (get_or-set
 pub pipe_there : (places : List PlaceState) (p : ℕ) (x : PlaceState) → p < length places → pipe_in (set places p x) p ≡ x.pipe
 pipe_there places p x within = ap (λ (s : PlaceState). s.pipe) (get_or-set_same places p x nowhere within)
 
--- a place where no number stands may change
-pub live_apart : (places : List PlaceState) (numbers : List (Option ℕ)) (p : ℕ) (x : PlaceState) → IsApart numbers p → live_in (set places p x) numbers ≡ live_in places numbers
+-- a place that is none of these may change
+pub live_apart : (places : List PlaceState) (at : List ℕ) (p : ℕ) (x : PlaceState) → IsApart at p → live_in (set places p x) at ≡ live_in places at
 live_apart places [] p x apart = refl
-live_apart places (None ∷ numbers) p x apart = live_apart places numbers p x (apart_rest None numbers p apart)
-live_apart places (Some q ∷ numbers) p x apart =
-    ap (λ o. option_to_list o ++ live_in (set places p x) numbers) (pipe_elsewhere places p q x (λ same. apart 0 (ap Some same)))
-    ∙ ap (λ l. option_to_list (pipe_in places q) ++ l) (live_apart places numbers p x (apart_rest (Some q) numbers p apart))
+live_apart places (q ∷ at) p x apart =
+    ap (λ o. option_to_list o ++ live_in (set places p x) at) (pipe_elsewhere places p q x apart.0)
+    ∙ ap (λ l. option_to_list (pipe_in places q) ++ l) (live_apart places at p x apart.1)
 
-pub filed_apart : (k : ℕ) (places : List PlaceState) (numbers : List (Option ℕ)) (p : ℕ) (x : PlaceState) → IsApart numbers p → AreFiled k places numbers → AreFiled k (set places p x) numbers
-filed_apart k places [] p x apart filed = tt
-filed_apart k places (None ∷ numbers) p x apart filed = filed_apart (k + 1) places numbers p x (apart_rest None numbers p apart) filed
-filed_apart k places (Some q ∷ numbers) p x apart filed = (
-  omega (arith, filed.0, length-set places p x),
-  ap (option_map (λ pipe. pipe.number)) (pipe_elsewhere places p q x (λ same. apart 0 (ap Some same))) ∙ filed.1,
-  filed_apart (k + 1) places numbers p x (apart_rest (Some q) numbers p apart) filed.2,
+pub filed_apart : (below : ℕ) (places : List PlaceState) (numbers at : List ℕ) (p : ℕ) (x : PlaceState) → IsApart at p → AreFiled below places numbers at → AreFiled below (set places p x) numbers at
+filed_apart below places [] [] p x apart filed = tt
+filed_apart below places [] (q ∷ at) p x apart filed = absurd filed
+filed_apart below places (m ∷ numbers) [] p x apart filed = absurd filed
+filed_apart below places (m ∷ numbers) (q ∷ at) p x apart filed = (
+  filed.0,
+  omega (arith, filed.1, length-set places p x),
+  ap (option_map known_of) (pipe_elsewhere places p q x apart.0) ∙ filed.2,
+  filed_apart m places numbers at p x apart.1 filed.3,
 )
 
--- numbers above that of a place stand elsewhere
-pub above_apart : (k : ℕ) (places : List PlaceState) (numbers : List (Option ℕ)) (p n : ℕ) → AreFiled k places numbers → number_in places p ≡ Some n → n < k → IsApart numbers p
-above_apart k places numbers p n filed is below j at =
-    let there = filed_at k places numbers j p filed at in
-    let same : n ≡ k + j = some_is n (k + j) (sym is ∙ there.has) in
-    omega (arith, same, below)
+-- the place of a pipe is none of those of higher numbers
+pub above_apart : (below : ℕ) (places : List PlaceState) (numbers at : List ℕ) (p : ℕ) (row : PipeRow) → AreFiled below places numbers at → pipe_in places p ≡ Some row → row.number ≤ below → IsApart at p
+above_apart below places [] [] p row filed has low = tt
+above_apart below places [] (q ∷ at) p row filed has low = absurd filed
+above_apart below places (m ∷ numbers) [] p row filed has low = absurd filed
+above_apart below places (m ∷ numbers) (q ∷ at) p row filed has low = (
+  (λ same. differs same),
+  above_apart m places numbers at p row filed.3 has (omega (arith, low, filed.0)),
+)
+  where
+    differs : q ≡ p → ⊥
+    differs same =
+        let stands = stands_here places q m filed.1 filed.2 in
+        let both : stands.row ≡ row = some_is stands.row row (sym stands.has ∙ ap (pipe_in places) same ∙ has) in
+        omega (arith, ap (λ (r : PipeRow). r.number) both, stands.numbered, low, filed.0)
 
--- a place without a pipe is apart
-pub free_apart : (k : ℕ) (places : List PlaceState) (numbers : List (Option ℕ)) (p : ℕ) → AreFiled k places numbers → pipe_in places p ≡ None → IsApart numbers p
-free_apart k places numbers p filed none j at =
-    let there = filed_at k places numbers j p filed at in
-    let no : ◌≡◌ {A = Option ℕ} None (Some (k + j)) = ap (option_map (λ (pipe : PipeRow). pipe.number)) (sym none) ∙ there.has in
-    absurd (cc (no))
+-- a place without a pipe is none of them
+pub free_apart : (below : ℕ) (places : List PlaceState) (numbers at : List ℕ) (p : ℕ) → AreFiled below places numbers at → pipe_in places p ≡ None → IsApart at p
+free_apart below places [] [] p filed none = tt
+free_apart below places [] (q ∷ at) p filed none = absurd filed
+free_apart below places (m ∷ numbers) [] p filed none = absurd filed
+free_apart below places (m ∷ numbers) (q ∷ at) p filed none = ((λ same. differs same), free_apart m places numbers at p filed.3 none)
+  where
+    differs : q ≡ p → ⊥
+    differs same =
+        let stands = stands_here places q m filed.1 filed.2 in
+        let no : ◌≡◌ {A = Option PipeRow} None (Some stands.row) = sym none ∙ ap (pipe_in places) (sym same) ∙ stands.has in
+        cc (no)
 
 -- pipes of other numbers stay in a change by number
-others_stay : (f : PipeRow → PipeRow) (k n : ℕ) (places : List PlaceState) (numbers : List (Option ℕ)) → AreFiled k places numbers → n < k → with_row f n (live_in places numbers) ≡ live_in places numbers
-others_stay f k n places [] filed below = refl
-others_stay f k n places (None ∷ numbers) filed below = others_stay f (k + 1) n places numbers filed (omega arith)
-others_stay f k n places (Some p ∷ numbers) filed below = by_pipe (others_stay f (k + 1) n places numbers filed.2 (omega arith)) (pipe_in places p) filed.1
-  where
-    other : (m : ℕ) → m ≡ k → n < k → eqb m n ≡ false
-    other m is less = grind (arith, nat_tests)
-
-    by_pipe : with_row f n (live_in places numbers) ≡ live_in places numbers → (o : Option PipeRow) → option_map (λ pipe. pipe.number) o ≡ Some k →
-        with_row f n (option_to_list o ++ live_in places numbers) ≡ option_to_list o ++ live_in places numbers
-    by_pipe ih None is = absurd (cc (is))
-    by_pipe ih (Some row) is =
-        ap (λ b. cond {A = PipeRow} b (f row) row ∷ with_row f n (live_in places numbers)) (other row.number (some_is row.number k is) below)
-        ∙ ap (λ l. row ∷ l) ih
+others_stay : (f : PipeRow → PipeRow) (below n : ℕ) (places : List PlaceState) (numbers at : List ℕ) → AreFiled below places numbers at → n ≤ below → with_row f n (live_in places at) ≡ live_in places at
+others_stay f below n places [] [] filed low = refl
+others_stay f below n places [] (p ∷ at) filed low = absurd filed
+others_stay f below n places (m ∷ numbers) [] filed low = absurd filed
+others_stay f below n places (m ∷ numbers) (p ∷ at) filed low =
+    let stands = stands_here places p m filed.1 filed.2 in
+    ap (λ o. with_row f n (option_to_list o ++ live_in places at)) stands.has
+    ∙ ap (λ b. cond {A = PipeRow} b (f stands.row) stands.row ∷ with_row f n (live_in places at)) (other_number stands.row.number n (λ same. omega (arith, same, stands.numbered, low, filed.0)))
+    ∙ ap (λ l. stands.row ∷ l) (others_stay f m n places numbers at filed.3 (omega (arith, low, filed.0)))
+    ∙ ap (λ o. option_to_list o ++ live_in places at) (sym stands.has)
 
 -- what is changed in its place is changed by number
-pub changed : (f : PipeRow → PipeRow) (k : ℕ) (places : List PlaceState) (numbers : List (Option ℕ)) (i p : ℕ) (x : PlaceState) → AreFiled k places numbers → get_or numbers i None ≡ Some p →
-    x.pipe ≡ option_map f (pipe_in places p) → live_in (set places p x) numbers ≡ with_row f (k + i) (live_in places numbers)
-changed f k places [] i p x filed at is = absurd (cc (at))
-changed f k places (None ∷ numbers) zero p x filed at is = absurd (cc (at))
-changed f k places (None ∷ numbers) (suc i) p x filed at is =
-    subst (λ n. live_in (set places p x) numbers ≡ with_row f n (live_in places numbers)) (omega arith) (changed f (k + 1) places numbers i p x filed at is)
-changed f k places (Some q ∷ numbers) zero p x filed at is =
-    let here : q ≡ p = some_is q p at in
-    let has : number_in places p ≡ Some k = subst (λ y. number_in places y ≡ Some k) here filed.1 in
-    let within : p < length places = subst (λ y. y < length places) here filed.0 in
-    let apart = above_apart (k + 1) places numbers p k filed.2 has (omega arith) in
-    ap (λ y. option_to_list (pipe_in (set places p x) y) ++ live_in (set places p x) numbers) here
-    ∙ ap (λ o. option_to_list o ++ live_in (set places p x) numbers) (pipe_there places p x within ∙ is)
-    ∙ ap (λ l. option_to_list (option_map f (pipe_in places p)) ++ l) (live_apart places numbers p x apart)
-    ∙ by_pipe (others_stay f (k + 1) (k + 0) places numbers filed.2 (omega arith)) (pipe_in places p) has
-    ∙ ap (λ y. with_row f (k + 0) (option_to_list (pipe_in places y) ++ live_in places numbers)) (sym here)
+pub changed : (f : PipeRow → PipeRow) (below : ℕ) (places : List PlaceState) (numbers at : List ℕ) (number p : ℕ) (x : PlaceState) → AreFiled below places numbers at → place_under numbers at number ≡ Some p →
+    x.pipe ≡ option_map f (pipe_in places p) → live_in (set places p x) at ≡ with_row f number (live_in places at)
+changed f below places [] at number p x filed under is = absurd (cc (under))
+changed f below places (m ∷ numbers) [] number p x filed under is = absurd filed
+changed f below places (m ∷ numbers) (q ∷ at) number p x filed under is =
+    by_test (stands_here places q m filed.1 filed.2) (λ rest. changed f m places numbers at number p x filed.3 rest is) (eqb m number) refl under
   where
-    same : (m : ℕ) → m ≡ k → eqb m (k + 0) ≡ true
-    same m is = grind (arith, nat_tests)
+    by_test : StandsAt places q m → (place_under numbers at number ≡ Some p → live_in (set places p x) at ≡ with_row f number (live_in places at)) → (b : Bool) → eqb m number ≡ b → cond {A = Option ℕ} b (Some q) (place_under numbers at number) ≡ Some p →
+        option_to_list (pipe_in (set places p x) q) ++ live_in (set places p x) at ≡ with_row f number (option_to_list (pipe_in places q) ++ live_in places at)
+    by_test stands ih true same here =
+        let itself : q ≡ p = some_is q p here in
+        let within : p < length places = subst (λ y. y < length places) itself filed.1 in
+        let apart : IsApart at p = subst (IsApart at) itself (above_apart m places numbers at q stands.row filed.3 stands.has (omega (arith, stands.numbered))) in
+        let now : pipe_in (set places p x) q ≡ Some (f stands.row) =
+        ap (pipe_in (set places p x)) itself ∙ pipe_there places p x within ∙ is ∙ ap (λ y. option_map f (pipe_in places y)) (sym itself) ∙ ap (option_map f) stands.has in
+        ap (λ o. option_to_list o ++ live_in (set places p x) at) now
+        ∙ ap (λ l. f stands.row ∷ l) (live_apart places at p x apart)
+        ∙ ap (λ l. f stands.row ∷ l) (sym (others_stay f m number places numbers at filed.3 (omega (arith, is_same m number same))))
+        ∙ ap (λ b. cond {A = PipeRow} b (f stands.row) stands.row ∷ with_row f number (live_in places at)) (sym (same_number stands.row.number number (stands.numbered ∙ is_same m number same)))
+        ∙ ap (λ o. with_row f number (option_to_list o ++ live_in places at)) (sym stands.has)
+    by_test stands ih false other rest =
+        let there = stands_under m places numbers at number p filed.3 rest in
+        let differs : q ≡ p → ⊥ = λ same. let both : stands.row ≡ there.row = some_is stands.row there.row (sym stands.has ∙ ap (pipe_in places) same ∙ there.has) in
+        is_other m number other (sym stands.numbered ∙ ap (λ (r : PipeRow). r.number) both ∙ there.numbered) in
+        ap (λ o. option_to_list o ++ live_in (set places p x) at) (pipe_elsewhere places p q x differs ∙ stands.has)
+        ∙ ap (λ l. stands.row ∷ l) (ih rest)
+        ∙ ap (λ b. cond {A = PipeRow} b (f stands.row) stands.row ∷ with_row f number (live_in places at)) (sym (other_number stands.row.number number (λ e. is_other m number other (sym stands.numbered ∙ e))))
+        ∙ ap (λ o. with_row f number (option_to_list o ++ live_in places at)) (sym stands.has)
 
-    by_pipe : with_row f (k + 0) (live_in places numbers) ≡ live_in places numbers → (o : Option PipeRow) → option_map (λ pipe. pipe.number) o ≡ Some k →
-        option_to_list (option_map f o) ++ live_in places numbers ≡ with_row f (k + 0) (option_to_list o ++ live_in places numbers)
-    by_pipe rest None is = absurd (cc (is))
-    by_pipe rest (Some row) is =
-        ap (λ l. f row ∷ l) (sym rest)
-        ∙ ap (λ b. cond {A = PipeRow} b (f row) row ∷ with_row f (k + 0) (live_in places numbers)) (sym (same row.number (some_is row.number k is)))
-changed f k places (Some q ∷ numbers) (suc i) p x filed at is =
-    let there = filed_at (k + 1) places numbers i p filed.2 at in
-    let other : q ≡ p → ⊥ = λ same. let two : k ≡ k + 1 + i = some_is k (k + 1 + i) (sym filed.1 ∙ ap (number_in places) same ∙ there.has) in omega (arith, two) in
-    ap (λ o. option_to_list o ++ live_in (set places p x) numbers) (pipe_elsewhere places p q x other)
-    ∙ ap (λ l. option_to_list (pipe_in places q) ++ l)
-    (subst (λ n. live_in (set places p x) numbers ≡ with_row f n (live_in places numbers)) (omega arith) (changed f (k + 1) places numbers i p x filed.2 at is))
-    ∙ by_pipe (pipe_in places q) filed.1
-  where
-    other : (m : ℕ) → m ≡ k → eqb m (k + suc i) ≡ false
-    other m is = grind (arith, nat_tests)
-
-    by_pipe : (o : Option PipeRow) → option_map (λ pipe. pipe.number) o ≡ Some k →
-        option_to_list o ++ with_row f (k + suc i) (live_in places numbers) ≡ with_row f (k + suc i) (option_to_list o ++ live_in places numbers)
-    by_pipe None is = absurd (cc (is))
-    by_pipe (Some row) is =
-        ap (λ b. cond {A = PipeRow} b (f row) row ∷ with_row f (k + suc i) (live_in places numbers)) (sym (other row.number (some_is row.number k is)))
-
--- and each pipe stands where it stood, where the change keeps its number
-pub filed_changed : (k : ℕ) (places : List PlaceState) (numbers : List (Option ℕ)) (p : ℕ) (x : PlaceState) → p < length places → AreFiled k places numbers →
-    option_map (λ pipe. pipe.number) x.pipe ≡ number_in places p → AreFiled k (set places p x) numbers
-filed_changed k places [] p x within filed keeps = tt
-filed_changed k places (None ∷ numbers) p x within filed keeps = filed_changed (k + 1) places numbers p x within filed keeps
-filed_changed k places (Some q ∷ numbers) p x within filed keeps = (
-  omega (arith, filed.0, length-set places p x),
-  by_test (eqb q p) refl ∙ filed.1,
-  filed_changed (k + 1) places numbers p x within filed.2 keeps,
+-- and each pipe stands where it stood, where the change keeps its number and place
+pub filed_changed : (below : ℕ) (places : List PlaceState) (numbers at : List ℕ) (p : ℕ) (x : PlaceState) → p < length places → AreFiled below places numbers at →
+    option_map known_of x.pipe ≡ known_in places p → AreFiled below (set places p x) numbers at
+filed_changed below places [] [] p x within filed keeps = tt
+filed_changed below places [] (q ∷ at) p x within filed keeps = absurd filed
+filed_changed below places (m ∷ numbers) [] p x within filed keeps = absurd filed
+filed_changed below places (m ∷ numbers) (q ∷ at) p x within filed keeps = (
+  filed.0,
+  omega (arith, filed.1, length-set places p x),
+  by_test (eqb q p) refl ∙ filed.2,
+  filed_changed m places numbers at p x within filed.3 keeps,
 )
   where
-    is_same : (a b : ℕ) → eqb a b ≡ true → a ≡ b
-    is_same a b is = grind (arith, nat_tests)
-
-    is_other : (a b : ℕ) → eqb a b ≡ false → a ≡ b → ⊥
-    is_other a b is same = grind (arith, nat_tests)
-
-    by_test : (b : Bool) → eqb q p ≡ b → number_in (set places p x) q ≡ number_in places q
+    by_test : (b : Bool) → eqb q p ≡ b → known_in (set places p x) q ≡ known_in places q
     by_test true is =
         let same = is_same q p is in
-        ap (number_in (set places p x)) same ∙ ap (option_map (λ (pipe : PipeRow). pipe.number)) (pipe_there places p x within) ∙ keeps ∙ ap (number_in places) (sym same)
-    by_test false is = ap (option_map (λ (pipe : PipeRow). pipe.number)) (pipe_elsewhere places p q x (is_other q p is))
+        ap (known_in (set places p x)) same ∙ ap (option_map known_of) (pipe_there places p x within) ∙ keeps ∙ ap (known_in places) (sym same)
+    by_test false is = ap (option_map known_of) (pipe_elsewhere places p q x (is_other q p is))
 
--- Reading. --
+-- Removing. --
 
-pub stands_under : (places : List PlaceState) (numbers : List (Option ℕ)) (number at : ℕ) → AreFiled 1 places numbers → place_under numbers number ≡ Some at → StandsAt places at number
-stands_under places numbers zero at filed is = absurd (cc (is))
-stands_under places numbers (suc i) at filed is = subst (λ n. StandsAt places at n) (omega arith) (filed_at 1 places numbers i at filed (sym (under_suc numbers i) ∙ is))
+-- a number that goes, with its place
+pub filed_removed : (below : ℕ) (places : List PlaceState) (numbers at : List ℕ) (i : ℕ) → i < length numbers → AreFiled below places numbers at → AreFiled below places (remove numbers i) (remove at i)
+filed_removed below places [] at i within filed = absurd (omega (arith, within))
+filed_removed below places (m ∷ numbers) [] i within filed = absurd filed
+filed_removed below places (m ∷ numbers) (p ∷ at) zero within filed = lower below m places numbers at (omega (arith, filed.0)) filed.3
+  where
+    lower : (a b : ℕ) (places : List PlaceState) (numbers at : List ℕ) → a ≤ b → AreFiled b places numbers at → AreFiled a places numbers at
+    lower a b places [] [] le filed = tt
+    lower a b places [] (q ∷ at) le filed = absurd filed
+    lower a b places (n ∷ numbers) [] le filed = absurd filed
+    lower a b places (n ∷ numbers) (q ∷ at) le filed = (omega (arith, le, filed.0), filed.1, filed.2, filed.3)
+filed_removed below places (m ∷ numbers) (p ∷ at) (suc i) within filed = (filed.0, filed.1, filed.2, filed_removed m places numbers at i (omega (arith, within)) filed.3)
 
--- the pipe of a number that stands in a place
-pub read_some : (places : List PlaceState) (numbers : List (Option ℕ)) (number at : ℕ) → AreFiled 1 places numbers → place_under numbers number ≡ Some at →
-    pipe_row (live_in places numbers) number ≡ pipe_in places at
-read_some places numbers number at filed is = found_here places numbers number filed ∙ ap (pipe_of places) is
+-- the place that goes is none of the others
+pub removed_apart : (below : ℕ) (places : List PlaceState) (numbers at : List ℕ) (i : ℕ) → i < length numbers → AreFiled below places numbers at → IsApart (remove at i) (get_or at i 0)
+removed_apart below places [] at i within filed = absurd (omega (arith, within))
+removed_apart below places (m ∷ numbers) [] i within filed = absurd filed
+removed_apart below places (m ∷ numbers) (p ∷ at) zero within filed =
+    let stands = stands_here places p m filed.1 filed.2 in
+    above_apart m places numbers at p stands.row filed.3 stands.has (omega (arith, stands.numbered))
+removed_apart below places (m ∷ numbers) (p ∷ at) (suc i) within filed = ((λ same. differs same), removed_apart m places numbers at i (omega (arith, within)) filed.3)
+  where
+    differs : p ≡ get_or at i 0 → ⊥
+    differs same =
+        let stands = stands_here places p m filed.1 filed.2 in
+        let there = stands_under m places numbers at (get_or numbers i 0) (get_or at i 0) filed.3 (under_index m numbers at i (get_or numbers i 0) (rises m places numbers at filed.3) (as_many m places numbers at filed.3) (omega (arith, within)) refl) in
+        let both : stands.row ≡ there.row = some_is stands.row there.row (sym stands.has ∙ ap (pipe_in places) same ∙ there.has) in
+        omega (arith, ap (λ (r : PipeRow). r.number) both, stands.numbered, there.numbered, above_below m numbers i (rises m places numbers at filed.3) (omega (arith, within)))
 
-pub read_none : (places : List PlaceState) (numbers : List (Option ℕ)) (number : ℕ) → AreFiled 1 places numbers → place_under numbers number ≡ None →
-    pipe_row (live_in places numbers) number ≡ None
-read_none places numbers number filed is = found_here places numbers number filed ∙ ap (pipe_of places) is
+-- the pipes without the one of a number
+no_lower_rows : (below n : ℕ) (places : List PlaceState) (numbers at : List ℕ) → AreFiled below places numbers at → n ≤ below → without_row n (live_in places at) ≡ live_in places at
+no_lower_rows below n places [] [] filed low = refl
+no_lower_rows below n places [] (p ∷ at) filed low = absurd filed
+no_lower_rows below n places (m ∷ numbers) [] filed low = absurd filed
+no_lower_rows below n places (m ∷ numbers) (p ∷ at) filed low =
+    let stands = stands_here places p m filed.1 filed.2 in
+    ap (λ o. without_row n (option_to_list o ++ live_in places at)) stands.has
+    ∙ ap (λ b. cond {A = List PipeRow} (not b) (stands.row ∷ without_row n (live_in places at)) (without_row n (live_in places at))) (other_number stands.row.number n (λ same. omega (arith, same, stands.numbered, low, filed.0)))
+    ∙ ap (λ l. stands.row ∷ l) (no_lower_rows m n places numbers at filed.3 (omega (arith, low, filed.0)))
+    ∙ ap (λ o. option_to_list o ++ live_in places at) (sym stands.has)
 
-pub some_under : (places : List PlaceState) (o : Option ℕ) → IsSome (pipe_of places o) → IsSome o
-some_under places None some = some
-some_under places (Some at) some = refl
+pub removed : (below : ℕ) (places : List PlaceState) (numbers at : List ℕ) (i : ℕ) → i < length numbers → AreFiled below places numbers at →
+    live_in places (remove at i) ≡ without_row (get_or numbers i 0) (live_in places at)
+removed below places [] at i within filed = absurd (omega (arith, within))
+removed below places (m ∷ numbers) [] i within filed = absurd filed
+removed below places (m ∷ numbers) (p ∷ at) zero within filed =
+    let stands = stands_here places p m filed.1 filed.2 in
+    sym (no_lower_rows m m places numbers at filed.3 (omega arith))
+    ∙ ap (λ b. cond {A = List PipeRow} (not b) (stands.row ∷ without_row m (live_in places at)) (without_row m (live_in places at))) (sym (same_number stands.row.number m stands.numbered))
+    ∙ ap (λ o. without_row m (option_to_list o ++ live_in places at)) (sym stands.has)
+removed below places (m ∷ numbers) (p ∷ at) (suc i) within filed =
+    let stands = stands_here places p m filed.1 filed.2 in
+    let n = get_or numbers i 0 in
+    ap (λ o. option_to_list o ++ live_in places (remove at i)) stands.has
+    ∙ ap (λ l. stands.row ∷ l) (removed m places numbers at i (omega (arith, within)) filed.3)
+    ∙ ap (λ b. cond {A = List PipeRow} (not b) (stands.row ∷ without_row n (live_in places at)) (without_row n (live_in places at)))
+    (sym (other_number stands.row.number n (λ same. omega (arith, same, stands.numbered, above_below m numbers i (rises m places numbers at filed.3) (omega (arith, within))))))
+    ∙ ap (λ o. without_row n (option_to_list o ++ live_in places at)) (sym stands.has)
 
-pub live_under : (places : List PlaceState) (numbers : List (Option ℕ)) (number : ℕ) → AreFiled 1 places numbers → IsSome (pipe_row (live_in places numbers) number) → IsSome (place_under numbers number)
-live_under places numbers number filed live =
-    some_under places (place_under numbers number) (subst (λ (o : Option PipeRow). IsSome o) (found_here places numbers number filed) live)
+-- Counting. --
+
+-- as many live pipes as places of them
+pub live_many : (below : ℕ) (places : List PlaceState) (numbers at : List ℕ) → AreFiled below places numbers at → length (live_in places at) ≡ length at
+live_many below places [] [] filed = refl
+live_many below places [] (p ∷ at) filed = absurd filed
+live_many below places (m ∷ numbers) [] filed = absurd filed
+live_many below places (m ∷ numbers) (p ∷ at) filed =
+    let stands = stands_here places p m filed.1 filed.2 in
+    omega (arith, live_many m places numbers at filed.3, ap (λ o. length (option_to_list o ++ live_in places at)) stands.has)

@@ -1,20 +1,15 @@
--- The live pipes stand in order of number.
-use Rattle.std.proofs.Common.{◌≡◌, ℕ, ◌+◌, ◌<◌, List, [], ◌∷◌, ◌++◌, Option, Some, None, sym, subst, arith}
-use Rattle.std.specs.Option.{option_map, option_to_list}
-use Rattle.pipe_table.specs.Table.{PipeRow, IsRising}
-use Rattle.pipe_table.specs.Places.{PlaceState, pipe_in, live_in, AreFiled}
+-- The live pipes stand in order of number, each in a place of its own.
+use Rattle.std.proofs.Common.{ℕ, List, [], ◌∷◌, ◌++◌, sym, subst, arith}
+use Rattle.std.specs.Option.{option_to_list}
+use Rattle.pipe_table.specs.Table.{IsRising}
+use Rattle.pipe_table.specs.Places.{PlaceState, live_in, AreFiled}
+use Rattle.pipe_table.proofs.Filing.{stands_here}
 
-some_number : (o : Option PipeRow) (number : ℕ) → option_map (λ pipe. pipe.number) o ≡ Some number → (rows : List PipeRow) (below : ℕ) → below < number →
-    IsRising number rows → IsRising below (option_to_list o ++ rows)
-some_number None number is rows below above rising = absurd (cc (is))
-some_number (Some pipe) number is rows below above rising =
-    let same : pipe.number ≡ number = cc (is) in
-    let P : ℕ → Type 0 = λ n. (below < n) × IsRising n rows in
-    subst P (sym same) (above, rising)
-
-pub in_order : (number : ℕ) (places : List PlaceState) (numbers : List (Option ℕ)) (below : ℕ) → below < number → AreFiled number places numbers → IsRising below (live_in places numbers)
-in_order number places [] below above filed = tt
-in_order number places (None ∷ numbers) below above filed = in_order (number + 1) places numbers below (omega (arith, above)) filed
-in_order number places (Some place ∷ numbers) below above filed =
-    some_number (pipe_in places place) number filed.1 (live_in places numbers) below above
-    (in_order (number + 1) places numbers number (omega arith) filed.2)
+pub in_order : (below : ℕ) (places : List PlaceState) (numbers at : List ℕ) → AreFiled below places numbers at → IsRising below (live_in places at)
+in_order below places [] [] filed = tt
+in_order below places [] (p ∷ at) filed = absurd filed
+in_order below places (m ∷ numbers) [] filed = absurd filed
+in_order below places (m ∷ numbers) (p ∷ at) filed =
+    let stands = stands_here places p m filed.1 filed.2 in
+    subst (λ o. IsRising below (option_to_list o ++ live_in places at)) (sym stands.has)
+    (omega (arith, filed.0, stands.numbered), subst (λ n. IsRising n (live_in places at)) (sym stands.numbered) (in_order m places numbers at filed.3))

@@ -1,5 +1,5 @@
 -- Searching the numbers given so far, and the table that opens.
-use Rattle.std.proofs.Common.{◌≡◌, ℕ, zero, suc, ◌+◌, ◌<◌, Bool, true, false, cond, eqb, List, [], ◌∷◌, ◌++◌, length, drop, replicate, find, get_or, Option, Some, None, refl, ap, ◌∙◌, arith}
+use Rattle.std.proofs.Common.{◌≡◌, ℕ, zero, suc, ◌+◌, ◌<◌, ◌≤◌, Bool, true, false, cond, eqb, List, [], ◌∷◌, ◌++◌, length, drop, replicate, find, get_or, Option, Some, None, refl, ap, ◌∙◌, arith}
 use Rattle.std.specs.List.{All, AllByRecursion, IsDistinct, range_with_len}
 use Rattle.std.specs.Option.{option_map, option_to_list}
 use Rattle.std.proofs.lemmas.Bool.Decides.{nat_tests}
@@ -34,11 +34,11 @@ find_on p (Some row) rows is = at (p row) is
     at true is = absurd (cc (is))
     at false is = refl
 
--- the numbers from one on
-pub drop_here : (numbers : List (Option ℕ)) (i : ℕ) (d : Option ℕ) → i < length numbers → drop i numbers ≡ get_or numbers i d ∷ drop (i + 1) numbers
+-- the places from one on
+pub drop_here : (at : List ℕ) (i d : ℕ) → i < length at → drop i at ≡ get_or at i d ∷ drop (i + 1) at
 drop_here [] i d within = absurd (omega (arith, within))
-drop_here (x ∷ numbers) zero d within = refl
-drop_here (x ∷ numbers) (suc i) d within = drop_here numbers i d (omega (arith, within)) ∙ ap (λ l. get_or numbers i d ∷ l) (ap (λ n. drop n (x ∷ numbers)) (one_more i))
+drop_here (x ∷ at) zero d within = refl
+drop_here (x ∷ at) (suc i) d within = drop_here at i d (omega (arith, within)) ∙ ap (λ l. get_or at i d ∷ l) (ap (λ n. drop n (x ∷ at)) (one_more i))
   where
     one_more : (n : ℕ) → suc (n + 1) ≡ suc n + 1
     one_more n = omega arith
@@ -76,11 +76,12 @@ range_all P a zero each = All-nil P
 range_all P a (suc n) each = All-cons P a (range_with_len (a + 1) n) (each a (omega arith)) (range_all P (a + 1) n (λ q less. each q (omega (arith, less))))
 
 -- a table on which no pipe was made
-pub kept_opening : (depth pipes : ℕ) → AreKept depth (replicate pipes (record { pipe = None; room = depth })) [] (range_with_len 0 pipes)
+pub kept_opening : (depth pipes : ℕ) → AreKept depth (replicate pipes (record { pipe = None; room = depth })) [] [] (range_with_len 0 pipes) 0
 kept_opening depth pipes =
     let free : PlaceState = record { pipe = None; room = depth } in
     record {
       filed = tt;
+      given = All-nil (λ (n : ℕ). n ≤ 0);
       empty = range_all (IsFree (replicate pipes free)) 0 pipes (λ q less. record { there = omega (arith, less, length-replicate pipes free); empty = nothing pipes q });
       once = range_once 0 pipes;
       all = omega (arith, length-range_with_len 0 pipes, length-replicate pipes free);

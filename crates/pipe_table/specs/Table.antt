@@ -1,13 +1,15 @@
 -- The live pipes as their user sees them.
-use Rattle.std.specs.Prelude.{ℕ, ◌<◌, ◌%◌, ◌==◌, ◌&&◌, ◌++◌, ◌∷◌, [], not, Bool, List, Option, None, length, drop, map, filter, find, slice_get, if◌then◌else◌}
+use Rattle.std.specs.Prelude.{ℕ, ◌<◌, ◌%◌, ◌==◌, ◌&&◌, ◌++◌, ◌∷◌, [], not, Bool, List, Option, None, option_map, length, drop, map, filter, find, slice_get, if◌then◌else◌}
 use Rattle.std.specs.List.{list_any}
 use Rattle.std.specs.Option.{option_and_then}
 use Rattle.std.specs.Str.{bytes_eq}
 use Rattle.pipe_queue.specs.declared.item.Item.{Item}
 
--- A pipe: number, name, owner, depth, option bits, the messages that wait, oldest first, and the one received last.
+-- A pipe: number, the place where it lies, name, owner, depth, option bits, the messages that wait, oldest first, and the one
+-- received last.
 pub record PipeRow : Type 0 where
   pub number : ℕ
+  pub place : ℕ
   pub name : List ℕ
   pub owner : ℕ
   pub depth : ℕ
@@ -15,17 +17,20 @@ pub record PipeRow : Type 0 where
   pub queue : List Item
   pub last : Option Item
 
--- The live pipes by rising number, how many were created, how many may be live and be created, and the greatest depth.
+-- The live pipes by rising number, how many were created, how many may be live, and the greatest depth.
 pub record Pipes : Type 0 where
   pub live : List PipeRow
   pub created : ℕ
   pub room : ℕ
-  pub numbers : ℕ
   pub depth : ℕ
 
 -- the pipe of this number
 abbrev pub pipe_row : List PipeRow → ℕ → Option PipeRow
 pipe_row rows number = find (λ row. row.number == number) rows
+
+-- the place of the pipe of this number
+abbrev pub place_of : List PipeRow → ℕ → Option ℕ
+place_of rows number = option_map (λ row. row.place) (pipe_row rows number)
 
 -- whether a pipe of this number is live
 abbrev pub is_live_row : List PipeRow → ℕ → Bool
@@ -52,8 +57,8 @@ abbrev pub without_row : ℕ → List PipeRow → List PipeRow
 without_row number rows = filter (λ row. not (row.number == number)) rows
 
 -- a pipe on which nothing waits
-abbrev pub new_row : ℕ → List ℕ → ℕ → ℕ → PipeRow
-new_row number name owner depth = record { number = number; name = name; owner = owner; depth = depth; bits = 0; queue = []; last = None }
+abbrev pub new_row : ℕ → ℕ → List ℕ → ℕ → ℕ → PipeRow
+new_row number place name owner depth = record { number = number; place = place; name = name; owner = owner; depth = depth; bits = 0; queue = []; last = None }
 
 -- option bit 0x01: what the pipe's owner sends is not for it
 abbrev pub ignores_sender : PipeRow → ℕ → Bool

@@ -1,5 +1,6 @@
-//! The live pipes of the software bus (cFE Software Bus, pipe table). Each is found by its number with no search, however
-//! many there are; numbers are 1, 2, 3 and so on in order of creation, and none is used again.
+//! The live pipes of the software bus (cFE Software Bus, pipe table). Each lies in a place of its own, where it is reached
+//! with no search, and is found by its number among those of the live ones alone; numbers are 1, 2, 3 and so on in order
+//! of creation, none is used again, and nothing is kept of a pipe that has gone.
 //!
 //! Contracts see the pipes as a list in order of number, of which each call changes the one named and leaves the others,
 //! and no call but `new` takes memory.
@@ -7,20 +8,22 @@
 //! ```
 //! /// A message queued on a new pipe is the one received last, once it was taken.
 //! fn received(pipes: &mut PipeTable, name: &PipeText, app: AppNo, item: Item) -> Option<Item>
-//!     requires { pipes.old ≡ record { live = []; created = 0; room = 1; numbers = 1; depth = 4 } }
+//!     requires { pipes.old ≡ record { live = []; created = 0; room = 1; depth = 4 } }
 //!     ensures { result ≡ Some item }
 //! {
 //!     let pipe = pipes.create(name, app, 4);
 //!     let _ = pipes.try_put(pipe, item);
-//!     pipes.take(pipe);
-//!     pipes.last(pipe)
+//!     pipes.take(pipe.number);
+//!     pipes.last(pipe.number)
 //! }
 //! ```
 #![tactic(auto)]
 
+mod pipe_no;
 mod place;
 mod table;
 #[cfg(test)]
 mod tests;
 
+pub use pipe_no::PipeNo;
 pub use table::PipeTable;

@@ -4,6 +4,7 @@ ghost use Rattle.std.specs.Option.{option_map, option_map_or, option_and_then};
 ghost use Rattle.std.specs.Str.{bytes_eq};
 ghost use Rattle.pipe_table.specs.Table.{PipeRow, new_row, ignores_sender, with_bits, with_item, taken_row};
 
+use crate::pipe_no::PipeNo;
 use bus_words::PipeText;
 use fsw_base::AppNo;
 use pipe_queue::{Full, Item, PipeQueue};
@@ -15,6 +16,8 @@ use std::marker::Model;
 struct Label {
     // Its number, from 1.
     number: u32,
+    // Which place this is.
+    place: u32,
     // 1 to 19 bytes.
     name: PipeText,
     // Who created it.
@@ -42,6 +45,7 @@ impl Model for Place {
     ghost view = { λ p. record {
       pipe = option_map (λ label. record {
         number = label.number;
+        place = label.place;
         name = label.name;
         owner = label.owner;
         depth = p.queue.depth;
@@ -67,15 +71,16 @@ impl Place {
     }
 
     /// Puts a new pipe into a free place.
-    pub(crate) fn fill(&mut self, number: u32, name: &PipeText, owner: AppNo, depth: u32)
+    pub(crate) fn fill(&mut self, pipe: PipeNo, name: &PipeText, owner: AppNo, depth: u32)
         requires free { self.old.pipe ≡ None }
         requires some { 1 ≤ depth }
         requires depth { depth ≤ self.old.room }
-        ensures { self.new ≡ record { pipe = Some (new_row number name.now owner depth); room = self.old.room } }
+        ensures { self.new ≡ record { pipe = Some (new_row pipe.number pipe.place name.now owner depth); room = self.old.room } }
     {
         self.queue.start(depth);
         self.label = Some(Label {
-            number,
+            number: pipe.number,
+            place: pipe.place,
             name: name.again(),
             owner,
             bits: 0,

@@ -1,10 +1,11 @@
 //! The table.
-ghost use Rattle.std.specs.Prelude.{◌≡◌, ◌==◌, ◌+◌, ◌<◌, ◌≤◌, ◌^◌, ◌↔◌, ◌++◌, ◌∷◌, [], length, replicate, true, false, All, IfOk, IsErr, IsSome, IfSome, IsTrue, slice_index_or, None, Some, vec_len, vec_capacity};
+ghost use Rattle.std.specs.Prelude.{◌≡◌, ℕ, ◌==◌, ◌+◌, ◌<◌, ◌≤◌, ◌^◌, ◌↔◌, ◌++◌, ◌∷◌, [], length, replicate, true, false, All, IfOk, IsErr, IsSome, IfSome, IsTrue, slice_index, slice_index_or, None, Some, vec_len, vec_capacity};
 ghost use Rattle.std.specs.List.{list_any, range_with_len};
 ghost use Rattle.std.specs.Option.{option_map, option_map_or, option_and_then, option_to_list};
-ghost use Rattle.pipe_table.specs.Table.{Pipes, pipe_row, is_live_row, owns_row, named_row, with_row, without_row, new_row, ignores_sender, with_bits, with_item, taken_row, oldest_on, first_owned, IsRising};
-ghost use Rattle.pipe_table.specs.Places.{pipe_of, place_under};
+ghost use Rattle.pipe_table.specs.Table.{Pipes, pipe_row, place_of, is_live_row, owns_row, named_row, with_row, without_row, new_row, ignores_sender, with_bits, with_item, taken_row, oldest_on, first_owned, IsRising};
+ghost use Rattle.pipe_table.specs.Places.{pipe_in, live_in, place_under, AreRising, AreOrdered, AreFiled};
 
+use crate::pipe_no::PipeNo;
 use crate::place::Place;
 use bus_words::PipeText;
 use fsw_base::AppNo;
@@ -19,16 +20,18 @@ pub struct PipeTable {
     places: Vec<Place>,
     // The free places, each once.
     free: Vec<u32>,
-    // For each number given so far, from 1, its pipe's place; None where the pipe has ended. It has room for all numbers.
-    numbers: Vec<Option<u32>>,
+    // The numbers of the live pipes, rising.
+    live: Vec<u32>,
+    // Their places, in the same order.
+    at: Vec<u32>,
+    // How many pipes were created, which is the newest one's number.
+    created: u32,
     // The greatest depth of a pipe.
     depth: u32,
-    // How many numbers may be given.
-    room: u32,
 }
 
 impl Model for PipeTable {
-    ghost use Rattle.std.specs.Prelude.{◌≡◌, ◌≤◌, length, vec_len, vec_capacity};
+    ghost use Rattle.std.specs.Prelude.{◌≡◌, ◌≤◌, length, vec_capacity};
     ghost use Rattle.pipe_table.specs.Table.{Pipes};
 
     ghost Value = { Pipes };
@@ -36,33 +39,32 @@ impl Model for PipeTable {
     ghost use Rattle.pipe_table.specs.Places.{live_in, AreKept};
 
     ghost view = { λ t. record {
-      live = live_in t.places.items t.numbers.items;
-      created = length t.numbers.items;
+      live = live_in t.places.items t.at.items;
+      created = t.created;
       room = length t.places.items;
-      numbers = t.room;
       depth = t.depth;
     } };
 
-    ghost invariant = { λ t. AreKept t.depth t.places.items t.numbers.items t.free.items
+    ghost invariant = { λ t. AreKept t.depth t.places.items t.live.items t.at.items t.free.items t.created
         × (length t.places.items ≤ vec_capacity t.free)
-        × (length t.numbers.items ≤ t.room) × (t.room ≤ vec_capacity t.numbers) };
+        × (length t.places.items ≤ vec_capacity t.live) × (length t.places.items ≤ vec_capacity t.at) };
 }
 
 impl PipeTable {
-    /// No pipe, with room for `pipes` live ones that hold up to `depth` messages each, and for `numbers` pipes in all. No
-    /// later call takes memory.
+    /// No pipe, with room for `pipes` live ones that hold up to `depth` messages each. No later call takes memory.
     ///
     /// # Errors
     /// Where memory runs out.
-    pub fn new(alloc: Global, pipes: u32, depth: u32, numbers: u32) -> Result<PipeTable, AllocError>
-        ensures { IfOk result (λ table. table ≡ record { live = []; created = 0; room = pipes; numbers = numbers; depth = depth }) }
+    pub fn new(alloc: Global, pipes: u32, depth: u32) -> Result<PipeTable, AllocError>
+        ensures { IfOk result (λ table. table ≡ record { live = []; created = 0; room = pipes; depth = depth }) }
     {
         Ok(PipeTable {
             places: free_places(alloc, pipes, depth)?,
             free: all_places(alloc, pipes)?,
-            numbers: Vec::with_capacity(alloc, numbers as usize)?,
+            live: Vec::with_capacity(alloc, pipes as usize)?,
+            at: Vec::with_capacity(alloc, pipes as usize)?,
+            created: 0,
             depth,
-            room: numbers,
         })
     }
 
@@ -77,7 +79,7 @@ impl PipeTable {
     pub fn recall_order(&self)
         ensures { IsRising 0 self.now.live }
     {
-        let _ = &self.numbers;
+        let _ = &self.live;
     }
 
     /// Whether a pipe of this number is live.
@@ -91,8 +93,8 @@ impl PipeTable {
     pub fn owns(&self, app: AppNo, number: u32) -> bool
         ensures { result ≡ owns_row self.now.live app number }
     {
-        match at_number(&self.numbers, number) {
-            Some(at) => place_at(&self.places, at).is_owned_by(app),
+        match found(&self.places, &self.live, &self.at, number) {
+            Some(place) => place.is_owned_by(app),
             None => false,
         }
     }
@@ -101,8 +103,8 @@ impl PipeTable {
     pub fn bits(&self, number: u32) -> Option<u8>
         ensures { result ≡ option_map (λ row. row.bits) (pipe_row self.now.live number) }
     {
-        match at_number(&self.numbers, number) {
-            Some(at) => place_at(&self.places, at).bits(),
+        match found(&self.places, &self.live, &self.at, number) {
+            Some(place) => place.bits(),
             None => None,
         }
     }
@@ -111,28 +113,33 @@ impl PipeTable {
     pub fn name(&self, number: u32) -> Option<PipeText>
         ensures { result ≡ option_map (λ row. row.name) (pipe_row self.now.live number) }
     {
-        match at_number(&self.numbers, number) {
-            Some(at) => place_at(&self.places, at).name(),
+        match found(&self.places, &self.live, &self.at, number) {
+            Some(place) => place.name(),
             None => None,
         }
     }
 
-    /// Whether the live pipe of this number ignores what the application sends.
-    pub fn ignores(&self, number: u32, sender: AppNo) -> bool
-        ensures { result ≡ option_map_or (λ row. ignores_sender row sender) (pipe_row self.now.live number) false }
+    /// The place of the live pipe of this number.
+    pub fn place_of(&self, number: u32) -> Option<u32>
+        ensures { result ≡ place_of self.now.live number }
     {
-        match at_number(&self.numbers, number) {
-            Some(at) => place_at(&self.places, at).ignores(sender),
-            None => false,
-        }
+        at_number(&self.live, &self.at, number)
+    }
+
+    /// Whether a live pipe ignores what the application sends. Looks at its place alone.
+    pub fn ignores(&self, pipe: PipeNo, sender: AppNo) -> bool
+        requires live { place_of self.now.live pipe.number ≡ Some pipe.place }
+        ensures { result ≡ option_map_or (λ row. ignores_sender row sender) (pipe_row self.now.live pipe.number) false }
+    {
+        place_at(&self.places, pipe.place).ignores(sender)
     }
 
     /// What waits longest on the live pipe of this number.
     pub fn oldest(&self, number: u32) -> Option<Item>
         ensures { result ≡ oldest_on self.now.live number }
     {
-        match at_number(&self.numbers, number) {
-            Some(at) => place_at(&self.places, at).oldest(),
+        match found(&self.places, &self.live, &self.at, number) {
+            Some(place) => place.oldest(),
             None => None,
         }
     }
@@ -141,18 +148,18 @@ impl PipeTable {
     pub fn last(&self, number: u32) -> Option<Item>
         ensures { result ≡ option_and_then (λ row. row.last) (pipe_row self.now.live number) }
     {
-        match at_number(&self.numbers, number) {
-            Some(at) => place_at(&self.places, at).last(),
+        match found(&self.places, &self.live, &self.at, number) {
+            Some(place) => place.last(),
             None => None,
         }
     }
 
     /// The number of the live pipe that was created first of those with the name. For a creation and for finding a pipe
-    /// by name: it looks at every number given.
+    /// by name: it looks at every live pipe.
     pub fn find(&self, name: &[u8]) -> Option<u32>
         ensures { result ≡ option_map (λ row. row.number) (named_row self.now.live name.now) }
     {
-        for at in &self.numbers {
+        for at in &self.at {
             if let Some(number) = number_where_named(&self.places, *at, name) {
                 return Some(number);
             }
@@ -161,11 +168,11 @@ impl PipeTable {
     }
 
     /// The number of the live pipe that was created first of the application's. For an application's end: it looks at
-    /// every number given.
+    /// every live pipe.
     pub fn first_of(&self, app: AppNo) -> Option<u32>
         ensures { result ≡ option_map (λ row. row.number) (first_owned self.now.live app) }
     {
-        for at in &self.numbers {
+        for at in &self.at {
             if let Some(number) = number_where_owned(&self.places, *at, app) {
                 return Some(number);
             }
@@ -173,31 +180,37 @@ impl PipeTable {
         None
     }
 
-    /// Creates a pipe that holds up to `depth` messages, and answers its number: one more than were created.
-    pub fn create(&mut self, name: &PipeText, owner: AppNo, depth: u32) -> u32
+    /// Creates a pipe that holds up to `depth` messages, numbered one more than were created, in a place of its own.
+    pub fn create(&mut self, name: &PipeText, owner: AppNo, depth: u32) -> PipeNo
         requires room { length self.old.live < self.old.room }
-        requires numbers { self.old.created < self.old.numbers }
+        requires number { self.old.created + 1 < 2 ^ 32 }
         requires some { 1 ≤ depth }
         requires depth { depth ≤ self.old.depth }
-        ensures number { result ≡ self.old.created + 1 }
+        ensures number { result.number ≡ self.old.created + 1 }
         ensures after { self.new ≡ record self.old {
-          live = self.old.live ++ new_row (self.old.created + 1) name.now owner depth ∷ [];
+          live = self.old.live ++ new_row (self.old.created + 1) result.place name.now owner depth ∷ [];
           created = self.old.created + 1;
         } }
     {
-        let at = self.free.pop().unwrap();
-        self.numbers.push_reserved(Some(at));
-        let number = self.numbers.len() as u32;
-        self.places[at as usize].fill(number, name, owner, depth);
-        number
+        let place = self.free.pop().unwrap();
+        self.created += 1;
+        let pipe = PipeNo {
+            number: self.created,
+            place,
+        };
+        self.live.push_reserved(self.created);
+        self.at.push_reserved(place);
+        self.places[place as usize].fill(pipe, name, owner, depth);
+        pipe
     }
 
     /// Ends the live pipe of this number, with what waits on it; no effect where none is live.
     pub fn remove(&mut self, number: u32)
         ensures { self.new ≡ record self.old { live = without_row number self.old.live } }
     {
-        if let Some(at) = at_number(&self.numbers, number) {
-            self.numbers[(number - 1) as usize] = None;
+        if let Some(index) = index_of(&self.live, number) {
+            let at = self.at.remove(index);
+            self.live.remove(index);
             self.places[at as usize].clear();
             self.free.push_reserved(at);
         }
@@ -207,7 +220,7 @@ impl PipeTable {
     pub fn set_bits(&mut self, number: u32, bits: u8)
         ensures { self.new ≡ record self.old { live = with_row (with_bits bits) number self.old.live } }
     {
-        if let Some(at) = at_number(&self.numbers, number) {
+        if let Some(at) = at_number(&self.live, &self.at, number) {
             self.places[at as usize].set_bits(bits);
         }
     }
@@ -217,48 +230,74 @@ impl PipeTable {
     pub fn take(&mut self, number: u32)
         ensures { self.new ≡ record self.old { live = with_row taken_row number self.old.live } }
     {
-        if let Some(at) = at_number(&self.numbers, number) {
+        if let Some(at) = at_number(&self.live, &self.at, number) {
             self.places[at as usize].take();
         }
     }
 
-    /// Queues a message on the live pipe of this number; Full exactly where as many wait as its depth.
-    pub fn try_put(&mut self, number: u32, item: Item) -> Result<(), Full>
-        requires live { IsSome (pipe_row self.old.live number) }
-        ensures full { IsErr result ↔ IsTrue (option_map_or (λ row. length row.queue == row.depth) (pipe_row self.old.live number) false) }
-        ensures after { self.new ≡ record self.old { live = with_row (with_item item) number self.old.live } }
+    /// Queues a message on a live pipe; Full exactly where as many wait as its depth. Looks at its place alone.
+    pub fn try_put(&mut self, pipe: PipeNo, item: Item) -> Result<(), Full>
+        requires live { place_of self.old.live pipe.number ≡ Some pipe.place }
+        ensures full { IsErr result ↔ IsTrue (option_map_or (λ row. length row.queue == row.depth) (pipe_row self.old.live pipe.number) false) }
+        ensures after { self.new ≡ record self.old { live = with_row (with_item item) pipe.number self.old.live } }
     {
-        let at = at_number(&self.numbers, number).unwrap();
-        self.places[at as usize].try_put(item)
+        self.places[pipe.place as usize].try_put(item)
+    }
+}
+
+// Where a number stands among those of the live pipes.
+fn index_of(live: &Vec<u32>, number: u32) -> Option<usize>
+    requires { AreRising 0 live.now.items }
+    ensures some { IfSome result (λ i. (i < length live.now.items) × (slice_index live.now.items i ≡ number)) }
+    ensures none { result ≡ None → (k : ℕ) → k < length live.now.items → slice_index live.now.items k ≡ number → ⊥ }
+{
+    match live.binary_search(&number) {
+        Ok(index) => Some(index),
+        Err(_) => None,
     }
 }
 
 // The place of the pipe of a number.
-fn at_number(numbers: &[Option<u32>], number: u32) -> Option<u32>
-    ensures { result ≡ place_under numbers.now number }
+fn at_number(live: &Vec<u32>, at: &Vec<u32>, number: u32) -> Option<u32>
+    requires { AreOrdered live.now.items at.now.items }
+    ensures { result ≡ place_under live.now.items at.now.items number }
 {
-    if number == 0 {
-        return None;
+    match index_of(live, number) {
+        Some(index) => Some(at[index]),
+        None => None,
     }
-    match numbers.get((number - 1) as usize) {
-        Some(at) => *at,
+}
+
+// The place where the pipe of a number lies.
+fn found<'p>(
+    places: &'p Vec<Place>,
+    live: &Vec<u32>,
+    at: &Vec<u32>,
+    number: u32,
+) -> Option<&'p Place>
+    requires { AreFiled 0 places.now.items live.now.items at.now.items }
+    ensures some { IfSome result (λ place. place.now.pipe ≡ pipe_row (live_in places.now.items at.now.items) number) }
+    ensures none { result ≡ None → pipe_row (live_in places.now.items at.now.items) number ≡ None }
+{
+    match at_number(live, at, number) {
+        Some(place) => Some(place_at(places, place)),
         None => None,
     }
 }
 
 // A place.
-fn place_at(places: &[Place], at: u32) -> &Place
-    requires { at < length places.now }
-    ensures { result.now ≡ slice_index_or places.now at (record { pipe = None; room = 0 }) }
+fn place_at(places: &Vec<Place>, at: u32) -> &Place
+    requires { at < length places.now.items }
+    ensures { result.now ≡ slice_index_or places.now.items at (record { pipe = None; room = 0 }) }
 {
     &places[at as usize]
 }
 
 // The number of the pipe in a place, where it has the name.
-fn number_where_named(places: &[Place], at: Option<u32>, name: &[u8]) -> Option<u32>
-    ensures { result ≡ option_map (λ row. row.number) (named_row (option_to_list (pipe_of places.now at)) name.now) }
+fn number_where_named(places: &[Place], at: u32, name: &[u8]) -> Option<u32>
+    ensures { result ≡ option_map (λ row. row.number) (named_row (option_to_list (pipe_in places.now at)) name.now) }
 {
-    let place = places.get(at? as usize)?;
+    let place = places.get(at as usize)?;
     if place.is_named(name) {
         place.number()
     } else {
@@ -267,10 +306,10 @@ fn number_where_named(places: &[Place], at: Option<u32>, name: &[u8]) -> Option<
 }
 
 // The number of the pipe in a place, where it is the application's.
-fn number_where_owned(places: &[Place], at: Option<u32>, app: AppNo) -> Option<u32>
-    ensures { result ≡ option_map (λ row. row.number) (first_owned (option_to_list (pipe_of places.now at)) app) }
+fn number_where_owned(places: &[Place], at: u32, app: AppNo) -> Option<u32>
+    ensures { result ≡ option_map (λ row. row.number) (first_owned (option_to_list (pipe_in places.now at)) app) }
 {
-    let place = places.get(at? as usize)?;
+    let place = places.get(at as usize)?;
     if place.is_owned_by(app) {
         place.number()
     } else {

@@ -10,18 +10,18 @@ use subscriptions::SubNo;
 
 /// A message queued on a new pipe is the one received last, once it was taken.
 fn received(pipes: &mut PipeTable, name: &PipeText, app: AppNo, item: Item) -> Option<Item>
-    requires { pipes.old ≡ record { live = []; created = 0; room = 1; numbers = 1; depth = 4 } }
+    requires { pipes.old ≡ record { live = []; created = 0; room = 1; depth = 4 } }
     ensures { result ≡ Some item }
 {
     let pipe = pipes.create(name, app, 4);
     let _ = pipes.try_put(pipe, item);
-    pipes.take(pipe);
-    pipes.last(pipe)
+    pipes.take(pipe.number);
+    pipes.last(pipe.number)
 }
 
 #[test]
 fn a_pipe_is_made_and_ended(rt: HostRuntime) -> Result<(), Fail> {
-    let mut pipes = PipeTable::new(rt.alloc(), 1, 4, 1)?;
+    let mut pipes = PipeTable::new(rt.alloc(), 1, 4)?;
     let app = AppNo::try_new(1).ok_or("an application's number")?;
     let name = PipeText::try_new(b"TLM").ok_or("a name")?;
     let item = Item {

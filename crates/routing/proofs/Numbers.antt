@@ -1,14 +1,17 @@
 -- The routes that ids, counts and lists stand for, and what a change of one leaves.
-use Rattle.std.proofs.Common.{◌≡◌, ℕ, ◌+◌, ◌-◌, ◌%◌, ◌<◌, ◌≤◌, ◌^◌, ◌⊎◌, inl, inr, zero, suc, Bool, true, false, cond, eqb, ltb, List, [], ◌∷◌, ◌++◌, Option, Some, None, length, get_or, set, replicate, refl, ap, sym, subst, ◌∙◌, arith}
+use Rattle.std.proofs.Common.{◌≡◌, ℕ, ◌+◌, ◌-◌, ◌%◌, ◌<◌, ◌≤◌, ◌^◌, ◌⊎◌, inl, inr, zero, suc, Bool, true, false, cond, eqb, ltb, List, [], ◌∷◌, ◌++◌, Option, Some, None, length, get_or, set, replicate, map, count_by, refl, ap, sym, subst, ◌∙◌, arith}
 use Rattle.std.proofs.lemmas.Bool.{cases_eq, cases_lt}
 use Rattle.std.proofs.lemmas.Bool.Decides.{nat_tests}
-use Rattle.std.proofs.lemmas.List.{length-set, length-replicate, get_or-set_same, get_or-set_other, get_or_past}
+use Rattle.std.proofs.lemmas.List.Sums.{sum_by-cons, sum_by-append}
+use Rattle.std.proofs.lemmas.List.{map_push, length-set, length-replicate, get_or-set_same, get_or-set_other, get_or_past}
 use Rattle.std.specs.Ordering.{nat_cmp}
 use Rattle.std.specs.Cmp.{nat_cmp_total, unsigned_tied}
-use Rattle.std.specs.FinMap as map
+use Rattle.std.specs.FinMap as finmap
+use Rattle.fsw_base.specs.Starts.{start_of}
+use Rattle.fsw_base.proofs.Lists.{count_by-map}
 use Rattle.msgid_map.specs.Map.{IdRoutes}
 use Rattle.routing.specs.Dests.{Dest, DestTable, dests_in, has_node}
-use Rattle.routing.specs.Numbered.{place_from, AreNumbered}
+use Rattle.routing.specs.Numbered.{place_from, AreNumbered, AreStarted}
 use Rattle.routing.specs.Routing.{Route, Routing, fresh_route, route_from, route_of, route_at, routes_with, dests_at, with_dests, with_route, counted_on}
 
 pub length-routes : (ids counts : List ℕ) (lists : List (List Dest)) → length ids ≤ length counts → length ids ≤ length lists → length (routes_with ids counts lists) ≡ length ids
@@ -98,10 +101,33 @@ place-push number (i ∷ ids) id q at none e =
         ap (λ b. cond b (Some number) (place_from (number + 1) (ids ++ id ∷ []) q)) f
         ∙ (ih f ∙ sym (ap (λ b. cond (eqb q id) (Some at) (cond b (Some number) (place_from (number + 1) ids q))) f))
 
-pub mapped_more : (m : map.FinMap nat_cmp ℕ) (ids : List ℕ) (id at : ℕ) → ((q : ℕ) → map.get m q ≡ place_from 0 ids q) → map.get m id ≡ None → at ≡ length ids → (q : ℕ) → map.get (map.insert m id at) q ≡ place_from 0 (ids ++ id ∷ []) q
+-- an id that has no place isn't there, and may come once
+none_there : (number : ℕ) (ids : List ℕ) (id : ℕ) → place_from number ids id ≡ None → count_by (λ other. eqb other id) ids ≡ 0
+none_there number [] id none = refl
+none_there number (i ∷ ids) id none = by_test (eqb i id) none (λ rest. none_there (number + 1) ids id rest) (sum_by-cons (λ (other : ℕ). cond {A = ℕ} (eqb other id) 1 0) i ids)
+  where
+    by_test : (b : Bool) → cond {A = Option ℕ} b (Some number) (place_from (number + 1) ids id) ≡ None → (place_from (number + 1) ids id ≡ None → count_by (λ other. eqb other id) ids ≡ 0) →
+        count_by (λ other. eqb other id) (i ∷ ids) ≡ cond {A = ℕ} b 1 0 + count_by (λ other. eqb other id) ids → count_by (λ other. eqb other id) (i ∷ ids) ≡ 0
+    by_test true is ih counted = absurd (cc (is))
+    by_test false is ih counted = omega (arith, counted, ih is)
+
+once_more : (ids : List ℕ) (id q : ℕ) → count_by (λ other. eqb other q) ids ≤ 1 → count_by (λ other. eqb other id) ids ≡ 0 → count_by (λ other. eqb other q) (ids ++ id ∷ []) ≤ 1
+once_more ids id q few none = by_test (eqb id q) refl (sum_by-append (λ (other : ℕ). cond {A = ℕ} (eqb other q) 1 0) ids (id ∷ [])) (sum_by-cons (λ (other : ℕ). cond {A = ℕ} (eqb other q) 1 0) id [])
+  where
+    is_same : (a b : ℕ) → eqb a b ≡ true → b ≡ a
+    is_same a b is = grind (arith, nat_tests)
+
+    by_test : (b : Bool) → eqb id q ≡ b → count_by (λ other. eqb other q) (ids ++ id ∷ []) ≡ count_by (λ other. eqb other q) ids + count_by (λ other. eqb other q) (id ∷ []) →
+        count_by (λ other. eqb other q) (id ∷ []) ≡ cond {A = ℕ} (eqb id q) 1 0 + 0 → count_by (λ other. eqb other q) (ids ++ id ∷ []) ≤ 1
+    by_test true is all one =
+        let same = ap (λ n. count_by (λ other. eqb other n) ids) (is_same id q is) in
+        omega (arith, all, one, ap (λ b. cond {A = ℕ} b 1 0) is, same, none)
+    by_test false is all one = omega (arith, all, one, ap (λ b. cond {A = ℕ} b 1 0) is, few)
+
+pub mapped_more : (m : finmap.FinMap nat_cmp ℕ) (ids : List ℕ) (id at : ℕ) → ((q : ℕ) → finmap.get m q ≡ place_from 0 ids q) → finmap.get m id ≡ None → at ≡ length ids → (q : ℕ) → finmap.get (finmap.insert m id at) q ≡ place_from 0 (ids ++ id ∷ []) q
 mapped_more m ids id at mapped none e q =
-    map.get-insert nat_cmp_total m id at q
-    ∙ (ap (λ b. cond b (Some at) (map.get m q)) (unsigned_tied q id)
+    finmap.get-insert nat_cmp_total m id at q
+    ∙ (ap (λ b. cond b (Some at) (finmap.get m q)) (unsigned_tied q id)
     ∙ (ap (cond (eqb q id) (Some at)) (mapped q) ∙ sym (place-push 0 ids id q at (sym (mapped id) ∙ none) (omega (arith, e)))))
 
 module _ (numbers : IdRoutes) (ids : List ℕ) (capacity : ℕ) (counted : List ℕ) (table : DestTable) (msgids limit : ℕ) (a : AreNumbered numbers ids capacity counted table msgids limit) where
@@ -121,12 +147,21 @@ module _ (numbers : IdRoutes) (ids : List ℕ) (capacity : ℕ) (counted : List 
       by_case (inl h) = ap (λ r. r.dests) (get_or-routes ids counted table.lists route fewer_counts fewer_lists h)
       by_case (inr past) = ap (λ r. r.dests) (get_or_past (routes_with ids counted table.lists) route (fresh_route 0) (omega (arith, past, long))) ∙ sym (a.dests_none route past)
 
-  pub numbered_push : (id room capacity' : ℕ) (m : map.FinMap nat_cmp ℕ) → map.get numbers.routes id ≡ None → length ids < msgids → m ≡ map.insert numbers.routes id (length ids) → room ≡ numbers.room - 1 → capacity' ≡ capacity
+  -- no route has more destinations than it may
+  pub dests_few : ((list : ℕ) → list < length table.lists → length (dests_in table list) ≤ table.limit) → (route : ℕ) → length (dests_in table route) ≤ limit
+  dests_few within route = by_case (cases_lt route (length table.lists))
+    where
+      by_case : (route < length table.lists) ⊎ (length table.lists ≤ route) → length (dests_in table route) ≤ limit
+      by_case (inl h) = omega (arith, within route h, a.limit_is)
+      by_case (inr past) = omega (arith, ap (λ ds. length ds) (a.dests_none route (omega (arith, past, a.room, a.lists_all))))
+
+  pub numbered_push : (id room capacity' : ℕ) (m : finmap.FinMap nat_cmp ℕ) → finmap.get numbers.routes id ≡ None → length ids < msgids → m ≡ finmap.insert numbers.routes id (length ids) → room ≡ numbers.room - 1 → capacity' ≡ capacity
       → AreNumbered (record { routes = m; room = room }) (ids ++ id ∷ []) capacity' counted table msgids limit
   numbered_push id room capacity' m none fits e_m e_room e_capacity =
       let more : length (ids ++ id ∷ []) ≡ length ids + 1 = length_back ids in
       record {
-        mapped = λ q. ap (λ n. map.get n q) e_m ∙ mapped_more numbers.routes ids id (length ids) a.mapped none refl q;
+        mapped = λ q. ap (λ n. finmap.get n q) e_m ∙ mapped_more numbers.routes ids id (length ids) a.mapped none refl q;
+        once = λ other. once_more ids id other (a.once other) (none_there 0 ids id (sym (a.mapped id) ∙ none));
         room = omega (arith, more, a.room, e_room, fits);
         capacity_all = omega (arith, a.capacity_all, e_capacity);
         counted_all = a.counted_all;
@@ -145,6 +180,7 @@ module _ (numbers : IdRoutes) (ids : List ℕ) (capacity : ℕ) (counted : List 
   pub numbered_count : (route count : ℕ) → route < length ids → count < 16384 → AreNumbered numbers ids capacity (set counted route count) table msgids limit
   numbered_count route count h small = record {
     mapped = a.mapped;
+    once = a.once;
     room = a.room;
     capacity_all = a.capacity_all;
     counted_all = length-set counted route count ∙ a.counted_all;
@@ -165,6 +201,7 @@ module _ (numbers : IdRoutes) (ids : List ℕ) (capacity : ℕ) (counted : List 
       subst (λ t. AreNumbered numbers ids capacity counted t msgids limit) (sym e)
       (record {
         mapped = a.mapped;
+        once = a.once;
         room = a.room;
         capacity_all = a.capacity_all;
         counted_all = a.counted_all;
@@ -206,7 +243,7 @@ module _ (numbers : IdRoutes) (ids : List ℕ) (capacity : ℕ) (counted : List 
   route_there route h =
       sym (get_or-routes ids counted table.lists route (fewer_counts numbers ids capacity counted table msgids limit a) (fewer_lists numbers ids capacity counted table msgids limit a) (route_inside route h)) ∙ ap (λ r. route_at r route) e
 
-  pub number_there : (id : ℕ) → map.get numbers.routes id ≡ route_of v.routes id
+  pub number_there : (id : ℕ) → finmap.get numbers.routes id ≡ route_of v.routes id
   number_there id =
       a.mapped id ∙ (sym (route_from-routes 0 ids counted table.lists id (fewer_counts numbers ids capacity counted table msgids limit a) (fewer_lists numbers ids capacity counted table msgids limit a)) ∙ ap (λ (r : Routing). route_of r.routes id) e)
 
@@ -251,6 +288,37 @@ module _ (numbers : IdRoutes) (ids : List ℕ) (capacity : ℕ) (counted : List 
       ∙ ap (λ (r : Routing). let made : Routing = record { msgids = r.msgids; dests = r.dests; starts = r.starts; routes = r.routes ++ fresh_route id ∷ [] } in made) e
 
 -- counts that are added up before or after they are cut to 14 bits
+-- what stands beside an id
+pub get_or-map_in : (f : ℕ → ℕ) (xs : List ℕ) (i : ℕ) → i < length xs → get_or (map f xs) i 0 ≡ f (get_or xs i 0)
+get_or-map_in f [] i within = absurd (omega (arith, within))
+get_or-map_in f (x ∷ xs) zero within = refl
+get_or-map_in f (x ∷ xs) (suc i) within = get_or-map_in f xs i (omega (arith, within))
+
+-- and what stands there once one more is made
+pub started_push : (starts : List (ℕ × ℕ)) (ids firsts : List ℕ) (capacity msgids id first capacity' : ℕ) → AreStarted starts ids firsts capacity msgids → first ≡ start_of starts id → first < 16384 → capacity' ≡ capacity →
+    AreStarted starts (ids ++ id ∷ []) (firsts ++ first ∷ []) capacity' msgids
+started_push starts ids firsts capacity msgids id first capacity' a is small same = record {
+  each = ap (λ l. l ++ first ∷ []) a.each ∙ ap (λ n. map (start_of starts) ids ++ n ∷ []) is ∙ sym (map_push (start_of starts) ids id);
+  small = λ route. below firsts route a.small;
+  capacity_all = omega (arith, a.capacity_all, same);
+}
+  where
+    below : (xs : List ℕ) (route : ℕ) → ((i : ℕ) → get_or xs i 0 < 16384) → get_or (xs ++ first ∷ []) route 0 < 16384
+    below [] zero all = omega (arith, small)
+    below [] (suc route) all = omega arith
+    below (x ∷ xs) zero all = all 0
+    below (x ∷ xs) (suc route) all = below xs route (λ i. all (suc i))
+
+-- no id of the routes stands twice
+pub routes_once : (ids counts : List ℕ) (lists : List (List Dest)) (id : ℕ) → length ids ≤ length counts → length ids ≤ length lists → count_by (λ route. eqb route.id id) (routes_with ids counts lists) ≡ count_by (λ other. eqb other id) ids
+routes_once ids counts lists id h k = sym (count_by-map (λ other. eqb other id) (λ (r : Route). r.id) (routes_with ids counts lists)) ∙ ap (count_by (λ other. eqb other id)) (ids_are ids counts lists h k)
+  where
+    ids_are : (ids counts : List ℕ) (lists : List (List Dest)) → length ids ≤ length counts → length ids ≤ length lists → map (λ (r : Route). r.id) (routes_with ids counts lists) ≡ ids
+    ids_are [] counts lists h k = refl
+    ids_are (i ∷ ids) [] lists h k = absurd (omega (arith, h))
+    ids_are (i ∷ ids) (c ∷ counts) [] h k = absurd (omega (arith, k))
+    ids_are (i ∷ ids) (c ∷ counts) (ds ∷ lists) h k = ap (λ l. i ∷ l) (ids_are ids counts lists (omega (arith, h)) (omega (arith, k)))
+
 pub counts_on : (start count : ℕ) → (start + (count + 1) % 16384) % 16384 ≡ (start + count + 1) % 16384
 counts_on start count = omega arith
 
@@ -262,10 +330,11 @@ pub cut_on : (count calls : ℕ) → count ≡ calls % 16384 → (count + 1) % 1
 cut_on count calls e = omega (arith, e)
 
 -- no routes yet
-pub numbered_new : (numbers : IdRoutes) (ids : List ℕ) (capacity : ℕ) (counted : List ℕ) (table : DestTable) (msgids limit : ℕ) → (let made : IdRoutes = record { routes = map.empty; room = msgids } in numbers ≡ made) → ids ≡ [] → msgids ≤ capacity → counted ≡ replicate msgids 0
+pub numbered_new : (numbers : IdRoutes) (ids : List ℕ) (capacity : ℕ) (counted : List ℕ) (table : DestTable) (msgids limit : ℕ) → (let made : IdRoutes = record { routes = finmap.empty; room = msgids } in numbers ≡ made) → ids ≡ [] → msgids ≤ capacity → counted ≡ replicate msgids 0
     → (let made : DestTable = record { limit = limit; lists = replicate msgids [] } in table ≡ made) → msgids < 2 ^ 32 → AreNumbered numbers ids capacity counted table msgids limit
 numbered_new numbers ids capacity counted table msgids limit e_numbers e_ids room e_counted e_table few = record {
-  mapped = λ q. ap (λ (n : IdRoutes). map.get n.routes q) e_numbers ∙ (map.get-empty {X = ℕ} nat_cmp q ∙ ap (λ is. place_from 0 is q) (sym e_ids));
+  mapped = λ q. ap (λ (n : IdRoutes). finmap.get n.routes q) e_numbers ∙ (finmap.get-empty {X = ℕ} nat_cmp q ∙ ap (λ is. place_from 0 is q) (sym e_ids));
+  once = λ id. omega (arith, ap (count_by (λ other. eqb other id)) e_ids);
   room = omega (arith, ap (λ (n : IdRoutes). n.room) e_numbers, ap (λ is. length is) e_ids);
   capacity_all = room;
   counted_all = ap (λ ls. length ls) e_counted ∙ length-replicate {A = ℕ} msgids 0;

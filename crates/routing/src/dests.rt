@@ -3,7 +3,7 @@
 //! ```text
 //!   anchor of the list --> first --> .. --> last --> the anchor
 //! ```
-ghost use Rattle.std.specs.Prelude.{◌≡◌, ℕ, ◌+◌, ◌*◌, ◌<◌, ◌≤◌, ◌==◌, ◌++◌, nat_lt, if◌then◌else◌, List, [], ◌∷◌, length, replicate, slice_index, slice_set, IsTrue, IfOk, IfSome, Some, None, false};
+ghost use Rattle.std.specs.Prelude.{◌≡◌, ℕ, ◌+◌, ◌*◌, ◌<◌, ◌≤◌, ◌^◌, ◌==◌, ◌++◌, nat_lt, if◌then◌else◌, List, [], ◌∷◌, length, replicate, slice_index, slice_set, IsTrue, IfOk, IfSome, Some, None, false};
 ghost use Rattle.bucket_list.specs.Lists.{listed_at, times_in};
 ghost use Rattle.bucket_list.specs.Chains.{chain};
 ghost use Rattle.routing.specs.Dests.{Dest, DestTable, dests_in, has_sub, has_node, without, first_dest, last_node};
@@ -52,14 +52,11 @@ impl Model for DestLists {
 impl DestLists {
     /// `lists` empty lists that may have `limit` destinations each. No later call takes memory.
     pub(crate) fn new(alloc: Global, lists: u32, limit: u32) -> Result<DestLists, AllocError>
+        requires { lists * limit + lists < 2 ^ 32 }
         ensures { IfOk result (λ made. made ≡ record { limit = limit; lists = replicate lists [] }) }
     {
-        let Some(nodes) = lists.checked_mul(limit) else {
-            return Err(AllocError);
-        };
-        let Some(places) = nodes.checked_add(lists) else {
-            return Err(AllocError);
-        };
+        let nodes = lists * limit;
+        let places = nodes + lists;
         let links = Links::to_themselves(alloc, places)?;
         let tails = Links::new(alloc, lists)?;
         let lens = zeros(alloc, lists)?;
@@ -74,6 +71,13 @@ impl DestLists {
             nodes,
             limit,
         })
+    }
+
+    /// No list has more destinations than it may. Does nothing.
+    pub(crate) fn recall_limit(&self)
+        ensures { (list : ℕ) → list < length self.now.lists → length (dests_in self.now list) ≤ self.now.limit }
+    {
+        let _ = &self.lens;
     }
 
     /// How many destinations a list has.

@@ -1,5 +1,5 @@
 //! The routes.
-ghost use Rattle.std.specs.Prelude.{◌≡◌, ℕ, ◌+◌, ◌*◌, ◌<◌, ◌≤◌, ◌++◌, nat_lt, if◌then◌else◌, List, [], ◌∷◌, length, replicate, IsTrue, IfOk, IfSome, OnOk, OnErr, Ok, Err, None, false};
+ghost use Rattle.std.specs.Prelude.{◌≡◌, ℕ, ◌+◌, ◌*◌, ◌<◌, ◌≤◌, ◌^◌, ◌==◌, ◌++◌, nat_lt, if◌then◌else◌, List, [], ◌∷◌, length, replicate, count_by, IsTrue, IfOk, IfSome, OnOk, OnErr, Ok, Err, None, false};
 ghost use Rattle.fsw_base.specs.Starts.{start_of};
 ghost use Rattle.fsw_base.specs.declared.statuses.SbStatus.TheVariants.{MaxMsgsMet, MaxDestsMet};
 ghost use Rattle.msgid_map.specs.declared.map.TheConstants.{MAX_ID};
@@ -33,6 +33,8 @@ pub struct Routes {
     dests: DestLists,
     /// The count at which each id starts.
     starts: CountStarts,
+    /// The count at which each route's id starts, so that a count is no search. There is room for `msgids` of them.
+    firsts: Vec<u16>,
     /// How many routes there may be.
     msgids: u32,
     /// How many destinations a route may have.
@@ -45,37 +47,55 @@ impl Model for Routes {
     ghost Value = { Routing };
 
     ghost use Rattle.routing.specs.Routing.{routes_with};
-    ghost use Rattle.routing.specs.Numbered.{AreNumbered};
+    ghost use Rattle.routing.specs.Numbered.{AreNumbered, AreStarted};
     ghost use Rattle.std.specs.Vec.{vec_capacity};
 
     ghost view = { λ r. record { msgids = r.msgids; dests = r.limit; starts = r.starts; routes = routes_with r.ids.items r.counted.items r.dests.lists } };
 
-    ghost invariant = { λ r. AreNumbered r.numbers r.ids.items (vec_capacity r.ids) r.counted.items r.dests r.msgids r.limit };
+    ghost invariant = { λ r. AreNumbered r.numbers r.ids.items (vec_capacity r.ids) r.counted.items r.dests r.msgids r.limit
+        × AreStarted r.starts r.ids.items r.firsts.items (vec_capacity r.firsts) r.msgids };
 }
 
 impl Routes {
-    /// No routes yet, and room for `msgids` routes of `dests` destinations each. No later call takes memory.
+    /// No routes yet, and room for `msgids` routes of `dests` destinations each, so many that all of them can be numbered
+    /// in 32 bits. No later call takes memory.
+    ///
+    /// # Errors
+    /// Where memory runs out.
     pub fn new(
         alloc: Global,
         msgids: u32,
         dests: u32,
         starts: CountStarts,
     ) -> Result<Routes, AllocError>
+        requires { msgids * dests + msgids < 2 ^ 32 }
         ensures { IfOk result (λ made. made ≡ record { msgids = msgids; dests = dests; starts = starts; routes = [] }) }
     {
         let numbers = IdMap::new(alloc, msgids)?;
         let ids = Vec::with_capacity(alloc, msgids as usize)?;
         let counted = no_counts(alloc, msgids)?;
         let lists = DestLists::new(alloc, msgids, dests)?;
+        let firsts = Vec::with_capacity(alloc, msgids as usize)?;
         Ok(Routes {
             numbers,
             ids,
             counted,
             dests: lists,
             starts,
+            firsts,
             msgids,
             limit: dests,
         })
+    }
+
+    /// No id has two routes, there are at most as many routes as there may be, and each has at most as many destinations as
+    /// it may. Does nothing.
+    pub fn recall_routes(&self)
+        ensures once { (id : ℕ) → count_by (λ route. route.id == id) self.now.routes ≤ 1 }
+        ensures fit { length self.now.routes ≤ self.now.msgids }
+        ensures few { (route : ℕ) → length (dests_at self.now route) ≤ self.now.dests }
+    {
+        self.dests.recall_limit();
     }
 
     /// How many routes there are.
@@ -124,6 +144,7 @@ impl Routes {
         }
         self.numbers.insert(id, route);
         self.ids.push_reserved(id);
+        self.firsts.push_reserved(self.starts.start_of(id));
         Ok(route)
     }
 
@@ -182,14 +203,14 @@ impl Routes {
     }
 
     /// The next sequence count of a route: its id's start, one for each count that it has given, and one more, modulo 16384.
-    /// It counts as given.
+    /// It counts as given. Takes a constant time.
     pub fn next_count(&mut self, route: u32) -> u16
         requires { route < length self.old.routes }
         ensures count { result ≡ next_of self.old.starts (route_at self.old route) }
         ensures after { self.new ≡ with_route self.old route (counted_on (route_at self.old route)) }
     {
         let place = route as usize;
-        let start = self.starts.start_of(self.ids[place]);
+        let start = self.firsts[place];
         let given = (self.counted[place] + 1) % COUNTS;
         self.counted[place] = given;
         (start + given) % COUNTS

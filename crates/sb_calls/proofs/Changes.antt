@@ -26,7 +26,6 @@ activities_keep a acts keeps same =
       subscriptions_live = keeps.subscriptions_live;
       sends_made = keeps.sends_made;
       few = keeps.few;
-      numbers_room = keeps.numbers_room;
       sends_room = keeps.sends_room;
     }
 
@@ -45,7 +44,6 @@ pipes_keep a pipes keeps rows =
       subscriptions_live = keeps.subscriptions_live;
       sends_made = keeps.sends_made;
       few = keeps.few;
-      numbers_room = keeps.numbers_room;
       sends_room = keeps.sends_room;
     }
 
@@ -89,6 +87,5 @@ subscriptions_leave a stays keeps =
       subscriptions_live = omega (arith, all, keeps.subscriptions_live);
       sends_made = keeps.sends_made;
       few = keeps.few;
-      numbers_room = keeps.numbers_room;
       sends_room = keeps.sends_room;
     }

@@ -36,11 +36,11 @@ standings-active : (n : ℕ) → map standing_in (replicate n activities.Active)
 standings-active zero = refl
 standings-active (suc n) = ap (λ l. Active ∷ l) (standings-active n)
 
-pub stands_opening : (a : Inside) (budgets : List Budget) (numbers : ℕ) →
+pub stands_opening : (a : Inside) (budgets : List Budget) →
     a.journal ≡ record { entries = []; left = allowances budgets } →
     a.activities.items ≡ replicate (length budgets) activities.Active →
-    a.tables ≡ opened (limits_of a.config) numbers → a.sends.items ≡ [] → Keeps a → Stands a
-stands_opening a budgets numbers journal active tables sends keeps = record {
+    a.tables ≡ opened (limits_of a.config) → a.sends.items ≡ [] → Keeps a → Stands a
+stands_opening a budgets journal active tables sends keeps = record {
   legal = subst (λ (log : Log). IsLegalCore (record { limits = limits_of a.config; log = log })) (sym journal) tt;
   state =
       ap (λ t. means (record a { tables = t })) tables

@@ -205,7 +205,6 @@ module _ (a : Inside) (next : Tables) (journal : Log) (old : Core) (app id pipe 
         subscriptions_live = omega (arith, more, keeps.subscriptions_live);
         sends_made = omega (arith, keeps.sends_made, g.entries);
         few = omega (arith, keeps.few, g.entries, g.left);
-        numbers_room = omega (arith, keeps.numbers_room, g.entries, g.left);
         sends_room = omega (arith, keeps.sends_room, g.entries, g.left);
       })
 

@@ -197,7 +197,6 @@ module _ (a : Inside) (next : Tables) (sends : Vec SendRow Global) (journal : Lo
         subscriptions_live = keeps.subscriptions_live;
         sends_made = omega (arith, one_more, keeps.sends_made, g.entries);
         few = omega (arith, keeps.few, g.entries, g.left);
-        numbers_room = omega (arith, keeps.numbers_room, g.entries, g.left);
         sends_room = omega (arith, sends_capacity, keeps.sends_room, g.entries, g.left);
       })
     where

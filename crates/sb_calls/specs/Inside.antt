@@ -30,7 +30,7 @@ pub record Keeps (a : Inside) : Type 0 where
   -- each application's activity is kept
   pub activities : length a.activities.items ≡ length a.journal.left
   -- the tables have the room that the limits ask for
-  pub room : a.tables.room ≡ room_for (limits_of a.config) a.tables.room.numbers
+  pub room : a.tables.room ≡ room_for (limits_of a.config)
   -- what waits or was received last names an accepted send
   pub rows : All (IsRow (length a.sends.items)) a.tables.pipes
   -- each row of a send names an entry that sends a message
@@ -46,7 +46,6 @@ pub record Keeps (a : Inside) : Type 0 where
   pub sends_made : length a.sends.items ≤ length a.journal.entries
   -- room for all that the budgets allow
   pub few : length a.journal.entries + entries_left a.journal.left < 2 ^ 32
-  pub numbers_room : length a.journal.entries + entries_left a.journal.left ≤ a.tables.room.numbers
   pub sends_room : length a.journal.entries + entries_left a.journal.left ≤ vec_capacity a.sends
 
 -- what is always true of a core: its history is one that the bus can have, and its fields stand for the bus after it

@@ -56,7 +56,7 @@ impl BusCore {
             config: cfg.again(),
             journal: BusJournal::new(alloc, budgets)?,
             activities: all_active(alloc, budgets.len())?,
-            tables: BusTables::new(alloc, cfg, entries)?,
+            tables: BusTables::new(alloc, cfg)?,
             sends: Vec::with_capacity(alloc, entries as usize)?,
         })
     }

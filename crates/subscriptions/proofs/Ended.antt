@@ -1,5 +1,5 @@
 -- What the end of a subscription leaves.
-use Rattle.std.proofs.Common.{◌≡◌, ℕ, ◌<◌, eqb, not, List, [], ◌∷◌, ◌++◌, length, get_or, set, filter, find, cond, Option, Some, None, is_some, IsSome, refl, sym, ap, ◌∙◌, arith}
+use Rattle.std.proofs.Common.{◌≡◌, ℕ, ◌<◌, eqb, not, List, [], ◌∷◌, ◌++◌, length, set, filter, find, Option, Some, None, IsSome, refl, sym, ◌∙◌}
 use Rattle.subscriptions.specs.declared.place.Place.{Place}
 use Rattle.subscriptions.specs.declared.words.SubNo.{SubNo}
 use Rattle.subscriptions.specs.Subs.{goes_by}

@@ -1,5 +1,5 @@
 -- Slots of which none is used yet.
-use Rattle.std.proofs.Common.{◌≡◌, ℕ, zero, suc, ◌+◌, ◌<◌, ◌^◌, List, length, get_or, replicate, Option, None, is_some, false, refl, sym, ap, subst, arith}
+use Rattle.std.proofs.Common.{◌≡◌, ℕ, zero, suc, ◌+◌, ◌<◌, List, length, get_or, replicate, Option, None, is_some, false, refl, ap, arith}
 use Rattle.std.proofs.lemmas.List.{length-replicate}
 use Rattle.subscriptions.specs.declared.place.Place.{Place}
 use Rattle.subscriptions.specs.Slots.{number_in, number_at, AreKept}

@@ -5,7 +5,7 @@ use Rattle.subscriptions.specs.Subs.{Subscription}
 
 -- the subscription that a slot holds
 abbrev pub held_in : ℕ → Place → Subscription
-held_in slot p = record { slot = slot; number = p.number; id = p.id; pipe = p.pipe; limit = p.limit; scope = p.scope; waiting = p.waiting }
+held_in slot p = record { slot = slot; number = p.number; id = p.id; pipe = p.pipe; place = p.place; limit = p.limit; scope = p.scope; waiting = p.waiting }
 
 -- the subscription of this number, where one of these slots holds it; they are numbered on from the first
 abbrev pub numbered : ℕ → ℕ → List (Option Place) → List Subscription

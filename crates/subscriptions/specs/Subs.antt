@@ -8,13 +8,14 @@ use Rattle.subscriptions.specs.declared.words.SubRow.{SubRow}
 use Rattle.subscriptions.specs.declared.words.Verdict.{Verdict}
 use Rattle.subscriptions.specs.declared.words.Verdict.TheVariants.{Inside, OverLimit}
 
--- A live subscription: the slot that holds it, its number, message id and pipe, how many of its messages may wait at once
--- (its limit), its scope, and how many wait now.
+-- A live subscription: the slot that holds it, its number, message id and pipe, the place where the pipe lies, how many of
+-- its messages may wait at once (its limit), its scope, and how many wait now.
 pub record Subscription : Type 0 where
   pub slot : ℕ
   pub number : ℕ
   pub id : ℕ
   pub pipe : ℕ
+  pub place : ℕ
   pub limit : ℕ
   pub scope : Scope
   pub waiting : ℕ
@@ -39,7 +40,7 @@ live_at subs sub = find (goes_by sub) subs.live
 
 -- what a subscription was made with
 abbrev pub row_of : Subscription → SubRow
-row_of s = record { id = s.id; pipe = s.pipe; limit = s.limit; scope = s.scope }
+row_of s = record { id = s.id; pipe = s.pipe; place = s.place; limit = s.limit; scope = s.scope }
 
 -- what its limit says of one message more
 abbrev pub verdict_of : Subscription → Verdict

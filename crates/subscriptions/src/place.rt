@@ -9,6 +9,8 @@ pub(crate) struct Place {
     pub(crate) number: u32,
     pub(crate) id: u16,
     pub(crate) pipe: u32,
+    // Where the pipe lies.
+    pub(crate) place: u32,
     pub(crate) limit: u32,
     pub(crate) scope: Scope,
     // How many of its messages wait.

@@ -53,6 +53,13 @@ impl Subs {
         })
     }
 
+    /// How many subscriptions are live. Takes a constant time.
+    pub fn len(&self) -> u32
+        ensures { result ≡ length self.now.live }
+    {
+        (self.slots.len() - self.free.len()) as u32
+    }
+
     /// Whether as many subscriptions are live as may be. Takes a constant time.
     pub fn is_full(&self) -> bool
         ensures { result ≡ (length self.now.live == self.now.room) }
@@ -67,9 +74,9 @@ impl Subs {
         let _ = &self.slots;
     }
 
-    /// A new subscription of a message id to a pipe, of whose messages none waits. Whether the pair is live already isn't
-    /// asked. Takes a constant time.
-    pub fn add(&mut self, id: u16, pipe: u32, limit: u32, scope: Scope) -> SubNo
+    /// A new subscription of a message id to a pipe that lies in this place, of whose messages none waits. Whether the pair
+    /// is live already isn't asked. Takes a constant time.
+    pub fn add(&mut self, id: u16, pipe: u32, place: u32, limit: u32, scope: Scope) -> SubNo
         requires room { length self.old.live < self.old.room }
         requires number { self.old.made + 1 < 2 ^ 32 }
         ensures number { result.number ≡ self.old.made + 1 }
@@ -77,7 +84,7 @@ impl Subs {
         ensures free { list_any (λ s. s.slot == result.slot) self.old.live ≡ false }
         ensures after { self.new ≡ record self.old {
           made = result.number;
-          live = self.old.live ++ record { slot = result.slot; number = result.number; id = id; pipe = pipe; limit = limit; scope = scope; waiting = 0 } ∷ [];
+          live = self.old.live ++ record { slot = result.slot; number = result.number; id = id; pipe = pipe; place = place; limit = limit; scope = scope; waiting = 0 } ∷ [];
         } }
     {
         let slot = self.free.pop().unwrap();
@@ -87,6 +94,7 @@ impl Subs {
             number: self.made,
             id,
             pipe,
+            place,
             limit,
             scope,
             waiting: 0,
@@ -115,6 +123,7 @@ impl Subs {
         SubRow {
             id: place.id,
             pipe: place.pipe,
+            place: place.place,
             limit: place.limit,
             scope: place.scope,
         }

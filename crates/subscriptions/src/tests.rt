@@ -11,7 +11,7 @@ fn second_verdict(subs: &mut Subs) -> Verdict
     requires { subs.old ≡ record { room = 1; made = 0; live = [] } }
     ensures { result ≡ Verdict.OverLimit }
 {
-    let sub = subs.add(0x0801, 7, 1, Scope::Global);
+    let sub = subs.add(0x0801, 7, 0, 1, Scope::Global);
     subs.queued(sub);
     subs.admit(sub)
 }

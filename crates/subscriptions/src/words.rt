@@ -18,6 +18,8 @@ pub struct SubRow {
     pub id: u16,
     /// The number of the pipe.
     pub pipe: u32,
+    /// The place where the pipe lies, as the caller told it.
+    pub place: u32,
     /// How many of its messages may wait in the pipe at once.
     pub limit: u32,
     /// Kept, and of no effect here.

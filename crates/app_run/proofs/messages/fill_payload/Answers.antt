@@ -1,6 +1,6 @@
 use Rattle.std.proofs.Common.{length, arith}
 use Rattle.std.proofs.lemmas.List.FromFn.{fill_by_all}
-use Rattle.app_script.specs.Messages.{fill_byte}
+use Rattle.script_runs.specs.Messages.{fill_byte}
 use Rattle.app_run.proofs.messages.fill_payload.Goals as goal
 
 pub returns : goal.returns

@@ -1,5 +1,5 @@
 use Rattle.std.proofs.Common.{◌≡◌, ℕ, ◌<◌, get_or}
-use Rattle.app_script.specs.Messages.{fill_byte}
+use Rattle.script_runs.specs.Messages.{fill_byte}
 use Rattle.app_run.proofs.messages.fill_payload.Given as goal
 
 -- the bytes so far count up

@@ -9,6 +9,7 @@ invariant_of-self c =
     let s = c.self.inside in
     let P : Pipes → Type 0 = λ p. AreTied p s.subs s.routes in
     subst P (sym c.create.ensures.after) (record {
-      queued = queued_more s.pipes.live s.subs (s.pipes.created + 1) c.args.name.now c.args.owner c.args.depth c.self.invariant.queued;
+      queued = queued_more s.pipes.live s.subs (s.pipes.created + 1) c.create.result.place c.args.name.now c.args.owner c.args.depth c.self.invariant.queued;
       routed = c.self.invariant.routed;
+      room = c.self.invariant.room;
     })

@@ -1,7 +1,8 @@
 -- The pipe leaves with its subscriptions.
-use Rattle.std.proofs.Common.{not, eqb, map, filter, ap, sym, subst, ◌∙◌}
+use Rattle.std.proofs.Common.{◌*◌, not, eqb, map, filter, ap, sym, subst, ◌∙◌}
 use Rattle.fsw_base.proofs.Lists.{filter-map}
 use Rattle.pipe_table.specs.Table.{Pipes, without_row}
+use Rattle.routing.specs.Routing.{Routing}
 use Rattle.subscriptions.specs.Subs.{Subscribed}
 use Rattle.bus_tables.specs.Tied.{AreQueued, row_in, sub_in}
 use Rattle.bus_tables.proofs.Ties.{seen_left}
@@ -15,6 +16,9 @@ invariant_of-self g c = record {
       (subst (AreQueued (without_row c.args.number c.self.inside.pipes.live)) (sym c.end_of_pipe.ensures.after)
       (queued_removed c.self.inside.pipes.live c.self.inside.subs c.args.number c.self.invariant.queued));
   routed = c.end_of_pipe.ensures.routed;
+  room =
+      ap (λ (s : Subscribed). s.room) c.end_of_pipe.ensures.after ∙ c.self.invariant.room
+      ∙ sym (ap (λ (r : Routing). r.msgids * r.dests) c.end_of_pipe.ensures.same);
 }
 
 pub returns : goal.returns

@@ -25,6 +25,7 @@ invariant_of-self c =
     subst P (sym c.next_count.ensures.after) (record {
       queued = c.self.invariant.queued;
       routed = routed_counted s.subs s.routes c.unwrap-route.result c.self.invariant.routed;
+      room = c.self.invariant.room;
     })
 
 pub returns-clause-count : goal.returns-clause-count

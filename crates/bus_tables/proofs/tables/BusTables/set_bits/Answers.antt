@@ -13,6 +13,7 @@ invariant_of-self c =
     subst P (sym c.set_bits.ensures) (record {
       queued = queued_changed (with_bits c.args.bits) c.args.number (bits_keep c.args.bits) s.pipes.live s.subs c.self.invariant.queued;
       routed = c.self.invariant.routed;
+      room = c.self.invariant.room;
     })
 
 pub returns : goal.returns

@@ -1,7 +1,9 @@
-use Rattle.std.proofs.Common.{◌≡◌, ◌+◌, ◌<◌, ◌++◌, ◌∷◌, [], false, true, eqb, length, map, is_some, ap, sym, ◌∙◌, subst, refl, arith}
+use Rattle.std.proofs.Common.{◌≡◌, ℕ, ◌+◌, ◌*◌, ◌<◌, ◌++◌, ◌∷◌, [], false, true, eqb, length, map, is_some, Option, Some, None, ap, sym, ◌∙◌, subst, refl, arith}
 use Rattle.std.specs.List.{list_any}
 use Rattle.std.proofs.lemmas.List.{length-map}
 use Rattle.bus_words.specs.Bus as bus
+use Rattle.std.specs.Option.{IsSome, option_map}
+use Rattle.pipe_table.specs.Table.{PipeRow, pipe_row}
 use Rattle.subscriptions.specs.Subs.{Subscription, Subscribed}
 use Rattle.routing.specs.Dests.{last_node}
 use Rattle.routing.specs.Routing.{Routing, dests_at, with_dests}
@@ -10,8 +12,30 @@ use Rattle.bus_tables.specs.Tables.{Tables}
 use Rattle.bus_tables.specs.Tied.{way_in, tables_in, AreTied}
 use Rattle.bus_tables.proofs.Readers.{way_there}
 use Rattle.bus_tables.proofs.Counting.{found}
-use Rattle.bus_tables.proofs.MakingsRouted.{leads, dests_few, taken, routed_more, queued_more, live_found, none_tied, seen_more}
+use Rattle.bus_tables.proofs.MakingsRouted.{leads, dests_few, room_left, taken, routed_more, queued_more, live_found, none_tied, seen_more}
 use Rattle.bus_tables.proofs.tables.BusTables.subscribe.Goals as goal
+
+pub unwrap-place-requires : goal.unwrap-place-requires
+unwrap-place-requires g c =
+    let s = c.self.inside in
+    let Live : Tables → Type 0 = λ t. list_any (λ (row : Row). eqb row.number c.args.pipe) t.pipes ≡ true in
+    let live = live_found s.pipes.live c.args.pipe (subst Live (sym c.self.view_is) c.requires.live) in
+    subst (λ (o : Option ℕ). IsSome o) (sym c.place_of.ensures) (lies (pipe_row s.pipes.live c.args.pipe) live)
+  where
+    lies : (o : Option PipeRow) → is_some o ≡ true → IsSome (option_map (λ row. row.place) o)
+    lies None none = absurd (cc (none))
+    lies (Some row) some = refl
+
+pub add-sub-requires-clause-room : goal.add-sub-requires-clause-room
+add-sub-requires-clause-room g c =
+    let s = c.self.inside in
+    let made = c.route_for-route in
+    let lead = leads s.subs s.routes made.new.routes c.args.id made.result c.self.invariant.routed made.ensures.old made.ensures.new in
+    let Few : Tables → Type 0 = λ t. length (bus.route t.subscriptions c.args.id) < t.room.dests in
+    let few : length (dests_at made.new.routes made.result) < made.new.routes.dests =
+    omega (arith, dests_few s.subs made.new.routes c.args.id made.result lead.routed lead.way, subst Few (sym c.self.view_is) c.requires.dests, ap (λ (r : Routing). r.dests) lead.same) in
+    let left = room_left s.subs made.new.routes c.args.id made.result lead.routed lead.way c.recall_routes.ensures.fit c.recall_routes.ensures.few few in
+    omega (arith, left, c.self.invariant.room, ap (λ (r : Routing). r.msgids * r.dests) lead.same)
 
 pub route_for-route-requires-clause-room : goal.route_for-route-requires-clause-room
 route_for-route-requires-clause-room g c = λ none.
@@ -32,7 +56,7 @@ pub invariant_of-self : goal.invariant_of-self
 invariant_of-self g c =
     let s = c.self.inside in
     let made = c.route_for-route in
-    let sub : Subscription = record { slot = c.add-sub.result.slot; number = c.add-sub.result.number; id = c.args.id; pipe = c.args.pipe; limit = c.args.limit; scope = c.args.scope; waiting = 0 } in
+    let sub : Subscription = record { slot = c.add-sub.result.slot; number = c.add-sub.result.number; id = c.args.id; pipe = c.args.pipe; place = c.unwrap-place.result; limit = c.args.limit; scope = c.args.scope; waiting = 0 } in
     let lead = leads s.subs s.routes made.new.routes c.args.id made.result c.self.invariant.routed made.ensures.old made.ensures.new in
     let node = last_node (dests_at c.add_dest.new.self made.result) in
     let after : Routing = with_dests made.new.routes made.result (dests_at made.new.routes made.result ++ (node, c.add-sub.result) ∷ []) in
@@ -48,15 +72,16 @@ invariant_of-self g c =
     let P : Subscribed → Type 0 = λ b. AreTied s.pipes b c.add_dest.new.self in
     let Q : Routing → Type 0 = λ r. AreTied s.pipes (record s.subs { made = c.add-sub.result.number; live = s.subs.live ++ sub ∷ [] }) r in
     subst P (sym c.add-sub.ensures.after) (subst Q (sym next) (record {
-      queued = queued_more s.pipes.live s.subs sub c.self.invariant.queued live c.add-sub.ensures.number refl;
+      queued = queued_more s.pipes.live s.subs sub c.self.invariant.queued live (sym c.place_of.ensures ∙ c.unwrap-place.ensures) c.add-sub.ensures.number refl;
       routed = routed_more s.subs made.new.routes made.result node c.add-sub.result.number sub lead.routed lead.way none;
+      room = c.self.invariant.room ∙ sym (ap (λ (r : Routing). r.msgids * r.dests) lead.same);
     }))
 
 pub returns-clause-after : goal.returns-clause-after
 returns-clause-after g c =
     let s = c.self.inside in
     let made = c.route_for-route in
-    let sub : Subscription = record { slot = c.add-sub.result.slot; number = c.add-sub.result.number; id = c.args.id; pipe = c.args.pipe; limit = c.args.limit; scope = c.args.scope; waiting = 0 } in
+    let sub : Subscription = record { slot = c.add-sub.result.slot; number = c.add-sub.result.number; id = c.args.id; pipe = c.args.pipe; place = c.unwrap-place.result; limit = c.args.limit; scope = c.args.scope; waiting = 0 } in
     let lead = leads s.subs s.routes made.new.routes c.args.id made.result c.self.invariant.routed made.ensures.old made.ensures.new in
     let node = last_node (dests_at c.add_dest.new.self made.result) in
     let after : Routing = with_dests made.new.routes made.result (dests_at made.new.routes made.result ++ (node, c.add-sub.result) ∷ []) in

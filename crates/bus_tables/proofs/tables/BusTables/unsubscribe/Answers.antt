@@ -1,6 +1,7 @@
 -- At most one subscription ties the id to the pipe, so the end of the one that is found leaves just those that don't.
-use Rattle.std.proofs.Common.{◌≡◌, not, ◌&&◌, eqb, length, map, filter, find, is_some, refl, ap, sym, subst, ◌∙◌, arith}
+use Rattle.std.proofs.Common.{◌*◌, ◌≡◌, not, ◌&&◌, eqb, length, map, filter, find, is_some, refl, ap, sym, subst, ◌∙◌, arith}
 use Rattle.bus_words.specs.Bus.{route}
+use Rattle.routing.specs.Routing.{Routing}
 use Rattle.subscriptions.specs.Subs.{Subscribed}
 use Rattle.bus_tables.specs.Tables.{Tables}
 use Rattle.bus_tables.specs.Tied.{AreQueued, of_id, sub_in, ties}
@@ -20,6 +21,9 @@ invariant_of-self g c = record {
       subst (AreQueued c.self.inside.pipes.live) (sym c.end_subscription.ensures.after)
       (queued_left c.self.inside.pipes.live c.self.inside.subs (λ s. not (eqb s.number c.in-Some.sub.number)) c.self.invariant.queued);
   routed = c.end_subscription.ensures.routed;
+  room =
+      ap (λ (s : Subscribed). s.room) c.end_subscription.ensures.after ∙ c.self.invariant.room
+      ∙ sym (ap (λ (r : Routing). r.msgids * r.dests) c.end_subscription.ensures.same);
 }
 
 pub returns-in-Some-clause-after : goal.returns-in-Some-clause-after

@@ -1,28 +1,23 @@
-use Rattle.std.proofs.Common.{Bool, false, List, Option, length, ap, sym, ◌∙◌, arith, slice_index_or}
+-- The pipe lies in the place that it goes by.
+use Rattle.std.proofs.Common.{Bool, ap, sym, ◌∙◌, false}
 use Rattle.std.specs.Option.{option_map_or}
-use Rattle.pipe_table.specs.Table.{PipeRow, Pipes, pipe_row, ignores_sender}
-use Rattle.pipe_table.specs.Places.{PlaceState, place_under}
-use Rattle.pipe_table.proofs.Filing.{stands_under, read_some, read_none, nowhere}
+use Rattle.pipe_table.specs.Table.{Pipes, place_of, pipe_row, ignores_sender}
+use Rattle.pipe_table.specs.Places.{PlaceState}
+use Rattle.pipe_table.proofs.Filing.{place_seen, stands_under, read_some}
 use Rattle.pipe_table.proofs.table.PipeTable.ignores.Goals as goal
 
 pub place_at-requires : goal.place_at-requires
 place_at-requires c =
-    let under = ap (λ l. place_under l c.args.number) (sym c.deref.ensures.value) ∙ sym c.at_number.ensures ∙ c.in-Some.is in
-    let stands = stands_under c.self.inside.places.items c.self.inside.numbers.items c.args.number c.in-Some.at c.self.invariant.0.filed under in
-    omega (arith, stands.there, ap length c.deref-in-Some.ensures.value)
+    let a = c.self.inside in
+    let under = place_seen a.places.items a.live.items a.at.items c.args.pipe.number c.self.invariant.0.filed ∙ ap (λ (t : Pipes). place_of t.live c.args.pipe.number) c.self.view_is ∙ c.requires.live in
+    (stands_under 0 a.places.items a.live.items a.at.items c.args.pipe.number c.args.pipe.place c.self.invariant.0.filed under).there
 
-pub returns-in-Some : goal.returns-in-Some
-returns-in-Some c =
-    let under = ap (λ l. place_under l c.args.number) (sym c.deref.ensures.value) ∙ sym c.at_number.ensures ∙ c.in-Some.is in
-    let row = read_some c.self.inside.places.items c.self.inside.numbers.items c.args.number c.in-Some.at c.self.invariant.0.filed under in
+pub returns : goal.returns
+returns c =
+    let a = c.self.inside in
+    let under = place_seen a.places.items a.live.items a.at.items c.args.pipe.number c.self.invariant.0.filed ∙ ap (λ (t : Pipes). place_of t.live c.args.pipe.number) c.self.view_is ∙ c.requires.live in
     c.ignores.ensures
-    ∙ ap (λ (s : PlaceState). option_map_or {U = Bool} (λ row. ignores_sender row c.args.sender) s.pipe false) (c.place_at.ensures ∙ ap (λ (l : List PlaceState). slice_index_or l c.in-Some.at nowhere) c.deref-in-Some.ensures.value)
-    ∙ ap (λ (o : Option PipeRow). option_map_or {U = Bool} (λ row. ignores_sender row c.args.sender) o false) (sym row)
-    ∙ ap (λ (t : Pipes). option_map_or {U = Bool} (λ row. ignores_sender row c.args.sender) (pipe_row t.live c.args.number) false) c.self.view_is
-
-pub returns-in-None : goal.returns-in-None
-returns-in-None c =
-    let under = ap (λ l. place_under l c.args.number) (sym c.deref.ensures.value) ∙ sym c.at_number.ensures ∙ c.in-None.is in
-    let row = read_none c.self.inside.places.items c.self.inside.numbers.items c.args.number c.self.invariant.0.filed under in
-    ap (λ (o : Option PipeRow). option_map_or {U = Bool} (λ row. ignores_sender row c.args.sender) o false) (sym row)
-    ∙ ap (λ (t : Pipes). option_map_or {U = Bool} (λ row. ignores_sender row c.args.sender) (pipe_row t.live c.args.number) false) c.self.view_is
+    ∙ ap (λ (s : PlaceState). option_map_or {U = Bool} (λ row. ignores_sender row c.args.sender) s.pipe false) c.place_at.ensures
+    ∙ ap (λ o. option_map_or {U = Bool} (λ row. ignores_sender row c.args.sender) o false)
+    (sym (read_some a.places.items a.live.items a.at.items c.args.pipe.number c.args.pipe.place c.self.invariant.0.filed under))
+    ∙ ap (λ (t : Pipes). option_map_or {U = Bool} (λ row. ignores_sender row c.args.sender) (pipe_row t.live c.args.pipe.number) false) c.self.view_is

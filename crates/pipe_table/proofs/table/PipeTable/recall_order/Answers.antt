@@ -1,4 +1,4 @@
-use Rattle.std.proofs.Common.{subst, arith}
+use Rattle.std.proofs.Common.{subst}
 use Rattle.pipe_table.specs.Table.{Pipes, IsRising}
 use Rattle.pipe_table.proofs.Order.{in_order}
 use Rattle.pipe_table.proofs.table.PipeTable.recall_order.Goals as goal
@@ -7,4 +7,4 @@ pub returns : goal.returns
 returns c =
     let t = c.self.inside in
     let P : Pipes → Type 0 = λ p. IsRising 0 p.live in
-    subst P c.self.view_is (in_order 1 t.places.items t.numbers.items 0 (omega arith) c.self.invariant.0.filed)
+    subst P c.self.view_is (in_order 0 t.places.items t.live.items t.at.items c.self.invariant.0.filed)

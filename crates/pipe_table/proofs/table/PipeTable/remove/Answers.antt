@@ -1,31 +1,51 @@
-use Rattle.std.proofs.Common.{◌≡◌, ◌<◌, ◌-◌, ℕ, List, length, set, get_or, Some, None, ap, sym, ◌∙◌, subst, arith}
-use Rattle.std.proofs.lemmas.List.{get_or_default, length-set, length_push}
+use Rattle.std.proofs.Common.{◌≡◌, ◌<◌, ℕ, List, length, set, get_or, Some, None, ap, sym, ◌∙◌, subst, arith}
+use Rattle.std.specs.List.{remove}
+use Rattle.std.proofs.lemmas.List.{get_or_default, get_or_read, length-set, length_push}
 use Rattle.pipe_table.specs.Table.{PipeRow, Pipes, without_row}
-use Rattle.pipe_table.specs.Places.{PlaceState, AreKept, place_under, live_in}
-use Rattle.pipe_table.proofs.Filing.{stands_under, nowhere}
-use Rattle.pipe_table.proofs.Changes.{at_place, one_up, removed_live, removed_kept, room_at, unremoved}
+use Rattle.pipe_table.specs.Places.{PlaceState, AreKept, live_in}
+use Rattle.pipe_table.proofs.Filing.{ordered, as_many, under_index, under_none, stands_under, nowhere}
+use Rattle.pipe_table.proofs.Changes.{removed_live, removed_kept, room_at, unremoved}
 use Rattle.pipe_table.proofs.table.PipeTable.remove.Goals as goal
 
-pub index_mut-requires-in-Some : goal.index_mut-requires-in-Some
-index_mut-requires-in-Some c =
-    let under = ap (λ l. place_under l c.args.number) (sym c.deref.ensures.value) ∙ sym c.at_number.ensures ∙ c.in-Some.is in
-    let stands = stands_under c.self.inside.places.items c.self.inside.numbers.items c.args.number c.in-Some.at c.self.invariant.0.filed under in
-    omega (arith, stands.there, c.self.inside.places.ok.0)
+pub index_of-requires : goal.index_of-requires
+index_of-requires c = (ordered c.self.inside.places.items c.self.inside.live.items c.self.inside.at.items c.self.invariant.0.filed).rising
+
+pub remove-at-requires : goal.remove-at-requires
+remove-at-requires c =
+    let a = c.self.inside in
+    let at : (c.in-Some.index < length a.live.items) × (get_or a.live.items c.in-Some.index 0 ≡ c.args.number) = c.in-Some.ensures.some in
+    omega (arith, at.0, as_many 0 a.places.items a.live.items a.at.items c.self.invariant.0.filed, a.at.ok.0)
+
+pub index_mut-requires : goal.index_mut-requires
+index_mut-requires c =
+    let a = c.self.inside in
+    let places = a.places.items in
+    let kept = c.self.invariant.0 in
+    let i = c.in-Some.index in
+    let at : (i < length a.live.items) × (get_or a.live.items i 0 ≡ c.args.number) = c.in-Some.ensures.some in
+    let p = c.remove-at.result in
+    let both = as_many 0 places a.live.items a.at.items kept.filed in
+    let place : p ≡ get_or a.at.items i 0 = get_or_read a.at.items i p (omega (arith, at.0, both)) c.remove-at.ensures.value 0 in
+    let under = under_index 0 a.live.items a.at.items i c.args.number (ordered places a.live.items a.at.items kept.filed).rising both at.0 at.1 ∙ ap Some (sym place) in
+    let within : p < length places = (stands_under 0 places a.live.items a.at.items c.args.number p kept.filed under).there in
+    omega (arith, within, a.places.ok.0)
 
 pub push_reserved-requires : goal.push_reserved-requires
 push_reserved-requires c =
     let a = c.self.inside in
     let places = a.places.items in
     let kept = c.self.invariant.0 in
-    let p = c.in-Some.at in
-    let i = c.args.number - 1 in
-    let under = ap (λ l. place_under l c.args.number) (sym c.deref.ensures.value) ∙ sym c.at_number.ensures ∙ c.in-Some.is in
-    let at : get_or a.numbers.items i None ≡ Some p = at_place a.numbers.items c.args.number p under in
-    let within : p < length places = (stands_under places a.numbers.items c.args.number p kept.filed under).there in
-    let there = c.index_mut-in-Some.ensures.value ∙ get_or_default places p _ nowhere within in
+    let i = c.in-Some.index in
+    let at : (i < length a.live.items) × (get_or a.live.items i 0 ≡ c.args.number) = c.in-Some.ensures.some in
+    let p = c.remove-at.result in
+    let both = as_many 0 places a.live.items a.at.items kept.filed in
+    let place : p ≡ get_or a.at.items i 0 = get_or_read a.at.items i p (omega (arith, at.0, both)) c.remove-at.ensures.value 0 in
+    let under = under_index 0 a.live.items a.at.items i c.args.number (ordered places a.live.items a.at.items kept.filed).rising both at.0 at.1 ∙ ap Some (sym place) in
+    let within : p < length places = (stands_under 0 places a.live.items a.at.items c.args.number p kept.filed under).there in
+    let there = c.index_mut.ensures.value ∙ get_or_default places p _ nowhere within in
     let pipe : c.clear.new.self.pipe ≡ None = ap (λ (s : PlaceState). s.pipe) c.clear.ensures in
     let room : c.clear.new.self.room ≡ a.depth = ap (λ (s : PlaceState). s.room) c.clear.ensures ∙ ap (λ (s : PlaceState). s.room) there ∙ room_at a.depth places p within kept.rooms in
-    let counted = (removed_kept a.depth places a.numbers.items a.free.items i p c.clear.new.self kept at pipe room).all in
+    let counted = (removed_kept a.depth places a.live.items a.at.items a.free.items a.created i p c.clear.new.self kept at.0 place pipe room).all in
     omega (arith, counted, length_push a.free.items p, length-set places p c.clear.new.self, c.self.invariant.1, a.free.ok.0)
 
 pub invariant_of-self : goal.invariant_of-self
@@ -33,19 +53,25 @@ invariant_of-self c =
     let a = c.self.inside in
     let places = a.places.items in
     let kept = c.self.invariant.0 in
-    let p = c.in-Some.at in
-    let i = c.args.number - 1 in
-    let under = ap (λ l. place_under l c.args.number) (sym c.deref.ensures.value) ∙ sym c.at_number.ensures ∙ c.in-Some.is in
-    let at : get_or a.numbers.items i None ≡ Some p = at_place a.numbers.items c.args.number p under in
-    let within : p < length places = (stands_under places a.numbers.items c.args.number p kept.filed under).there in
-    let there = c.index_mut-in-Some.ensures.value ∙ get_or_default places p _ nowhere within in
+    let i = c.in-Some.index in
+    let at : (i < length a.live.items) × (get_or a.live.items i 0 ≡ c.args.number) = c.in-Some.ensures.some in
+    let p = c.remove-at.result in
+    let both = as_many 0 places a.live.items a.at.items kept.filed in
+    let place : p ≡ get_or a.at.items i 0 = get_or_read a.at.items i p (omega (arith, at.0, both)) c.remove-at.ensures.value 0 in
+    let under = under_index 0 a.live.items a.at.items i c.args.number (ordered places a.live.items a.at.items kept.filed).rising both at.0 at.1 ∙ ap Some (sym place) in
+    let within : p < length places = (stands_under 0 places a.live.items a.at.items c.args.number p kept.filed under).there in
+    let there = c.index_mut.ensures.value ∙ get_or_default places p _ nowhere within in
     let pipe : c.clear.new.self.pipe ≡ None = ap (λ (s : PlaceState). s.pipe) c.clear.ensures in
     let room : c.clear.new.self.room ≡ a.depth = ap (λ (s : PlaceState). s.room) c.clear.ensures ∙ ap (λ (s : PlaceState). s.room) there ∙ room_at a.depth places p within kept.rooms in
-    let K : List ℕ → Type 0 = λ l. AreKept a.depth (set places p c.clear.new.self) (set a.numbers.items i None) l in (
-      subst K (sym c.push_reserved.ensures.items) (removed_kept a.depth places a.numbers.items a.free.items i p c.clear.new.self kept at pipe room),
-      omega (arith, c.self.invariant.1, length-set places p c.clear.new.self, c.push_reserved.ensures.capacity),
-      omega (arith, c.self.invariant.2, length-set a.numbers.items i None),
-      c.self.invariant.3,
+    let all = length-set places p c.clear.new.self in
+    let K : List ℕ → List ℕ → List ℕ → Type 0 = λ l m n. AreKept a.depth (set places p c.clear.new.self) l m n a.created in (
+      subst (λ l. K l c.remove-at.new.self.items c.push_reserved.new.self.items) (sym c.remove.ensures.items)
+          (subst (λ m. K (remove a.live.items i) m c.push_reserved.new.self.items) (sym c.remove-at.ensures.items)
+          (subst (K (remove a.live.items i) (remove a.at.items i)) (sym c.push_reserved.ensures.items)
+          (removed_kept a.depth places a.live.items a.at.items a.free.items a.created i p c.clear.new.self kept at.0 place pipe room))),
+      omega (arith, c.self.invariant.1, all, c.push_reserved.ensures.capacity),
+      omega (arith, c.self.invariant.2, all, c.remove.ensures.capacity),
+      omega (arith, c.self.invariant.3, all, c.remove-at.ensures.capacity),
     )
 
 pub returns-in-Some : goal.returns-in-Some
@@ -53,25 +79,27 @@ returns-in-Some c =
     let a = c.self.inside in
     let places = a.places.items in
     let kept = c.self.invariant.0 in
-    let p = c.in-Some.at in
-    let i = c.args.number - 1 in
-    let under = ap (λ l. place_under l c.args.number) (sym c.deref.ensures.value) ∙ sym c.at_number.ensures ∙ c.in-Some.is in
-    let at : get_or a.numbers.items i None ≡ Some p = at_place a.numbers.items c.args.number p under in
-    let within : p < length places = (stands_under places a.numbers.items c.args.number p kept.filed under).there in
-    let there = c.index_mut-in-Some.ensures.value ∙ get_or_default places p _ nowhere within in
+    let i = c.in-Some.index in
+    let at : (i < length a.live.items) × (get_or a.live.items i 0 ≡ c.args.number) = c.in-Some.ensures.some in
+    let p = c.remove-at.result in
+    let both = as_many 0 places a.live.items a.at.items kept.filed in
+    let place : p ≡ get_or a.at.items i 0 = get_or_read a.at.items i p (omega (arith, at.0, both)) c.remove-at.ensures.value 0 in
+    let under = under_index 0 a.live.items a.at.items i c.args.number (ordered places a.live.items a.at.items kept.filed).rising both at.0 at.1 ∙ ap Some (sym place) in
+    let within : p < length places = (stands_under 0 places a.live.items a.at.items c.args.number p kept.filed under).there in
+    let there = c.index_mut.ensures.value ∙ get_or_default places p _ nowhere within in
     let pipe : c.clear.new.self.pipe ≡ None = ap (λ (s : PlaceState). s.pipe) c.clear.ensures in
     let room : c.clear.new.self.room ≡ a.depth = ap (λ (s : PlaceState). s.room) c.clear.ensures ∙ ap (λ (s : PlaceState). s.room) there ∙ room_at a.depth places p within kept.rooms in
-    let made : List PipeRow → ℕ → ℕ → Pipes = λ l n r. record { live = l; created = n; room = r; numbers = a.room; depth = a.depth } in
-    ap (λ l. made l (length (set a.numbers.items i None)) (length (set places p c.clear.new.self))) (removed_live a.depth places a.numbers.items a.free.items i p c.clear.new.self kept at pipe room)
-    ∙ ap (λ n. made (without_row n (live_in places a.numbers.items)) (length (set a.numbers.items i None)) (length (set places p c.clear.new.self))) (one_up a.numbers.items c.args.number p under)
-    ∙ ap (λ n. made (without_row c.args.number (live_in places a.numbers.items)) n (length (set places p c.clear.new.self))) (length-set a.numbers.items i None)
-    ∙ ap (λ n. made (without_row c.args.number (live_in places a.numbers.items)) (length a.numbers.items) n) (length-set places p c.clear.new.self)
+    let made : List PipeRow → ℕ → Pipes = λ l r. record { live = l; created = a.created; room = r; depth = a.depth } in
+    ap (λ l. made (live_in (set places p c.clear.new.self) l) (length (set places p c.clear.new.self))) c.remove-at.ensures.items
+    ∙ ap (λ l. made l (length (set places p c.clear.new.self))) (removed_live a.depth places a.live.items a.at.items a.free.items a.created i p c.clear.new.self kept at.0 place pipe room)
+    ∙ ap (λ n. made (without_row n (live_in places a.at.items)) (length (set places p c.clear.new.self))) at.1
+    ∙ ap (λ n. made (without_row c.args.number (live_in places a.at.items)) n) (length-set places p c.clear.new.self)
     ∙ ap (λ (t : Pipes). record t { live = without_row c.args.number t.live }) c.self.view_is
 
 pub returns-in_default : goal.returns-in_default
 returns-in_default c =
     let a = c.self.inside in
-    let none = ap (λ l. place_under l c.args.number) (sym c.deref.ensures.value) ∙ sym c.at_number.ensures ∙ c.in_default.is in
+    let none = under_none a.live.items a.at.items c.args.number (c.index_of.ensures.none c.in_default.is) in
     sym c.self.view_is
-    ∙ sym (ap (λ (l : List PipeRow). record { live = l; created = length a.numbers.items; room = length a.places.items; numbers = a.room; depth = a.depth }) (unremoved a.places.items a.numbers.items c.args.number c.self.invariant.0.filed none))
+    ∙ sym (ap (λ (l : List PipeRow). record { live = l; created = a.created; room = length a.places.items; depth = a.depth }) (unremoved a.places.items a.live.items a.at.items c.args.number c.self.invariant.0.filed none))
     ∙ ap (λ (t : Pipes). record t { live = without_row c.args.number t.live }) c.self.view_is

@@ -9,14 +9,14 @@ pub index-requires : goal.index-requires
 index-requires c =
     let s = c.self.inside in
     let v = c.args.self.now in
-    let h = route_inside s.numbers s.ids.items (vec_capacity s.ids) s.counted.items s.dests s.msgids s.limit c.self.invariant s.starts c.args.self.now c.self.view_is c.args.route c.requires in
-    let there = list_there s.numbers s.ids.items (vec_capacity s.ids) s.counted.items s.dests s.msgids s.limit c.self.invariant s.starts c.args.self.now c.self.view_is c.args.route c.requires in
+    let h = route_inside s.numbers s.ids.items (vec_capacity s.ids) s.counted.items s.dests s.msgids s.limit c.self.invariant.0 s.starts c.args.self.now c.self.view_is c.args.route c.requires in
+    let there = list_there s.numbers s.ids.items (vec_capacity s.ids) s.counted.items s.dests s.msgids s.limit c.self.invariant.0 s.starts c.args.self.now c.self.view_is c.args.route c.requires in
     omega (arith, h, s.ids.ok)
 
 pub returns : goal.returns
 returns c =
     let s = c.self.inside in
     let v = c.args.self.now in
-    let h = route_inside s.numbers s.ids.items (vec_capacity s.ids) s.counted.items s.dests s.msgids s.limit c.self.invariant s.starts c.args.self.now c.self.view_is c.args.route c.requires in
-    let there = list_there s.numbers s.ids.items (vec_capacity s.ids) s.counted.items s.dests s.msgids s.limit c.self.invariant s.starts c.args.self.now c.self.view_is c.args.route c.requires in
-    get_or_read s.ids.items c.args.route c.index.result.now h c.index.ensures 0 ∙ ap (λ (r : Route). r.id) (route_there s.numbers s.ids.items (vec_capacity s.ids) s.counted.items s.dests s.msgids s.limit c.self.invariant s.starts c.args.self.now c.self.view_is c.args.route c.requires)
+    let h = route_inside s.numbers s.ids.items (vec_capacity s.ids) s.counted.items s.dests s.msgids s.limit c.self.invariant.0 s.starts c.args.self.now c.self.view_is c.args.route c.requires in
+    let there = list_there s.numbers s.ids.items (vec_capacity s.ids) s.counted.items s.dests s.msgids s.limit c.self.invariant.0 s.starts c.args.self.now c.self.view_is c.args.route c.requires in
+    get_or_read s.ids.items c.args.route c.index.result.now h c.index.ensures 0 ∙ ap (λ (r : Route). r.id) (route_there s.numbers s.ids.items (vec_capacity s.ids) s.counted.items s.dests s.msgids s.limit c.self.invariant.0 s.starts c.args.self.now c.self.view_is c.args.route c.requires)

@@ -6,4 +6,4 @@ use Rattle.routing.proofs.routes.Routes.route_of.Goals as goal
 pub returns : goal.returns
 returns c =
     let s = c.self.inside in
-    c.get.ensures ∙ number_there s.numbers s.ids.items (vec_capacity s.ids) s.counted.items s.dests s.msgids s.limit c.self.invariant s.starts c.args.self.now c.self.view_is c.args.id
+    c.get.ensures ∙ number_there s.numbers s.ids.items (vec_capacity s.ids) s.counted.items s.dests s.msgids s.limit c.self.invariant.0 s.starts c.args.self.now c.self.view_is c.args.id

@@ -22,13 +22,13 @@ create_pipe-number-requires-clause-room c =
     let most = ap (λ (r : Room). r.pipes) c.self.invariant.keeps.room in
     omega (arith, below, same, most)
 
-pub create_pipe-number-requires-clause-numbers : goal.create_pipe-number-requires-clause-numbers
-create_pipe-number-requires-clause-numbers c =
+pub create_pipe-number-requires-clause-number : goal.create_pipe-number-requires-clause-number
+create_pipe-number-requires-clause-number c =
     let a = c.self.inside in
     let call = Create c.args.depth c.args.name.now in
     let may = may_here a c.args.self.now c.args.app call (record { is = c.self.view_is; stands = c.self.invariant; may = c.requires.may }) in
     let some = some_left a.journal.left c.args.app (call_bytes call) may.room in
-    omega (arith, some, c.self.invariant.keeps.pipes_made, c.self.invariant.keeps.numbers_room)
+    omega (arith, some, c.self.invariant.keeps.pipes_made, c.self.invariant.keeps.few)
 
 pub create_pipe-number-requires-clause-depth : goal.create_pipe-number-requires-clause-depth
 create_pipe-number-requires-clause-depth c =

@@ -16,7 +16,7 @@ pub invariant_of-self : goal.invariant_of-self
 invariant_of-self c =
     let s = c.self.inside in
     let slot = c.unwrap-slot.result in
-    let p : Place = record { number = s.made + 1; id = c.args.id; pipe = c.args.pipe; limit = c.args.limit; scope = c.args.scope; waiting = 0 } in
+    let p : Place = record { number = s.made + 1; id = c.args.id; pipe = c.args.pipe; place = c.args.place; limit = c.args.limit; scope = c.args.scope; waiting = 0 } in
     let free : s.free.items ≡ c.pop.new.self.items ++ slot ∷ [] = c.pop.ensures.items ∙ ap (λ r. c.pop.new.self.items ++ option_to_list r) c.unwrap-slot.ensures in
     let kept = subst (λ fs. AreKept s.slots.items fs s.made) free c.self.invariant.0 in
     let l : length (set s.slots.items slot (Some p)) ≡ length s.slots.items = length-set s.slots.items slot (Some p) in (
@@ -39,11 +39,11 @@ pub returns-clause-after : goal.returns-clause-after
 returns-clause-after c =
     let s = c.self.inside in
     let slot = c.unwrap-slot.result in
-    let p : Place = record { number = s.made + 1; id = c.args.id; pipe = c.args.pipe; limit = c.args.limit; scope = c.args.scope; waiting = 0 } in
+    let p : Place = record { number = s.made + 1; id = c.args.id; pipe = c.args.pipe; place = c.args.place; limit = c.args.limit; scope = c.args.scope; waiting = 0 } in
     let free : s.free.items ≡ c.pop.new.self.items ++ slot ∷ [] = c.pop.ensures.items ∙ ap (λ r. c.pop.new.self.items ++ option_to_list r) c.unwrap-slot.ensures in
     let kept = subst (λ fs. AreKept s.slots.items fs s.made) free c.self.invariant.0 in
     let grown = live_grown s.slots.items c.pop.new.self.items s.made (s.made + 1) slot p kept (add-one s.made) refl in
-    let new : Subscription = record { slot = slot; number = s.made + 1; id = c.args.id; pipe = c.args.pipe; limit = c.args.limit; scope = c.args.scope; waiting = 0 } in
+    let new : Subscription = record { slot = slot; number = s.made + 1; id = c.args.id; pipe = c.args.pipe; place = c.args.place; limit = c.args.limit; scope = c.args.scope; waiting = 0 } in
     ap (λ n. let v : Subscribed = record { room = n; made = s.made + 1; live = live_upto (set s.slots.items slot (Some p)) (s.made + 1) } in v) (length-set s.slots.items slot (Some p))
     ∙ (ap (λ xs. let v : Subscribed = record { room = length s.slots.items; made = s.made + 1; live = xs } in v) grown
     ∙ ap (λ v. let w : Subscribed = record { room = v.room; made = s.made + 1; live = v.live ++ new ∷ [] } in w) c.self.view_is)

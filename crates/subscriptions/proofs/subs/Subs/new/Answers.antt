@@ -1,5 +1,5 @@
 -- Every slot is free.
-use Rattle.std.proofs.Common.{◌≡◌, length, replicate, None, sym, ap, subst, ◌∙◌, arith}
+use Rattle.std.proofs.Common.{◌≡◌, length, None, sym, ap, subst, ◌∙◌, arith}
 use Rattle.std.proofs.lemmas.List.{length-replicate}
 use Rattle.subscriptions.specs.Slots.{AreKept}
 use Rattle.subscriptions.proofs.Opened.{kept_opened}

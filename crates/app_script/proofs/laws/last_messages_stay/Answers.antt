@@ -1,5 +1,0 @@
-use Rattle.app_script.proofs.LastMessages.{last_stays, receipt-other}
-use Rattle.app_script.proofs.laws.last_messages_stay.Goals as goal
-
-pub returns : goal.returns
-returns c = record { stays = last_stays; step = receipt-other }

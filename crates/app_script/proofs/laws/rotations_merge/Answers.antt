@@ -1,5 +1,0 @@
-use Rattle.app_script.proofs.Merged.{rotation-ends, rotation-legal, rotation-merges}
-use Rattle.app_script.proofs.laws.rotations_merge.Goals as goal
-
-pub returns : goal.returns
-returns c = record { ends = rotation-ends; legal = rotation-legal; merges = rotation-merges }

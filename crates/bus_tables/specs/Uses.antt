@@ -1,0 +1,17 @@
+-- How often the pipes name a send: once for each of its messages that waits, and once for each that was received last.
+use Rattle.std.specs.Prelude.{ℕ, ◌+◌, ◌==◌, if◌then◌else◌, List, count_by, sum_by, Option, Some, None}
+use Rattle.bus_tables.specs.declared.tables.ItemRow.{ItemRow}
+use Rattle.bus_tables.specs.Rows.{Row}
+
+-- 1 where the item received last is of this send
+abbrev pub last_use : ℕ → Option ItemRow → ℕ
+last_use number None = 0
+last_use number (Some item) = if item.number == number then 1 else 0
+
+-- how often a pipe names the send
+abbrev pub uses_in : ℕ → Row → ℕ
+uses_in number row = count_by (λ item. item.number == number) row.queue + last_use number row.last
+
+-- how often the pipes name it
+abbrev pub uses_of : ℕ → List Row → ℕ
+uses_of number rows = sum_by (uses_in number) rows

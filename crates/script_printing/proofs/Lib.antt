@@ -1,0 +1,4 @@
+pub mod PrintLemmas
+pub mod LinesAgain
+pub mod SettingsBack
+pub mod AppsBack

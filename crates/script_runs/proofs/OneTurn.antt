@@ -1,0 +1,506 @@
+-- One turn of a rotation: what it adds to the history, what it leaves to do, and that it lowers that, unless it is a look
+-- that finds nothing.
+use Rattle.std.proofs.Common.{◌≡◌, ◌⊎◌, inl, inr, ℕ, zero, suc, ◌+◌, ◌-◌, ◌*◌, ◌<◌, ◌≤◌, ◌==◌, ◌&&◌, not, Bool, true, false, cond, true≢false, IsTrue, List, [], ◌∷◌, ◌++◌, append-nil, length, slice_index_or, slice_set, Option, Some, None, refl, ap, sym, ◌∙◌, subst, arith}
+use Rattle.std.specs.Option.{is_some}
+use Rattle.fsw_base.specs.declared.statuses.SbStatus.{SbStatus}
+use Rattle.fsw_base.specs.declared.statuses.SbStatus.TheVariants.{BadArgument, MaxPipesMet, PipeCrErr, MaxMsgsMet, MaxDestsMet, MsgTooBig, BufAlocErr, NoMessage, BufferInvalid}
+use Rattle.fsw_base.specs.Limits.{Limits}
+use Rattle.ccsds_msg.specs.Message.{message_id}
+use Rattle.bus_words.specs.declared.calls.BusAnswer.{BusAnswer}
+use Rattle.bus_words.specs.declared.calls.BusAnswer.TheVariants.{Done, Number, Name, Sent, Got, TimeOut, Pending, Sb}
+use Rattle.bus_words.specs.declared.history.Call.{Call}
+use Rattle.bus_words.specs.declared.history.Call.TheVariants as calls
+use Rattle.bus_words.specs.declared.history.Entry.{Entry}
+use Rattle.bus_words.specs.Bus.{State, Standing, Active, Waiting, Ended, Sending, Subscription, standing_of, with_standing, is_empty, others_idle, route, is_subscribed}
+use Rattle.bus_words.specs.Machine.{step, state_after, may_call, makes_entry, IsLegal, cause, accept, decided, refused_state, received, looked, pended, pended_answer, sent_along, oldest_number}
+use Rattle.bus_words.proofs.Finds.{Each}
+use Rattle.bus_words.proofs.Replay.{goes_on}
+use Rattle.bus_words.proofs.Steps.{with_subscription}
+use Rattle.script_lines.specs.declared.line.Line.{Line}
+use Rattle.script_lines.specs.declared.line.Line.TheVariants as lines
+use Rattle.script_runs.specs.Rotation.{Running, SoFar, answer_to, after_call, after_look, behind, line_turn, active_turn, turn_in}
+use Rattle.script_runs.specs.Trace.{call_of, registers_after, AfterAnswer, LineEntries, IsEnd, Trace}
+use Rattle.script_runs.proofs.LegalSteps.{standing_at, standing-ended, standing-step}
+
+-- The calls of lines. --
+
+-- whether a line may make this call: every one but a look and the end
+abbrev pub is_line_call : Call → Bool
+is_line_call (calls.Look pipe) = false
+is_line_call calls.End = false
+is_line_call call = true
+
+abbrev is_line_option : Option Call → Bool
+is_line_option None = true
+is_line_option (Some call) = is_line_call call
+
+line_calls : (pipes : List ℕ) (line : Line) → is_line_option (call_of pipes line) ≡ true
+unfolding call_of
+line_calls pipes (lines.Create pipe depth name) = refl
+line_calls pipes (lines.Delete pipe) = refl
+line_calls pipes (lines.SetOpts pipe bits) = refl
+line_calls pipes (lines.GetOpts pipe) = refl
+line_calls pipes (lines.Find pipe name) = refl
+line_calls pipes (lines.PipeName pipe) = refl
+line_calls pipes (lines.Subscribe id pipe limit scope) = refl
+line_calls pipes (lines.Unsubscribe id pipe) = refl
+line_calls pipes (lines.Send id size fill inc) = refl
+line_calls pipes (lines.SendRaw bytes inc) = refl
+line_calls pipes (lines.Receive pipe) = refl
+line_calls pipes (lines.Pend pipe) = refl
+line_calls pipes (lines.Allocate buf size) = refl
+line_calls pipes (lines.TransmitBuffer buf inc) = refl
+line_calls pipes (lines.Release buf) = refl
+line_calls pipes (lines.PoolCreate pool bytes) = refl
+line_calls pipes (lines.PoolGet grant pool size) = refl
+line_calls pipes (lines.PoolPut pool grant) = refl
+line_calls pipes (lines.PoolFigures pool) = refl
+line_calls pipes (lines.Register filters) = refl
+line_calls pipes (lines.SendEvent id kind text) = refl
+line_calls pipes (lines.ResetFilter id) = refl
+line_calls pipes (lines.LogMode mode) = refl
+line_calls pipes lines.ClearLog = refl
+line_calls pipes lines.Housekeeping = refl
+line_calls pipes lines.Figures = refl
+line_calls pipes (lines.TableRegister handle name size option rules) = refl
+line_calls pipes (lines.TableShare handle name) = refl
+line_calls pipes (lines.TableUnregister handle) = refl
+line_calls pipes (lines.Stage handle offset content) = refl
+line_calls pipes (lines.Validate handle) = refl
+line_calls pipes (lines.Update handle) = refl
+line_calls pipes (lines.Abort handle) = refl
+line_calls pipes (lines.Load handle offset content) = refl
+line_calls pipes (lines.GetAddress handle) = refl
+line_calls pipes (lines.ReleaseAddress handle) = refl
+line_calls pipes (lines.Status handle) = refl
+line_calls pipes (lines.Form buf id fill) = refl
+line_calls pipes (lines.Put buf offset bytes) = refl
+line_calls pipes (lines.ShowPipe pipe) = refl
+line_calls pipes (lines.ShowTable handle) = refl
+
+line_may : (call : Call) → is_line_call call ≡ true → IsTrue (may_call Active call)
+line_may (calls.Create depth name) is = refl
+line_may (calls.Delete pipe) is = refl
+line_may (calls.SetOpts pipe bits) is = refl
+line_may (calls.GetOpts pipe) is = refl
+line_may (calls.Find name) is = refl
+line_may (calls.PipeName pipe) is = refl
+line_may (calls.Subscribe id pipe limit scope) is = refl
+line_may (calls.Unsubscribe id pipe) is = refl
+line_may (calls.Transmit bytes inc) is = refl
+line_may (calls.Receive pipe) is = refl
+line_may (calls.Pend pipe) is = refl
+line_may (calls.Look pipe) is = absurd (true≢false (sym is))
+line_may calls.End is = refl
+
+line_enters : (call : Call) (answer : BusAnswer) → is_line_call call ≡ true → IsTrue (makes_entry call answer)
+line_enters (calls.Create depth name) answer is = refl
+line_enters (calls.Delete pipe) answer is = refl
+line_enters (calls.SetOpts pipe bits) answer is = refl
+line_enters (calls.GetOpts pipe) answer is = refl
+line_enters (calls.Find name) answer is = refl
+line_enters (calls.PipeName pipe) answer is = refl
+line_enters (calls.Subscribe id pipe limit scope) answer is = refl
+line_enters (calls.Unsubscribe id pipe) answer is = refl
+line_enters (calls.Transmit bytes inc) answer is = refl
+line_enters (calls.Receive pipe) answer is = refl
+line_enters (calls.Pend pipe) answer is = refl
+line_enters (calls.Look pipe) answer is = absurd (true≢false (sym is))
+line_enters calls.End answer is = refl
+
+-- Standings after a call of one's own. --
+
+abbrev pub is_ended : Standing → Bool
+is_ended Active = false
+is_ended (Waiting pipe) = false
+is_ended Ended = true
+
+abbrev pub is_pending : BusAnswer → Bool
+is_pending Done = false
+is_pending (Number n) = false
+is_pending (Name name) = false
+is_pending (Sent number reached) = false
+is_pending (Got number) = false
+is_pending TimeOut = false
+is_pending Pending = true
+is_pending (Sb status) = false
+
+-- one that hasn't ended stands as it is set
+standing-here : (s : State) (app : ℕ) (standing : Standing) → is_ended (standing_of s app) ≡ false → standing_of (with_standing s app standing) app ≡ standing
+standing-here s zero standing live = absurd (true≢false live)
+standing-here s (suc app) standing live =
+    standing_at (with_standing s (suc app) standing) app
+    ∙ ap (λ n. slice_index_or (slice_set s.standings n standing) app Ended) (minus app)
+    ∙ set_here s.standings app (ap is_ended (sym (standing_at s app)) ∙ live)
+  where
+    minus : (app : ℕ) → suc app - 1 ≡ app
+    minus app = omega arith
+
+    set_here : (xs : List Standing) (i : ℕ) → is_ended (slice_index_or xs i Ended) ≡ false → slice_index_or (slice_set xs i standing) i Ended ≡ standing
+    set_here [] i live = absurd (true≢false live)
+    set_here (x ∷ xs) zero live = refl
+    set_here (x ∷ xs) (suc i) live = set_here xs i live
+
+refused_receive-standings : (s : State) (pipe : ℕ) (status : SbStatus) → (refused_state s (calls.Receive pipe) status).standings ≡ s.standings
+refused_receive-standings s pipe BadArgument = refl
+refused_receive-standings s pipe MaxPipesMet = refl
+refused_receive-standings s pipe PipeCrErr = refl
+refused_receive-standings s pipe MaxMsgsMet = refl
+refused_receive-standings s pipe MaxDestsMet = refl
+refused_receive-standings s pipe MsgTooBig = refl
+refused_receive-standings s pipe BufAlocErr = refl
+refused_receive-standings s pipe NoMessage = refl
+refused_receive-standings s pipe BufferInvalid = refl
+
+-- the standing of an active application after this call, so answered
+abbrev pub now_after : Call → BusAnswer → Standing
+now_after (calls.Pend pipe) Pending = Waiting pipe
+now_after call answer = Active
+
+-- what of a step says how its caller stands
+abbrev Stands : ℕ → Call → BusAnswer × State → Type 0
+Stands app call next = standing_of next.1 app ≡ now_after call next.0
+
+either : (F : BusAnswer × State → Type 0) (b : Bool) (answer : BusAnswer) (one other : State) → F (answer, one) → F (answer, other) → F (answer, cond {A = State} b one other)
+either F true answer one other first second = first
+either F false answer one other first second = second
+
+sent_stands : (app : ℕ) (bytes : List ℕ) (inc : Bool) (subs : List Subscription) (sending : Sending) (s : State) → standing_of s app ≡ Active →
+    Stands app (calls.Transmit bytes inc) (sent_along subs sending s)
+sent_stands app bytes inc [] sending s is = is
+sent_stands app bytes inc (sub ∷ subs) sending s is = is
+
+pend_stands : (s : State) (app pipe : ℕ) → standing_of s app ≡ Active → Stands app (calls.Pend pipe) (pended_answer s app pipe, pended s app pipe)
+pend_stands s app pipe is =
+    let got = Got (oldest_number s.pipes pipe) in
+    let waits = with_standing (received s pipe) app (Waiting pipe) in
+    elim (is_empty s.pipes pipe) as (λ b. Stands app (calls.Pend pipe)
+    (cond {A = BusAnswer} (not b) got (cond {A = BusAnswer} (others_idle s app) TimeOut Pending), cond {A = State} (b && not (others_idle s app)) waits (received s pipe))) [
+      | true ↦ elim (others_idle s app) as (λ c. Stands app (calls.Pend pipe) (cond {A = BusAnswer} c TimeOut Pending, cond {A = State} (not c) waits (received s pipe))) [
+        | true ↦ is
+        | false ↦ standing-here (received s pipe) app (Waiting pipe) (ap is_ended is)
+      ]
+      | false ↦ is
+    ]
+
+accepted_stands : (limits : Limits) (history : List Entry) (s : State) (app : ℕ) (call : Call) → is_line_call call ≡ true → standing_of s app ≡ Active →
+    Stands app call (accept limits history s app call)
+accepted_stands limits history s app (calls.Create depth name) line is = is
+accepted_stands limits history s app (calls.Delete pipe) line is = is
+accepted_stands limits history s app (calls.SetOpts pipe bits) line is = is
+accepted_stands limits history s app (calls.GetOpts pipe) line is = is
+accepted_stands limits history s app (calls.Find name) line is = is
+accepted_stands limits history s app (calls.PipeName pipe) line is = is
+accepted_stands limits history s app (calls.Subscribe id pipe limit scope) line is =
+    either (Stands app (calls.Subscribe id pipe limit scope)) (is_subscribed s.subscriptions id pipe) Done s (with_subscription s id pipe limit scope) is is
+accepted_stands limits history s app (calls.Unsubscribe id pipe) line is = is
+accepted_stands limits history s app (calls.Transmit bytes inc) line is = sent_stands app bytes inc (route s.subscriptions (message_id bytes)) _ s is
+accepted_stands limits history s app (calls.Receive pipe) line is = is
+accepted_stands limits history s app (calls.Pend pipe) line is = pend_stands s app pipe is
+accepted_stands limits history s app (calls.Look pipe) line is = absurd (true≢false (sym line))
+accepted_stands limits history s app calls.End line is = absurd (true≢false (sym line))
+
+refused_stands : (s : State) (app : ℕ) (call : Call) (status : SbStatus) → is_line_call call ≡ true → standing_of s app ≡ Active →
+    Stands app call (Sb status, refused_state s call status)
+refused_stands s app (calls.Create depth name) status line is = is
+refused_stands s app (calls.Delete pipe) status line is = is
+refused_stands s app (calls.SetOpts pipe bits) status line is = is
+refused_stands s app (calls.GetOpts pipe) status line is = is
+refused_stands s app (calls.Find name) status line is = is
+refused_stands s app (calls.PipeName pipe) status line is = is
+refused_stands s app (calls.Subscribe id pipe limit scope) status line is = is
+refused_stands s app (calls.Unsubscribe id pipe) status line is = is
+refused_stands s app (calls.Transmit bytes inc) status line is = is
+refused_stands s app (calls.Receive pipe) status line is =
+    ap (λ (ss : List Standing). cond {A = Standing} (app == 0) Ended (slice_index_or ss (app - 1) Ended)) (refused_receive-standings s pipe status) ∙ is
+refused_stands s app (calls.Pend pipe) status line is = is
+refused_stands s app (calls.Look pipe) status line is = absurd (true≢false (sym line))
+refused_stands s app calls.End status line is = absurd (true≢false (sym line))
+
+decided_stands : (limits : Limits) (history : List Entry) (s : State) (app : ℕ) (call : Call) (why : Option SbStatus) → is_line_call call ≡ true → standing_of s app ≡ Active →
+    Stands app call (decided limits history s app call why)
+decided_stands limits history s app call (Some status) line is = refused_stands s app call status line is
+decided_stands limits history s app call None line is = accepted_stands limits history s app call line is
+
+-- a look that is answered makes its caller active
+look-active : (s : State) (app pipe : ℕ) → is_pending (pended_answer s app pipe) ≡ false → looked s app pipe ≡ with_standing (received s pipe) app Active
+look-active s app pipe answered =
+    let got = Got (oldest_number s.pipes pipe) in
+    let active = with_standing (received s pipe) app Active in
+    elim (is_empty s.pipes pipe) as (λ b. is_pending (cond {A = BusAnswer} (not b) got (cond {A = BusAnswer} (others_idle s app) TimeOut Pending)) ≡ false →
+    cond {A = State} (b && not (others_idle s app)) s active ≡ active) [
+      | true ↦ elim (others_idle s app) as (λ c. is_pending (cond {A = BusAnswer} c TimeOut Pending) ≡ false → cond {A = State} (not c) s active ≡ active) [
+        | true ↦ λ is. refl
+        | false ↦ λ is. absurd (true≢false is)
+      ]
+      | false ↦ λ is. refl
+    ] answered
+
+-- Turns. --
+
+-- the bus so far is one that can be
+pub record IsSound (limits : Limits) (apps : ℕ) (sofar : SoFar) : Type 0 where
+  pub legal : IsLegal limits apps sofar.history
+  pub state : sofar.state ≡ state_after limits apps sofar.history
+
+-- the entries are what an application in this standing has still to make
+abbrev pub Owes : Standing → Option Running → List Entry → Type 0
+Owes standing None es = es ≡ []
+Owes Active (Some r) es = Trace r.registers r.lines es
+Owes (Waiting pipe) (Some r) [] = ⊥
+Owes (Waiting pipe) (Some r) (e ∷ es) = (e.call ≡ calls.Look pipe) × Trace r.registers r.lines es
+Owes Ended (Some r) es = ⊥
+
+-- how many turns it may still take
+abbrev pub waits : Standing → ℕ
+waits Active = 0
+waits (Waiting pipe) = 1
+waits Ended = 0
+
+abbrev pub weight : Standing → Option Running → ℕ
+weight standing None = 0
+weight standing (Some r) = 2 * length r.lines + 1 + waits standing
+
+-- the application goes on, as a list
+abbrev pub listed : Option Running → List Running
+listed None = []
+listed (Some r) = r ∷ []
+
+abbrev pub HasNumber : ℕ → Option Running → Type 0
+HasNumber app None = Unit {0}
+HasNumber app (Some r) = r.app ≡ app
+
+-- it waits and finds nothing
+pub record IsStuck (s : State) (app : ℕ) : Type 0 where
+  pub pipe : ℕ
+  pub waits : standing_of s app ≡ Waiting pipe
+  pub nothing : pended_answer s app pipe ≡ Pending
+
+-- what a turn of an application in this standing does
+pub record IsTurn (limits : Limits) (apps : ℕ) (sofar : SoFar) (running : Running) (standing : Standing) (next : SoFar × List Running) : Type 0 where
+  pub now : Standing
+  pub left : Option Running
+  pub sound : IsSound limits apps next.0
+  pub lists : next.1 ≡ listed left
+  pub number : HasNumber running.app left
+  pub stands : standing_of next.0.state running.app ≡ now
+  pub others : (k : ℕ) → (k == running.app) ≡ false → standing_of next.0.state k ≡ standing_of sofar.state k
+  pub fits : is_some left ≡ not (is_ended now)
+  pub added : List Entry
+  pub history : next.0.history ≡ sofar.history ++ added
+  pub own : Each (λ e. e.app ≡ running.app) added
+  pub owes : (es : List Entry) → Owes now left es → Owes standing (Some running) (added ++ es)
+  pub falls : (weight now left < weight standing (Some running)) ⊎ ((next ≡ (sofar, running ∷ [])) × IsStuck sofar.state running.app)
+
+-- one call more
+sound-call : (limits : Limits) (apps : ℕ) (sofar : SoFar) (app : ℕ) (call : Call) → IsSound limits apps sofar →
+    IsTrue (may_call (standing_of sofar.state app) call) → IsTrue (makes_entry call (answer_to limits sofar app call)) → IsSound limits apps (after_call limits sofar app call)
+sound-call limits apps sofar app call sound may enters =
+    let e : Entry = record { app = app; call = call; answer = answer_to limits sofar app call } in
+    let next = goes_on limits apps sofar.history e sound.legal
+    (subst (λ (s : State). IsTrue (may_call (standing_of s app) call)) sound.state may)
+    (ap (λ (s : State). (step limits sofar.history s app call).0) sound.state) enters in
+    record {
+      legal = next.legal;
+      state = ap (λ (s : State). (step limits sofar.history s app call).1) sound.state ∙ sym next.state;
+    }
+
+-- the end
+turn-end : (limits : Limits) (apps : ℕ) (sofar : SoFar) (running : Running) → IsSound limits apps sofar → standing_of sofar.state running.app ≡ Active → running.lines ≡ [] →
+    IsTurn limits apps sofar running Active (after_call limits sofar running.app calls.End, [])
+turn-end limits apps sofar running sound is has =
+    let may : IsTrue (may_call (standing_of sofar.state running.app) calls.End) = ap (λ st. may_call st calls.End) is in
+    let e : Entry = record { app = running.app; call = calls.End; answer = answer_to limits sofar running.app calls.End } in
+    record {
+      now = Ended;
+      left = None;
+      sound = sound-call limits apps sofar running.app calls.End sound may refl;
+      lists = refl;
+      number = tt;
+      stands = standing-ended sofar.state running.app;
+      others = λ k differ. standing-step limits sofar.history sofar.state running.app k calls.End may differ;
+      fits = refl;
+      added = e ∷ [];
+      history = refl;
+      own = (refl, tt);
+      owes = λ es none. subst (λ ls. Trace running.registers ls (e ∷ es)) (sym has) (subst (λ (xs : List Entry). IsEnd (e ∷ xs)) (sym none) refl);
+      falls = inl (omega arith);
+    }
+
+-- a line that no service sees
+turn-local : (limits : Limits) (apps : ℕ) (sofar : SoFar) (running : Running) (line : Line) (others : List Line) → IsSound limits apps sofar →
+    standing_of sofar.state running.app ≡ Active → running.lines ≡ line ∷ others → call_of running.registers line ≡ None →
+    IsTurn limits apps sofar running Active (sofar, behind running others running.registers ∷ [])
+turn-local limits apps sofar running line others sound is has none =
+    let fewer : length running.lines ≡ suc (length others) = ap length has in
+    record {
+      now = Active;
+      left = Some (behind running others running.registers);
+      sound = sound;
+      lists = refl;
+      number = refl;
+      stands = is;
+      others = λ k differ. refl;
+      fits = refl;
+      added = [];
+      history = sym (append-nil sofar.history);
+      own = tt;
+      owes = λ es owed.
+          subst (λ ls. Trace running.registers ls es) (sym has)
+          (subst (λ (c : Option Call). LineEntries c (λ answer rest. Trace (registers_after running.registers line answer) others rest) (λ rest. Trace running.registers others rest) es) (sym none) owed);
+      falls = inl (omega (arith, fewer));
+    }
+
+-- what follows a call is owed where its answer left the application
+answer-owed : (call : Call) (answer : BusAnswer) (r : Running) (es : List Entry) → Owes (now_after call answer) (Some r) es → AfterAnswer call answer (Trace r.registers r.lines) es
+answer-owed (calls.Create depth name) answer r es owed = owed
+answer-owed (calls.Delete pipe) answer r es owed = owed
+answer-owed (calls.SetOpts pipe bits) answer r es owed = owed
+answer-owed (calls.GetOpts pipe) answer r es owed = owed
+answer-owed (calls.Find name) answer r es owed = owed
+answer-owed (calls.PipeName pipe) answer r es owed = owed
+answer-owed (calls.Subscribe id pipe limit scope) answer r es owed = owed
+answer-owed (calls.Unsubscribe id pipe) answer r es owed = owed
+answer-owed (calls.Transmit bytes inc) answer r es owed = owed
+answer-owed (calls.Receive pipe) answer r es owed = owed
+answer-owed (calls.Pend pipe) Done r es owed = owed
+answer-owed (calls.Pend pipe) (Number n) r es owed = owed
+answer-owed (calls.Pend pipe) (Name name) r es owed = owed
+answer-owed (calls.Pend pipe) (Sent number reached) r es owed = owed
+answer-owed (calls.Pend pipe) (Got number) r es owed = owed
+answer-owed (calls.Pend pipe) TimeOut r es owed = owed
+answer-owed (calls.Pend pipe) Pending r [] owed = owed
+answer-owed (calls.Pend pipe) Pending r (e ∷ es) owed = owed
+answer-owed (calls.Pend pipe) (Sb status) r es owed = owed
+answer-owed (calls.Look pipe) answer r es owed = owed
+answer-owed calls.End answer r es owed = owed
+
+now-facts : (call : Call) (answer : BusAnswer) → (is_ended (now_after call answer) ≡ false) × (waits (now_after call answer) ≤ 1)
+now-facts (calls.Create depth name) answer = (refl, omega arith)
+now-facts (calls.Delete pipe) answer = (refl, omega arith)
+now-facts (calls.SetOpts pipe bits) answer = (refl, omega arith)
+now-facts (calls.GetOpts pipe) answer = (refl, omega arith)
+now-facts (calls.Find name) answer = (refl, omega arith)
+now-facts (calls.PipeName pipe) answer = (refl, omega arith)
+now-facts (calls.Subscribe id pipe limit scope) answer = (refl, omega arith)
+now-facts (calls.Unsubscribe id pipe) answer = (refl, omega arith)
+now-facts (calls.Transmit bytes inc) answer = (refl, omega arith)
+now-facts (calls.Receive pipe) answer = (refl, omega arith)
+now-facts (calls.Pend pipe) Done = (refl, omega arith)
+now-facts (calls.Pend pipe) (Number n) = (refl, omega arith)
+now-facts (calls.Pend pipe) (Name name) = (refl, omega arith)
+now-facts (calls.Pend pipe) (Sent number reached) = (refl, omega arith)
+now-facts (calls.Pend pipe) (Got number) = (refl, omega arith)
+now-facts (calls.Pend pipe) TimeOut = (refl, omega arith)
+now-facts (calls.Pend pipe) Pending = (refl, omega arith)
+now-facts (calls.Pend pipe) (Sb status) = (refl, omega arith)
+now-facts (calls.Look pipe) answer = (refl, omega arith)
+now-facts calls.End answer = (refl, omega arith)
+
+-- a line that makes a call
+turn-call : (limits : Limits) (apps : ℕ) (sofar : SoFar) (running : Running) (line : Line) (others : List Line) (call : Call) → IsSound limits apps sofar →
+    standing_of sofar.state running.app ≡ Active → running.lines ≡ line ∷ others → call_of running.registers line ≡ Some call → is_line_call call ≡ true →
+    IsTurn limits apps sofar running Active
+    (after_call limits sofar running.app call, behind running others (registers_after running.registers line (answer_to limits sofar running.app call)) ∷ [])
+turn-call limits apps sofar running line others call sound is has some ok =
+    let answer = answer_to limits sofar running.app call in
+    let e : Entry = record { app = running.app; call = call; answer = answer } in
+    let may : IsTrue (may_call (standing_of sofar.state running.app) call) = subst (λ st. IsTrue (may_call st call)) (sym is) (line_may call ok) in
+    let next = behind running others (registers_after running.registers line answer) in
+    let fewer : length running.lines ≡ suc (length others) = ap length has in
+    let facts = now-facts call answer in
+    record {
+      now = now_after call answer;
+      left = Some next;
+      sound = sound-call limits apps sofar running.app call sound may (line_enters call answer ok);
+      lists = refl;
+      number = refl;
+      stands = decided_stands limits sofar.history sofar.state running.app call (cause limits sofar.history sofar.state running.app call) ok is;
+      others = λ k differ. standing-step limits sofar.history sofar.state running.app k call may differ;
+      fits = ap not (sym facts.0);
+      added = e ∷ [];
+      history = refl;
+      own = (refl, tt);
+      owes = λ es owed.
+          subst (λ ls. Trace running.registers ls (e ∷ es)) (sym has)
+          (subst (λ (c : Option Call). LineEntries c (λ answer rest. Trace (registers_after running.registers line answer) others rest) (λ rest. Trace running.registers others rest) (e ∷ es)) (sym some)
+          (refl, answer-owed call answer next es owed));
+      falls = inl (omega (arith, fewer, facts.1));
+    }
+
+-- a look that is answered
+turn-look : (limits : Limits) (apps : ℕ) (sofar : SoFar) (running : Running) (pipe : ℕ) → IsSound limits apps sofar → standing_of sofar.state running.app ≡ Waiting pipe →
+    is_pending (pended_answer sofar.state running.app pipe) ≡ false → IsTrue (makes_entry (calls.Look pipe) (pended_answer sofar.state running.app pipe)) →
+    IsTurn limits apps sofar running (Waiting pipe) (after_call limits sofar running.app (calls.Look pipe), running ∷ [])
+turn-look limits apps sofar running pipe sound is answered enters =
+    let look = calls.Look pipe in
+    let e : Entry = record { app = running.app; call = look; answer = answer_to limits sofar running.app look } in
+    let may : IsTrue (may_call (standing_of sofar.state running.app) look) = subst (λ st. IsTrue (may_call st look)) (sym is) (Rattle.bus_words.proofs.Finds.same-self pipe) in
+    record {
+      now = Active;
+      left = Some running;
+      sound = sound-call limits apps sofar running.app look sound may enters;
+      lists = refl;
+      number = refl;
+      stands =
+          ap (λ (s : State). standing_of s running.app) (look-active sofar.state running.app pipe answered)
+          ∙ standing-here (received sofar.state pipe) running.app Active (ap is_ended is);
+      others = λ k differ. standing-step limits sofar.history sofar.state running.app k look may differ;
+      fits = refl;
+      added = e ∷ [];
+      history = refl;
+      own = (refl, tt);
+      owes = λ es owed. (refl, owed);
+      falls = inl (omega arith);
+    }
+
+-- a look that finds nothing
+turn-stay : (limits : Limits) (apps : ℕ) (sofar : SoFar) (running : Running) (pipe : ℕ) → IsSound limits apps sofar → standing_of sofar.state running.app ≡ Waiting pipe →
+    pended_answer sofar.state running.app pipe ≡ Pending → IsTurn limits apps sofar running (Waiting pipe) (sofar, running ∷ [])
+turn-stay limits apps sofar running pipe sound is nothing = record {
+  now = Waiting pipe;
+  left = Some running;
+  sound = sound;
+  lists = refl;
+  number = refl;
+  stands = is;
+  others = λ k differ. refl;
+  fits = refl;
+  added = [];
+  history = sym (append-nil sofar.history);
+  own = tt;
+  owes = λ es owed. owed;
+  falls = inr (refl, record { pipe = pipe; waits = is; nothing = nothing });
+}
+
+turn-waiting : (limits : Limits) (apps : ℕ) (sofar : SoFar) (running : Running) (pipe : ℕ) (answer : BusAnswer) → IsSound limits apps sofar →
+    standing_of sofar.state running.app ≡ Waiting pipe → pended_answer sofar.state running.app pipe ≡ answer →
+    IsTurn limits apps sofar running (Waiting pipe) (after_look limits sofar running.app pipe answer, running ∷ [])
+turn-waiting limits apps sofar running pipe Pending sound is answers = turn-stay limits apps sofar running pipe sound is answers
+turn-waiting limits apps sofar running pipe Done sound is answers = turn-look limits apps sofar running pipe sound is (ap is_pending answers) (ap (makes_entry (calls.Look pipe)) answers)
+turn-waiting limits apps sofar running pipe (Number n) sound is answers = turn-look limits apps sofar running pipe sound is (ap is_pending answers) (ap (makes_entry (calls.Look pipe)) answers)
+turn-waiting limits apps sofar running pipe (Name name) sound is answers = turn-look limits apps sofar running pipe sound is (ap is_pending answers) (ap (makes_entry (calls.Look pipe)) answers)
+turn-waiting limits apps sofar running pipe (Sent number reached) sound is answers = turn-look limits apps sofar running pipe sound is (ap is_pending answers) (ap (makes_entry (calls.Look pipe)) answers)
+turn-waiting limits apps sofar running pipe (Got number) sound is answers = turn-look limits apps sofar running pipe sound is (ap is_pending answers) (ap (makes_entry (calls.Look pipe)) answers)
+turn-waiting limits apps sofar running pipe TimeOut sound is answers = turn-look limits apps sofar running pipe sound is (ap is_pending answers) (ap (makes_entry (calls.Look pipe)) answers)
+turn-waiting limits apps sofar running pipe (Sb status) sound is answers = turn-look limits apps sofar running pipe sound is (ap is_pending answers) (ap (makes_entry (calls.Look pipe)) answers)
+
+turn-line : (limits : Limits) (apps : ℕ) (sofar : SoFar) (running : Running) (line : Line) (others : List Line) (made : Option Call) → IsSound limits apps sofar →
+    standing_of sofar.state running.app ≡ Active → running.lines ≡ line ∷ others → call_of running.registers line ≡ made →
+    IsTurn limits apps sofar running Active (line_turn limits sofar running line others made)
+turn-line limits apps sofar running line others None sound is has makes = turn-local limits apps sofar running line others sound is has makes
+turn-line limits apps sofar running line others (Some call) sound is has makes =
+    turn-call limits apps sofar running line others call sound is has makes (ap is_line_option (sym makes) ∙ line_calls running.registers line)
+
+turn-active : (limits : Limits) (apps : ℕ) (sofar : SoFar) (running : Running) (lines : List Line) → IsSound limits apps sofar →
+    standing_of sofar.state running.app ≡ Active → running.lines ≡ lines → IsTurn limits apps sofar running Active (active_turn limits sofar running lines)
+turn-active limits apps sofar running [] sound is has = turn-end limits apps sofar running sound is has
+turn-active limits apps sofar running (line ∷ others) sound is has = turn-line limits apps sofar running line others (call_of running.registers line) sound is has refl
+
+-- a turn of an application that hasn't ended
+pub turn-in : (limits : Limits) (apps : ℕ) (sofar : SoFar) (running : Running) (standing : Standing) → IsSound limits apps sofar →
+    standing_of sofar.state running.app ≡ standing → is_ended standing ≡ false → IsTurn limits apps sofar running standing (turn_in limits sofar running standing)
+turn-in limits apps sofar running Active sound is live = turn-active limits apps sofar running running.lines sound is refl
+turn-in limits apps sofar running (Waiting pipe) sound is live =
+    turn-waiting limits apps sofar running pipe (pended_answer sofar.state running.app pipe) sound is refl
+turn-in limits apps sofar running Ended sound is live = absurd (true≢false live)

@@ -1,0 +1,4 @@
+pub mod Messages
+pub mod Trace
+pub mod Rotation
+pub mod Told

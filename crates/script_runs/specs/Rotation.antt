@@ -1,0 +1,98 @@
+-- Strict rotation: each application that has not ended takes a turn, in order of number, again and again. A turn is its
+-- next line; or one look, while it waits; or its end, once its lines are through.
+use Rattle.std.specs.Prelude.{ℕ, zero, suc, ◌+◌, ◌*◌, List, [], ◌∷◌, ◌++◌, length, sum_by, Option, Some, None}
+use Rattle.fsw_base.specs.Limits.{Limits}
+use Rattle.bus_words.specs.declared.calls.BusAnswer.{BusAnswer}
+use Rattle.bus_words.specs.declared.calls.BusAnswer.TheVariants.{Pending}
+use Rattle.bus_words.specs.declared.history.Call.{Call}
+use Rattle.bus_words.specs.declared.history.Call.TheVariants.{Look, End}
+use Rattle.bus_words.specs.declared.history.Entry.{Entry}
+use Rattle.bus_words.specs.Bus.{State, Standing, Active, Waiting, Ended, opening, standing_of}
+use Rattle.bus_words.specs.Machine.{step}
+use Rattle.script_lines.specs.declared.line.Line.{Line}
+use Rattle.app_script.specs.Script.{Application, ScriptText}
+use Rattle.script_runs.specs.Trace.{first_registers, call_of, registers_after}
+
+-- An application that has not ended: its number, the lines left and its registers.
+pub record Running : Type 0 where
+  pub app : ℕ
+  pub lines : List Line
+  pub registers : List ℕ
+
+-- The bus so far: the history and the state after it.
+pub record SoFar : Type 0 where
+  pub history : List Entry
+  pub state : State
+
+-- the answer to a call
+abbrev pub answer_to : Limits → SoFar → ℕ → Call → BusAnswer
+answer_to limits sofar app call = (step limits sofar.history sofar.state app call).0
+
+-- the bus after a call, answered as the machine answers it
+abbrev pub after_call : Limits → SoFar → ℕ → Call → SoFar
+after_call limits sofar app call = record {
+  history = sofar.history ++ record { app = app; call = call; answer = answer_to limits sofar app call } ∷ [];
+  state = (step limits sofar.history sofar.state app call).1;
+}
+
+-- the bus after a look so answered: as before where the application still waits
+abbrev pub after_look : Limits → SoFar → ℕ → ℕ → BusAnswer → SoFar
+after_look limits sofar app pipe Pending = sofar
+after_look limits sofar app pipe answer = after_call limits sofar app (Look pipe)
+
+-- the application behind its line
+abbrev pub behind : Running → List Line → List ℕ → Running
+behind running lines registers = record running { lines = lines; registers = registers }
+
+-- a turn that runs a line: its call, where a service sees it
+abbrev pub line_turn : Limits → SoFar → Running → Line → List Line → Option Call → SoFar × List Running
+line_turn limits sofar running line lines None = (sofar, behind running lines running.registers ∷ [])
+line_turn limits sofar running line lines (Some call) = (
+  after_call limits sofar running.app call,
+  behind running lines (registers_after running.registers line (answer_to limits sofar running.app call)) ∷ [],
+)
+
+-- a turn that doesn't wait: the next line, or the end
+abbrev pub active_turn : Limits → SoFar → Running → List Line → SoFar × List Running
+active_turn limits sofar running [] = (after_call limits sofar running.app End, [])
+active_turn limits sofar running (line ∷ lines) = line_turn limits sofar running line lines (call_of running.registers line)
+
+-- One turn of an application in this standing; and the application, where it goes on.
+abbrev pub turn_in : Limits → SoFar → Running → Standing → SoFar × List Running
+turn_in limits sofar running (Waiting pipe) = (after_look limits sofar running.app pipe (answer_to limits sofar running.app (Look pipe)), running ∷ [])
+turn_in limits sofar running Active = active_turn limits sofar running running.lines
+turn_in limits sofar running Ended = (sofar, [])
+
+abbrev pub turn : Limits → SoFar → Running → SoFar × List Running
+turn limits sofar running = turn_in limits sofar running (standing_of sofar.state running.app)
+
+-- one rotation: a turn of each application, in order
+abbrev pub rotated : Limits → SoFar → List Running → SoFar × List Running
+rotated limits sofar [] = (sofar, [])
+rotated limits sofar (running ∷ others) =
+    let first = turn limits sofar running in
+    let rest = rotated limits first.0 others in
+    (rest.0, first.1 ++ rest.1)
+
+-- so many rotations
+abbrev pub rotations : ℕ → Limits → SoFar × List Running → SoFar × List Running
+rotations zero limits now = now
+rotations (suc n) limits now = rotations n limits (rotated limits now.0 now.1)
+
+-- the applications before the first rotation, from this number on
+abbrev pub starting : ℕ → List Application → List Running
+starting app [] = []
+starting app (a ∷ others) = record { app = app; lines = a.lines; registers = first_registers } ∷ starting (app + 1) others
+
+-- enough rotations for each application to make its calls and end: one for each line, one more for one that waits, and one
+-- for its end
+abbrev pub enough : ScriptText → ℕ
+enough script = sum_by (λ a. 2 * length a.lines + 1) script.apps
+
+-- the bus before the first rotation
+abbrev pub before_all : ScriptText → SoFar × List Running
+before_all script = (record { history = []; state = opening (length script.apps) }, starting 1 script.apps)
+
+-- the history that rotation makes of a script
+abbrev pub rotation : ScriptText → List Entry
+rotation script = (rotations (enough script) script.limits (before_all script)).0.history

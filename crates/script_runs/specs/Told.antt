@@ -1,0 +1,71 @@
+-- What an application tells of the messages that it received, in the order of its lines.
+use Rattle.std.specs.Prelude.{ℕ, ◌==◌, List, [], ◌∷◌, ◌++◌, length, slice_index, Option, Some, None, unwrap_or, if◌then◌else◌}
+use Rattle.std.specs.Option.{option_to_list}
+use Rattle.fsw_base.specs.Limits.{Limits}
+use Rattle.bus_words.specs.declared.calls.BusAnswer.{BusAnswer}
+use Rattle.bus_words.specs.declared.calls.BusAnswer.TheVariants.{Got, Pending}
+use Rattle.bus_words.specs.declared.history.Call.{Call}
+use Rattle.bus_words.specs.declared.history.Call.TheVariants as calls
+use Rattle.bus_words.specs.declared.history.Entry.{Entry}
+use Rattle.bus_words.specs.declared.receipts.Receipt.{Receipt}
+use Rattle.bus_words.specs.declared.receipts.Receipt.TheVariants.{Nothing}
+use Rattle.bus_words.specs.Bus.{State, opening}
+use Rattle.bus_words.specs.Machine.{step}
+use Rattle.bus_words.specs.Receipts.{receipt_in}
+use Rattle.script_lines.specs.declared.line.Line.{Line}
+use Rattle.script_lines.specs.declared.line.Line.TheVariants.{ShowPipe}
+use Rattle.app_script.specs.Script.{ScriptText, app_at}
+use Rattle.script_runs.specs.Trace.{first_registers, call_of, registers_after}
+
+-- An entry of an application, and the bus after it.
+pub record Seen : Type 0 where
+  pub entry : Entry
+  pub after : State
+
+-- an application's entries among those that follow a history, each with the bus after it
+abbrev pub seen_from : Limits → List Entry → State → ℕ → List Entry → List Seen
+seen_from limits history s app [] = []
+seen_from limits history s app (e ∷ es) =
+    let after = (step limits history s e.app e.call).1 in
+    (if e.app == app then record { entry = e; after = after } ∷ [] else []) ++ seen_from limits (history ++ e ∷ []) after app es
+
+-- the receipt that an entry makes: one where it got a message, which is then the pipe's last
+abbrev pub got_in : ℕ → State → Call → BusAnswer → List Receipt
+got_in app s (calls.Receive pipe) (Got number) = option_to_list (receipt_in s app pipe)
+got_in app s (calls.Pend pipe) (Got number) = option_to_list (receipt_in s app pipe)
+got_in app s (calls.Look pipe) (Got number) = option_to_list (receipt_in s app pipe)
+got_in app s call answer = []
+
+abbrev pub receipts_of : ℕ → Seen → List Receipt
+receipts_of app seen = got_in app seen.after seen.entry.call seen.entry.answer
+
+-- what a line tells that no service sees: `show` the pipe's last message, or nothing where the application has none there
+unfoldable pub shown : ℕ → State → List ℕ → Line → List Receipt
+shown app s pipes (ShowPipe pipe) = unwrap_or (receipt_in s app (slice_index pipes pipe)) Nothing ∷ []
+shown app s pipes line = []
+
+-- what follows an entry so answered: where it waits, its look's receipts first
+abbrev pub told_after : ℕ → BusAnswer → Seen → List Seen → (State → List Seen → List Receipt) → List Receipt
+told_after app Pending seen [] rest = []
+told_after app Pending seen (look ∷ others) rest = receipts_of app look ++ rest look.after others
+told_after app answer seen others rest = receipts_of app seen ++ rest seen.after others
+
+-- what a line tells
+abbrev pub line_told : ℕ → Option Call → List Receipt → List Seen → (State → List Seen → List Receipt) → (BusAnswer → State → List Seen → List Receipt) → State → List Receipt
+line_told app None local seen same next s = local ++ same s seen
+line_told app (Some call) local [] same next s = []
+line_told app (Some call) local (first ∷ others) same next s = told_after app first.entry.answer first others (next first.entry.answer)
+
+-- What the lines tell, with the bus as it is after the application's latest entry, and its entries to come.
+abbrev pub told : ℕ → List ℕ → State → List Line → List Seen → List Receipt
+told app pipes s [] seen = []
+told app pipes s (line ∷ lines) seen =
+    line_told app (call_of pipes line) (shown app s pipes line) seen
+    (λ after rest. told app pipes after lines rest)
+    (λ answer after rest. told app (registers_after pipes line answer) after lines rest) s
+
+-- the receipts of one application of a script in a history
+abbrev pub receipts_told : ScriptText → List Entry → ℕ → List Receipt
+receipts_told script history app =
+    let s = opening (length script.apps) in
+    told app first_registers s (app_at script app).lines (seen_from script.limits [] s app history)
