@@ -3,6 +3,6 @@ pub mod Lines
 pub mod Openings
 pub mod Received
 pub mod Runners
-pub mod RunnerParts
+pub mod Inside
 pub mod Turns
 pub mod Rounds

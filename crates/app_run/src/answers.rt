@@ -74,12 +74,12 @@ pub(crate) fn pended(answer: Result<Pended, SbStatus>) -> BusAnswer
     ensures { result ≡ pended answer }
 {
     match answer {
-        Ok(it) => waited(it),
+        Ok(it) => waited_answer(it),
         Err(status) => BusAnswer::Sb(status),
     }
 }
 
-fn waited(answer: Pended) -> BusAnswer
+fn waited_answer(answer: Pended) -> BusAnswer
     ensures { result ≡ waited answer }
 {
     match answer {

@@ -12,14 +12,14 @@ use crate::messages::make_message;
 use crate::registers::value_in;
 use bus_words::{BusAnswer, Call};
 use fsw_base::Scope;
-use script_lines::Line;
+use script_lines::{Line, REGISTERS};
 
 /// Makes the call of a line, its registers filled in, and tells what it was answered; None for a line
 /// that makes no call.
 #[tactic(auto, unfolding(script_runs::specs::Trace::call_of, app_script::specs::Ranges::IsLineInRange, crate::specs::Lines::message_size))]
 pub(crate) fn run_line<C: Calls>(
     calls: &mut C,
-    registers: &[u32; 64],
+    registers: &[u32; REGISTERS],
     message: &mut Vec<u8>,
     line: &Line,
 ) -> Option<BusAnswer>

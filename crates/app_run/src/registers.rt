@@ -3,16 +3,13 @@ ghost use Rattle.std.specs.Prelude.{◌≡◌, slice_index, slice_set};
 ghost use Rattle.script_runs.specs.Trace.{number_of, registers_after};
 
 use bus_words::BusAnswer;
-use script_lines::Line;
-
-/// How many registers there are.
-pub(crate) const REGISTERS: usize = 64;
+use script_lines::{Line, REGISTERS};
 
 /// The number in a register; 0 where there is no such register.
-pub(crate) fn value_in(registers: &[u32; 64], register: u32) -> u32
+pub(crate) fn value_in(registers: &[u32; REGISTERS], register: u32) -> u32
     ensures { result ≡ slice_index registers.now register }
 {
-    if register < 64 {
+    if register < REGISTERS as u32 {
         registers[register as usize]
     } else {
         0
@@ -20,10 +17,10 @@ pub(crate) fn value_in(registers: &[u32; 64], register: u32) -> u32
 }
 
 // Puts a number into a register, where there is that register.
-fn set(registers: &mut [u32; 64], register: u32, number: u32)
+fn set(registers: &mut [u32; REGISTERS], register: u32, number: u32)
     ensures { registers.new ≡ slice_set registers.old register number }
 {
-    if register < 64 {
+    if register < REGISTERS as u32 {
         registers[register as usize] = number;
     }
 }
@@ -40,7 +37,7 @@ fn number_of(answer: &BusAnswer) -> u32
 
 /// The registers once a line's call was so answered.
 #[tactic(auto, unfolding(script_runs::specs::Trace::registers_after))]
-pub(crate) fn note(registers: &mut [u32; 64], line: &Line, answer: &BusAnswer)
+pub(crate) fn note(registers: &mut [u32; REGISTERS], line: &Line, answer: &BusAnswer)
     ensures { registers.new ≡ registers_after registers.old line.now answer.now }
 {
     match line {

@@ -46,7 +46,7 @@ pub fn lockstep(alloc: Global, script: &Script) -> Result<Finished, AllocError>
 }
 
 // A run before its first call. It holds all memory that it takes.
-struct Opened<'s> {
+struct OpenedRun<'s> {
     script: &'s Script,
     // Nothing was asked of it yet.
     bus: BusCore,
@@ -57,7 +57,7 @@ struct Opened<'s> {
 }
 
 // Takes all memory of a run.
-fn open(alloc: Global, script: &Script) -> Result<Opened<'_>, AllocError>
+fn open(alloc: Global, script: &Script) -> Result<OpenedRun<'_>, AllocError>
     ensures script { IfOk result (λ run. run.script.now ≡ script.now) }
     ensures bus { IfOk result (λ run. run.bus ≡ opened script.now) }
     ensures runners { IfOk result (λ run. run.runners.items ≡ all_beginning script.now) }
@@ -70,7 +70,7 @@ fn open(alloc: Global, script: &Script) -> Result<Opened<'_>, AllocError>
     let bus = BusCore::new(alloc, script.config(), &budgets)?;
     let runners = runners_of(alloc, script)?;
     let receipts = Vec::with_capacity(alloc, apps)?;
-    Ok(Opened {
+    Ok(OpenedRun {
         script,
         bus,
         runners,
@@ -79,7 +79,7 @@ fn open(alloc: Global, script: &Script) -> Result<Opened<'_>, AllocError>
 }
 
 // Makes all calls of a run. Having no allocator, it takes no memory.
-fn run(run: Opened<'_>) -> Finished
+fn run(run: OpenedRun<'_>) -> Finished
     requires bus { run.bus ≡ opened run.script.now }
     requires runners { run.runners.items ≡ all_beginning run.script.now }
     requires receipts { run.receipts.items ≡ [] }
@@ -89,7 +89,7 @@ fn run(run: Opened<'_>) -> Finished
     ensures apps { apps_of result.bus ≡ length run.entry.script.now.apps }
     ensures receipts { map (λ list. list.receipts) result.receipts.items ≡ map (receipts_told run.entry.script.now (rotation run.entry.script.now)) (range_with_len 1 (length run.entry.script.now.apps)) }
 {
-    let Opened {
+    let OpenedRun {
         script,
         mut bus,
         mut runners,

@@ -12,12 +12,12 @@ ghost use Rattle.app_run.specs.Runners.{beginning};
 
 use crate::calls::Calls;
 use crate::line_calls::run_line;
-use crate::registers::{REGISTERS, note, value_in};
+use crate::registers::{note, value_in};
 use app_script::Script;
 use bus_words::{BusAnswer, Receipt, ReceiptList};
 use fsw_base::AppNo;
 use sb_calls::Pended;
-use script_lines::Line;
+use script_lines::{Line, REGISTERS};
 use std::alloc::{AllocError, Global};
 use std::marker::Model;
 
@@ -57,7 +57,7 @@ impl<'s> Model for Runner<'s> {
 
     ghost Value = { Progress };
 
-    ghost use Rattle.app_run.specs.RunnerParts.{progress_in, Keeps};
+    ghost use Rattle.app_run.specs.Inside.{progress_in, Keeps};
 
     ghost view = { progress_in };
 
@@ -240,7 +240,7 @@ fn take_receipt<C: Calls>(calls: &mut C, pipe: u32, receipts: &mut ReceiptList)
 #[tactic(auto, unfolding(script_runs::specs::Trace::call_of))]
 fn receive<C: Calls>(
     calls: &mut C,
-    registers: &[u32; 64],
+    registers: &[u32; REGISTERS],
     line: &Line,
     answer: &BusAnswer,
     receipts: &mut ReceiptList,
@@ -262,7 +262,12 @@ fn receive<C: Calls>(
 
 // Adds the receipts of a line that makes no call.
 #[tactic(auto, unfolding(script_runs::specs::Told::shown))]
-fn show<C: Calls>(calls: &mut C, registers: &[u32; 64], line: &Line, receipts: &mut ReceiptList)
+fn show<C: Calls>(
+    calls: &mut C,
+    registers: &[u32; REGISTERS],
+    line: &Line,
+    receipts: &mut ReceiptList,
+)
     requires { 1 ≤ receipts.old.room }
     ensures receipts { receipts.new.receipts ≡ receipts.old.receipts ++ shown (C.caller calls.old).app (state_of (C.caller calls.old).core) registers.now line.now }
     ensures room { receipts.old.room ≤ receipts.new.room + 1 }
@@ -278,7 +283,7 @@ fn show<C: Calls>(calls: &mut C, registers: &[u32; 64], line: &Line, receipts: &
 
 // The pipe that the application waits on after a line that was so answered.
 #[tactic(auto, unfolding(crate::specs::Lines::pipe_waited_for))]
-fn pipe_waited_for(registers: &[u32; 64], line: &Line, answer: &BusAnswer) -> Option<u32>
+fn pipe_waited_for(registers: &[u32; REGISTERS], line: &Line, answer: &BusAnswer) -> Option<u32>
     ensures { result ≡ pipe_waited_for registers.now line.now answer.now }
 {
     let BusAnswer::Pending = answer else {

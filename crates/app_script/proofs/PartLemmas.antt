@@ -11,8 +11,7 @@ use Rattle.script_settings.specs.declared.account.Account.{Account}
 use Rattle.script_lines.specs.declared.line.Line.{Line}
 use Rattle.script_lines.specs.declared.line.Line.TheVariants.{Pend, Allocate}
 use Rattle.script_settings.specs.Accounts.{account_of, charge_of, counted, waits_of, buffers_of}
-use Rattle.app_script.specs.AppParts.{Fits}
-use Rattle.app_script.specs.ReadingParts.{Keeps, progress_in}
+use Rattle.app_script.specs.Inside.{Fits, KeepsCounts, progress_in}
 use Rattle.script_settings.specs.Settings.{seq_of}
 use Rattle.app_script.specs.Grammar.{Progress, after_seq, apps_of}
 use Rattle.app_script.proofs.ScriptLemmas.{account_of_push}
@@ -40,8 +39,8 @@ fits_push a b line fits pushed count few =
     }
 
 -- a reading with one call line more
-pub keeps_call : (a b : reading.Inside) (line : Line) (charge : ℕ) → Keeps a → b.present.lines ≡ a.present.lines ++ line ∷ [] → charge ≡ charge_of (account_of a.present.lines) line
-    → b.calls ≡ a.calls + 1 → a.calls < 20000 → b.charged ≡ a.charged + charge → a.charged + charge ≤ 16777216 → b.starts.items ≡ a.starts.items → b.done.items ≡ a.done.items → Keeps b
+pub keeps_call : (a b : reading.Inside) (line : Line) (charge : ℕ) → KeepsCounts a → b.present.lines ≡ a.present.lines ++ line ∷ [] → charge ≡ charge_of (account_of a.present.lines) line
+    → b.calls ≡ a.calls + 1 → a.calls < 20000 → b.charged ≡ a.charged + charge → a.charged + charge ≤ 16777216 → b.starts.items ≡ a.starts.items → b.done.items ≡ a.done.items → KeepsCounts b
 keeps_call a b line charge keeps pushed costs calls few charged within starts done =
     let longer : length b.present.lines ≡ length a.present.lines + 1 = omega (arith, ap length pushed, length-append a.present.lines (line ∷ [])) in
     let account : account_of b.present.lines ≡ counted (account_of a.present.lines) line = ap account_of pushed ∙ account_of_push a.present.lines line in
@@ -59,7 +58,7 @@ unfolding account_of
 nothing_taken = refl
 
 -- a reading with an application more
-pub keeps_app : (a b : reading.Inside) → Keeps a → b.present.lines ≡ [] → b.calls ≡ a.calls → b.charged ≡ a.charged → b.starts.items ≡ a.starts.items → length b.done.items ≤ 15 → Keeps b
+pub keeps_app : (a b : reading.Inside) → KeepsCounts a → b.present.lines ≡ [] → b.calls ≡ a.calls → b.charged ≡ a.charged → b.starts.items ≡ a.starts.items → length b.done.items ≤ 15 → KeepsCounts b
 keeps_app a b keeps fresh calls charged starts few = record {
   calls = omega (arith, calls, keeps.calls);
   charged = omega (arith, charged, keeps.charged);

@@ -8,6 +8,4 @@ pub mod Grammar
 pub mod Language
 pub mod Moves
 pub mod Whole
-pub mod AppParts
-pub mod ReadingParts
-pub mod ScriptParts
+pub mod Inside

@@ -23,7 +23,7 @@ impl Model for App {
 
     ghost Value = { Application };
 
-    ghost use Rattle.app_script.specs.AppParts.{application_in, Fits};
+    ghost use Rattle.app_script.specs.Inside.{application_in, Fits};
 
     ghost view = { application_in };
 

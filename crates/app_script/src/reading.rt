@@ -63,11 +63,11 @@ impl Model for Reading {
 
     ghost Value = { Progress };
 
-    ghost use Rattle.app_script.specs.ReadingParts.{progress_in, Keeps};
+    ghost use Rattle.app_script.specs.Inside.{progress_in, KeepsCounts};
 
     ghost view = { progress_in };
 
-    ghost invariant = { Keeps };
+    ghost invariant = { KeepsCounts };
 }
 
 // Whether the program runs a line already.

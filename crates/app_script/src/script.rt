@@ -11,15 +11,12 @@ ghost use Rattle.app_script.specs.Whole.{located, GivesScript, MovesScript};
 use crate::app::App;
 use crate::fail::ReadFail;
 use crate::reading::Reading;
-use fsw_base::{AppNo, Budget, Config, FaultKind, ScriptFault};
+use fsw_base::{AppNo, Budget, Config, FaultKind, MAX_SCRIPT_BYTES, ScriptFault};
 use script_lines::Line;
 use script_words::text::first_line;
 use script_words::{ByteText, LineFail};
 use std::alloc::Global;
 use std::marker::Model;
-
-// How many bytes a script may have.
-const MAX_SCRIPT: usize = 1_048_576;
 
 /// A script: the limits that it configures, and its applications with their call lines.
 #[derive(Drop)]
@@ -35,11 +32,11 @@ impl Model for Script {
 
     ghost Value = { ScriptText };
 
-    ghost use Rattle.app_script.specs.ScriptParts.{script_in, Keeps};
+    ghost use Rattle.app_script.specs.Inside.{script_in, KeepsRanges};
 
     ghost view = { script_in };
 
-    ghost invariant = { Keeps };
+    ghost invariant = { KeepsRanges };
 }
 
 impl Script {
@@ -127,7 +124,7 @@ impl Script {
 }
 
 // A line's failure, with the line's number.
-fn located(number: u32, failure: LineFail) -> ReadFail
+fn located_failure(number: u32, failure: LineFail) -> ReadFail
     ensures { result ≡ located number failure }
 {
     match failure {
@@ -137,7 +134,7 @@ fn located(number: u32, failure: LineFail) -> ReadFail
 }
 
 // The first line that isn't built yet, where this one may be it.
-fn noted(built: bool, number: u32, unbuilt: Option<u32>) -> Option<u32>
+fn first_unbuilt(built: bool, number: u32, unbuilt: Option<u32>) -> Option<u32>
     ensures { result ≡ noted built number unbuilt }
 {
     match unbuilt {
@@ -158,8 +155,8 @@ fn read_lines(alloc: Global, reading: &mut Reading, bytes: &[u8]) -> Result<Opti
     while !rest.is_empty() {
         let (line, behind) = first_line(rest);
         match reading.line(alloc, line) {
-            Ok(built) => unbuilt = noted(built, number, unbuilt),
-            Err(failure) => return Err(located(number, failure)),
+            Ok(built) => unbuilt = first_unbuilt(built, number, unbuilt),
+            Err(failure) => return Err(located_failure(number, failure)),
         }
         number += 1;
         rest = behind;
@@ -176,7 +173,7 @@ fn read_all(alloc: Global, reading: &mut Reading, bytes: &[u8]) -> Result<Option
     ensures started { OnOk result (IsTrue reading.new.started) }
     ensures unbuilt { IfOk result (λ unbuilt. unbuilt ≡ unbuilt_line bytes.now) }
 {
-    if bytes.len() > MAX_SCRIPT {
+    if bytes.len() > MAX_SCRIPT_BYTES {
         return Err(ReadFail::Fault(ScriptFault {
             line: 0,
             kind: FaultKind::TooLarge,

@@ -4,7 +4,8 @@ use Rattle.std.proofs.lemmas.List.{get_or-set_other}
 use Rattle.std.proofs.lemmas.List.Sums.{sum_by-cons}
 use Rattle.std.proofs.lemmas.Bool.Decides.{nat_tests}
 use Rattle.bucket_list.specs.Lists.{times_in, times}
-use Rattle.bucket_list.specs.Chains.{chain, chains}
+use Rattle.bucket_list.specs.Chains.{chain}
+use Rattle.bucket_list.specs.Inside.{chains}
 use Rattle.bucket_list.proofs.Counts.{times_in-cons}
 
 pub length-chain : (links : List ℕ) (first count : ℕ) → length (chain links first count) ≡ count

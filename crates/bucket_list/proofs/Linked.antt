@@ -3,7 +3,8 @@ use Rattle.std.proofs.Common.{◌≡◌, ◌+◌, ◌-◌, ◌<◌, ◌≤◌, �
 use Rattle.std.proofs.lemmas.List.{length-set, get_or-set_same, length-replicate}
 use Rattle.std.proofs.lemmas.Bool.Decides.{nat_tests}
 use Rattle.bucket_list.specs.Lists.{times_in, times}
-use Rattle.bucket_list.specs.Chains.{chain, chains, AreLinked}
+use Rattle.bucket_list.specs.Chains.{chain}
+use Rattle.bucket_list.specs.Inside.{chains, AreLinked}
 use Rattle.bucket_list.proofs.Counts.{times_push, times_pop, times_in-le-times, length_few}
 use Rattle.bucket_list.proofs.Chains.{length-chain, length-chains, get_or-chains, chains-set, chain-set, chains-set_link}
 

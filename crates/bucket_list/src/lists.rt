@@ -29,7 +29,7 @@ impl Model for Lists {
 
     ghost Value = { Listed };
 
-    ghost use Rattle.bucket_list.specs.Chains.{chains, AreLinked};
+    ghost use Rattle.bucket_list.specs.Inside.{chains, AreLinked};
 
     ghost view = { λ s.
         record {

@@ -13,7 +13,7 @@ use Rattle.subscriptions.specs.Subs.{Subscribed, Subscription, number_of, goes_b
 use Rattle.routing.specs.Dests.{Dest, first_dest}
 use Rattle.routing.specs.Routing.{Route, Routing, route_from, route_of, dests_at}
 use Rattle.bus_tables.specs.Rows.{with_row, offered_row, row_takes, deliver_rows, reached_rows}
-use Rattle.bus_tables.specs.Tied.{row_in, sub_in, uncounted, still, frame, of_id, AreQueued, AreRouted}
+use Rattle.bus_tables.specs.Inside.{row_in, sub_in, uncounted, still, frame, of_id, AreQueued, AreRouted}
 use Rattle.bus_tables.proofs.OffersLists.{all_both, Rises, all_above}
 use Rattle.bus_tables.proofs.OffersSubs.{subs_rise, live_still}
 

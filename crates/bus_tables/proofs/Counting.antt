@@ -8,7 +8,7 @@ use Rattle.routing.specs.Dests.{Dest}
 use Rattle.routing.specs.Routing as routing
 use Rattle.routing.specs.Routing.{Route, Routing, fresh_route, route_at, dests_at, route_from, route_of, with_route}
 use Rattle.bus_tables.specs.Rows.{RouteRow, has_way, counted_in, counted_on}
-use Rattle.bus_tables.specs.Tied.{way_in, AreRouted}
+use Rattle.bus_tables.specs.Inside.{way_in, AreRouted}
 use Rattle.bus_tables.proofs.Readers.{way_there}
 
 -- Where it stands. --

@@ -15,7 +15,7 @@ use Rattle.subscriptions.specs.Subs.{Subscription, Subscribed, row_of, number_of
 use Rattle.routing.specs.Dests.{Dest, is_sub, has_sub}
 use Rattle.routing.specs.Dests as dests
 use Rattle.routing.specs.Routing.{Route, Routing, fresh_route, route_at, dests_at, route_from, route_of, with_dests}
-use Rattle.bus_tables.specs.Tied.{AreRouted, of_id, way_in, ways_of, ties}
+use Rattle.bus_tables.specs.Inside.{AreRouted, of_id, way_in, ways_of, ties}
 use Rattle.bus_tables.proofs.EndingsLists.{with_implied, found_all, found_passes, found_filtered, none_passes, filter_whole, filter_shorter, filters_commute, filter_within, count_filtered}
 
 -- Numbers of live subscriptions. --

@@ -8,7 +8,7 @@ use Rattle.pipe_table.specs.Table as pipes
 use Rattle.pipe_table.specs.Table.{PipeRow, pipe_row, with_bits}
 use Rattle.subscriptions.specs.Subs.{Subscribed}
 use Rattle.bus_tables.specs.Rows.{Row, with_row}
-use Rattle.bus_tables.specs.Tied.{row_in, waiting_at, IsCounted, IsPlaced, IsQueued, AreQueued}
+use Rattle.bus_tables.specs.Inside.{row_in, waiting_at, IsCounted, IsPlaced, IsQueued, AreQueued}
 use Rattle.bus_tables.proofs.OffersRows.{of_row_kept}
 
 -- A change that keeps number and queue. --

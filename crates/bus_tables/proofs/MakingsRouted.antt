@@ -21,7 +21,7 @@ use Rattle.subscriptions.specs.Subs.{Subscription, Subscribed, number_of}
 use Rattle.routing.specs.Dests.{Dest}
 use Rattle.routing.specs.Routing.{Route, Routing, fresh_route, route_at, dests_at, route_from, route_of, with_dests}
 use Rattle.bus_tables.specs.Rows.{Row, RouteRow, with_route}
-use Rattle.bus_tables.specs.Tied.{row_in, sub_in, way_in, tables_in, of_id, waiting_at, IsCounted, IsPlaced, IsOf, IsQueued, AreQueued, AreRouted, ties}
+use Rattle.bus_tables.specs.Inside.{row_in, sub_in, way_in, tables_in, of_id, waiting_at, IsCounted, IsPlaced, IsOf, IsQueued, AreQueued, AreRouted, ties}
 use Rattle.bus_tables.proofs.Readers.{way_there}
 use Rattle.bus_tables.proofs.Counting.{found, route_from-set}
 

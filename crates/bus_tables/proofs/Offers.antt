@@ -18,7 +18,7 @@ use Rattle.subscriptions.specs.declared.words.Verdict.{Verdict}
 use Rattle.subscriptions.specs.declared.words.Verdict.TheVariants.{Inside, OverLimit}
 use Rattle.subscriptions.specs.Subs.{Subscribed, Subscription, row_of, goes_by, live_at, verdict_of, verdict_at, one_more, with_change, AreInOrder}
 use Rattle.bus_tables.specs.Rows.{Row, with_row, takes, offered_row, row_takes}
-use Rattle.bus_tables.specs.Tied.{item_in, row_in, sub_in, waiting_at, still, IsCounted, IsPlaced, IsOf, IsQueued, AreQueued}
+use Rattle.bus_tables.specs.Inside.{item_in, row_in, sub_in, waiting_at, still, IsCounted, IsPlaced, IsOf, IsQueued, AreQueued}
 use Rattle.bus_tables.proofs.OffersLists.{all_both, found_is, found_passes}
 use Rattle.bus_tables.proofs.OffersRows.{changed, only_row, pipe_row-with_row, of_row_kept, row_of-rows, rows_changed, rows_kept, rows_unchanged}
 use Rattle.bus_tables.proofs.OffersSubs.{only_sub, still-with_change, all_still, queued_still}

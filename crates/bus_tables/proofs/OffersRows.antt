@@ -8,7 +8,7 @@ use Rattle.fsw_base.proofs.Lists.{find-map}
 use Rattle.pipe_table.specs.Table as table
 use Rattle.pipe_table.specs.Table.{PipeRow, pipe_row}
 use Rattle.bus_tables.specs.Rows.{Row, row_of, with_row}
-use Rattle.bus_tables.specs.Tied.{row_in}
+use Rattle.bus_tables.specs.Inside.{row_in}
 use Rattle.bus_tables.proofs.OffersLists.{find_agree, Rises, only_one}
 
 -- the rows rise by number

@@ -7,7 +7,7 @@ use Rattle.pipe_queue.specs.declared.item.Item.{Item}
 use Rattle.subscriptions.specs.declared.words.SubNo.{SubNo}
 use Rattle.subscriptions.specs.Subs.{Subscribed, Subscription, number_of, goes_by, live_at, with_change, IsRising, AreInOrder}
 use Rattle.routing.specs.Routing.{Routing, route_of}
-use Rattle.bus_tables.specs.Tied.{IsOf, IsQueued, AreRouted, of_id, uncounted, still, ties}
+use Rattle.bus_tables.specs.Inside.{IsOf, IsQueued, AreRouted, of_id, uncounted, still, ties}
 use Rattle.bus_tables.proofs.OffersLists.{all_unmap, Rises, only_one}
 
 -- the subscriptions rise by number

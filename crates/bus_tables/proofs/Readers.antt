@@ -11,7 +11,7 @@ use Rattle.routing.specs.Routing.{Route, route_from, route_of}
 use Rattle.bus_tables.specs.declared.tables.ItemRow.{ItemRow}
 use Rattle.bus_tables.specs.Rows.{Row, row_of, owns_row, first_item, oldest_item, last_row_item, has_way}
 use Rattle.bus_tables.specs.Tables.{IsRising}
-use Rattle.bus_tables.specs.Tied.{item_in, row_in, way_in}
+use Rattle.bus_tables.specs.Inside.{item_in, row_in, way_in}
 
 -- whether a pipe is the application's
 pub owns_there : (rows : List PipeRow) (app number : ℕ) → pipes.owns_row rows app number ≡ owns_row (map row_in rows) app number

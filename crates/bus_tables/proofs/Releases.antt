@@ -10,7 +10,7 @@ use Rattle.pipe_table.specs.Table.{PipeRow, without_row}
 use Rattle.subscriptions.specs.Subs as subs
 use Rattle.bus_tables.specs.Rows.{Row, owns_row}
 use Rattle.bus_tables.specs.Tables.{Tables, IsRising}
-use Rattle.bus_tables.specs.Tied.{AreQueued, IsCounted, IsPlaced, IsQueued, waiting_at}
+use Rattle.bus_tables.specs.Inside.{AreQueued, IsCounted, IsPlaced, IsQueued, waiting_at}
 use Rattle.bus_tables.proofs.EndingsLists.{found_all, found_any, found_passes, filter_whole, filter_shorter, filter_within, find_within, none_any, not_found}
 use Rattle.bus_tables.proofs.Endings.{and_left}
 use Rattle.bus_tables.proofs.Ties.{queued_left}

@@ -13,7 +13,7 @@ use Rattle.routing.specs.Routing.{Routing}
 use Rattle.bus_tables.specs.declared.tables.BusTables.TheInside.{Inside}
 use Rattle.bus_tables.specs.Rows.{Row, with_row, after_take, first_item}
 use Rattle.bus_tables.specs.Tables.{Tables}
-use Rattle.bus_tables.specs.Tied.{item_in, row_in, sub_in, tables_in, waiting_at, uncounted, still, frame, IsCounted, IsPlaced, IsOf, IsQueued, AreQueued, AreTied}
+use Rattle.bus_tables.specs.Inside.{item_in, row_in, sub_in, tables_in, waiting_at, uncounted, still, frame, IsCounted, IsPlaced, IsOf, IsQueued, AreQueued, AreTied}
 use Rattle.bus_tables.proofs.Offers.{goes_by_parts}
 use Rattle.bus_tables.proofs.OffersLists.{all_both, found_is, found_passes}
 use Rattle.bus_tables.proofs.OffersRows.{changed, pipe_row-with_row, of_row_kept}

@@ -15,7 +15,7 @@ use Rattle.subscriptions.specs.Subs.{Subscription, Subscribed, number_of, goes_b
 use Rattle.routing.specs.Routing.{Routing, dests_at, route_of}
 use Rattle.bus_tables.specs.Rows.{Row}
 use Rattle.bus_tables.specs.Tables.{Tables}
-use Rattle.bus_tables.specs.Tied.{row_in, tables_in, ways_of, AreRouted, AreQueued, IsQueued, IsOf, IsCounted, IsPlaced, of_id, sub_in, first_of, ties}
+use Rattle.bus_tables.specs.Inside.{row_in, tables_in, ways_of, AreRouted, AreQueued, IsQueued, IsOf, IsCounted, IsPlaced, of_id, sub_in, first_of, ties}
 use Rattle.bus_tables.proofs.EndingsLists.{any_found, found_all, found_passes, found_only, filter_alike, filter_empty, filter_whole, not_none, not_found}
 use Rattle.bus_tables.proofs.Endings.{and_left, own_number, goes, rising_above}
 

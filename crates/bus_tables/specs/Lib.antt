@@ -1,4 +1,4 @@
 pub mod Rows
 pub mod Tables
-pub mod Tied
+pub mod Inside
 pub mod Uses

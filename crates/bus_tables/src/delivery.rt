@@ -4,7 +4,7 @@ ghost use Rattle.std.specs.Option.{ForSome};
 ghost use Rattle.bus_words.specs.Bus.{route};
 ghost use Rattle.subscriptions.specs.Subs.{live_at};
 ghost use Rattle.bus_tables.specs.Rows.{with_row, offered_row, row_takes, deliver_rows, reached_rows};
-ghost use Rattle.bus_tables.specs.Tied.{AreQueued, AreRouted, row_in, sub_in, still, frame};
+ghost use Rattle.bus_tables.specs.Inside.{AreQueued, AreRouted, row_in, sub_in, still, frame};
 
 use bucket_list::{Ledger, Steps};
 use fsw_base::AppNo;

@@ -2,7 +2,7 @@
 ghost use Rattle.std.specs.Prelude.{◌≡◌, ◌==◌, ◌+◌, ◌≤◌, not, length, filter, map, IsSome};
 ghost use Rattle.std.specs.Option.{ForSome};
 ghost use Rattle.subscriptions.specs.Subs.{live_at, without};
-ghost use Rattle.bus_tables.specs.Tied.{AreRouted, of_id, ways_of};
+ghost use Rattle.bus_tables.specs.Inside.{AreRouted, of_id, ways_of};
 
 use bucket_list::{Ledger, Steps};
 use routing::Routes;

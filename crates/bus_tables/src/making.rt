@@ -2,7 +2,7 @@
 ghost use Rattle.std.specs.Prelude.{◌≡◌, ◌<◌, ◌≤◌, ◌++◌, ◌∷◌, [], length, None, Some};
 ghost use Rattle.std.specs.Option.{option_map};
 ghost use Rattle.routing.specs.Routing.{Routing, route_of, fresh_route};
-ghost use Rattle.bus_tables.specs.Tied.{item_in};
+ghost use Rattle.bus_tables.specs.Inside.{item_in};
 
 use crate::tables::ItemRow;
 use pipe_queue::Item;

@@ -1,6 +1,6 @@
 //! What ties an id to a pipe.
 ghost use Rattle.std.specs.Prelude.{◌≡◌, ◌+◌, ◌*◌, ◌≤◌, length};
-ghost use Rattle.bus_tables.specs.Tied.{AreRouted, first_of, of_id};
+ghost use Rattle.bus_tables.specs.Inside.{AreRouted, first_of, of_id};
 
 use bucket_list::{Ledger, Steps};
 use routing::Routes;

@@ -48,7 +48,7 @@ impl Model for BusTables {
 
     ghost Value = { Tables };
 
-    ghost use Rattle.bus_tables.specs.Tied.{tables_in, AreTied};
+    ghost use Rattle.bus_tables.specs.Inside.{tables_in, AreTied};
 
     ghost view = { λ t. tables_in t.pipes t.subs t.routes };
 

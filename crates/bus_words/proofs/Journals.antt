@@ -13,7 +13,7 @@ use Rattle.bus_words.specs.declared.journal.RowCall.{RowCall}
 use Rattle.bus_words.specs.declared.journal.RowCall.TheVariants as rows
 use Rattle.bus_words.specs.Entries.{call_bytes}
 use Rattle.bus_words.specs.Log.{HasRoom, allowance_of, charged, entries_left, bytes_left}
-use Rattle.bus_words.specs.Rows.{IsLaidOut, IsStored, bytes_of, call_in, call_end, call_text, entry_in, entries_in}
+use Rattle.bus_words.specs.Inside.{IsLaidOut, IsStored, bytes_of, call_in, call_end, call_text, entry_in, entries_in}
 
 -- Charges. --
 

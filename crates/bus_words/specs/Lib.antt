@@ -6,5 +6,5 @@ pub mod Log
 pub mod Machine
 pub mod ReceiptLists
 pub mod Receipts
-pub mod Rows
+pub mod Inside
 pub mod Runs

@@ -2,7 +2,7 @@
 ghost use Rattle.std.specs.Prelude.{◌≡◌, ◌+◌, ◌^◌, ◌<◌, ◌≤◌, List, [], ◌++◌, length, vec_len, vec_capacity, slice_get, IfOk, Some};
 ghost use Rattle.bus_words.specs.Log.{AreBudgets, HasRoom, Log, allowances, allowance_of, charged, with_entry, entries_left};
 ghost use Rattle.bus_words.specs.Entries.{call_of, entry_of, call_bytes};
-ghost use Rattle.bus_words.specs.Rows.{IsStored, bytes_of, call_in, call_end};
+ghost use Rattle.bus_words.specs.Inside.{IsStored, bytes_of, call_in, call_end};
 
 use crate::calls::{BusAnswer, BusCall, BusEntry};
 use fsw_base::{AppNo, Budget, Scope, extend_reserved};
@@ -97,7 +97,7 @@ pub struct BusJournal {
 impl Model for BusJournal {
     ghost use Rattle.std.specs.Prelude.{vec_capacity};
     ghost use Rattle.bus_words.specs.Log.{Log};
-    ghost use Rattle.bus_words.specs.Rows.{IsLaidOut, entries_in};
+    ghost use Rattle.bus_words.specs.Inside.{IsLaidOut, entries_in};
 
     ghost Value = { Log };
 
@@ -174,7 +174,7 @@ impl BusJournal {
         ensures { self.new ≡ with_entry self.old (entry_of entry.now) }
     {
         let start = self.bytes.len();
-        let call = stored(&mut self.bytes, entry.call);
+        let call = put_call(&mut self.bytes, entry.call);
         let len = self.bytes.len() - start;
         charge(&mut self.left, entry.app, len as u32);
         self.rows.push_reserved(Row {
@@ -237,7 +237,7 @@ fn bytes_at(bytes: &[u8], span: Span) -> &[u8]
 }
 
 // Puts the call's bytes behind those that are there, which have room for them.
-fn stored(bytes: &mut Vec<u8>, call: BusCall<'_>) -> RowCall
+fn put_call(bytes: &mut Vec<u8>, call: BusCall<'_>) -> RowCall
     requires room { vec_len bytes.old + call_bytes (call_of call) ≤ vec_capacity bytes.old }
     requires few { vec_len bytes.old + call_bytes (call_of call) < 2 ^ 32 }
     ensures stored { IsStored bytes.old.items bytes.new.items (call_of call.entry) result }

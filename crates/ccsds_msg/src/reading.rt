@@ -3,7 +3,7 @@ ghost use Rattle.std.specs.Prelude.{◌≡◌, ◌<◌, ◌≤◌, ◌^◌, leng
 ghost use Rattle.ccsds_msg.specs.Message.{message_id, message_flags, message_count, message_size};
 ghost use Rattle.ccsds_msg.specs.Message.{header_of, header_or_fault, fault, front_fault, id_fault};
 
-use crate::packet::{Header, MsgFault};
+use crate::packet::{COUNTS, Header, MAX_ID, MsgFault};
 use byteorder::{BigEndian, ByteOrder};
 
 // The least size of a packet in bytes: its header and one byte of data (section 4.1.4.1).
@@ -78,7 +78,7 @@ pub fn count_of(bytes: &[u8]) -> u16
     requires { 6 ≤ length bytes.now }
     ensures { result ≡ message_count bytes.now }
 {
-    BigEndian::read_u16(&bytes[2..]) % 16384
+    BigEndian::read_u16(&bytes[2..]) % COUNTS
 }
 
 // The sequence flags, 0 to 3 (section 4.1.3.4.2).
@@ -86,7 +86,7 @@ fn flags_of(bytes: &[u8]) -> u8
     requires { 6 ≤ length bytes.now }
     ensures { result ≡ message_flags bytes.now }
 {
-    (BigEndian::read_u16(&bytes[2..]) / 16384 % 4) as u8
+    (BigEndian::read_u16(&bytes[2..]) / COUNTS % 4) as u8
 }
 
 // The fields of the header, whatever they are.
@@ -106,7 +106,7 @@ fn fields(bytes: &[u8]) -> Header
 fn with_valid_id(header: Header) -> Result<Header, MsgFault>
     ensures { result ≡ header_or_fault (id_fault header.id) header }
 {
-    if header.id == 0 || header.id > 0x1FFF {
+    if header.id == 0 || header.id > MAX_ID {
         return Err(MsgFault::BadId(header.id));
     }
     Ok(header)

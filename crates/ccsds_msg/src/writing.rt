@@ -3,6 +3,7 @@ ghost use Rattle.std.specs.Prelude.{◌≡◌, ◌<◌, ◌≤◌, ◌++◌, len
 ghost use Rattle.ccsds_msg.specs.Message.{with_count, header_bytes, header_of, is_valid_id};
 ghost use Rattle.ccsds_msg.specs.Message.{IsMessage};
 
+use crate::packet::COUNTS;
 use byteorder::{BigEndian, ByteOrder};
 
 /// Replaces the sequence count (section 4.1.3.4.3), 0 to 16383. Every other bit stays.
@@ -14,8 +15,8 @@ pub fn set_count(bytes: &mut [u8], count: u16)
     ensures fields { header_of bytes.new ≡ record (header_of bytes.old) { count = count } }
     ensures rest { drop 6 bytes.new ≡ drop 6 bytes.old }
 {
-    let flags = BigEndian::read_u16(&bytes[2..]) / 16384 % 4;
-    BigEndian::write_u16(&mut bytes[2..], flags * 16384 + count);
+    let flags = BigEndian::read_u16(&bytes[2..]) / COUNTS % 4;
+    BigEndian::write_u16(&mut bytes[2..], flags * COUNTS + count);
 }
 
 /// Writes the primary header of a packet that fills the whole slice, 7 to 65542 bytes: this message
@@ -34,6 +35,6 @@ pub fn write_header(bytes: &mut [u8], id: u16, count: u16)
 {
     let data_length = (bytes.len() - 7) as u16;
     BigEndian::write_u16(bytes, id);
-    BigEndian::write_u16(&mut bytes[2..], 3 * 16384 + count);
+    BigEndian::write_u16(&mut bytes[2..], 3 * COUNTS + count);
     BigEndian::write_u16(&mut bytes[4..], data_length);
 }

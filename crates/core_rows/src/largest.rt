@@ -60,9 +60,9 @@ pub fn print_largest<L: Ledger, K: Sink>(
     print_figure(b"ids ", ids, sink)?;
     let dests = fill(&mut core, Filling::Dests, 65, &mut steps);
     print_figure(b"destinations ", dests, sink)?;
-    let all = reached(&mut core, 1, &mut steps);
+    let all = pipes_reached(&mut core, 1, &mut steps);
     print_figure(b"reached ", all, sink)?;
-    let one = reached(&mut core, 1024, &mut steps);
+    let one = pipes_reached(&mut core, 1024, &mut steps);
     print_figure(b"reached ", one, sink)?;
     Ok(())
 }
@@ -117,7 +117,7 @@ fn subscription(id: u16, pipe: u32) -> BusCall<'static> {
 
 // Has the first application send a message of this id; how many pipes it reached. An id of at most
 // 64 destinations takes at most 32 + 4 * 64 steps, whatever else is there.
-fn reached<L: Ledger>(core: &mut BusCore, id: u16, steps: &mut Steps<L>) -> u32
+fn pipes_reached<L: Ledger>(core: &mut BusCore, id: u16, steps: &mut Steps<L>) -> u32
     ensures cost { length (route (state_of core.old).subscriptions id) ≤ 64
         → steps.new ≤ steps.old + (32 + 4 * 64) }
 {

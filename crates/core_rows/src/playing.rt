@@ -7,15 +7,15 @@ use crate::example::{Act, Step};
 use bucket_list::{Ledger, Steps};
 use bus_words::{BusCall, Receipt};
 use ccsds_msg::write_header;
-use fsw_base::{AppNo, Scope};
+use fsw_base::{AppNo, MAX_MESSAGE_BYTES, Scope};
 use sb_calls::{BusCore, Pended};
 
 /// The most bytes that a message can have.
-pub const MOST_BYTES: usize = 65542;
+pub const MOST_BYTES: usize = MAX_MESSAGE_BYTES as usize;
 
 /// What a step left to tell.
 #[derive(Drop)]
-pub enum Played {
+pub enum Outcome {
     /// Nothing but the call's entry in the journal.
     Entry,
     /// What the application sees of a pipe's last message.
@@ -30,19 +30,19 @@ pub fn play<L: Ledger>(
     step: &Step,
     buffer: &mut [u8],
     steps: &mut Steps<L>,
-) -> Played {
+) -> Outcome {
     let (number, act) = step;
     let Some(app) = AppNo::try_new(*number) else {
-        return Played::NotAllowed;
+        return Outcome::NotAllowed;
     };
     let Some(call) = call_of(act, buffer) else {
         return shown(core, app, act);
     };
     if !core.may_make(app, &call) {
-        return Played::NotAllowed;
+        return Outcome::NotAllowed;
     }
     make(core, app, call, steps);
-    received(core, app, act)
+    outcome_of_call(core, app, act)
 }
 
 /// Makes the call, which the application may make now; whether it was accepted.
@@ -138,25 +138,25 @@ fn fill_payload(payload: &mut [u8], fill: u8) {
 }
 
 // What a look at a pipe's last message tells.
-fn shown(core: &BusCore, app: AppNo, act: &Act) -> Played {
+fn shown(core: &BusCore, app: AppNo, act: &Act) -> Outcome {
     match act {
         Act::Show(pipe) => {
             let receipt = core.last_receipt(app, *pipe);
-            Played::Seen(app, receipt.unwrap_or(Receipt::Nothing))
+            Outcome::Seen(app, receipt.unwrap_or(Receipt::Nothing))
         }
-        _ => Played::NotAllowed,
+        _ => Outcome::NotAllowed,
     }
 }
 
 // What a call that was made left to tell. A receive lets the pipe's last message go, so there is
 // one behind it only where the receive got it.
-fn received(core: &BusCore, app: AppNo, act: &Act) -> Played {
+fn outcome_of_call(core: &BusCore, app: AppNo, act: &Act) -> Outcome {
     let receipt = match act {
         Act::Receive(pipe) | Act::Pend(pipe) | Act::Look(pipe) => core.last_receipt(app, *pipe),
         _ => None,
     };
     match receipt {
-        Some(receipt) => Played::Seen(app, receipt),
-        None => Played::Entry,
+        Some(receipt) => Outcome::Seen(app, receipt),
+        None => Outcome::Entry,
     }
 }

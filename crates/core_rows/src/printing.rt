@@ -4,7 +4,7 @@ ghost use Rattle.std.specs.Prelude.{◌≡◌, ◌<◌, false, OnOk};
 use crate::example::Example;
 use crate::fail::Fail;
 use crate::opening::{budgets, config_of};
-use crate::playing::{MOST_BYTES, Played, play};
+use crate::playing::{MOST_BYTES, Outcome, play};
 use bucket_list::{Blank, Ledger, Steps};
 use bus_words::{Receipt, ReceiptList};
 use fsw_base::{AppNo, Sink, SinkGuard, WriteFault};
@@ -37,9 +37,9 @@ pub fn print_example<L: Ledger, K: Sink>(
     print_title(example.title, sink)?;
     for step in example.steps {
         match play(&mut core, step, &mut buffer, &mut steps) {
-            Played::Entry => {}
-            Played::Seen(app, receipt) => note(&mut seen, app, receipt)?,
-            Played::NotAllowed => write_text(sink, b"not allowed\n")?,
+            Outcome::Entry => {}
+            Outcome::Seen(app, receipt) => note(&mut seen, app, receipt)?,
+            Outcome::NotAllowed => write_text(sink, b"not allowed\n")?,
         }
     }
     let receipts = receipt_lists(alloc, example.apps, &seen)?;

@@ -1,6 +1,5 @@
 pub mod Account
-pub mod Fields
+pub mod Inside
 pub mod Kept
-pub mod PlainFields
 pub mod Pool
 pub mod Runs

@@ -33,7 +33,7 @@ impl Model for PlainPool {
 
     ghost Value = { Account };
 
-    ghost use Rattle.es_pool.specs.PlainFields.{account_of, AreBalanced};
+    ghost use Rattle.es_pool.specs.Inside.{account_of, AreBalanced};
 
     ghost view = { account_of };
 

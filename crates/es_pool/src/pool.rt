@@ -45,7 +45,7 @@ impl Model for Pool {
 
     ghost Value = { PoolState };
 
-    ghost use Rattle.es_pool.specs.Fields.{state_of, AreKept};
+    ghost use Rattle.es_pool.specs.Inside.{state_of, AreKept};
 
     ghost view = { state_of };
 

@@ -36,7 +36,7 @@ impl BlockSizes {
     {
         if are_block_sizes(sizes) {
             Some(BlockSizes {
-                sizes: copied(sizes),
+                sizes: copy_of(sizes),
             })
         } else {
             None
@@ -48,7 +48,7 @@ impl BlockSizes {
         ensures { result ≡ usual_sizes }
     {
         BlockSizes {
-            sizes: copied(&[
+            sizes: copy_of(&[
                 8, 16, 32, 48, 64, 96, 128, 160, 256, 512, 1024, 2048, 4096, 8192, 16384, 32768,
                 80000,
             ]),
@@ -60,7 +60,7 @@ impl BlockSizes {
         ensures { result ≡ self.now }
     {
         BlockSizes {
-            sizes: copied(self.sizes.as_slice()),
+            sizes: copy_of(self.sizes.as_slice()),
         }
     }
 
@@ -103,7 +103,7 @@ fn first_holding(sizes: &[u32], size: u32) -> Option<usize>
 }
 
 // The sizes in a list of their own.
-fn copied(sizes: &[u32]) -> ArrayVec<u32, MAX_BLOCK_SIZES>
+fn copy_of(sizes: &[u32]) -> ArrayVec<u32, MAX_BLOCK_SIZES>
     requires { length sizes.now ≤ MAX_BLOCK_SIZES }
     ensures { result.items ≡ sizes.now }
 {

@@ -22,6 +22,7 @@ mod memory;
 mod outside;
 mod reserved;
 mod script_faults;
+mod sizes;
 mod standard;
 mod starts;
 mod statuses;
@@ -36,8 +37,9 @@ pub use memory::{MemSink, MemSource};
 pub use outside::{Gate, OpenGate, ReadAnswer, Sink, Source, WriteAnswer};
 pub use reserved::extend_reserved;
 pub use script_faults::{FaultKind, ScriptFault, WriteFault};
+pub use sizes::{MAX_MESSAGE_BYTES, MAX_NAME_BYTES, MAX_SCRIPT_BYTES, MAX_TABLE_BYTES};
 pub use standard::{StdSink, StdSource};
-pub use starts::{CountStarts, MAX_STARTS};
+pub use starts::{CountStarts, MAX_COUNT, MAX_ID, MAX_STARTS};
 pub use statuses::{EsStatus, EvsStatus, SbStatus};
 
 #[cfg(test)]

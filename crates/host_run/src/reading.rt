@@ -4,11 +4,11 @@ ghost use Rattle.fsw_base.specs.Guards.{is_failed_read};
 ghost use Rattle.fsw_base.specs.Outside.{Rose};
 ghost use Rattle.host_run.specs.Input.{input_of, ReadsAll, HasCause, Adds, is_fault};
 
-use fsw_base::{ReadAnswer, Source, SourceGuard};
+use fsw_base::{MAX_SCRIPT_BYTES, ReadAnswer, Source, SourceGuard};
 use std::alloc::Global;
 
 /// The most bytes that an input may have.
-const MAX_INPUT: usize = 1_048_576;
+const MAX_INPUT: usize = MAX_SCRIPT_BYTES;
 
 /// The bytes that one read asks for; the last read may ask for fewer.
 const PIECE: usize = 4096;

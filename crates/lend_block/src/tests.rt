@@ -49,7 +49,7 @@ fn shared_then_written<R: Threads>(rt: &R, block: &mut [u8]) -> ((u8, u8), (u8, 
 }
 
 /// What a thread tells of a view that moved into it.
-fn moved<R: Threads + Wait>(rt: &R, view: View<'_>) -> Result<(u8, u8), AllocError>
+fn firsts_of_moved<R: Threads + Wait>(rt: &R, view: View<'_>) -> Result<(u8, u8), AllocError>
     requires not_empty { 1 ≤ length view.bytes }
 {
     thread::scope(
@@ -101,6 +101,6 @@ fn a_view_moves_into_a_thread(rt: HostRuntime) {
     let mut block = [7, 8, 1, 2];
     let mut root = Root::seal(&mut block, 2);
     let view = root.view();
-    assert_eq!(rt; moved(&rt, view).expect(&rt, "memory"), (7, 7));
+    assert_eq!(rt; firsts_of_moved(&rt, view).expect(&rt, "memory"), (7, 7));
     assert_eq!(rt; root.out(), 1);
 }

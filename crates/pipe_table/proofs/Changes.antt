@@ -8,7 +8,7 @@ use Rattle.std.proofs.lemmas.List.Edits.{length-remove}
 use Rattle.std.proofs.lemmas.List.Elements.{All-set, All-weaker, All-nil, All-cons, All-head, All-tail}
 use Rattle.pipe_queue.specs.declared.item.Item.{Item}
 use Rattle.pipe_table.specs.Table.{PipeRow, with_row, without_row, with_item}
-use Rattle.pipe_table.specs.Places.{PlaceState, pipe_in, pipe_of, known_of, known_in, place_under, live_in, AreFiled, IsFree, AreKept}
+use Rattle.pipe_table.specs.Inside.{PlaceState, pipe_in, pipe_of, known_of, known_in, place_under, live_in, AreFiled, IsFree, AreKept}
 use Rattle.pipe_table.proofs.Filing.{StandsAt, nowhere, is_same, row_here, ordered, under_index, stands_under, as_many, changed, filed_changed, live_apart, filed_apart, free_apart, removed, filed_removed, removed_apart, pipe_elsewhere, pipe_there, IsApart}
 
 -- Where no pipe has the number. --

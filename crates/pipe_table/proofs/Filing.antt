@@ -5,7 +5,7 @@ use Rattle.std.specs.Option.{option_map, option_map_or, option_to_list, is_some}
 use Rattle.std.proofs.lemmas.Bool.Decides.{nat_tests}
 use Rattle.std.proofs.lemmas.List.{length-set, get_or-set_same, get_or-set_other}
 use Rattle.pipe_table.specs.Table.{PipeRow, pipe_row, place_of, with_row, without_row}
-use Rattle.pipe_table.specs.Places.{PlaceState, pipe_in, pipe_of, known_of, known_in, place_under, live_in, AreRising, AreOrdered, AreFiled}
+use Rattle.pipe_table.specs.Inside.{PlaceState, pipe_in, pipe_of, known_of, known_in, place_under, live_in, AreRising, AreOrdered, AreFiled}
 
 -- no place
 abbrev pub nowhere : PlaceState

@@ -2,7 +2,7 @@
 use Rattle.std.proofs.Common.{ℕ, List, [], ◌∷◌, ◌++◌, sym, subst, arith}
 use Rattle.std.specs.Option.{option_to_list}
 use Rattle.pipe_table.specs.Table.{IsRising}
-use Rattle.pipe_table.specs.Places.{PlaceState, live_in, AreFiled}
+use Rattle.pipe_table.specs.Inside.{PlaceState, live_in, AreFiled}
 use Rattle.pipe_table.proofs.Filing.{stands_here}
 
 pub in_order : (below : ℕ) (places : List PlaceState) (numbers at : List ℕ) → AreFiled below places numbers at → IsRising below (live_in places at)

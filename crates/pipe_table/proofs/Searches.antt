@@ -7,7 +7,7 @@ use Rattle.std.proofs.lemmas.List.{length-replicate}
 use Rattle.std.proofs.lemmas.List.FromFn.{length-range_with_len}
 use Rattle.std.proofs.lemmas.List.Elements.{All-nil, All-cons}
 use Rattle.pipe_table.specs.Table.{PipeRow}
-use Rattle.pipe_table.specs.Places.{PlaceState, pipe_in, IsFree, AreKept}
+use Rattle.pipe_table.specs.Inside.{PlaceState, pipe_in, IsFree, AreKept}
 
 -- Searching. --
 

@@ -7,7 +7,7 @@
 //!
 //! ```
 //! /// A message queued on a new pipe is the one received last, once it was taken.
-//! fn received(pipes: &mut PipeTable, name: &PipeText, app: AppNo, item: Item) -> Option<Item>
+//! fn last_received(pipes: &mut PipeTable, name: &PipeText, app: AppNo, item: Item) -> Option<Item>
 //!     requires { pipes.old ≡ record { live = []; created = 0; room = 1; depth = 4 } }
 //!     ensures { result ≡ Some item }
 //! {

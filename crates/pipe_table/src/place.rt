@@ -38,7 +38,7 @@ pub(crate) struct Place {
 impl Model for Place {
     ghost use Rattle.std.specs.Prelude.{◌≡◌, [], None, Some};
     ghost use Rattle.std.specs.Option.{option_map};
-    ghost use Rattle.pipe_table.specs.Places.{PlaceState};
+    ghost use Rattle.pipe_table.specs.Inside.{PlaceState};
 
     ghost Value = { PlaceState };
 
@@ -165,7 +165,7 @@ impl Place {
     }
 
     /// How many messages wait.
-    pub(crate) fn waiting(&self) -> u32
+    pub(crate) fn queue_len(&self) -> u32
         ensures { result ≡ option_map_or (λ pipe. length pipe.queue) self.now.pipe 0 }
     {
         self.queue.len()

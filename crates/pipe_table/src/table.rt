@@ -3,7 +3,7 @@ ghost use Rattle.std.specs.Prelude.{◌≡◌, ℕ, ◌==◌, ◌+◌, ◌<◌, 
 ghost use Rattle.std.specs.List.{list_any, range_with_len};
 ghost use Rattle.std.specs.Option.{option_map, option_map_or, option_and_then, option_to_list};
 ghost use Rattle.pipe_table.specs.Table.{Pipes, pipe_row, place_of, is_live_row, owns_row, named_row, with_row, without_row, new_row, ignores_sender, with_bits, with_item, taken_row, oldest_on, first_owned, IsRising};
-ghost use Rattle.pipe_table.specs.Places.{pipe_in, live_in, place_under, AreRising, AreOrdered, AreFiled};
+ghost use Rattle.pipe_table.specs.Inside.{pipe_in, live_in, place_under, AreRising, AreOrdered, AreFiled};
 
 use crate::pipe_no::PipeNo;
 use crate::place::Place;
@@ -36,7 +36,7 @@ impl Model for PipeTable {
 
     ghost Value = { Pipes };
 
-    ghost use Rattle.pipe_table.specs.Places.{live_in, AreKept};
+    ghost use Rattle.pipe_table.specs.Inside.{live_in, AreKept};
 
     ghost view = { λ t. record {
       live = live_in t.places.items t.at.items;

@@ -9,7 +9,7 @@ use std::test::Fail;
 use subscriptions::SubNo;
 
 /// A message queued on a new pipe is the one received last, once it was taken.
-fn received(pipes: &mut PipeTable, name: &PipeText, app: AppNo, item: Item) -> Option<Item>
+fn last_received(pipes: &mut PipeTable, name: &PipeText, app: AppNo, item: Item) -> Option<Item>
     requires { pipes.old ≡ record { live = []; created = 0; room = 1; depth = 4 } }
     ensures { result ≡ Some item }
 {
@@ -29,7 +29,7 @@ fn a_pipe_is_made_and_ended(rt: HostRuntime) -> Result<(), Fail> {
         number: 1,
         sub: SubNo { slot: 0, number: 1 },
     };
-    let last = received(&mut pipes, &name, app, item);
+    let last = last_received(&mut pipes, &name, app, item);
     assert_eq!(rt; last, Some(item));
     assert_eq!(rt; pipes.find(b"TLM"), Some(1));
     pipes.remove(1);

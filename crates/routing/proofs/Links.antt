@@ -7,7 +7,7 @@ use Rattle.bucket_list.specs.Chains.{chain}
 use Rattle.bucket_list.proofs.Counts.{times_in-cons}
 use Rattle.subscriptions.specs.declared.words.SubNo.{SubNo}
 use Rattle.routing.specs.Dests.{Dest, is_sub, has_sub, without, first_dest}
-use Rattle.routing.specs.Rings.{Linked, last_of, sub_at, dest_at, place_before}
+use Rattle.routing.specs.Inside.{Linked, last_of, sub_at, dest_at, place_before}
 
 -- a number that doesn't stand in a list is neither its first nor behind it
 pub not_in : (x : ℕ) (xs : List ℕ) (q : ℕ) → times_in (x ∷ xs) q ≡ 0 → (q ≡ x → ⊥) × (times_in xs q ≡ 0)

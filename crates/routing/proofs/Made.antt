@@ -6,7 +6,7 @@ use Rattle.std.proofs.lemmas.List.{length-replicate, get_or-replicate}
 use Rattle.std.proofs.lemmas.List.FromFn.{length-range_with_len, get_or-range_with_len}
 use Rattle.bucket_list.specs.Lists.{Listed, listed_at, times_in, times}
 use Rattle.subscriptions.specs.declared.words.SubNo.{SubNo}
-use Rattle.routing.specs.Rings.{Linked, rings, dests_seen, made_before, AreRings}
+use Rattle.routing.specs.Inside.{Linked, rings, dests_seen, made_before, AreRings}
 use Rattle.routing.proofs.Nodes.{rings_are}
 
 none_times : (n q : ℕ) → times (replicate n []) q ≡ 0

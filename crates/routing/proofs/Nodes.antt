@@ -10,7 +10,7 @@ use Rattle.bucket_list.specs.Chains.{chain}
 use Rattle.bucket_list.proofs.Counts.{times_in-cons, times_in-le-times, times-set}
 use Rattle.bucket_list.proofs.Chains.{length-chain}
 use Rattle.subscriptions.specs.declared.words.SubNo.{SubNo}
-use Rattle.routing.specs.Rings.{Linked, rings, last_of, place_before, made_before, AreRings, Takes}
+use Rattle.routing.specs.Inside.{Linked, rings, last_of, place_before, made_before, AreRings, Takes}
 use Rattle.routing.proofs.Links.{chain_linked, link_else, linked_back, last_in, last-back, Has, node_of, left_of, node_linked, node_in, before_in, linked_left, times-left, length-left, last-left}
 
 -- as many rings as lengths, and each the chain behind its anchor

@@ -11,8 +11,8 @@ use Rattle.fsw_base.specs.Starts.{start_of}
 use Rattle.fsw_base.proofs.Lists.{count_by-map}
 use Rattle.msgid_map.specs.Map.{IdRoutes}
 use Rattle.routing.specs.Dests.{Dest, DestTable, dests_in, has_node}
-use Rattle.routing.specs.Numbered.{place_from, AreNumbered, AreStarted}
-use Rattle.routing.specs.Routing.{Route, Routing, fresh_route, route_from, route_of, route_at, routes_with, dests_at, with_dests, with_route, counted_on}
+use Rattle.routing.specs.Inside.{routes_with, place_from, AreNumbered, AreStarted}
+use Rattle.routing.specs.Routing.{Route, Routing, fresh_route, route_from, route_of, route_at, dests_at, with_dests, with_route, counted_on}
 
 pub length-routes : (ids counts : List ℕ) (lists : List (List Dest)) → length ids ≤ length counts → length ids ≤ length lists → length (routes_with ids counts lists) ≡ length ids
 length-routes [] counts lists h k = refl

@@ -4,7 +4,7 @@ use Rattle.std.specs.List.{sum_by}
 use Rattle.std.proofs.lemmas.List.Sums.{sum_by-cons}
 use Rattle.bucket_list.specs.Lists.{Listed, listed_at}
 use Rattle.subscriptions.specs.declared.words.SubNo.{SubNo}
-use Rattle.routing.specs.Rings.{rings, AreRings}
+use Rattle.routing.specs.Inside.{rings, AreRings}
 use Rattle.routing.proofs.Nodes.{length-rings, length-ring}
 
 -- lists of at most so many have at most so many together

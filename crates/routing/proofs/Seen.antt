@@ -8,7 +8,7 @@ use Rattle.bucket_list.specs.Lists.{Listed, times_in, times}
 use Rattle.bucket_list.proofs.Counts.{times_in-le-times}
 use Rattle.subscriptions.specs.declared.words.SubNo.{SubNo}
 use Rattle.routing.specs.Dests.{Dest, DestTable, dests_in, has_node, last_node, without}
-use Rattle.routing.specs.Rings.{dest_at, dests_seen, rings, AreRings}
+use Rattle.routing.specs.Inside.{dest_at, dests_seen, rings, AreRings}
 use Rattle.routing.proofs.Links.{not_in, shown, left_of, map-left}
 use Rattle.routing.proofs.Nodes.{length-rings, length-ring, ring}
 

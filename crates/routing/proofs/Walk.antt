@@ -3,7 +3,7 @@ use Rattle.std.proofs.Common.{◌≡◌, ℕ, ◌-◌, ◌<◌, ◌≤◌, suc, 
 use Rattle.bucket_list.specs.Lists.{times_in}
 use Rattle.bucket_list.specs.Chains.{chain}
 use Rattle.subscriptions.specs.declared.words.SubNo.{SubNo}
-use Rattle.routing.specs.Rings.{place_before}
+use Rattle.routing.specs.Inside.{place_before}
 use Rattle.routing.proofs.Links.{is_of, first_in, behind_in}
 
 -- the walk stands at a place with so many nodes left behind it: what it looks for is there, if it was in the list

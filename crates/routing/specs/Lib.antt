@@ -1,4 +1,3 @@
 pub mod Dests
-pub mod Numbered
-pub mod Rings
+pub mod Inside
 pub mod Routing

@@ -66,10 +66,3 @@ CountsGoByCalls =
     ((id : ℕ) → HasGiven (fresh_route id) 0)
     × ((starts : List (ℕ × ℕ)) (route : Route) (calls : ℕ) → HasGiven route calls → next_of starts route ≡ (start_of starts route.id + calls + 1) % 16384)
     × ((route : Route) (calls : ℕ) → HasGiven route calls → HasGiven (counted_on route) (calls + 1))
-
--- the routes with these ids, counts and destinations
-abbrev pub routes_with : List ℕ → List ℕ → List (List Dest) → List Route
-routes_with [] counts lists = []
-routes_with (id ∷ ids) [] lists = []
-routes_with (id ∷ ids) (count ∷ counts) [] = []
-routes_with (id ∷ ids) (count ∷ counts) (dests ∷ lists) = record { id = id; counted = count; dests = dests } ∷ routes_with ids counts lists

@@ -7,7 +7,7 @@ ghost use Rattle.std.specs.Prelude.{◌≡◌, ℕ, ◌+◌, ◌*◌, ◌<◌, �
 ghost use Rattle.bucket_list.specs.Lists.{listed_at, times_in};
 ghost use Rattle.bucket_list.specs.Chains.{chain};
 ghost use Rattle.routing.specs.Dests.{Dest, DestTable, dests_in, has_sub, has_node, without, first_dest, last_node};
-ghost use Rattle.routing.specs.Rings.{Takes, dest_at, place_before};
+ghost use Rattle.routing.specs.Inside.{Takes, dest_at, place_before};
 
 use bucket_list::{Ledger, Links, Lists, Steps};
 use std::alloc::{AllocError, Global};
@@ -42,7 +42,7 @@ impl Model for DestLists {
 
     ghost Value = { DestTable };
 
-    ghost use Rattle.routing.specs.Rings.{rings, dests_seen, AreRings};
+    ghost use Rattle.routing.specs.Inside.{rings, dests_seen, AreRings};
 
     ghost view = { λ s. record { limit = s.limit; lists = dests_seen s.subs.items (rings s.links s.nodes s.lens.items) } };
 

@@ -46,8 +46,7 @@ impl Model for Routes {
 
     ghost Value = { Routing };
 
-    ghost use Rattle.routing.specs.Routing.{routes_with};
-    ghost use Rattle.routing.specs.Numbered.{AreNumbered, AreStarted};
+    ghost use Rattle.routing.specs.Inside.{routes_with, AreNumbered, AreStarted};
     ghost use Rattle.std.specs.Vec.{vec_capacity};
 
     ghost view = { λ r. record { msgids = r.msgids; dests = r.limit; starts = r.starts; routes = routes_with r.ids.items r.counted.items r.dests.lists } };

@@ -10,7 +10,7 @@ use crate::bus_core::BusCore;
 use bus_tables::BusTables;
 use bus_words::NAME_BYTES;
 use ccsds_msg::read_header;
-use fsw_base::{AppNo, SbStatus};
+use fsw_base::{AppNo, MAX_ID, SbStatus};
 
 impl BusCore {
     /// Why the pipe can't be created.
@@ -133,7 +133,7 @@ fn lacks_route(tables: &BusTables, id: u16, most: u32) -> bool
 fn is_valid_id(id: u16) -> bool
     ensures { result ≡ is_valid_id id }
 {
-    1 <= id && id <= 0x1FFF
+    1 <= id && id <= MAX_ID
 }
 
 // Whether the bytes are one whole message.

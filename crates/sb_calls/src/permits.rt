@@ -8,10 +8,7 @@ ghost use Rattle.sb_calls.specs.Rows.{standing_in};
 use crate::bus_core::BusCore;
 use crate::rows::Activity;
 use bus_words::BusCall;
-use fsw_base::AppNo;
-
-/// The longest name that a call may give, in bytes.
-const MOST_NAME_BYTES: usize = 64;
+use fsw_base::{AppNo, MAX_MESSAGE_BYTES, MAX_NAME_BYTES};
 
 impl BusCore {
     /// Whether the application may make this call now, which is the condition of the call: the core serves it, it is
@@ -63,9 +60,9 @@ fn is_within(call: &BusCall<'_>) -> bool
     ensures { result ≡ is_within (call_of call.now) }
 {
     match call {
-        BusCall::Create { name, .. } => name.len() <= MOST_NAME_BYTES,
-        BusCall::Find { name } => name.len() <= MOST_NAME_BYTES,
-        BusCall::Transmit { bytes, .. } => bytes.len() <= 65542,
+        BusCall::Create { name, .. } => name.len() <= MAX_NAME_BYTES,
+        BusCall::Find { name } => name.len() <= MAX_NAME_BYTES,
+        BusCall::Transmit { bytes, .. } => bytes.len() <= MAX_MESSAGE_BYTES as usize,
         _ => true,
     }
 }

@@ -5,7 +5,7 @@ ghost use Rattle.script_words.specs.Readings.{Reads, Gives};
 ghost use Rattle.script_words.specs.Text.{words_of};
 
 use crate::line::Line;
-use fsw_base::{FaultKind, Scope};
+use fsw_base::{FaultKind, MAX_MESSAGE_BYTES, Scope};
 use script_words::counts::{one, one_or_two, three, three_or_four, two, two_to_four};
 use script_words::numbers::{byte_within, is_hex, number, pipe, short_within, within};
 use script_words::text::is_same;
@@ -174,7 +174,7 @@ fn sent(id: u32, size: u32, fill: u32, inc: bool) -> Result<Line, FaultKind>
     ensures { Reads (λ line. line) result (sent id size fill inc) }
 {
     let id = short_within(id)?;
-    let size = within(7, 65542, size)?;
+    let size = within(7, MAX_MESSAGE_BYTES, size)?;
     let fill = byte_within(fill)?;
     Ok(Line::Send {
         id,

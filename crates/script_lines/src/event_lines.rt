@@ -12,9 +12,12 @@ use arrayvec::ArrayVec;
 use fsw_base::{EventKind, FaultKind, FilterList, MAX_FILTERS};
 use script_words::counts::{few, next, none, one};
 use script_words::numbers::{number, short_within, two_numbers, within};
-use script_words::text::{first_word, is_same, trimmed};
+use script_words::text::{first_word, is_same, trimmed_text};
 use script_words::{ByteText, LineFail};
 use std::alloc::Global;
+
+// How many bytes an event text may have.
+const MAX_EVENT_TEXT: usize = 200;
 
 /// The first word of a line of events or of the bus's figures.
 #[derive(Clone, Copy)]
@@ -138,7 +141,7 @@ fn two_and_text(rest: &[u8]) -> Result<(&[u8], &[u8], &[u8]), FaultKind>
         None => Err(FaultKind::WrongCount),
         Some((first, rest)) => match first_word(rest) {
             None => Err(FaultKind::WrongCount),
-            Some((second, rest)) => Ok((first, second, trimmed(rest))),
+            Some((second, rest)) => Ok((first, second, trimmed_text(rest))),
         },
     }
 }
@@ -166,7 +169,7 @@ fn kind(number: u32) -> Result<EventKind, FaultKind>
 fn text_within(alloc: Global, text: &[u8]) -> Result<ByteText, LineFail>
     ensures { Gives (λ kept. kept) result (text_of text.now) }
 {
-    if text.len() <= 200 {
+    if text.len() <= MAX_EVENT_TEXT {
         Ok(ByteText::new(alloc, text)?)
     } else {
         Err(LineFail::Fault(FaultKind::OutOfRange))

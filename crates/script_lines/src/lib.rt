@@ -32,5 +32,6 @@ pub use call_lines::{CallWord, call_line, call_word};
 pub use event_lines::EventWord;
 pub use line::{BoxedRules, Line, MAX_RULES, Rule, RuleList};
 pub use memory_lines::MemoryWord;
+pub use script_words::numbers::REGISTERS;
 pub use script_words::{ByteText, Content};
 pub use table_lines::TableWord;

@@ -8,7 +8,7 @@ ghost use Rattle.script_lines.specs.MemoryLines.{memory_line_of, memory_word};
 
 use crate::bus_lines::hex_word;
 use crate::line::Line;
-use fsw_base::FaultKind;
+use fsw_base::{FaultKind, MAX_MESSAGE_BYTES};
 use script_words::counts::{one, one_or_two, three, two};
 use script_words::numbers::{buffer, byte_within, grant, number, pool, short_within, within};
 use script_words::text::is_same;
@@ -74,7 +74,7 @@ fn alloc_line(rest: &[u8]) -> Result<Line, FaultKind>
     let (register, size) = two(rest)?;
     let buf = buffer(register)?;
     let size = number(size)?;
-    let size = within(0, 65542, size)?;
+    let size = within(0, MAX_MESSAGE_BYTES, size)?;
     Ok(Line::Allocate { buf, size })
 }
 

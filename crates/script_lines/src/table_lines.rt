@@ -9,7 +9,7 @@ ghost use Rattle.script_lines.specs.TableLines.{table_line_of, table_word, shown
 
 use crate::line::{BoxedRules, Line, MAX_RULES, Rule, RuleList};
 use arrayvec::ArrayVec;
-use fsw_base::FaultKind;
+use fsw_base::{FaultKind, MAX_TABLE_BYTES};
 use script_words::counts::{few, next_two, one, three, two};
 use script_words::numbers::{number, pipe, table, three_numbers, within};
 use script_words::text::{first_word, is_same};
@@ -219,7 +219,7 @@ fn load_within(
 ) -> Result<(u32, u32, Content), LineFail>
     ensures { Gives (λ x. x) result (placed handle place word.now filling) }
 {
-    let offset = within(0, 65536, place)?;
+    let offset = within(0, MAX_TABLE_BYTES, place)?;
     let content = content(alloc, word, filling)?;
     Ok((handle, offset, content))
 }

@@ -4,7 +4,7 @@ ghost use Rattle.script_words.specs.Content.{content_len};
 ghost use Rattle.script_settings.specs.Accounts.{waits_of, buffers_of, sizes_after};
 
 use fsw_base::Budget;
-use script_lines::{Content, Line};
+use script_lines::{Content, Line, REGISTERS};
 
 /// What the call lines of one application take, counted line by line in their order.
 #[derive(Drop)]
@@ -19,7 +19,7 @@ pub struct Account {
     pub buffers: u32,
     /// For each register of buffers, `b0` to `b63`, the size in bytes that its latest `alloc` asked
     /// for; 0 before its first.
-    pub sizes: [u32; 64],
+    pub sizes: [u32; REGISTERS],
 }
 
 // How many bytes a content has.
@@ -58,7 +58,7 @@ fn buffers(line: &Line) -> u32
 
 // Notes the size that an alloc asks for.
 #[tactic(auto, unfolding(crate::specs::Accounts::sizes_after))]
-fn note_size(sizes: &mut [u32; 64], line: &Line)
+fn note_size(sizes: &mut [u32; REGISTERS], line: &Line)
     ensures { sizes.new ≡ sizes_after sizes.old line.now }
 {
     match line {
@@ -68,10 +68,10 @@ fn note_size(sizes: &mut [u32; 64], line: &Line)
 }
 
 // Writes a register's size, where there is that register.
-fn set_size(sizes: &mut [u32; 64], buf: u32, size: u32)
+fn set_size(sizes: &mut [u32; REGISTERS], buf: u32, size: u32)
     ensures { sizes.new ≡ slice_set sizes.old buf size }
 {
-    if buf < 64 {
+    if buf < REGISTERS as u32 {
         sizes[buf as usize] = size;
     }
 }
@@ -88,7 +88,7 @@ impl Account {
             waits: 0,
             bytes: 0,
             buffers: 0,
-            sizes: [0; 64],
+            sizes: [0; REGISTERS],
         }
     }
 
@@ -96,7 +96,7 @@ impl Account {
     fn size_of(&self, buf: u32) -> u32
         ensures { result ≡ slice_index self.now.sizes buf }
     {
-        if buf < 64 {
+        if buf < REGISTERS as u32 {
             self.sizes[buf as usize]
         } else {
             0

@@ -13,6 +13,9 @@ ghost use Rattle.fsw_base.specs.declared.script_faults.FaultKind.TheVariants.{Ba
 
 use fsw_base::FaultKind;
 
+/// How many registers there are of a kind, except of memory pools: `p0` to `p63` and so on.
+pub const REGISTERS: usize = 64;
+
 // Where a value stops growing: past all numbers of a script.
 const CAP: u64 = 4_294_967_296;
 
@@ -247,7 +250,7 @@ pub fn three_numbers(word: &[u8]) -> Result<(u32, u32, u32), FaultKind>
 pub fn pipe(word: &[u8]) -> Result<u32, FaultKind>
     ensures { Reads (λ n. n) result (pipe_of word.now) }
 {
-    register(b'p', 64, word)
+    register(b'p', REGISTERS as u32, word)
 }
 
 /// The number of a buffer's register, `b0` to `b63`.
@@ -258,7 +261,7 @@ pub fn pipe(word: &[u8]) -> Result<u32, FaultKind>
 pub fn buffer(word: &[u8]) -> Result<u32, FaultKind>
     ensures { Reads (λ n. n) result (buffer_of word.now) }
 {
-    register(b'b', 64, word)
+    register(b'b', REGISTERS as u32, word)
 }
 
 /// The number of a memory pool's register, `q0` to `q7`.
@@ -280,7 +283,7 @@ pub fn pool(word: &[u8]) -> Result<u32, FaultKind>
 pub fn grant(word: &[u8]) -> Result<u32, FaultKind>
     ensures { Reads (λ n. n) result (grant_of word.now) }
 {
-    register(b'm', 64, word)
+    register(b'm', REGISTERS as u32, word)
 }
 
 /// The number of a table handle's register, `t0` to `t63`.
@@ -291,7 +294,7 @@ pub fn grant(word: &[u8]) -> Result<u32, FaultKind>
 pub fn table(word: &[u8]) -> Result<u32, FaultKind>
     ensures { Reads (λ n. n) result (table_of word.now) }
 {
-    register(b't', 64, word)
+    register(b't', REGISTERS as u32, word)
 }
 
 /// The number as a byte, where it is at most 255.

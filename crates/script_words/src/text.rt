@@ -142,7 +142,7 @@ fn blanks_behind(text: &[u8]) -> usize
 }
 
 /// The text without the spaces and tabs round it.
-pub fn trimmed(text: &[u8]) -> &[u8]
+pub fn trimmed_text(text: &[u8]) -> &[u8]
     ensures { result.now ≡ trimmed text.now }
 {
     let text = from_word(text);

@@ -9,7 +9,7 @@ use crate::content::{ByteText, Content};
 use crate::fail::LineFail;
 use crate::numbers::{is_hex, two_numbers, within};
 use crate::text::is_same;
-use fsw_base::{FaultKind, Scope};
+use fsw_base::{FaultKind, MAX_NAME_BYTES, MAX_TABLE_BYTES, Scope};
 use std::alloc::Global;
 
 /// The name that a word gives; a hyphen alone is the empty name.
@@ -23,7 +23,7 @@ pub fn name(alloc: Global, word: &[u8]) -> Result<ByteText, LineFail>
     if is_same(word, b"-") {
         return Ok(ByteText::new(alloc, &[])?);
     }
-    if word.len() <= 64 {
+    if word.len() <= MAX_NAME_BYTES {
         Ok(ByteText::new(alloc, word)?)
     } else {
         Err(LineFail::Fault(FaultKind::OutOfRange))
@@ -120,7 +120,7 @@ pub fn content(alloc: Global, word: &[u8], filling: Option<(u32, u32)>) -> Resul
             Ok(Content::Hex(bytes))
         }
         Some((len, byte)) => {
-            let len = within(1, 65536, len)?;
+            let len = within(1, MAX_TABLE_BYTES, len)?;
             let byte = within(0, 255, byte)?;
             Ok(Content::Fill {
                 len,

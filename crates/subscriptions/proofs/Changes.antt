@@ -7,7 +7,7 @@ use Rattle.std.proofs.lemmas.List.Folds.{map_fixed}
 use Rattle.subscriptions.specs.declared.place.Place.{Place}
 use Rattle.subscriptions.specs.declared.words.SubNo.{SubNo}
 use Rattle.subscriptions.specs.Subs.{Subscription, goes_by}
-use Rattle.subscriptions.specs.Slots.{held_in, numbered, live_upto, number_in, number_at}
+use Rattle.subscriptions.specs.Inside.{held_in, numbered, live_upto, number_in, number_at}
 use Rattle.subscriptions.proofs.Lists.{filter_same}
 use Rattle.subscriptions.proofs.Live.{in_range, numbered_none, numbered_one, numbered_beside, live_beside}
 use Rattle.subscriptions.proofs.Found.{Stands, numbered_stand}

@@ -3,7 +3,7 @@ use Rattle.std.proofs.Common.{◌≡◌, ℕ, ◌<◌, eqb, not, List, [], ◌�
 use Rattle.subscriptions.specs.declared.place.Place.{Place}
 use Rattle.subscriptions.specs.declared.words.SubNo.{SubNo}
 use Rattle.subscriptions.specs.Subs.{goes_by}
-use Rattle.subscriptions.specs.Slots.{live_upto, held_at, AreKept}
+use Rattle.subscriptions.specs.Inside.{live_upto, held_at, AreKept}
 use Rattle.subscriptions.proofs.Changes.{live_removed}
 use Rattle.subscriptions.proofs.Kept.{held_here, held_if_live, apart}
 use Rattle.subscriptions.proofs.Live.{in_range}

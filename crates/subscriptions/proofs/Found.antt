@@ -8,7 +8,7 @@ use Rattle.std.proofs.lemmas.List.Folds.{find-append}
 use Rattle.subscriptions.specs.declared.place.Place.{Place}
 use Rattle.subscriptions.specs.declared.words.SubNo.{SubNo}
 use Rattle.subscriptions.specs.Subs.{Subscription, goes_by}
-use Rattle.subscriptions.specs.Slots.{held_in, numbered, live_upto, number_at}
+use Rattle.subscriptions.specs.Inside.{held_in, numbered, live_upto, number_at}
 use Rattle.subscriptions.proofs.Lists.{find_none}
 use Rattle.subscriptions.proofs.Live.{numbered_one}
 use Rattle.subscriptions.proofs.Numbers.{zero_more, equal, both_equal, one_differs}

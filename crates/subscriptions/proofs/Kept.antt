@@ -9,7 +9,7 @@ use Rattle.subscriptions.specs.declared.place.Place.{Place}
 use Rattle.subscriptions.specs.declared.words.SubNo.{SubNo}
 use Rattle.subscriptions.specs.declared.words.Verdict.TheVariants.{Inside, OverLimit}
 use Rattle.subscriptions.specs.Subs.{Subscription, Subscribed, goes_by, live_at, verdict_at, verdict_of}
-use Rattle.subscriptions.specs.Slots.{held_in, live_upto, number_in, number_at, held_at, AreFree, AreKept}
+use Rattle.subscriptions.specs.Inside.{held_in, live_upto, number_in, number_at, held_at, AreFree, AreKept}
 use Rattle.subscriptions.proofs.Found.{StandsUpto, live_stand, find_live, find_ended}
 use Rattle.subscriptions.proofs.Unused.{last_free}
 use Rattle.subscriptions.proofs.Numbers.{equal, differ}

@@ -2,7 +2,7 @@
 use Rattle.std.proofs.Common.{◌≡◌, ◌≢◌, ℕ, zero, suc, ◌+◌, ◌<◌, ◌≤◌, eqb, cond, true, List, [], ◌∷◌, ◌++◌, length, get_or, set, Option, Some, None, refl, ap, ◌∙◌, arith, eq-eqb}
 use Rattle.std.proofs.lemmas.Bool.Decides.{nat_tests}
 use Rattle.subscriptions.specs.declared.place.Place.{Place}
-use Rattle.subscriptions.specs.Slots.{held_in, numbered, live_upto, number_in, number_at}
+use Rattle.subscriptions.specs.Inside.{held_in, numbered, live_upto, number_in, number_at}
 use Rattle.subscriptions.proofs.Numbers.{differ}
 
 -- no slot has the number

@@ -2,7 +2,7 @@
 use Rattle.std.proofs.Common.{◌≡◌, ℕ, zero, suc, ◌+◌, ◌<◌, List, length, get_or, replicate, Option, None, is_some, false, refl, ap, arith}
 use Rattle.std.proofs.lemmas.List.{length-replicate}
 use Rattle.subscriptions.specs.declared.place.Place.{Place}
-use Rattle.subscriptions.specs.Slots.{number_in, number_at, AreKept}
+use Rattle.subscriptions.specs.Inside.{number_in, number_at, AreKept}
 
 abbrev nothing : (X : Type 0) → Option X
 nothing X = None

@@ -4,7 +4,7 @@ use Rattle.std.proofs.lemmas.Bool.{cases_eq}
 use Rattle.std.proofs.lemmas.Bool.Decides.{nat_tests}
 use Rattle.std.proofs.lemmas.List.{get_or_past, length-set}
 use Rattle.subscriptions.specs.declared.place.Place.{Place}
-use Rattle.subscriptions.specs.Slots.{IsTop, with_waiting}
+use Rattle.subscriptions.specs.Inside.{IsTop, with_waiting}
 
 at_or_past : (n k : ℕ) → (n ≤ k) ⊎ (k < n)
 at_or_past n k = by_test (leb n k) refl

@@ -3,7 +3,7 @@ use Rattle.std.proofs.Common.{◌≡◌, ◌≢◌, ℕ, ◌<◌, ◌⊎◌, tru
 use Rattle.std.proofs.lemmas.Bool.{cases_eq}
 use Rattle.std.proofs.lemmas.List.{length-set, length_push, get_or_push, get_or_append_left}
 use Rattle.subscriptions.specs.declared.place.Place.{Place}
-use Rattle.subscriptions.specs.Slots.{AreFree}
+use Rattle.subscriptions.specs.Inside.{AreFree}
 
 -- the slot named last is free
 pub last_free : (slots : List (Option Place)) (free : List ℕ) (slot : ℕ) → AreFree slots (free ++ slot ∷ []) → (slot < length slots) × (get_or slots slot None ≡ None)

@@ -3,7 +3,7 @@ use Rattle.std.proofs.Common.{◌≡◌, ◌≢◌, ℕ, suc, ◌+◌, ◌<◌, 
 use Rattle.std.proofs.lemmas.Bool.{cases_eq}
 use Rattle.std.proofs.lemmas.List.{length-set, length_push}
 use Rattle.subscriptions.specs.declared.place.Place.{Place}
-use Rattle.subscriptions.specs.Slots.{held_in, live_upto, number_in, number_at, with_waiting, AreKept}
+use Rattle.subscriptions.specs.Inside.{held_in, live_upto, number_in, number_at, with_waiting, AreKept}
 use Rattle.subscriptions.proofs.Changes.{live_added, live_shorter}
 use Rattle.subscriptions.proofs.Live.{in_range}
 use Rattle.subscriptions.proofs.Unused.{last_free, free_taken, free_given}

@@ -4,7 +4,7 @@ use Rattle.std.proofs.lemmas.List.{length-set, length-map}
 use Rattle.subscriptions.specs.declared.place.Place.{Place}
 use Rattle.subscriptions.specs.declared.words.SubNo.{SubNo}
 use Rattle.subscriptions.specs.Subs.{Subscription, Subscribed, goes_by, live_at, with_change}
-use Rattle.subscriptions.specs.Slots.{held_in, live_upto, held_at, with_waiting, AreKept}
+use Rattle.subscriptions.specs.Inside.{held_in, live_upto, held_at, with_waiting, AreKept}
 use Rattle.subscriptions.proofs.Changes.{live_changed}
 use Rattle.subscriptions.proofs.Kept.{held_here, apart}
 use Rattle.subscriptions.proofs.Lists.{map_none}

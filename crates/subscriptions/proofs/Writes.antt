@@ -2,7 +2,7 @@
 use Rattle.std.proofs.Common.{◌≡◌, ◌≢◌, ℕ, zero, suc, ◌<◌, ◌⊎◌, true, List, [], ◌∷◌, length, get_or, set, Option, Some, None, is_some, refl, sym, subst, inl, inr, get_or-set_same, get_or-set_other}
 use Rattle.std.proofs.lemmas.Bool.{cases_eq}
 use Rattle.subscriptions.specs.declared.place.Place.{Place}
-use Rattle.subscriptions.specs.Slots.{number_in, with_waiting}
+use Rattle.subscriptions.specs.Inside.{number_in, with_waiting}
 
 -- what holds of the slot that was written and of the others holds of each
 pub written : (slots : List (Option Place)) (slot : ℕ) (new : Option Place) → slot < length slots → (P : ℕ → Option Place → Type 0) → P slot new → ((k : ℕ) → k ≢ slot → P k (get_or slots k None)) → (k : ℕ) → P k (get_or (set slots slot new) k None)

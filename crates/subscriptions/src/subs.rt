@@ -3,7 +3,7 @@ ghost use Rattle.std.specs.Prelude.{◌≡◌, ℕ, ◌==◌, ◌+◌, ◌-◌, 
 ghost use Rattle.std.specs.List.{list_any};
 ghost use Rattle.std.specs.Option.{ForSome};
 ghost use Rattle.subscriptions.specs.Subs.{Subscribed, Subscription, live_at, row_of, verdict_at, one_more, one_fewer, with_change, without, AreInOrder};
-ghost use Rattle.subscriptions.specs.Slots.{held_at, with_waiting};
+ghost use Rattle.subscriptions.specs.Inside.{held_at, with_waiting};
 
 use crate::place::Place;
 use crate::words::{SubNo, SubRow, Verdict};
@@ -31,7 +31,7 @@ impl Model for Subs {
 
     ghost Value = { Subscribed };
 
-    ghost use Rattle.subscriptions.specs.Slots.{live_upto, AreKept, IsTop};
+    ghost use Rattle.subscriptions.specs.Inside.{live_upto, AreKept, IsTop};
 
     ghost view = { λ s. record { room = length s.slots.items; made = s.made; live = live_upto s.slots.items s.made } };
 

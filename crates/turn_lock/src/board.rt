@@ -9,7 +9,7 @@ ghost use Rattle.turn_lock.specs.Steps.{Stays, Closes};
 ghost use Rattle.turn_lock.specs.declared.view.Stage.TheVariants.{Main, Away, Waits, Has};
 
 use crate::historied::Historied;
-use crate::rule::{Cut, Draw, Glue, Look, Meet, Naming, Pass, Publish, Telling, Turns};
+use crate::rule::{Cut, Draw, Glue, Look, Meet, NamedApp, Pass, Publish, PublishedLog, Turns};
 use crate::view::View;
 use atomic_table::{Seat, Table};
 use std::alloc::{AllocError, Global};
@@ -50,7 +50,7 @@ pub(crate) struct Board<T: Historied> {
 /// The place of a seat that has passed its turn on, and the ticket that is served since, modulo
 /// 2^64. Who waits for that turn may sleep, and only `Board::wake` gives the place back; this
 /// can't be dropped, so that whoever passes a turn on wakes, and wakes afterwards.
-pub(crate) struct Passed<T: Historied> {
+pub(crate) struct PassedTurn<T: Historied> {
     // The seat's place, which waking gives back.
     place: Place<T>,
     // The ticket that is served now, modulo 2^64.
@@ -85,7 +85,7 @@ impl<T: Historied> Board<T> {
     }
 
     /// Splits a place for an application off the main one.
-    pub(crate) fn split<N: Naming>(&self, main: &mut Place<T>, app: u32) -> Place<T>
+    pub(crate) fn split<N: NamedApp>(&self, main: &mut Place<T>, app: u32) -> Place<T>
         requires app { app ≡ N.app }
         requires table { main.old.table_id ≡ self.now.table.shared.table_id }
         requires main { (main.old.me.0.stage ≡ Main) × (length main.old.me.0.apps < 16)
@@ -168,7 +168,7 @@ impl<T: Historied> Board<T> {
 
     /// Publishes the history of the value, which has so many entries more than the place has seen.
     /// The value is not back in the slot yet, so no turn takes what was not published.
-    pub(crate) fn publish<N: Telling<T::Event>>(
+    pub(crate) fn publish<N: PublishedLog<T::Event>>(
         &self,
         place: &mut Place<T>,
         told: &Snapshot<T>,
@@ -213,7 +213,7 @@ impl<T: Historied> Board<T> {
     }
 
     /// Passes the turn on to the next ticket, with the slot home again. Nobody is woken yet.
-    pub(crate) fn pass(&self, mut place: Place<T>) -> Passed<T>
+    pub(crate) fn pass(&self, mut place: Place<T>) -> PassedTurn<T>
         requires table { place.table_id ≡ self.now.table.shared.table_id }
         requires served { place.me.0.stage ≡ Has }
         requires full { (x : T) × (place.me.1 ≡ (0, Some x) ∷ []) × (T.history x ≡ place.me.0.seen)
@@ -223,7 +223,7 @@ impl<T: Historied> Board<T> {
         ensures next { result.next ≡ (place.me.0.ticket + 1) % wrap }
     {
         let served = self.serve_next(&mut place);
-        Passed {
+        PassedTurn {
             place,
             next: served.wrapping_add(1),
         }
@@ -232,10 +232,10 @@ impl<T: Historied> Board<T> {
     /// Wakes those who sleep, and gives back the place that passed its turn on. Nobody sleeps where
     /// the ticket that is served was not drawn yet: who draws it later looks later too, and finds
     /// it served.
-    pub(crate) fn wake(&self, passed: Passed<T>) -> Place<T>
+    pub(crate) fn wake(&self, passed: PassedTurn<T>) -> Place<T>
         ensures { result ≡ passed.place }
     {
-        let Passed { place, next } = passed;
+        let PassedTurn { place, next } = passed;
         if self.table.shared.peek(TICKET) != next {
             self.table.shared.wake_all(SERVING);
         }

@@ -40,11 +40,11 @@ impl<T: Historied> Play<Option<T>, View<T::Fixed, T::Event>> for Look {
 }
 
 /// The history that a publishing tells. Each call picks it.
-pub(crate) trait Telling<E> {
+pub(crate) trait PublishedLog<E> {
     ghost log: { List (ℕ × E) };
 }
 
-impl<E> Telling<E> for Brand {
+impl<E> PublishedLog<E> for Brand {
     ghost log = { [] };
 }
 
@@ -53,7 +53,8 @@ pub(crate) struct Publish<N> {
     of: PhantomData<N>,
 }
 
-impl<T: Historied, N: Telling<T::Event>> Play<Option<T>, View<T::Fixed, T::Event>> for Publish<N> {
+impl<T: Historied, N: PublishedLog<T::Event>> Play<Option<T>, View<T::Fixed, T::Event>>
+    for Publish<N> {
     ghost use Rattle.turn_lock.specs.Steps.{Publishes};
 
     ghost then = { λ _ before _ now. Publishes N.log before now };
@@ -71,20 +72,20 @@ impl<T: Historied> Play<Option<T>, View<T::Fixed, T::Event>> for Pass {
 }
 
 /// Which application a seat is split off for. Each call picks it.
-pub(crate) trait Naming {
+pub(crate) trait NamedApp {
     ghost app: { ℕ };
 }
 
-impl Naming for Brand {
+impl NamedApp for Brand {
     ghost app = { 0 };
 }
 
 /// A seat for an application is split off the main one.
-pub(crate) struct Cut<N: Naming> {
+pub(crate) struct Cut<N: NamedApp> {
     of: PhantomData<N>,
 }
 
-impl<F, E, N: Naming> Split<View<F, E>> for Cut<N> {
+impl<F, E, N: NamedApp> Split<View<F, E>> for Cut<N> {
     ghost use Rattle.turn_lock.specs.Views.{with_app, seat_view};
 
     ghost left = { λ v. with_app v N.app };

@@ -139,7 +139,7 @@ fn add_in_two_threads<'r, B: LockName + Send + Sync, R: Threads + Wait + Sync>(
 }
 
 /// Opens a lock over these bytes, shares it with two threads, closes it, and answers the pairs.
-fn shared<'r, R: Threads + Wait + Sync>(
+fn pairs_of_two_threads<'r, R: Threads + Wait + Sync>(
     rt: &R,
     alloc: Global,
     bytes: &'r mut [u8],
@@ -176,7 +176,7 @@ fn are_in_order(pairs: &[(u32, u8)]) -> bool {
 fn ten_pairs_stand_in_the_list_and_in_the_bytes(rt: HostRuntime) -> Result<(), AllocError> {
     for _ in 0..100_u32 {
         let mut bytes = [0; PAIRS];
-        let pairs = shared(&rt, rt.alloc(), &mut bytes)?;
+        let pairs = pairs_of_two_threads(&rt, rt.alloc(), &mut bytes)?;
         assert!(rt; are_in_order(&pairs));
         assert_eq!(rt; pairs.len(), PAIRS);
         for (pair, byte) in pairs.iter().zip(bytes.iter()) {

@@ -10,7 +10,7 @@ use Rattle.bucket_list.specs.Lists.{times_in, times}
 use Rattle.bucket_list.specs.Chains.{chain}
 use Rattle.bucket_list.proofs.Counts.{times_in-cons, times_in-le-times, length_few, loose_from_each, once_from_each}
 use Rattle.zero_copy.specs.Held.{AreApart, without}
-use Rattle.zero_copy.specs.Rings.{Linked, rings, owner_mark, AreHeld}
+use Rattle.zero_copy.specs.Inside.{Linked, rings, owner_mark, AreHeld}
 use Rattle.zero_copy.proofs.Links.{next_else, prev_else, chain_linked, prev_in, next_in, linked_without, linked_front, length_without, times_without, without_first, after_first, once_behind}
 
 -- as many rings as counts, and each the chain behind its anchor

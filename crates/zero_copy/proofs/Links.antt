@@ -7,7 +7,7 @@ use Rattle.bucket_list.specs.Lists.{times_in}
 use Rattle.bucket_list.specs.Chains.{chain}
 use Rattle.bucket_list.proofs.Counts.{times_in-cons}
 use Rattle.zero_copy.specs.Held.{without}
-use Rattle.zero_copy.specs.Rings.{Linked}
+use Rattle.zero_copy.specs.Inside.{Linked}
 
 -- a number that doesn't stand in a list is neither its first nor behind it
 pub not_in : (x : ℕ) (xs : List ℕ) (q : ℕ) → times_in (x ∷ xs) q ≡ 0 → (q ≡ x → ⊥) × (times_in xs q ≡ 0)

@@ -41,7 +41,7 @@ impl Model for HeldLists {
 
     ghost Value = { Held };
 
-    ghost use Rattle.zero_copy.specs.Rings.{rings, AreHeld};
+    ghost use Rattle.zero_copy.specs.Inside.{rings, AreHeld};
 
     ghost view = { λ s. record { descs = s.descs; lists = rings s.next s.descs s.counts.items } };
 

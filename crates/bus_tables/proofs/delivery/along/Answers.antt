@@ -2,7 +2,7 @@ use Rattle.std.proofs.Common.{◌≡◌, ◌+◌, drop, take, map, Some, ap, sym
 use Rattle.std.proofs.lemmas.List.{drop_all}
 use Rattle.routing.specs.Routing.{route_of, dests_at}
 use Rattle.bus_tables.specs.Rows.{deliver_rows, reached_rows}
-use Rattle.bus_tables.specs.Tied.{row_in}
+use Rattle.bus_tables.specs.Inside.{row_in}
 use Rattle.bus_tables.proofs.Along.{Walked, route_within, no_route, as_many, stands, is_live, walked_more, all_rows, all_reached, none_left}
 use Rattle.bus_tables.proofs.delivery.along.Goals as goal
 

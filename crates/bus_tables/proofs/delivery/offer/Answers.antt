@@ -6,7 +6,7 @@ use Rattle.pipe_table.specs.Table as table
 use Rattle.pipe_table.specs.Table.{Pipes, PipeRow, ignores_sender, with_item}
 use Rattle.subscriptions.specs.Subs.{Subscription, live_at, one_more, with_change}
 use Rattle.bus_tables.specs.Rows.{takes}
-use Rattle.bus_tables.specs.Tied.{AreQueued, row_in, sub_in, still}
+use Rattle.bus_tables.specs.Inside.{AreQueued, row_in, sub_in, still}
 use Rattle.bus_tables.proofs.Offers.{IsPipe, pipe_here, pipe_is, placed_is, over_is, ignored, over_limit, full, all_pass, of_pipe, taken_by, full_stays, own_number, refused, accepted, queued_more}
 use Rattle.bus_tables.proofs.OffersLists.{some_there}
 use Rattle.bus_tables.proofs.OffersSubs.{still-with_change}

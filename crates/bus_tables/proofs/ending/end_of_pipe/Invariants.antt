@@ -1,6 +1,6 @@
 -- What stays to the end is what stays now, and the tables belong together.
 use Rattle.std.proofs.Common.{◌≡◌, not, eqb, length, filter}
-use Rattle.bus_tables.specs.Tied.{AreRouted, ways_of}
+use Rattle.bus_tables.specs.Inside.{AreRouted, ways_of}
 use Rattle.bus_tables.proofs.ending.end_of_pipe.Given as goal
 
 abbrev pub invariant-loop-sub : goal.invariant-loop-sub

@@ -2,7 +2,7 @@
 use Rattle.std.proofs.Common.{◌≡◌, length, Some, ap, sym, subst, ◌∙◌, arith}
 use Rattle.subscriptions.specs.Subs.{live_at, without}
 use Rattle.routing.specs.Routing.{route_of}
-use Rattle.bus_tables.specs.Tied.{AreRouted, of_id, ways_of}
+use Rattle.bus_tables.specs.Inside.{AreRouted, of_id, ways_of}
 use Rattle.bus_tables.proofs.Endings.{at_row, route_there, is_dest, route_length, ended_ways, ended_routed, has_route}
 use Rattle.bus_tables.proofs.ending.end_subscription.Goals as goal
 use Rattle.bus_tables.proofs.ending.end_subscription.Goals.{in-Some, in_default}

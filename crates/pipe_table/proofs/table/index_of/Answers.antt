@@ -3,7 +3,7 @@ use Rattle.std.proofs.Common.{◌≡◌, ◌<◌, ◌≤◌, ◌⊎◌, inl, inr
 use Rattle.std.specs.Result.{MatchResult}
 use Rattle.std.proofs.lemmas.Bool.{cases_lt}
 use Rattle.std.proofs.lemmas.List.Sorted.{searched}
-use Rattle.pipe_table.specs.Places.{AreRising}
+use Rattle.pipe_table.specs.Inside.{AreRising}
 use Rattle.pipe_table.proofs.Filing.{rising_all}
 use Rattle.pipe_table.proofs.table.index_of.Goals as goal
 

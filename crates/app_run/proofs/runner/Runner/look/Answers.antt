@@ -1,4 +1,4 @@
-use Rattle.app_run.specs.RunnerParts.{progress_in}
+use Rattle.app_run.specs.Inside.{progress_in}
 use Rattle.app_run.proofs.TurnLaws.{looked-got, looked-time_out}
 use Rattle.app_run.proofs.runner.Runner.look.Goals as goal
 

@@ -3,10 +3,10 @@ use Rattle.std.proofs.lemmas.Option.{slice_get_within}
 use Rattle.app_script.specs.Ranges.{IsLineInRange}
 use Rattle.app_run.specs.Lines.{message_size}
 use Rattle.app_run.specs.Runners.{Progress}
-use Rattle.app_run.specs.RunnerParts.{receipts_to_come}
+use Rattle.app_run.specs.Inside.{receipts_to_come}
 use Rattle.app_script.specs.Script.{app_at}
 use Rattle.script_runs.specs.Trace.{call_of}
-use Rattle.app_run.specs.RunnerParts.{progress_in}
+use Rattle.app_run.specs.Inside.{progress_in}
 use Rattle.app_run.proofs.TurnLaws.{allowed-line, may-run, drop-next, get_at, ran-line, ran-local, waits-or-got}
 use Rattle.app_run.proofs.runner.Runner.run_next.Goals as goal
 

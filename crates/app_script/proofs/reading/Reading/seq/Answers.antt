@@ -1,7 +1,7 @@
 use Rattle.std.proofs.Common.{eqb, sym, ap, ◌∙◌, arith}
 use Rattle.std.specs.List.{list_any}
 use Rattle.script_words.specs.Text.{words_of}
-use Rattle.app_script.specs.ReadingParts.{progress_in}
+use Rattle.app_script.specs.Inside.{progress_in}
 use Rattle.app_script.proofs.PartLemmas.{seq_again, seq_more}
 use Rattle.app_script.proofs.reading.Reading.seq.Goals as goal
 

@@ -1,6 +1,6 @@
 use Rattle.std.proofs.Common.{subst}
 use Rattle.app_script.specs.Ranges.{IsInRange}
-use Rattle.app_script.specs.ScriptParts.{script_in}
+use Rattle.app_script.specs.Inside.{script_in}
 use Rattle.app_script.proofs.InRange.{in_range}
 use Rattle.app_script.proofs.script.Script.recall_ranges.Goals as goal
 

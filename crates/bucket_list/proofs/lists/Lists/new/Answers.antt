@@ -1,6 +1,6 @@
 use Rattle.std.proofs.Common.{◌∙◌, ap, arith}
 use Rattle.bucket_list.specs.Lists.{Listed}
-use Rattle.bucket_list.specs.Chains.{chains}
+use Rattle.bucket_list.specs.Inside.{chains}
 use Rattle.bucket_list.proofs.Linked.{linked-new, chains-new, room_new}
 use Rattle.bucket_list.proofs.lists.Lists.new.Goals as goal
 

@@ -1,6 +1,6 @@
 use Rattle.std.proofs.Common.{◌+◌, sym, subst}
 use Rattle.pipe_table.specs.Table.{Pipes}
-use Rattle.bus_tables.specs.Tied.{AreTied}
+use Rattle.bus_tables.specs.Inside.{AreTied}
 use Rattle.bus_tables.proofs.Makings.{queued_more}
 use Rattle.bus_tables.proofs.tables.BusTables.create_pipe.Goals as goal
 

@@ -4,7 +4,7 @@ use Rattle.fsw_base.proofs.Lists.{filter-map}
 use Rattle.pipe_table.specs.Table.{Pipes, without_row}
 use Rattle.routing.specs.Routing.{Routing}
 use Rattle.subscriptions.specs.Subs.{Subscribed}
-use Rattle.bus_tables.specs.Tied.{AreQueued, row_in, sub_in}
+use Rattle.bus_tables.specs.Inside.{AreQueued, row_in, sub_in}
 use Rattle.bus_tables.proofs.Ties.{seen_left}
 use Rattle.bus_tables.proofs.Releases.{queued_removed}
 use Rattle.bus_tables.proofs.tables.BusTables.delete_pipe.Goals as goal

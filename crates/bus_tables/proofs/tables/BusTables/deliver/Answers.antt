@@ -2,7 +2,7 @@ use Rattle.std.proofs.Common.{map, ap, ◌∙◌}
 use Rattle.bus_words.specs.Bus.{route}
 use Rattle.bus_tables.specs.Rows.{deliver_rows}
 use Rattle.bus_tables.specs.Tables.{Tables}
-use Rattle.bus_tables.specs.Tied.{row_in, sub_in}
+use Rattle.bus_tables.specs.Inside.{row_in, sub_in}
 use Rattle.bus_tables.proofs.Takings.{tables_after, tied_after}
 use Rattle.bus_tables.proofs.tables.BusTables.deliver.Goals as goal
 

@@ -2,7 +2,7 @@ use Rattle.std.proofs.Common.{ap, sym, ◌∙◌}
 use Rattle.std.specs.Option.{option_map}
 use Rattle.bus_tables.specs.Rows.{last_row_item}
 use Rattle.bus_tables.specs.Tables.{Tables}
-use Rattle.bus_tables.specs.Tied.{item_in}
+use Rattle.bus_tables.specs.Inside.{item_in}
 use Rattle.bus_tables.proofs.Readers.{last_owned, last_foreign}
 use Rattle.bus_tables.proofs.tables.BusTables.last.Goals as goal
 

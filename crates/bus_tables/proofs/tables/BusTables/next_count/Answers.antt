@@ -3,7 +3,7 @@ use Rattle.fsw_base.specs.Starts.{start_of}
 use Rattle.routing.specs.Routing.{Routing, route_at}
 use Rattle.bus_tables.specs.Rows.{RouteRow, has_way, counted_in, counted_on}
 use Rattle.bus_tables.specs.Tables.{Tables}
-use Rattle.bus_tables.specs.Tied.{tables_in, AreTied}
+use Rattle.bus_tables.specs.Inside.{tables_in, AreTied}
 use Rattle.bus_tables.proofs.Counting.{some_way, found, routed_counted}
 use Rattle.bus_tables.proofs.tables.BusTables.next_count.Goals as goal
 

@@ -2,7 +2,7 @@ use Rattle.std.proofs.Common.{ap, ◌∙◌}
 use Rattle.std.specs.Option.{option_map}
 use Rattle.bus_tables.specs.Rows.{oldest_item}
 use Rattle.bus_tables.specs.Tables.{Tables}
-use Rattle.bus_tables.specs.Tied.{item_in}
+use Rattle.bus_tables.specs.Inside.{item_in}
 use Rattle.bus_tables.proofs.Readers.{oldest_there}
 use Rattle.bus_tables.proofs.tables.BusTables.oldest.Goals as goal
 

@@ -2,7 +2,7 @@ use Rattle.std.proofs.Common.{eqb, count_by, ap, arith}
 use Rattle.fsw_base.proofs.Lists.{count_by-map}
 use Rattle.bus_tables.specs.Rows.{RouteRow}
 use Rattle.bus_tables.specs.Tables.{Tables}
-use Rattle.bus_tables.specs.Tied.{way_in}
+use Rattle.bus_tables.specs.Inside.{way_in}
 use Rattle.bus_tables.proofs.tables.BusTables.recall_routes.Goals as goal
 
 pub returns : goal.returns

@@ -2,7 +2,7 @@ use Rattle.std.proofs.Common.{List, ap, sym, ◌∙◌, subst, refl}
 use Rattle.pipe_table.specs.Table.{Pipes, with_bits}
 use Rattle.bus_tables.specs.Rows.{Row, with_row, row_with_bits}
 use Rattle.bus_tables.specs.Tables.{Tables}
-use Rattle.bus_tables.specs.Tied.{tables_in, AreTied}
+use Rattle.bus_tables.specs.Inside.{tables_in, AreTied}
 use Rattle.bus_tables.proofs.Makings.{queued_changed, bits_keep, rows_changed}
 use Rattle.bus_tables.proofs.tables.BusTables.set_bits.Goals as goal
 

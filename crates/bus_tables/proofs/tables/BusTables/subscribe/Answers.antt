@@ -9,7 +9,7 @@ use Rattle.routing.specs.Dests.{last_node}
 use Rattle.routing.specs.Routing.{Routing, dests_at, with_dests}
 use Rattle.bus_tables.specs.Rows.{Row, has_way, with_route}
 use Rattle.bus_tables.specs.Tables.{Tables}
-use Rattle.bus_tables.specs.Tied.{way_in, tables_in, AreTied}
+use Rattle.bus_tables.specs.Inside.{way_in, tables_in, AreTied}
 use Rattle.bus_tables.proofs.Readers.{way_there}
 use Rattle.bus_tables.proofs.Counting.{found}
 use Rattle.bus_tables.proofs.MakingsRouted.{leads, dests_few, room_left, taken, routed_more, queued_more, live_found, none_tied, seen_more}

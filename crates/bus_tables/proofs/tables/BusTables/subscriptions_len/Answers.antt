@@ -1,7 +1,7 @@
 use Rattle.std.proofs.Common.{length, ap, sym, ◌∙◌}
 use Rattle.std.proofs.lemmas.List.{length-map}
 use Rattle.bus_tables.specs.Tables.{Tables}
-use Rattle.bus_tables.specs.Tied.{sub_in}
+use Rattle.bus_tables.specs.Inside.{sub_in}
 use Rattle.bus_tables.proofs.tables.BusTables.subscriptions_len.Goals as goal
 
 pub returns : goal.returns

@@ -1,6 +1,6 @@
 use Rattle.std.proofs.Common.{refl, ap, sym, ◌∙◌, subst}
 use Rattle.subscriptions.specs.Subs.{one_fewer}
-use Rattle.bus_tables.specs.Tied.{still, AreQueued}
+use Rattle.bus_tables.specs.Inside.{still, AreQueued}
 use Rattle.bus_tables.proofs.OffersSubs.{still-with_change}
 use Rattle.bus_tables.proofs.Takings.{Leaves, none_taken, one_waits, one_taken, taken_tied, taken_tables}
 use Rattle.pipe_table.specs.Table as table

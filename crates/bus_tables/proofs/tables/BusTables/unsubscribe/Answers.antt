@@ -4,7 +4,7 @@ use Rattle.bus_words.specs.Bus.{route}
 use Rattle.routing.specs.Routing.{Routing}
 use Rattle.subscriptions.specs.Subs.{Subscribed}
 use Rattle.bus_tables.specs.Tables.{Tables}
-use Rattle.bus_tables.specs.Tied.{AreQueued, of_id, sub_in, ties}
+use Rattle.bus_tables.specs.Inside.{AreQueued, of_id, sub_in, ties}
 use Rattle.bus_tables.proofs.EndingsLists.{found_passes}
 use Rattle.bus_tables.proofs.Ties.{tied_one, tied_live, without_tied, none_tied, tied_id, route_seen, queued_left, seen_left}
 use Rattle.bus_tables.proofs.tables.BusTables.unsubscribe.Goals as goal

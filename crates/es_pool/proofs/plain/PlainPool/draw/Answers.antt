@@ -1,7 +1,7 @@
 use Rattle.std.proofs.Common.{◌≡◌, ◌+◌, ◌<◌, ◌∙◌, ℕ, max, length, get_or, set, ap, sym, subst, arith}
 use Rattle.std.proofs.lemmas.List.{get_or_read, get_or-set_same, length-set}
 use Rattle.fsw_base.specs.PoolAccounts.{Account, has_room_for, IsBalanced}
-use Rattle.es_pool.specs.PlainFields.{account_of}
+use Rattle.es_pool.specs.Inside.{account_of}
 use Rattle.es_pool.proofs.Accounts.{drawn}
 use Rattle.es_pool.proofs.plain.PlainPool.draw.Goals as goal
 

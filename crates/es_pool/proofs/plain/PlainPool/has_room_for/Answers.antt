@@ -1,6 +1,6 @@
 use Rattle.std.proofs.Common.{◌<◌, ◌≤◌, length, ap, arith}
 use Rattle.std.proofs.lemmas.List.{get_or_read}
-use Rattle.es_pool.specs.PlainFields.{account_of}
+use Rattle.es_pool.specs.Inside.{account_of}
 use Rattle.es_pool.proofs.Accounts.{out_few, at_most_once}
 use Rattle.es_pool.proofs.Sizes.{size_small}
 use Rattle.es_pool.proofs.plain.PlainPool.has_room_for.Goals as goal

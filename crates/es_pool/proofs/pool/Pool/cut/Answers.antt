@@ -2,7 +2,7 @@ use Rattle.std.proofs.Common.{refl, ℕ, ◌≡◌, ◌∙◌, ◌+◌, ◌-◌,
 use Rattle.std.proofs.lemmas.List.{get_or_read}
 use Rattle.std.specs.Vec.{vec_capacity}
 use Rattle.es_pool.specs.Pool.{PoolState, fits_class, free_in, out_among, rest_of}
-use Rattle.es_pool.specs.Fields.{state_of}
+use Rattle.es_pool.specs.Inside.{state_of}
 use Rattle.fsw_base.specs.PoolAccounts.{overhead}
 use Rattle.es_pool.specs.declared.blocks.CutBlock.{CutBlock}
 use Rattle.es_pool.proofs.Totals.{block}

@@ -1,7 +1,7 @@
 use Rattle.std.proofs.Common.{ℕ, ◌+◌, ◌<◌, ◌∙◌, true, false, length, get_or, set, sym, subst, ap, arith}
 use Rattle.std.proofs.lemmas.List.{get_or_default}
 use Rattle.es_pool.specs.Pool.{PoolState, Draws, Reuses}
-use Rattle.es_pool.specs.Fields.{state_of}
+use Rattle.es_pool.specs.Inside.{state_of}
 use Rattle.es_pool.specs.declared.blocks.CutBlock.{CutBlock}
 use Rattle.es_pool.proofs.Totals.{block}
 use Rattle.es_pool.proofs.Keeps.{reused_read}

@@ -1,7 +1,7 @@
 use Rattle.std.proofs.Common.{◌≡◌, ◌∙◌, ◌-◌, true, false, set, refl, ap, arith}
 use Rattle.std.proofs.lemmas.List.{get_or_read}
 use Rattle.es_pool.specs.Pool.{PoolState, is_out}
-use Rattle.es_pool.specs.Fields.{state_of}
+use Rattle.es_pool.specs.Inside.{state_of}
 use Rattle.es_pool.specs.declared.blocks.CutBlock.{CutBlock}
 use Rattle.es_pool.proofs.Totals.{block}
 use Rattle.es_pool.proofs.Keeps.{back, inside_from_out, kept_at}

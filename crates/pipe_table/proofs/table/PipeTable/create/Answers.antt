@@ -3,7 +3,7 @@ use Rattle.std.specs.List.{All}
 use Rattle.std.specs.Option.{option_to_list}
 use Rattle.std.proofs.lemmas.List.{get_or_default, length-set}
 use Rattle.pipe_table.specs.Table.{PipeRow, Pipes, new_row}
-use Rattle.pipe_table.specs.Places.{PlaceState, IsFree, AreKept, live_in}
+use Rattle.pipe_table.specs.Inside.{PlaceState, IsFree, AreKept, live_in}
 use Rattle.pipe_table.proofs.Filing.{nowhere, as_many, live_many}
 use Rattle.pipe_table.proofs.Changes.{created_live, created_kept, room_at, all_last}
 use Rattle.pipe_table.proofs.table.PipeTable.create.Goals as goal

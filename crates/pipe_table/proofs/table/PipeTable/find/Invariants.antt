@@ -1,6 +1,6 @@
 use Rattle.std.proofs.Common.{◌≡◌, find, drop}
 use Rattle.std.specs.Str.{bytes_eq}
-use Rattle.pipe_table.specs.Places.{live_in}
+use Rattle.pipe_table.specs.Inside.{live_in}
 use Rattle.pipe_table.proofs.table.PipeTable.find.Given as goal
 
 -- what is left gives what the whole does

@@ -1,5 +1,5 @@
 use Rattle.std.proofs.Common.{◌≡◌, find, drop, eqb}
-use Rattle.pipe_table.specs.Places.{live_in}
+use Rattle.pipe_table.specs.Inside.{live_in}
 use Rattle.pipe_table.proofs.table.PipeTable.first_of.Given as goal
 
 -- what is left gives what the whole does

@@ -2,7 +2,7 @@
 use Rattle.std.proofs.Common.{Bool, ap, sym, ◌∙◌, false}
 use Rattle.std.specs.Option.{option_map_or}
 use Rattle.pipe_table.specs.Table.{Pipes, place_of, pipe_row, ignores_sender}
-use Rattle.pipe_table.specs.Places.{PlaceState}
+use Rattle.pipe_table.specs.Inside.{PlaceState}
 use Rattle.pipe_table.proofs.Filing.{place_seen, stands_under, read_some}
 use Rattle.pipe_table.proofs.table.PipeTable.ignores.Goals as goal
 

@@ -1,7 +1,7 @@
 use Rattle.std.proofs.Common.{ℕ, List, [], None, length, ap, sym, subst, arith}
 use Rattle.std.specs.List.{range_with_len}
 use Rattle.std.proofs.lemmas.List.{length-replicate}
-use Rattle.pipe_table.specs.Places.{PlaceState, AreKept}
+use Rattle.pipe_table.specs.Inside.{PlaceState, AreKept}
 use Rattle.pipe_table.proofs.Searches.{kept_opening}
 use Rattle.pipe_table.proofs.table.PipeTable.new.Goals as goal
 

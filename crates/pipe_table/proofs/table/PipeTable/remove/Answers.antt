@@ -2,7 +2,7 @@ use Rattle.std.proofs.Common.{◌≡◌, ◌<◌, ℕ, List, length, set, get_or
 use Rattle.std.specs.List.{remove}
 use Rattle.std.proofs.lemmas.List.{get_or_default, get_or_read, length-set, length_push}
 use Rattle.pipe_table.specs.Table.{PipeRow, Pipes, without_row}
-use Rattle.pipe_table.specs.Places.{PlaceState, AreKept, live_in}
+use Rattle.pipe_table.specs.Inside.{PlaceState, AreKept, live_in}
 use Rattle.pipe_table.proofs.Filing.{ordered, as_many, under_index, under_none, stands_under, nowhere}
 use Rattle.pipe_table.proofs.Changes.{removed_live, removed_kept, room_at, unremoved}
 use Rattle.pipe_table.proofs.table.PipeTable.remove.Goals as goal

@@ -2,7 +2,7 @@ use Rattle.std.proofs.Common.{◌≡◌, ◌<◌, List, length, set, refl, ap, s
 use Rattle.std.specs.Option.{option_map}
 use Rattle.std.proofs.lemmas.List.{get_or_default, length-set}
 use Rattle.pipe_table.specs.Table.{PipeRow, Pipes, with_row, with_bits}
-use Rattle.pipe_table.specs.Places.{PlaceState, live_in, pipe_in}
+use Rattle.pipe_table.specs.Inside.{PlaceState, live_in, pipe_in}
 use Rattle.pipe_table.proofs.Filing.{ordered, stands_under, nowhere}
 use Rattle.pipe_table.proofs.Changes.{changed_live, changed_kept, unchanged, room_at}
 use Rattle.pipe_table.proofs.table.PipeTable.set_bits.Goals as goal

@@ -4,7 +4,7 @@ use Rattle.std.specs.Result.{IsErr}
 use Rattle.std.specs.Option.{IsSome, option_map, option_map_or}
 use Rattle.std.proofs.lemmas.List.{get_or_default, length-set}
 use Rattle.pipe_table.specs.Table.{PipeRow, Pipes, place_of, pipe_row, with_row, with_item}
-use Rattle.pipe_table.specs.Places.{PlaceState, live_in, pipe_in}
+use Rattle.pipe_table.specs.Inside.{PlaceState, live_in, pipe_in}
 use Rattle.pipe_table.proofs.Filing.{place_seen, stands_under, read_some, nowhere}
 use Rattle.pipe_table.proofs.Changes.{changed_live, changed_kept, same-with_item, room_at}
 use Rattle.pipe_table.proofs.table.PipeTable.try_put.Goals as goal

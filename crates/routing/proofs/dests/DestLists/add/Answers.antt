@@ -1,7 +1,7 @@
 use Rattle.std.proofs.Common.{◌≡◌, ◌+◌, ◌<◌, ◌∙◌, ◌++◌, ◌∷◌, [], length, get_or, set, refl, ap, sym, subst, arith}
 use Rattle.std.proofs.lemmas.List.{get_or_read, length-set}
 use Rattle.routing.specs.Dests.{DestTable, dests_in, last_node, has_node}
-use Rattle.routing.specs.Rings.{rings, dests_seen}
+use Rattle.routing.specs.Inside.{rings, dests_seen}
 use Rattle.routing.proofs.Nodes.{Changed, ring, inside, adds, taken_loose, last_inside}
 use Rattle.routing.proofs.Room.{node_left}
 use Rattle.routing.proofs.Seen.{list_inside, list_long, adds_seen}

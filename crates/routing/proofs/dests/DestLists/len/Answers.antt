@@ -1,7 +1,7 @@
 use Rattle.std.proofs.Common.{◌<◌, ◌∙◌, length, ap, sym, arith}
 use Rattle.std.proofs.lemmas.List.{get_or_read}
 use Rattle.routing.specs.Dests.{dests_in}
-use Rattle.routing.specs.Rings.{rings}
+use Rattle.routing.specs.Inside.{rings}
 use Rattle.routing.proofs.Nodes.{length-rings, length-ring}
 use Rattle.routing.proofs.Seen.{length-seen, get_or-seen, length-dests}
 use Rattle.routing.proofs.dests.DestLists.len.Goals as goal

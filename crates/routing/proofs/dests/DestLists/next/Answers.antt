@@ -1,6 +1,6 @@
 use Rattle.std.proofs.Common.{◌+◌, ◌<◌, ◌*◌, ◌∙◌, length, get_or, ap, sym, arith}
 use Rattle.routing.specs.Dests.{dests_in}
-use Rattle.routing.specs.Rings.{rings}
+use Rattle.routing.specs.Inside.{rings}
 use Rattle.routing.proofs.Links.{behind_shown, shown}
 use Rattle.routing.proofs.Nodes.{length-rings, ring, below}
 use Rattle.routing.proofs.Seen.{length-seen, get_or-seen, shown_exists, seen_room}

@@ -3,7 +3,7 @@ use Rattle.std.proofs.lemmas.List.{get_or_read}
 use Rattle.bucket_list.specs.Lists.{times_in}
 use Rattle.bucket_list.specs.Chains.{chain}
 use Rattle.routing.specs.Dests.{DestTable, dests_in, has_sub, without}
-use Rattle.routing.specs.Rings.{rings, place_before}
+use Rattle.routing.specs.Inside.{rings, place_before}
 use Rattle.routing.proofs.Links.{Has, left_of}
 use Rattle.routing.proofs.Nodes.{Changed, ring, ring_chain, below, removed, removes}
 use Rattle.routing.proofs.Seen.{list_inside, list_seen, list_long, removes_seen}

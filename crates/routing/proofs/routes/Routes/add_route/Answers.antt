@@ -4,7 +4,7 @@ use Rattle.std.specs.FinMap as map
 use Rattle.std.proofs.lemmas.List.{length-map}
 use Rattle.fsw_base.specs.Starts.{start_of}
 use Rattle.fsw_base.specs.declared.statuses.SbStatus.TheVariants.{MaxMsgsMet}
-use Rattle.routing.specs.Numbered.{AreNumbered, AreStarted}
+use Rattle.routing.specs.Inside.{AreNumbered, AreStarted}
 use Rattle.routing.proofs.Numbers.{long, number_there, numbered_push, route_after, refused, accepted, started_push}
 use Rattle.routing.proofs.routes.Routes.add_route.Goals as goal
 

@@ -5,7 +5,7 @@ use Rattle.std.specs.List.{list_any}
 use Rattle.std.proofs.lemmas.List.{length-set}
 use Rattle.subscriptions.specs.declared.place.Place.{Place}
 use Rattle.subscriptions.specs.Subs.{Subscribed, Subscription}
-use Rattle.subscriptions.specs.Slots.{live_upto, AreKept}
+use Rattle.subscriptions.specs.Inside.{live_upto, AreKept}
 use Rattle.subscriptions.proofs.Upkeep.{kept_added, live_grown}
 use Rattle.subscriptions.proofs.Kept.{not_in_use}
 use Rattle.subscriptions.proofs.Top.{top_used}

@@ -3,7 +3,7 @@ use Rattle.std.proofs.Common.{ap, sym, ◌∙◌}
 use Rattle.std.specs.Option.{option_map_or}
 use Rattle.subscriptions.specs.declared.words.Verdict.TheVariants.{Inside}
 use Rattle.subscriptions.specs.Subs.{live_at, verdict_of}
-use Rattle.subscriptions.specs.Slots.{held_at, held_in}
+use Rattle.subscriptions.specs.Inside.{held_at, held_in}
 use Rattle.subscriptions.proofs.Kept.{live_found, live_ended, over_limit, inside}
 use Rattle.subscriptions.proofs.subs.Subs.admit.Goals as goal
 

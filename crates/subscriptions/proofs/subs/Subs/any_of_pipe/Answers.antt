@@ -3,7 +3,7 @@ use Rattle.std.proofs.Common.{◌<◌, length, nat_eq, Some, None, option_map, r
 use Rattle.std.specs.List.{list_any}
 use Rattle.std.proofs.lemmas.List.{get_or_read}
 use Rattle.subscriptions.specs.Subs.{live_at, goes_by}
-use Rattle.subscriptions.specs.Slots.{live_upto, held_in}
+use Rattle.subscriptions.specs.Inside.{live_upto, held_in}
 use Rattle.subscriptions.proofs.Kept.{live_in, none_of_pipe}
 use Rattle.subscriptions.proofs.Lists.{any_from_find}
 use Rattle.subscriptions.proofs.Top.{held_below}

@@ -1,7 +1,7 @@
 -- The slot of a live subscription holds it.
 use Rattle.std.proofs.Common.{option_map, IsSome, subst, sym, ap, ◌∙◌}
 use Rattle.subscriptions.specs.Subs.{live_at, row_of}
-use Rattle.subscriptions.specs.Slots.{held_at}
+use Rattle.subscriptions.specs.Inside.{held_at}
 use Rattle.subscriptions.proofs.Kept.{live_found, held_if_live}
 use Rattle.subscriptions.proofs.subs.Subs.at.Goals as goal
 

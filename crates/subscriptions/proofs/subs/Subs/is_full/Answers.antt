@@ -1,7 +1,7 @@
 -- No slot is free exactly where as many subscriptions are live as there are slots.
 use Rattle.std.proofs.Common.{◌≡◌, ◌+◌, ℕ, eqb, length, vec_len, ap, ◌∙◌, arith}
 use Rattle.std.proofs.lemmas.Bool.Decides.{nat_tests}
-use Rattle.subscriptions.specs.Slots.{live_upto}
+use Rattle.subscriptions.specs.Inside.{live_upto}
 use Rattle.subscriptions.proofs.subs.Subs.is_full.Goals as goal
 
 none_left : (free live all : ℕ) → free + live ≡ all → eqb free 0 ≡ eqb live all

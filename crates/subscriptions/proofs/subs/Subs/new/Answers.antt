@@ -1,7 +1,7 @@
 -- Every slot is free.
 use Rattle.std.proofs.Common.{◌≡◌, length, None, sym, ap, subst, ◌∙◌, arith}
 use Rattle.std.proofs.lemmas.List.{length-replicate}
-use Rattle.subscriptions.specs.Slots.{AreKept}
+use Rattle.subscriptions.specs.Inside.{AreKept}
 use Rattle.subscriptions.proofs.Opened.{kept_opened}
 use Rattle.subscriptions.proofs.Top.{top_opened}
 use Rattle.subscriptions.proofs.subs.Subs.new.Goals as goal

@@ -2,7 +2,7 @@
 use Rattle.std.proofs.Common.{◌≡◌, length, set, None, IsSome, ap, sym, subst, ◌∙◌, arith}
 use Rattle.std.proofs.lemmas.List.{length-set}
 use Rattle.subscriptions.specs.Subs.{Subscribed, live_at, without}
-use Rattle.subscriptions.specs.Slots.{live_upto, AreKept}
+use Rattle.subscriptions.specs.Inside.{live_upto, AreKept}
 use Rattle.subscriptions.proofs.Ended.{ended}
 use Rattle.subscriptions.proofs.Top.{top_freed}
 use Rattle.subscriptions.proofs.subs.Subs.remove.Goals as goal

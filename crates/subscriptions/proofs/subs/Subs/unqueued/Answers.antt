@@ -2,7 +2,7 @@
 use Rattle.std.proofs.Common.{◌≡◌, ◌-◌, length, get_or, None, refl, sym, ap, subst, ◌∙◌, arith}
 use Rattle.std.proofs.lemmas.List.{length-set}
 use Rattle.subscriptions.specs.Subs.{live_at, one_fewer, with_change}
-use Rattle.subscriptions.specs.Slots.{held_at, held_in, with_waiting, IsTop}
+use Rattle.subscriptions.specs.Inside.{held_at, held_in, with_waiting, IsTop}
 use Rattle.subscriptions.proofs.Kept.{live_found, live_ended}
 use Rattle.subscriptions.proofs.Top.{top_waiting}
 use Rattle.subscriptions.proofs.Waiting.{shown_waiting, kept_after, unchanged, held_inside}

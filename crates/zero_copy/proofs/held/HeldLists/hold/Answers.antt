@@ -2,7 +2,7 @@ use Rattle.std.proofs.Common.{◌≡◌, ◌+◌, ◌-◌, ◌<◌, ◌∙◌, �
 use Rattle.std.proofs.lemmas.List.{get_or_read, length-set}
 use Rattle.bucket_list.specs.Lists.{times}
 use Rattle.zero_copy.specs.Held.{Held, held_by}
-use Rattle.zero_copy.specs.Rings.{rings}
+use Rattle.zero_copy.specs.Inside.{rings}
 use Rattle.zero_copy.proofs.Changes.{length-rings, hold_read, hold_fits, first_inside}
 use Rattle.zero_copy.proofs.held.HeldLists.hold.Goals as goal
 

@@ -1,7 +1,7 @@
 use Rattle.std.proofs.Common.{◌≡◌, ◌-◌, ◌<◌, ◌∙◌, [], length, get_or, ap, arith}
 use Rattle.std.proofs.lemmas.List.{get_or_read}
 use Rattle.bucket_list.specs.Lists.{times_in}
-use Rattle.zero_copy.specs.Rings.{rings}
+use Rattle.zero_copy.specs.Inside.{rings}
 use Rattle.zero_copy.specs.Held.{held_by}
 use Rattle.zero_copy.proofs.Changes.{length-rings, owner_test}
 use Rattle.zero_copy.proofs.held.HeldLists.holds.Goals as goal

@@ -2,7 +2,7 @@ use Rattle.std.proofs.Common.{◌≡◌, ◌-◌, ◌<◌, ◌∙◌, [], List, 
 use Rattle.std.proofs.lemmas.List.{get_or_read}
 use Rattle.bucket_list.specs.Lists.{times_in}
 use Rattle.zero_copy.specs.Held.{Held, held_by, without}
-use Rattle.zero_copy.specs.Rings.{rings}
+use Rattle.zero_copy.specs.Inside.{rings}
 use Rattle.zero_copy.proofs.Changes.{length-rings, desc_in, let_go_read, before_inside, behind_inside, some_counted}
 use Rattle.zero_copy.proofs.held.HeldLists.let_go.Goals as goal
 

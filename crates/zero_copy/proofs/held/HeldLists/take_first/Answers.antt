@@ -3,7 +3,7 @@ use Rattle.std.proofs.lemmas.List.{get_or_read, get_or-set_same, set-get_or, nil
 use Rattle.bucket_list.specs.Lists.{times_in}
 use Rattle.bucket_list.proofs.Linked.{empty_or_not}
 use Rattle.zero_copy.specs.Held.{Held, held_by, without}
-use Rattle.zero_copy.specs.Rings.{rings}
+use Rattle.zero_copy.specs.Inside.{rings}
 use Rattle.zero_copy.proofs.Links.{first_in}
 use Rattle.zero_copy.proofs.Changes.{length-rings, desc_in, first_read, without_head, once_listed}
 use Rattle.zero_copy.proofs.held.HeldLists.take_first.Goals as goal

@@ -1,9 +1,15 @@
--- What the links stand for: each list of destinations with its anchor is a ring.
-use Rattle.std.specs.Prelude.{◌≡◌, ◌+◌, ◌*◌, ◌<◌, ◌≤◌, ◌^◌, ◌==◌, nat_lt, ℕ, if◌then◌else◌, List, [], ◌∷◌, length, map, sum_by, slice_index, slice_index_or}
+-- What the links, the tables of destinations and the routes stand for.
+use Rattle.std.specs.Prelude.{◌≡◌, ◌+◌, ◌*◌, ◌<◌, ◌≤◌, ◌^◌, ◌==◌, nat_lt, ℕ, if◌then◌else◌, List, [], ◌∷◌, length, map, sum_by, slice_index, slice_index_or, count_by, Option, Some, None}
 use Rattle.bucket_list.specs.Lists.{Listed, listed_at, times_in, times}
 use Rattle.bucket_list.specs.Chains.{chain}
 use Rattle.subscriptions.specs.declared.words.SubNo.{SubNo}
-use Rattle.routing.specs.Dests.{Dest, is_sub}
+use Rattle.routing.specs.Dests.{Dest, is_sub, DestTable, dests_in}
+use Rattle.std.specs.FinMap as finmap
+use Rattle.fsw_base.specs.Starts.{start_of}
+use Rattle.msgid_map.specs.Map.{IdRoutes}
+use Rattle.routing.specs.Routing.{Route}
+
+-- Destinations: each list with its anchor is a ring. --
 
 -- from one place over these to another, each linked to the next
 abbrev pub Linked : List ℕ → ℕ → List ℕ → ℕ → Type 0
@@ -65,3 +71,37 @@ pub record Takes (before after : Listed) (node : ℕ) : Type 0 where
   pub made : after.nodes ≤ before.room
   pub taken : (other : ℕ) → times_in (listed_at after 0) other + (if node == other then 1 else 0) + made_before before.nodes other ≡ times_in (listed_at before 0) other + made_before after.nodes other
   pub fewer : length (listed_at after 0) + 1 + before.nodes ≡ length (listed_at before 0) + after.nodes
+
+-- Routes: how their parts belong together. --
+
+-- the routes with these ids, counts and destinations
+abbrev pub routes_with : List ℕ → List ℕ → List (List Dest) → List Route
+routes_with [] counts lists = []
+routes_with (id ∷ ids) [] lists = []
+routes_with (id ∷ ids) (count ∷ counts) [] = []
+routes_with (id ∷ ids) (count ∷ counts) (dests ∷ lists) = record { id = id; counted = count; dests = dests } ∷ routes_with ids counts lists
+
+-- the place of an id among these, counted on from this number
+abbrev pub place_from : ℕ → List ℕ → ℕ → Option ℕ
+place_from number [] id = None
+place_from number (other ∷ ids) id = if other == id then Some number else place_from (number + 1) ids id
+
+-- each id is mapped to its place, no other id is mapped, and no id stands twice; there is a count and a list for each route that may be made, 0 and empty until then; counts have 14 bits
+pub record AreNumbered (numbers : IdRoutes) (ids : List ℕ) (capacity : ℕ) (counted : List ℕ) (table : DestTable) (msgids limit : ℕ) : Type 0 where
+  pub mapped : (id : ℕ) → finmap.get numbers.routes id ≡ place_from 0 ids id
+  pub once : (id : ℕ) → count_by (λ other. other == id) ids ≤ 1
+  pub room : numbers.room + length ids ≡ msgids
+  pub capacity_all : msgids ≤ capacity
+  pub counted_all : length counted ≡ msgids
+  pub lists_all : length table.lists ≡ msgids
+  pub limit_is : table.limit ≡ limit
+  pub few : msgids < 2 ^ 32
+  pub fourteen : (route : ℕ) → slice_index counted route < 16384
+  pub counted_none : (route : ℕ) → length ids ≤ route → slice_index counted route ≡ 0
+  pub dests_none : (route : ℕ) → length ids ≤ route → dests_in table route ≡ []
+
+-- beside each id stands the count at which it starts, and there is room for more
+pub record AreStarted (starts : List (ℕ × ℕ)) (ids firsts : List ℕ) (capacity msgids : ℕ) : Type 0 where
+  pub each : firsts ≡ map (start_of starts) ids
+  pub small : (route : ℕ) → slice_index firsts route < 16384
+  pub capacity_all : msgids ≤ capacity

@@ -1,7 +1,7 @@
 use Rattle.std.proofs.Common.{◌≡◌, ◌∙◌, ◌++◌, ◌∷◌, [], ℕ, map, ap, ap₂, sym, rules}
 use Rattle.turn_lock.specs.Seats.{view_of}
 use Rattle.turn_lock.proofs.Callers.{joined_in_order}
-use Rattle.turn_lock.proofs.tests.shared.Goals as goal
+use Rattle.turn_lock.proofs.tests.pairs_of_two_threads.Goals as goal
 
 pub close-requires-clause-joined : goal.close-requires-clause-joined
 close-requires-clause-joined g c =
