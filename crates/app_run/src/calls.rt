@@ -23,7 +23,8 @@ pub trait Calls {
     /// As `BusCore::create_pipe`.
     fn create_pipe(&mut self, depth: u32, name: &[u8]) -> Result<u32, SbStatus>
         requires { MayCallBus (caller self.old) (Call.Create depth name.now) }
-        ensures { Answers (caller self.old) (caller self.new) (Call.Create depth name.now) (created result) };
+        ensures { Answers (caller self.old) (caller self.new) (Call.Create depth name.now)
+            (created result) };
 
     /// Ends a pipe.
     ///
@@ -39,7 +40,8 @@ pub trait Calls {
     /// As `BusCore::set_opts`.
     fn set_opts(&mut self, pipe: u32, bits: u8) -> Result<(), SbStatus>
         requires { MayCallBus (caller self.old) (Call.SetOpts pipe bits) }
-        ensures { Answers (caller self.old) (caller self.new) (Call.SetOpts pipe bits) (done result) };
+        ensures { Answers (caller self.old) (caller self.new) (Call.SetOpts pipe bits)
+            (done result) };
 
     /// Answers a pipe's option bits.
     ///
@@ -47,7 +49,8 @@ pub trait Calls {
     /// As `BusCore::get_opts`.
     fn get_opts(&mut self, pipe: u32) -> Result<u8, SbStatus>
         requires { MayCallBus (caller self.old) (Call.GetOpts pipe) }
-        ensures { Answers (caller self.old) (caller self.new) (Call.GetOpts pipe) (bits_told result) };
+        ensures { Answers (caller self.old) (caller self.new) (Call.GetOpts pipe)
+            (bits_told result) };
 
     /// Answers the number of the pipe of this name.
     ///
@@ -71,7 +74,8 @@ pub trait Calls {
     /// As `BusCore::subscribe`.
     fn subscribe(&mut self, id: u16, pipe: u32, limit: u32, scope: Scope) -> Result<(), SbStatus>
         requires { MayCallBus (caller self.old) (Call.Subscribe id pipe limit scope) }
-        ensures { Answers (caller self.old) (caller self.new) (Call.Subscribe id pipe limit scope) (done result) };
+        ensures { Answers (caller self.old) (caller self.new) (Call.Subscribe id pipe limit scope)
+            (done result) };
 
     /// Has no more messages of this id queued on the pipe.
     ///
@@ -79,7 +83,8 @@ pub trait Calls {
     /// As `BusCore::unsubscribe`.
     fn unsubscribe(&mut self, id: u16, pipe: u32) -> Result<(), SbStatus>
         requires { MayCallBus (caller self.old) (Call.Unsubscribe id pipe) }
-        ensures { Answers (caller self.old) (caller self.new) (Call.Unsubscribe id pipe) (done result) };
+        ensures { Answers (caller self.old) (caller self.new) (Call.Unsubscribe id pipe)
+            (done result) };
 
     /// Sends a message; `inc` gives it the id's next sequence count.
     ///
@@ -87,7 +92,8 @@ pub trait Calls {
     /// As `BusCore::transmit`.
     fn transmit(&mut self, bytes: &[u8], inc: bool) -> Result<Sent, SbStatus>
         requires { MayCallBus (caller self.old) (Call.Transmit bytes.now inc) }
-        ensures { Answers (caller self.old) (caller self.new) (Call.Transmit bytes.now inc) (sent result) };
+        ensures { Answers (caller self.old) (caller self.new) (Call.Transmit bytes.now inc)
+            (sent result) };
 
     /// Takes the pipe's oldest message, and answers its number.
     ///
@@ -108,7 +114,8 @@ pub trait Calls {
     /// Looks again for a message on the pipe that the application waits on.
     fn look(&mut self) -> Pended
         requires { MayCallBus (caller self.old) (Call.Look (pipe_waited_on (caller self.old))) }
-        ensures { AnswersLook (caller self.old) (caller self.new) (pipe_waited_on (caller self.old)) result };
+        ensures { AnswersLook (caller self.old) (caller self.new) (pipe_waited_on (caller self.old))
+            result };
 
     /// The application's last call: its pipes leave with their subscriptions and messages.
     fn bus_end(&mut self)
@@ -116,9 +123,10 @@ pub trait Calls {
         ensures { Answers (caller self.old) (caller self.new) Call.End BusAnswer.Done };
 
     /// The receipt of the message that the application received last from its live pipe of this
-    /// number; None exactly where it has no such pipe, or the pipe has no last message. It is no call
-    /// of the bus, and changes nothing.
+    /// number; None exactly where it has no such pipe, or the pipe has no last message. It is no
+    /// call of the bus, and changes nothing.
     fn last_receipt(&mut self, pipe: u32) -> Option<Receipt>
-        ensures receipt { result ≡ receipt_in (state_of (caller self.old).core) (caller self.old).app pipe }
+        ensures receipt { result ≡
+            receipt_in (state_of (caller self.old).core) (caller self.old).app pipe }
         ensures same { caller self.new ≡ caller self.old };
 }

@@ -1,11 +1,13 @@
-//! Runs what a script's applications do with the software bus: each application by a [`Runner`], and
-//! all of them by [`lockstep`] in strict rotation over one bus, on one thread.
+//! Runs what a script's applications do with the software bus: each application by a [`Runner`],
+//! and all of them by [`lockstep`] in strict rotation over one bus, on one thread.
 //!
 //! It promises that the bus's history is the one that rotation makes of the script, that each
 //! application's receipts are those that its lines tell in this history, and that it ends.
 //!
 //! ```text
-//! let script = read_script(alloc, b"app A\ncreate p0 4 A\nsub 0x0801 p0\nsend 0x0801 7 1\nrecv p0\n")?;
+//! let
+//! script = read_script(alloc, b"app A\ncreate p0 4 A\nsub 0x0801 p0\nsend 0x0801 7 1\nrecv
+//! p0\n")?;
 //! let finished = lockstep(alloc, &script)?;
 //! finished.bus.journal().len()         // 5: an entry a call, and one for the end
 //! finished.receipts[0].len()           // 1: the message received

@@ -14,8 +14,8 @@ use bus_words::{BusAnswer, Call};
 use fsw_base::Scope;
 use script_lines::{Line, REGISTERS};
 
-/// Makes the call of a line, its registers filled in, and tells what it was answered; None for a line
-/// that makes no call.
+/// Makes the call of a line, its registers filled in, and tells what it was answered; None for a
+/// line that makes no call.
 #[tactic(auto, unfolding(script_runs::specs::Trace::call_of, app_script::specs::Ranges::IsLineInRange, crate::specs::Lines::message_size))]
 pub(crate) fn run_line<C: Calls>(
     calls: &mut C,
@@ -26,7 +26,8 @@ pub(crate) fn run_line<C: Calls>(
     requires may { MayRun (C.caller calls.old) (call_of registers.now line.now) }
     requires range { IsLineInRange line.now }
     requires message { message_size line.now ≤ length message.old.items }
-    ensures call { IsRun (C.caller calls.old) (C.caller calls.new) (call_of registers.now line.now) result }
+    ensures call { IsRun (C.caller calls.old) (C.caller calls.new) (call_of registers.now line.now)
+        result }
     ensures message { length message.new.items ≡ length message.old.items }
 {
     match line {
@@ -69,7 +70,8 @@ fn send<C: Calls>(
     requires most { size ≤ 65542 }
     requires room { size ≤ length message.old.items }
     requires may { MayCallBus (C.caller calls.old) (Call.Transmit (sent_message id size fill) inc) }
-    ensures call { Answers (C.caller calls.old) (C.caller calls.new) (Call.Transmit (sent_message id size fill) inc) result }
+    ensures call { Answers (C.caller calls.old) (C.caller calls.new)
+        (Call.Transmit (sent_message id size fill) inc) result }
     ensures message { length message.new.items ≡ length message.old.items }
 {
     let bytes = &mut message[..size as usize];
@@ -79,7 +81,8 @@ fn send<C: Calls>(
 
 fn create<C: Calls>(calls: &mut C, depth: u32, name: &[u8]) -> BusAnswer
     requires { MayCallBus (C.caller calls.old) (Call.Create depth name.now) }
-    ensures { Answers (C.caller calls.old) (C.caller calls.new) (Call.Create depth name.now) result }
+    ensures { Answers (C.caller calls.old) (C.caller calls.new) (Call.Create depth name.now)
+        result }
 {
     let answer = calls.create_pipe(depth, name);
     answers::number(answer)
@@ -127,7 +130,8 @@ fn name_of<C: Calls>(calls: &mut C, pipe: u32) -> BusAnswer
 
 fn subscribe<C: Calls>(calls: &mut C, id: u16, pipe: u32, limit: u32, scope: Scope) -> BusAnswer
     requires { MayCallBus (C.caller calls.old) (Call.Subscribe id pipe limit scope) }
-    ensures { Answers (C.caller calls.old) (C.caller calls.new) (Call.Subscribe id pipe limit scope) result }
+    ensures { Answers (C.caller calls.old) (C.caller calls.new) (Call.Subscribe id pipe limit scope)
+        result }
 {
     let answer = calls.subscribe(id, pipe, limit, scope);
     answers::done(answer)
@@ -143,7 +147,8 @@ fn unsubscribe<C: Calls>(calls: &mut C, id: u16, pipe: u32) -> BusAnswer
 
 fn transmit<C: Calls>(calls: &mut C, bytes: &[u8], inc: bool) -> BusAnswer
     requires { MayCallBus (C.caller calls.old) (Call.Transmit bytes.now inc) }
-    ensures { Answers (C.caller calls.old) (C.caller calls.new) (Call.Transmit bytes.now inc) result }
+    ensures { Answers (C.caller calls.old) (C.caller calls.new) (Call.Transmit bytes.now inc)
+        result }
 {
     let answer = calls.transmit(bytes, inc);
     answers::sent(answer)

@@ -20,8 +20,8 @@ use sb_calls::BusCore;
 use std::alloc::{AllocError, Global};
 use std::marker::Brand;
 
-/// What a run leaves: the bus after all applications have ended, and the receipts of each, in order of
-/// number.
+/// What a run leaves: the bus after all applications have ended, and the receipts of each, in order
+/// of number.
 #[derive(Drop)]
 pub struct Finished {
     /// The bus, with every call and answer in its journal.
@@ -30,9 +30,9 @@ pub struct Finished {
     pub receipts: Vec<ReceiptList>,
 }
 
-/// Runs a script: each application that has not ended takes a turn, in order of number, again and again.
-/// A turn is its next line; or one look, while it waits; or its end, once its lines are through. All
-/// memory is taken before the first call.
+/// Runs a script: each application that has not ended takes a turn, in order of number, again and
+/// again. A turn is its next line; or one look, while it waits; or its end, once its lines are
+/// through. All memory is taken before the first call.
 ///
 /// # Errors
 /// Where memory runs out; then no application ran.
@@ -40,7 +40,10 @@ pub fn lockstep(alloc: Global, script: &Script) -> Result<Finished, AllocError>
     ensures history { IfOk result (λ finished. finished.bus.log.entries ≡ rotation script.now) }
     ensures limits { IfOk result (λ finished. finished.bus.limits ≡ script.now.limits) }
     ensures apps { IfOk result (λ finished. apps_of finished.bus ≡ length script.now.apps) }
-    ensures receipts { IfOk result (λ finished. map (λ list. list.receipts) finished.receipts.items ≡ map (receipts_told script.now (rotation script.now)) (range_with_len 1 (length script.now.apps))) }
+    ensures receipts { IfOk result
+        (λ finished. map (λ list. list.receipts) finished.receipts.items ≡
+        map (receipts_told script.now (rotation script.now))
+        (range_with_len 1 (length script.now.apps))) }
 {
     Ok(run(open(alloc, script)?))
 }
@@ -87,7 +90,9 @@ fn run(run: OpenedRun<'_>) -> Finished
     ensures history { result.bus.log.entries ≡ rotation run.entry.script.now }
     ensures limits { result.bus.limits ≡ run.entry.script.now.limits }
     ensures apps { apps_of result.bus ≡ length run.entry.script.now.apps }
-    ensures receipts { map (λ list. list.receipts) result.receipts.items ≡ map (receipts_told run.entry.script.now (rotation run.entry.script.now)) (range_with_len 1 (length run.entry.script.now.apps)) }
+    ensures receipts { map (λ list. list.receipts) result.receipts.items ≡
+        map (receipts_told run.entry.script.now (rotation run.entry.script.now))
+        (range_with_len 1 (length run.entry.script.now.apps)) }
 {
     let OpenedRun {
         script,
@@ -104,7 +109,8 @@ fn run(run: OpenedRun<'_>) -> Finished
 
 // What each application may add to the run.
 fn budgets_of(alloc: Global, script: &Script) -> Result<Vec<Budget>, AllocError>
-    ensures { IfOk result (λ budgets. budgets.items ≡ map (λ a. budget_of a.lines) script.now.apps) }
+    ensures { IfOk result
+        (λ budgets. budgets.items ≡ map (λ a. budget_of a.lines) script.now.apps) }
 {
     let mut budgets = Vec::with_capacity(alloc, script.apps() as usize)?;
     for i in 0..script.apps() {
@@ -202,7 +208,8 @@ fn receipts_of(runners: Vec<Runner<'_>>, room: Vec<ReceiptList>) -> Vec<ReceiptL
     requires ended { All (λ runner. runner.ended ≡ true) runners.items }
     requires empty { room.items ≡ [] }
     requires room { length runners.items ≤ vec_capacity room }
-    ensures { map (λ list. list.receipts) result.items ≡ map (λ runner. runner.receipts) runners.entry.items }
+    ensures { map (λ list. list.receipts) result.items ≡
+        map (λ runner. runner.receipts) runners.entry.items }
 {
     let mut receipts = room;
     for runner in runners {

@@ -35,6 +35,7 @@ pub enum Turned {
 /// One application of a script: how far it has come, and its receipts so far.
 #[derive(Drop)]
 pub struct Runner<'s> {
+    // The script that it runs an application of.
     script: &'s Script,
     // Which of the script's applications.
     app: AppNo,
@@ -68,8 +69,8 @@ impl<'s> Runner<'s> {
     ghost use Rattle.app_run.specs.Turns.{MayTurn, TakesTurn, Turns, turned_of};
     ghost use Rattle.app_run.specs.Callers.{SameBus};
 
-    /// The application before its first line: its registers are 0, and it has no receipt. All memory that
-    /// its run takes is taken here.
+    /// The application before its first line: its registers are 0, and it has no receipt. All
+    /// memory that its run takes is taken here.
     ///
     /// # Errors
     /// Where memory runs out.
@@ -91,8 +92,8 @@ impl<'s> Runner<'s> {
         })
     }
 
-    /// One turn: the next line; or one look, while the application waits; or its end, once its lines are
-    /// through.
+    /// One turn: the next line; or one look, while the application waits; or its end, once its
+    /// lines are through.
     pub fn turn<C: Calls>(&mut self, calls: &mut C) -> Turned
         requires { MayTurn self.old (C.caller calls.old) }
         ensures { Turns self.old self.new (C.caller calls.old) (C.caller calls.new) result }
@@ -133,7 +134,8 @@ impl<'s> Runner<'s> {
     fn look<C: Calls>(&mut self, calls: &mut C, pipe: u32)
         requires may { MayTurn self.old (C.caller calls.old) }
         requires waits { self.old.waits_on ≡ Some pipe }
-        ensures turn { TakesTurn self.old self.new (C.caller calls.old).core (C.caller calls.new).core }
+        ensures turn { TakesTurn self.old self.new (C.caller calls.old).core
+            (C.caller calls.new).core }
         ensures same { SameBus (C.caller calls.old) (C.caller calls.new) }
     {
         match calls.look() {
@@ -151,7 +153,8 @@ impl<'s> Runner<'s> {
         requires may { MayTurn self.old (C.caller calls.old) }
         requires active { self.old.waits_on ≡ None }
         requires left { 1 ≤ length self.old.running.lines }
-        ensures turn { TakesTurn self.old self.new (C.caller calls.old).core (C.caller calls.new).core }
+        ensures turn { TakesTurn self.old self.new (C.caller calls.old).core
+            (C.caller calls.new).core }
         ensures same { SameBus (C.caller calls.old) (C.caller calls.new) }
     {
         let line = self.script.line(self.app, self.next);
@@ -171,7 +174,8 @@ impl<'s> Runner<'s> {
         requires may { MayTurn self.old (C.caller calls.old) }
         requires active { self.old.waits_on ≡ None }
         requires through { self.old.running.lines ≡ [] }
-        ensures turn { TakesTurn self.old self.new (C.caller calls.old).core (C.caller calls.new).core }
+        ensures turn { TakesTurn self.old self.new (C.caller calls.old).core
+            (C.caller calls.new).core }
         ensures same { SameBus (C.caller calls.old) (C.caller calls.new) }
     {
         calls.bus_end();
@@ -227,7 +231,9 @@ fn message_size(line: &Line) -> u32
 // Adds the receipt of the pipe's last message, where there is one.
 fn take_receipt<C: Calls>(calls: &mut C, pipe: u32, receipts: &mut ReceiptList)
     requires { 1 ≤ receipts.old.room }
-    ensures receipts { receipts.new.receipts ≡ receipts.old.receipts ++ option_to_list (receipt_in (state_of (C.caller calls.old).core) (C.caller calls.old).app pipe) }
+    ensures receipts { receipts.new.receipts ≡ receipts.old.receipts ++
+        option_to_list
+        (receipt_in (state_of (C.caller calls.old).core) (C.caller calls.old).app pipe) }
     ensures room { receipts.old.room ≤ receipts.new.room + 1 }
     ensures same { C.caller calls.new ≡ C.caller calls.old }
 {
@@ -246,7 +252,8 @@ fn receive<C: Calls>(
     receipts: &mut ReceiptList,
 )
     requires { 1 ≤ receipts.old.room }
-    ensures receipts { receipts.new.receipts ≡ receipts.old.receipts ++ got_of (C.caller calls.old) (call_of registers.now line.now) answer.now }
+    ensures receipts { receipts.new.receipts ≡ receipts.old.receipts ++
+        got_of (C.caller calls.old) (call_of registers.now line.now) answer.now }
     ensures room { receipts.old.room ≤ receipts.new.room + most_receipts answer.now }
     ensures same { C.caller calls.new ≡ C.caller calls.old }
 {
@@ -269,7 +276,8 @@ fn show<C: Calls>(
     receipts: &mut ReceiptList,
 )
     requires { 1 ≤ receipts.old.room }
-    ensures receipts { receipts.new.receipts ≡ receipts.old.receipts ++ shown (C.caller calls.old).app (state_of (C.caller calls.old).core) registers.now line.now }
+    ensures receipts { receipts.new.receipts ≡ receipts.old.receipts ++
+        shown (C.caller calls.old).app (state_of (C.caller calls.old).core) registers.now line.now }
     ensures room { receipts.old.room ≤ receipts.new.room + 1 }
     ensures same { C.caller calls.new ≡ C.caller calls.old }
 {

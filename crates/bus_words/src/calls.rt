@@ -94,7 +94,8 @@ pub enum BusAnswer {
     Number(u32),
     /// The name asked for.
     Name(PipeText),
-    /// The number of the message sent and of the pipes that it reached; both 0 where nobody subscribes.
+    /// The number of the message sent and of the pipes that it reached; both 0 where nobody
+    /// subscribes.
     Sent {
         /// The number of the message, from 1; 0 where nobody subscribes.
         number: u32,

@@ -1,5 +1,6 @@
-//! Calls and entries as histories have them, with their bytes as whole lists. The definitions of the
-//! bus speak of these types, and so do the histories that a lock keeps. No value of them is made.
+//! Calls and entries as histories have them, with their bytes as whole lists. The definitions of
+//! the bus speak of these types, and so do the histories that a lock keeps. No value of them is
+//! made.
 
 use crate::calls::BusAnswer;
 use fsw_base::{AppNo, Scope};

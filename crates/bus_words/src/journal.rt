@@ -18,14 +18,14 @@ pub struct Allowance {
     pub bytes: u32,
 }
 
-/// A place in the journal's bytes.
+// A place in the journal's bytes.
 #[derive(Clone, Copy, Debug)]
 struct Span {
     start: u32,
     len: u32,
 }
 
-/// A call whose bytes lie in the journal.
+// A call whose bytes lie in the journal.
 #[derive(Clone, Copy, Debug)]
 enum RowCall {
     Create {
@@ -74,7 +74,7 @@ enum RowCall {
     End,
 }
 
-/// An entry whose bytes lie in the journal.
+// An entry whose bytes lie in the journal.
 #[derive(Debug, Drop)]
 struct Row {
     app: AppNo,
@@ -101,16 +101,22 @@ impl Model for BusJournal {
 
     ghost Value = { Log };
 
-    ghost view = { λ j. record { entries = entries_in j.bytes.items j.rows.items; left = j.left.items } };
+    ghost view = { λ j.
+        record { entries = entries_in j.bytes.items j.rows.items; left = j.left.items } };
 
-    ghost invariant = { λ j. IsLaidOut j.rows.items j.bytes.items (vec_capacity j.rows) (vec_capacity j.bytes) j.left.items };
+    ghost invariant = { λ j. IsLaidOut j.rows.items j.bytes.items (vec_capacity j.rows)
+        (vec_capacity j.bytes) j.left.items };
 }
 
 impl BusJournal {
     /// An empty journal of the applications 1, 2, 3 and so on that have these budgets.
+    ///
+    /// # Errors
+    /// `AllocError` where memory runs out.
     pub fn new(alloc: Global, budgets: &[Budget]) -> Result<BusJournal, AllocError>
         requires { AreBudgets budgets.now }
-        ensures { IfOk result (λ journal. journal ≡ record { entries = []; left = allowances budgets.now }) }
+        ensures { IfOk result
+            (λ journal. journal ≡ record { entries = []; left = allowances budgets.now }) }
     {
         let mut left = Vec::with_capacity(alloc, budgets.len())?;
         let mut entries = 0;

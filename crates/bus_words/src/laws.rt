@@ -9,26 +9,32 @@ ghost use Rattle.bus_words.specs.Acts.{AreAlike, act, reads_in, whole_after, who
 ghost use Rattle.bus_words.specs.Runs.{callers, stepped, Follows};
 ghost use Rattle.bus_words.specs.Alone.{Received, Gives, unmade, solo_receipts, cut, gets_from, receipts};
 
-/// A legal history is a run: its calls, made in order from where the bus opens, give the same answers
-/// and the same bus again. And it goes on by any call that its application may make, answered by the
-/// machine's step.
+/// A legal history is a run: its calls, made in order from where the bus opens, give the same
+/// answers and the same bus again. And it goes on by any call that its application may make,
+/// answered by the machine's step.
 pub fn histories_are_runs()
-    ensures runs { (limits : Limits) (apps : ℕ) (history : List Entry) → IsLegal limits apps history →
-        stepped limits [] (opening apps) (callers history) ≡ (history, state_after limits apps history) }
-    ensures goes_on { (limits : Limits) (apps : ℕ) (history : List Entry) (e : Entry) → IsLegal limits apps history →
+    ensures runs { (limits : Limits) (apps : ℕ) (history : List Entry) → IsLegal limits apps history
+        →
+        stepped limits [] (opening apps) (callers history) ≡
+        (history, state_after limits apps history) }
+    ensures goes_on { (limits : Limits) (apps : ℕ) (history : List Entry) (e : Entry) →
+        IsLegal limits apps history →
         IsTrue (may_call (standing_of (state_after limits apps history) e.app) e.call) →
         e.answer ≡ (step limits history (state_after limits apps history) e.app e.call).0 →
         IsTrue (makes_entry e.call e.answer) → Follows limits apps history e }
 {}
 
-/// Each pipe stands alone: what its owner receives is what a pipe gives that knows nothing of the rest
-/// of the bus but the accepted sends. A message that an entry gives is the pipe's last, and the newest
-/// that the pipe alone gives. And where two histories are the same to a pipe, under whatever limits, it
-/// gives the same messages in both: no other pipe's depth, subscription limits or overflow matter to it.
+/// Each pipe stands alone: what its owner receives is what a pipe gives that knows nothing of the
+/// rest of the bus but the accepted sends. A message that an entry gives is the pipe's last, and
+/// the newest that the pipe alone gives. And where two histories are the same to a pipe, under
+/// whatever limits, it gives the same messages in both: no other pipe's depth, subscription limits
+/// or overflow matter to it.
 pub fn pipes_stand_alone()
-    ensures receipts { (limits : Limits) (apps p : ℕ) (history : List Entry) → IsLegal limits apps history →
+    ensures receipts { (limits : Limits) (apps p : ℕ) (history : List Entry) →
+        IsLegal limits apps history →
         receipts limits apps p history ≡ solo_receipts unmade (cut limits apps p history) }
-    ensures last { (limits : Limits) (apps p : ℕ) (history : List Entry) (e : Entry) → IsLegal limits apps (history ++ e ∷ []) →
+    ensures last { (limits : Limits) (apps p : ℕ) (history : List Entry) (e : Entry) →
+        IsLegal limits apps (history ++ e ∷ []) →
         gets_from p e ≡ true → (message : Received) × Gives limits apps p history e message }
     ensures apart { (limits others : Limits) (apps many p : ℕ) (history another : List Entry) →
         IsLegal limits apps history → IsLegal others many another →
@@ -36,22 +42,35 @@ pub fn pipes_stand_alone()
         receipts limits apps p history ≡ receipts others many p another }
 {}
 
-/// No history need be kept: the bus with its next counts is enough by itself. Folding a legal history
-/// gives this state; what a call sees there and why it is refused is what the history says; and it
-/// answers, and leaves, what it answers and leaves after the history.
+/// No history need be kept: the bus with its next counts is enough by itself. Folding a legal
+/// history gives this state; what a call sees there and why it is refused is what the history says;
+/// and it answers, and leaves, what it answers and leaves after the history.
 pub fn states_are_enough()
-    ensures folds { (limits : Limits) (apps : ℕ) (history : List Entry) → IsLegal limits apps history →
-        whole_after limits apps history ≡ whole_of limits history (state_after limits apps history) }
-    ensures reads { (limits : Limits) (apps : ℕ) (history : List Entry) → IsLegal limits apps history →
-        AreAlike (reads_in (whole_after limits apps history)) (reads_after limits history) (state_after limits apps history) }
-    ensures causes { (limits : Limits) (apps : ℕ) (history : List Entry) (app : ℕ) (call : Call) → IsLegal limits apps history →
-        cause_with (reads_in (whole_after limits apps history)) limits (whole_after limits apps history).bus app call
+    ensures folds { (limits : Limits) (apps : ℕ) (history : List Entry) →
+        IsLegal limits apps history →
+        whole_after limits apps history ≡
+        whole_of limits history (state_after limits apps history) }
+    ensures reads { (limits : Limits) (apps : ℕ) (history : List Entry) →
+        IsLegal limits apps history →
+        AreAlike (reads_in (whole_after limits apps history)) (reads_after limits history)
+        (state_after limits apps history) }
+    ensures causes { (limits : Limits) (apps : ℕ) (history : List Entry) (app : ℕ) (call : Call) →
+        IsLegal limits apps history →
+        cause_with (reads_in (whole_after limits apps history)) limits
+        (whole_after limits apps history).bus app call
         ≡ cause limits history (state_after limits apps history) app call }
-    ensures acts { (limits : Limits) (apps : ℕ) (history : List Entry) (app : ℕ) (call : Call) → IsLegal limits apps history →
+    ensures acts { (limits : Limits) (apps : ℕ) (history : List Entry) (app : ℕ) (call : Call) →
+        IsLegal limits apps history →
         act limits (whole_after limits apps history) app call
         ≡ (
           (step limits history (state_after limits apps history) app call).0,
-          whole_of limits (history ++ record { app = app; call = call; answer = (step limits history (state_after limits apps history) app call).0 } ∷ [])
+          whole_of limits
+              (history ++
+              record {
+                app = app;
+                call = call;
+                answer = (step limits history (state_after limits apps history) app call).0;
+              } ∷ [])
               ((step limits history (state_after limits apps history) app call).1),
         ) }
 {}

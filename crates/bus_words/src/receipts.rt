@@ -124,7 +124,8 @@ impl Model for ReceiptList {
 
     ghost view = { λ l. record { receipts = l.receipts.items; room = l.room } };
 
-    ghost invariant = { λ l. (vec_len l.receipts + l.room ≤ vec_capacity l.receipts) × (vec_len l.receipts + l.room < 2 ^ 32) };
+    ghost invariant = { λ l. (vec_len l.receipts + l.room ≤ vec_capacity l.receipts) ×
+        (vec_len l.receipts + l.room < 2 ^ 32) };
 }
 
 impl ReceiptList {

@@ -100,7 +100,8 @@ fn keeps(
 
 // Whether the entry may be pushed.
 fn has_room(journal: &BusJournal, entry: &BusEntry<'_>) -> bool
-    ensures { IsTrue result → HasRoom journal.now.left entry.now.app (call_bytes (call_of entry.now.call)) }
+    ensures { IsTrue result →
+        HasRoom journal.now.left entry.now.app (call_bytes (call_of entry.now.call)) }
 {
     if journal.apps() < entry.app.get() {
         return false;

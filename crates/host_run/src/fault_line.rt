@@ -7,7 +7,8 @@ ghost use Rattle.host_run.specs.Serve.{fault_text};
 use fsw_base::{ScriptFault, Sink, SinkGuard, WriteFault};
 use text_page::{Page, finish, put, put_number};
 
-/// Writes the line of a fault: `script:LINE:NAME`. No write through this guard may have failed before.
+/// Writes the line of a fault: `script:LINE:NAME`. No write through this guard may have failed
+/// before.
 ///
 /// # Errors
 /// `WriteFault` only where a write failed, so that the sink's count of faults rose in this call, or

@@ -21,7 +21,7 @@ use fsw_base::{OpenGate, StdSink, StdSource};
 use std::process::ExitCode;
 use std::{env, io};
 
-/// Where a word of the command line can't be had, for another cause than memory.
+// Where a word of the command line can't be had, for another cause than memory.
 const NO_WORDS: u8 = 9;
 
 fn main(rt: HostRuntime) -> ExitCode {

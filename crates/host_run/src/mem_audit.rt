@@ -34,7 +34,13 @@ impl Model for MemAudit {
 
     ghost Value = { Copies };
 
-    ghost view = { λ a. record { told = a.told; copies = map (λ copy. copy.entries) a.copies.items; room = vec_len a.spare; left = a.left.items } };
+    ghost view = { λ a.
+        record {
+          told = a.told;
+          copies = map (λ copy. copy.entries) a.copies.items;
+          room = vec_len a.spare;
+          left = a.left.items;
+        } };
 
     ghost invariant = { λ a. record {
       tells : 0 < vec_len a.spare → a.told ≡ true;
@@ -134,7 +140,10 @@ fn empty_journals(
 ) -> Result<Vec<BusJournal>, AllocError>
     requires { AreBudgets budgets.now }
     ensures count { IfOk result (λ journals. vec_len journals ≡ count) }
-    ensures empty { IfOk result (λ journals. All (λ journal. journal ≡ record { entries = []; left = allowances budgets.now }) journals.items) }
+    ensures empty { IfOk result
+        (λ journals. All
+        (λ journal. journal ≡ record { entries = []; left = allowances budgets.now })
+        journals.items) }
 {
     let mut journals = Vec::with_capacity(alloc, count as usize)?;
     for _ in 0..count {

@@ -7,10 +7,10 @@ ghost use Rattle.host_run.specs.Input.{input_of, ReadsAll, HasCause, Adds, is_fa
 use fsw_base::{MAX_SCRIPT_BYTES, ReadAnswer, Source, SourceGuard};
 use std::alloc::Global;
 
-/// The most bytes that an input may have.
+// The most bytes that an input may have.
 const MAX_INPUT: usize = MAX_SCRIPT_BYTES;
 
-/// The bytes that one read asks for; the last read may ask for fewer.
+// The bytes that one read asks for; the last read may ask for fewer.
 const PIECE: usize = 4096;
 
 /// What reading a source to its end tells.
@@ -26,7 +26,8 @@ pub enum Reading {
     NoMemory,
 }
 
-/// Reads a source to its end, at most one byte more than an input may have, and no further after a failure.
+/// Reads a source to its end, at most one byte more than an input may have, and no further after a
+/// failure.
 ///
 /// Memory is taken once, before the first read. No read through this guard may have failed before.
 pub fn read_all<S: Source>(alloc: Global, source: &mut SourceGuard<'_, S>) -> Reading
@@ -60,7 +61,8 @@ fn read_piece<S: Source>(
     requires none_failed { source.old.failed ≡ false }
     requires some { 0 < length piece.old }
     requires room { vec_len kept.old + length piece.old ≤ vec_capacity kept.old }
-    ensures input { input_of kept.new.items source.new.left ≡ input_of kept.old.items source.old.left }
+    ensures input { input_of kept.new.items source.new.left ≡
+        input_of kept.old.items source.old.left }
     ensures adds { Adds result (length piece.old) kept.old.items kept.new.items source.new.left }
     ensures capacity { vec_capacity kept.old ≤ vec_capacity kept.new }
     ensures failed { source.new.failed ≡ is_failed_read result }

@@ -18,7 +18,7 @@ use run_report::write_report;
 use std::alloc::Global;
 use text_page::write_text;
 
-/// The fault of an input that is longer than any script.
+// The fault of an input that is longer than any script.
 const TOO_LARGE: ScriptFault = ScriptFault {
     line: 0,
     kind: FaultKind::TooLarge,
@@ -29,12 +29,12 @@ const TOO_LARGE: ScriptFault = ScriptFault {
 ///
 /// - `Usage`, on all other words: nothing is read, and the usage line is written.
 /// - `Script`, where the input is no script, or has a line that the program doesn't run yet, or is
-///   longer than 1,048,576 bytes; at most one byte more than that is read. No application ran, and the
-///   line of the first fault is written.
-/// - `ReadFault`, only where the source's count of faults rose, or stands at its last value: nothing is
-///   written.
-/// - `WriteFault`, only where the sink's count of faults rose, or stands at its last value: a front of
-///   the text due is written.
+///   longer than 1,048,576 bytes; at most one byte more than that is read. No application ran, and
+///   the line of the first fault is written.
+/// - `ReadFault`, only where the source's count of faults rose, or stands at its last value:
+///   nothing is written.
+/// - `WriteFault`, only where the sink's count of faults rose, or stands at its last value: a front
+///   of the text due is written.
 /// - `NoMemory`, never on other words: no application ran, and nothing is written.
 pub fn serve<R, S: Source, K: Sink, G: Gate, A: Audit>(
     _rt: &R,
@@ -47,7 +47,8 @@ pub fn serve<R, S: Source, K: Sink, G: Gate, A: Audit>(
 ) -> HostStatus
     ensures headline { is_lockstep words.now ≡ true → Headline result
         (fed_by S.left S.faults source.old) (fed_by S.left S.faults source.new)
-        (made_by K.written K.faults A.shown sink.old audit.old) (made_by K.written K.faults A.shown sink.new audit.new) }
+        (made_by K.written K.faults A.shown sink.old audit.old)
+        (made_by K.written K.faults A.shown sink.new audit.new) }
 
     // What was read, written and shown, by how it ended.
     ensures lockstep { is_lockstep words.now ≡ true → Lockstep result
@@ -64,7 +65,8 @@ pub fn serve<R, S: Source, K: Sink, G: Gate, A: Audit>(
         (fed_by S.left S.faults source.old) (fed_by S.left S.faults source.new)
         (made_by K.written K.faults A.shown sink.old audit.old)
         (made_by K.written K.faults A.shown sink.new audit.new) }
-    ensures usage_or_fault { is_lockstep words.now ≡ false → (result ≡ HostStatus.Usage) ⊎ (result ≡ HostStatus.WriteFault) }
+    ensures usage_or_fault { is_lockstep words.now ≡ false → (result ≡ HostStatus.Usage) ⊎
+        (result ≡ HostStatus.WriteFault) }
     ensures complete { is_lockstep words.now ≡ true → Completes result
         (fed_by S.left S.faults source.old) (fed_by S.left S.faults source.new)
         (made_by K.written K.faults A.shown sink.old audit.old)
@@ -73,8 +75,8 @@ pub fn serve<R, S: Source, K: Sink, G: Gate, A: Audit>(
     serve_guarded(alloc, words, source, sink, audit)
 }
 
-// Does what the words say, with the source, the sink and the audit behind guards: below here they are
-// reached in no other way.
+// Does what the words say, with the source, the sink and the audit behind guards: below here they
+// are reached in no other way.
 fn serve_guarded<S: Source, K: Sink, A: Audit>(
     alloc: Global,
     words: &Words,
@@ -112,9 +114,11 @@ fn serve_words<S: Source, K: Sink, A: Audit>(
     requires no_read_failed { source.old.failed ≡ false }
     requires no_write_failed { sink.old.failed ≡ false }
     requires untouched { sink.old.untouched ≡ true }
-    ensures lockstep { is_lockstep words.now ≡ true → Lockstep result (fed_through source.old) (fed_through source.new)
+    ensures lockstep { is_lockstep words.now ≡ true →
+        Lockstep result (fed_through source.old) (fed_through source.new)
         (made_through sink.old audit.old) (made_through sink.new audit.new) }
-    ensures other_words { is_lockstep words.now ≡ false → OtherWords result (fed_through source.old) (fed_through source.new)
+    ensures other_words { is_lockstep words.now ≡ false →
+        OtherWords result (fed_through source.old) (fed_through source.new)
         (made_through sink.old audit.old) (made_through sink.new audit.new) }
     ensures read_failed { source.new.failed ≡ is_read_fault result }
     ensures write_failed { sink.new.failed ≡ is_write_fault result }
@@ -142,7 +146,8 @@ fn serve_text<K: Sink, A: Audit>(
 ) -> HostStatus
     requires none_failed { sink.old.failed ≡ false }
     requires untouched { sink.old.untouched ≡ true }
-    ensures end { EndsInput result (built_script text.now) (made_through sink.old audit.old) (made_through sink.new audit.new) }
+    ensures end { EndsInput result (built_script text.now) (made_through sink.old audit.old)
+        (made_through sink.new audit.new) }
     ensures failed { sink.new.failed ≡ is_write_fault result }
     ensures no_read_fault { is_read_fault result ≡ false }
     ensures same_sink { sink.new.sink ≡ sink.old.sink }
@@ -164,7 +169,8 @@ fn serve_script<K: Sink, A: Audit>(
 ) -> HostStatus
     requires none_failed { sink.old.failed ≡ false }
     requires untouched { sink.old.untouched ≡ true }
-    ensures end { EndsScript result script.now (made_through sink.old audit.old) (made_through sink.new audit.new) }
+    ensures end { EndsScript result script.now (made_through sink.old audit.old)
+        (made_through sink.new audit.new) }
     ensures failed { sink.new.failed ≡ is_write_fault result }
     ensures no_read_fault { is_read_fault result ≡ false }
     ensures same_sink { sink.new.sink ≡ sink.old.sink }
@@ -183,7 +189,8 @@ fn serve_script<K: Sink, A: Audit>(
 // Writes what is wrong with the input.
 fn refuse<K: Sink>(sink: &mut SinkGuard<'_, K>, fault: ScriptFault) -> HostStatus
     requires { sink.old.failed ≡ false }
-    ensures end { (audit : GuardedAudit) → EndsRefused result fault (made_through sink.old audit) (made_through sink.new audit) }
+    ensures end { (audit : GuardedAudit) →
+        EndsRefused result fault (made_through sink.old audit) (made_through sink.new audit) }
     ensures failed { sink.new.failed ≡ is_write_fault result }
     ensures no_read_fault { is_read_fault result ≡ false }
     ensures same_sink { sink.new.sink ≡ sink.old.sink }
@@ -197,7 +204,9 @@ fn refuse<K: Sink>(sink: &mut SinkGuard<'_, K>, fault: ScriptFault) -> HostStatu
 // Writes which words the program knows.
 fn tell_usage<K: Sink>(sink: &mut SinkGuard<'_, K>) -> HostStatus
     requires { sink.old.failed ≡ false }
-    ensures end { (audit : GuardedAudit) → EndsTelling HostStatus.Usage result (made_through sink.old audit) (made_through sink.new audit) usage_text }
+    ensures end { (audit : GuardedAudit) →
+        EndsTelling HostStatus.Usage result (made_through sink.old audit)
+        (made_through sink.new audit) usage_text }
     ensures failed { sink.new.failed ≡ is_write_fault result }
     ensures no_read_fault { is_read_fault result ≡ false }
     ensures same_sink { sink.new.sink ≡ sink.old.sink }

@@ -5,10 +5,10 @@ ghost use Rattle.host_run.specs.Words.{with_word, is_lockstep};
 use arrayvec::ArrayVec;
 use std::marker::Model;
 
-/// How many words are kept at most: no form of the words has a fifth.
+// How many words are kept at most: no form of the words has a fifth.
 const MAX_WORDS: usize = 5;
 
-/// How many bytes of a word are kept at most: no form has a word as long.
+// How many bytes of a word are kept at most: no form has a word as long.
 const MAX_WORD_BYTES: usize = 64;
 
 // The first bytes of a word.
@@ -31,7 +31,8 @@ impl Model for Word {
     ghost view = { λ w. w.bytes.items };
 }
 
-/// At most [`MAX_WORDS`] words of at most [`MAX_WORD_BYTES`] bytes, in the order in which they were added.
+/// At most [`MAX_WORDS`] words of at most [`MAX_WORD_BYTES`] bytes, in the order in which they were
+/// added.
 #[derive(Drop)]
 pub struct Words {
     words: ArrayVec<Word, MAX_WORDS>,
@@ -64,7 +65,8 @@ impl Words {
         }
     }
 
-    /// Adds a word's first [`MAX_WORD_BYTES`] bytes, where fewer than [`MAX_WORDS`] words are there.
+    /// Adds a word's first [`MAX_WORD_BYTES`] bytes, where fewer than [`MAX_WORDS`] words are
+    /// there.
     pub fn add(&mut self, word: &str)
         ensures { self.new ≡ with_word self.old word.now }
     {

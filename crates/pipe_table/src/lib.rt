@@ -1,9 +1,10 @@
-//! The live pipes of the software bus (cFE Software Bus, pipe table). Each lies in a place of its own, where it is reached
-//! with no search, and is found by its number among those of the live ones alone; numbers are 1, 2, 3 and so on in order
-//! of creation, none is used again, and nothing is kept of a pipe that has gone.
+//! The live pipes of the software bus (cFE Software Bus, pipe table). Each lies in a place of its
+//! own, where it is reached with no search, and is found by its number among those of the live ones
+//! alone; numbers are 1, 2, 3 and so on in order of creation, none is used again, and nothing is
+//! kept of a pipe that has gone.
 //!
-//! Contracts see the pipes as a list in order of number, of which each call changes the one named and leaves the others,
-//! and no call but `new` takes memory.
+//! Contracts see the pipes as a list in order of number, of which each call changes the one named
+//! and leaves the others, and no call but `new` takes memory.
 //!
 //! ```
 //! /// A message queued on a new pipe is the one received last, once it was taken.

@@ -11,7 +11,7 @@ use pipe_queue::{Full, Item, PipeQueue};
 use std::alloc::{AllocError, Global};
 use std::marker::Model;
 
-/// What a pipe is beside its queue.
+// What a pipe is beside its queue.
 #[derive(Drop)]
 struct Label {
     // Its number, from 1.
@@ -75,7 +75,11 @@ impl Place {
         requires free { self.old.pipe ≡ None }
         requires some { 1 ≤ depth }
         requires depth { depth ≤ self.old.room }
-        ensures { self.new ≡ record { pipe = Some (new_row pipe.number pipe.place name.now owner depth); room = self.old.room } }
+        ensures { self.new ≡
+            record {
+              pipe = Some (new_row pipe.number pipe.place name.now owner depth);
+              room = self.old.room;
+            } }
     {
         self.queue.start(depth);
         self.label = Some(Label {
@@ -196,8 +200,10 @@ impl Place {
     /// Queues the message on the pipe; Full exactly where as many wait as its depth.
     pub(crate) fn try_put(&mut self, item: Item) -> Result<(), Full>
         requires { IsSome self.old.pipe }
-        ensures full { IsErr result ↔ IsTrue (option_map_or (λ pipe. length pipe.queue == pipe.depth) self.old.pipe false) }
-        ensures after { self.new ≡ record self.old { pipe = option_map (with_item item) self.old.pipe } }
+        ensures full { IsErr result ↔
+            IsTrue (option_map_or (λ pipe. length pipe.queue == pipe.depth) self.old.pipe false) }
+        ensures after { self.new ≡
+            record self.old { pipe = option_map (with_item item) self.old.pipe } }
     {
         self.queue.try_put(item)
     }

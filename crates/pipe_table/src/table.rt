@@ -45,18 +45,22 @@ impl Model for PipeTable {
       depth = t.depth;
     } };
 
-    ghost invariant = { λ t. AreKept t.depth t.places.items t.live.items t.at.items t.free.items t.created
+    ghost invariant = { λ t. AreKept t.depth t.places.items t.live.items t.at.items t.free.items
+        t.created
         × (length t.places.items ≤ vec_capacity t.free)
-        × (length t.places.items ≤ vec_capacity t.live) × (length t.places.items ≤ vec_capacity t.at) };
+        × (length t.places.items ≤ vec_capacity t.live) ×
+        (length t.places.items ≤ vec_capacity t.at) };
 }
 
 impl PipeTable {
-    /// No pipe, with room for `pipes` live ones that hold up to `depth` messages each. No later call takes memory.
+    /// No pipe, with room for `pipes` live ones that hold up to `depth` messages each. No later
+    /// call takes memory.
     ///
     /// # Errors
     /// Where memory runs out.
     pub fn new(alloc: Global, pipes: u32, depth: u32) -> Result<PipeTable, AllocError>
-        ensures { IfOk result (λ table. table ≡ record { live = []; created = 0; room = pipes; depth = depth }) }
+        ensures { IfOk result
+            (λ table. table ≡ record { live = []; created = 0; room = pipes; depth = depth }) }
     {
         Ok(PipeTable {
             places: free_places(alloc, pipes, depth)?,
@@ -129,7 +133,9 @@ impl PipeTable {
     /// Whether a live pipe ignores what the application sends. Looks at its place alone.
     pub fn ignores(&self, pipe: PipeNo, sender: AppNo) -> bool
         requires live { place_of self.now.live pipe.number ≡ Some pipe.place }
-        ensures { result ≡ option_map_or (λ row. ignores_sender row sender) (pipe_row self.now.live pipe.number) false }
+        ensures { result ≡
+            option_map_or (λ row. ignores_sender row sender) (pipe_row self.now.live pipe.number)
+            false }
     {
         place_at(&self.places, pipe.place).ignores(sender)
     }
@@ -154,8 +160,8 @@ impl PipeTable {
         }
     }
 
-    /// The number of the live pipe that was created first of those with the name. For a creation and for finding a pipe
-    /// by name: it looks at every live pipe.
+    /// The number of the live pipe that was created first of those with the name. For a creation
+    /// and for finding a pipe by name: it looks at every live pipe.
     pub fn find(&self, name: &[u8]) -> Option<u32>
         ensures { result ≡ option_map (λ row. row.number) (named_row self.now.live name.now) }
     {
@@ -167,8 +173,8 @@ impl PipeTable {
         None
     }
 
-    /// The number of the live pipe that was created first of the application's. For an application's end: it looks at
-    /// every live pipe.
+    /// The number of the live pipe that was created first of the application's. For an
+    /// application's end: it looks at every live pipe.
     pub fn first_of(&self, app: AppNo) -> Option<u32>
         ensures { result ≡ option_map (λ row. row.number) (first_owned self.now.live app) }
     {
@@ -180,7 +186,8 @@ impl PipeTable {
         None
     }
 
-    /// Creates a pipe that holds up to `depth` messages, numbered one more than were created, in a place of its own.
+    /// Creates a pipe that holds up to `depth` messages, numbered one more than were created, in a
+    /// place of its own.
     pub fn create(&mut self, name: &PipeText, owner: AppNo, depth: u32) -> PipeNo
         requires room { length self.old.live < self.old.room }
         requires number { self.old.created + 1 < 2 ^ 32 }
@@ -188,7 +195,8 @@ impl PipeTable {
         requires depth { depth ≤ self.old.depth }
         ensures number { result.number ≡ self.old.created + 1 }
         ensures after { self.new ≡ record self.old {
-          live = self.old.live ++ new_row (self.old.created + 1) result.place name.now owner depth ∷ [];
+          live = self.old.live ++ new_row (self.old.created + 1) result.place name.now owner depth
+              ∷ [];
           created = self.old.created + 1;
         } }
     {
@@ -218,15 +226,16 @@ impl PipeTable {
 
     /// Sets the option bits of the live pipe of this number.
     pub fn set_bits(&mut self, number: u32, bits: u8)
-        ensures { self.new ≡ record self.old { live = with_row (with_bits bits) number self.old.live } }
+        ensures { self.new ≡
+            record self.old { live = with_row (with_bits bits) number self.old.live } }
     {
         if let Some(at) = at_number(&self.live, &self.at, number) {
             self.places[at as usize].set_bits(bits);
         }
     }
 
-    /// Lets the last message of the live pipe of this number go, and takes the one that waits longest, if any, in its
-    /// place.
+    /// Lets the last message of the live pipe of this number go, and takes the one that waits
+    /// longest, if any, in its place.
     pub fn take(&mut self, number: u32)
         ensures { self.new ≡ record self.old { live = with_row taken_row number self.old.live } }
     {
@@ -235,11 +244,19 @@ impl PipeTable {
         }
     }
 
-    /// Queues a message on a live pipe; Full exactly where as many wait as its depth. Looks at its place alone.
+    /// Queues a message on a live pipe; Full exactly where as many wait as its depth. Looks at its
+    /// place alone.
+    ///
+    /// # Errors
+    /// `Full` if and only if as many messages wait as the pipe's depth; then nothing changes.
     pub fn try_put(&mut self, pipe: PipeNo, item: Item) -> Result<(), Full>
         requires live { place_of self.old.live pipe.number ≡ Some pipe.place }
-        ensures full { IsErr result ↔ IsTrue (option_map_or (λ row. length row.queue == row.depth) (pipe_row self.old.live pipe.number) false) }
-        ensures after { self.new ≡ record self.old { live = with_row (with_item item) pipe.number self.old.live } }
+        ensures full { IsErr result ↔
+            IsTrue
+            (option_map_or (λ row. length row.queue == row.depth)
+            (pipe_row self.old.live pipe.number) false) }
+        ensures after { self.new ≡
+            record self.old { live = with_row (with_item item) pipe.number self.old.live } }
     {
         self.places[pipe.place as usize].try_put(item)
     }
@@ -248,8 +265,10 @@ impl PipeTable {
 // Where a number stands among those of the live pipes.
 fn index_of(live: &Vec<u32>, number: u32) -> Option<usize>
     requires { AreRising 0 live.now.items }
-    ensures some { IfSome result (λ i. (i < length live.now.items) × (slice_index live.now.items i ≡ number)) }
-    ensures none { result ≡ None → (k : ℕ) → k < length live.now.items → slice_index live.now.items k ≡ number → ⊥ }
+    ensures some { IfSome result
+        (λ i. (i < length live.now.items) × (slice_index live.now.items i ≡ number)) }
+    ensures none { result ≡ None → (k : ℕ) → k < length live.now.items →
+        slice_index live.now.items k ≡ number → ⊥ }
 {
     match live.binary_search(&number) {
         Ok(index) => Some(index),
@@ -276,7 +295,8 @@ fn found<'p>(
     number: u32,
 ) -> Option<&'p Place>
     requires { AreFiled 0 places.now.items live.now.items at.now.items }
-    ensures some { IfSome result (λ place. place.now.pipe ≡ pipe_row (live_in places.now.items at.now.items) number) }
+    ensures some { IfSome result
+        (λ place. place.now.pipe ≡ pipe_row (live_in places.now.items at.now.items) number) }
     ensures none { result ≡ None → pipe_row (live_in places.now.items at.now.items) number ≡ None }
 {
     match at_number(live, at, number) {
@@ -295,7 +315,9 @@ fn place_at(places: &Vec<Place>, at: u32) -> &Place
 
 // The number of the pipe in a place, where it has the name.
 fn number_where_named(places: &[Place], at: u32, name: &[u8]) -> Option<u32>
-    ensures { result ≡ option_map (λ row. row.number) (named_row (option_to_list (pipe_in places.now at)) name.now) }
+    ensures { result ≡
+        option_map (λ row. row.number)
+        (named_row (option_to_list (pipe_in places.now at)) name.now) }
 {
     let place = places.get(at as usize)?;
     if place.is_named(name) {
@@ -307,7 +329,8 @@ fn number_where_named(places: &[Place], at: u32, name: &[u8]) -> Option<u32>
 
 // The number of the pipe in a place, where it is the application's.
 fn number_where_owned(places: &[Place], at: u32, app: AppNo) -> Option<u32>
-    ensures { result ≡ option_map (λ row. row.number) (first_owned (option_to_list (pipe_in places.now at)) app) }
+    ensures { result ≡
+        option_map (λ row. row.number) (first_owned (option_to_list (pipe_in places.now at)) app) }
 {
     let place = places.get(at as usize)?;
     if place.is_owned_by(app) {
@@ -319,7 +342,8 @@ fn number_where_owned(places: &[Place], at: u32, app: AppNo) -> Option<u32>
 
 // So many free places, each with a queue of this depth.
 fn free_places(alloc: Global, pipes: u32, depth: u32) -> Result<Vec<Place>, AllocError>
-    ensures { IfOk result (λ places. places.items ≡ replicate pipes (record { pipe = None; room = depth })) }
+    ensures { IfOk result
+        (λ places. places.items ≡ replicate pipes (record { pipe = None; room = depth })) }
 {
     let mut places = Vec::with_capacity(alloc, pipes as usize)?;
     for _ in 0..pipes {

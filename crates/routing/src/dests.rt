@@ -14,14 +14,15 @@ use std::alloc::{AllocError, Global};
 use std::marker::Model;
 use subscriptions::SubNo;
 
-/// Lists of destinations, numbered from 0. Contracts see how many destinations a list may have, and each list, in order of
-/// adding: at each destination its node, which no other has, and its subscription.
+/// Lists of destinations, numbered from 0. Contracts see how many destinations a list may have, and
+/// each list, in order of adding: at each destination its node, which no other has, and its
+/// subscription.
 ///
 /// Each list is a ring through its nodes and an anchor of its own, so its end needs no mark.
 #[derive(Drop)]
 pub(crate) struct DestLists {
-    /// At each node in a list, the node behind it; at its last one, the anchor. Behind the nodes stand the anchors, in
-    /// order of list: at each the first node of its list, or itself.
+    /// At each node in a list, the node behind it; at its last one, the anchor. Behind the nodes
+    /// stand the anchors, in order of list: at each the first node of its list, or itself.
     links: Links,
     /// At each list that isn't empty, its last node.
     tails: Links,
@@ -44,16 +45,22 @@ impl Model for DestLists {
 
     ghost use Rattle.routing.specs.Inside.{rings, dests_seen, AreRings};
 
-    ghost view = { λ s. record { limit = s.limit; lists = dests_seen s.subs.items (rings s.links s.nodes s.lens.items) } };
+    ghost view = { λ s.
+        record {
+          limit = s.limit;
+          lists = dests_seen s.subs.items (rings s.links s.nodes s.lens.items);
+        } };
 
-    ghost invariant = { λ s. AreRings s.links s.tails s.lens.items s.subs.items s.nodes s.limit s.free };
+    ghost invariant = { λ s. AreRings s.links s.tails s.lens.items s.subs.items s.nodes s.limit
+        s.free };
 }
 
 impl DestLists {
     /// `lists` empty lists that may have `limit` destinations each. No later call takes memory.
     pub(crate) fn new(alloc: Global, lists: u32, limit: u32) -> Result<DestLists, AllocError>
         requires { lists * limit + lists < 2 ^ 32 }
-        ensures { IfOk result (λ made. made ≡ record { limit = limit; lists = replicate lists [] }) }
+        ensures { IfOk result
+            (λ made. made ≡ record { limit = limit; lists = replicate lists [] }) }
     {
         let nodes = lists * limit;
         let places = nodes + lists;
@@ -75,7 +82,8 @@ impl DestLists {
 
     /// No list has more destinations than it may. Does nothing.
     pub(crate) fn recall_limit(&self)
-        ensures { (list : ℕ) → list < length self.now.lists → length (dests_in self.now list) ≤ self.now.limit }
+        ensures { (list : ℕ) → list < length self.now.lists →
+            length (dests_in self.now list) ≤ self.now.limit }
     {
         let _ = &self.lens;
     }
@@ -88,12 +96,19 @@ impl DestLists {
         self.lens[list as usize]
     }
 
-    /// Adds a destination of this subscription behind all others of a list that has room. At most 8 steps.
+    /// Adds a destination of this subscription behind all others of a list that has room. At most 8
+    /// steps.
     pub(crate) fn add<L: Ledger>(&mut self, list: u32, sub: SubNo, steps: &mut Steps<L>)
         requires list { list < length self.old.lists }
         requires room { length (dests_in self.old list) < self.old.limit }
-        ensures after { self.new ≡ record self.old { lists = slice_set self.old.lists list (dests_in self.old list ++ (last_node (dests_in self.new list), sub) ∷ []) } }
-        ensures fresh { (other : ℕ) → other < length self.old.lists → has_node (last_node (dests_in self.new list)) (dests_in self.old other) ≡ false }
+        ensures after { self.new ≡
+            record
+            self.old {
+              lists = slice_set self.old.lists list
+                  (dests_in self.old list ++ (last_node (dests_in self.new list), sub) ∷ []);
+            } }
+        ensures fresh { (other : ℕ) → other < length self.old.lists →
+            has_node (last_node (dests_in self.new list)) (dests_in self.old other) ≡ false }
         ensures cost { steps.new ≤ steps.old + 8 }
     {
         let place = list as usize;
@@ -107,12 +122,17 @@ impl DestLists {
         self.lens[place] += 1;
     }
 
-    /// Takes the first destination of this subscription out of a list that has one; the others stay in their order. It
-    /// goes through the list up to there.
+    /// Takes the first destination of this subscription out of a list that has one; the others stay
+    /// in their order. It goes through the list up to there.
     pub(crate) fn remove<L: Ledger>(&mut self, list: u32, sub: SubNo, steps: &mut Steps<L>)
         requires list { list < length self.old.lists }
         requires there { IsTrue (has_sub sub (dests_in self.old list)) }
-        ensures after { self.new ≡ record self.old { lists = slice_set self.old.lists list (without sub (dests_in self.old list)) } }
+        ensures after { self.new ≡
+            record
+            self.old {
+              lists = slice_set self.old.lists list
+                  (without sub (dests_in self.old list));
+            } }
         ensures cost { steps.new ≤ steps.old + length (dests_in self.old list) + 8 }
     {
         let place = list as usize;
@@ -127,7 +147,8 @@ impl DestLists {
         self.free.push(0, node, steps);
     }
 
-    /// The first destination of a list, with its node; None exactly where the list is empty. At most 2 steps.
+    /// The first destination of a list, with its node; None exactly where the list is empty. At
+    /// most 2 steps.
     pub(crate) fn first<L: Ledger>(&self, list: u32, steps: &mut Steps<L>) -> Option<(u32, SubNo)>
         requires { list < length self.now.lists }
         ensures first { result ≡ first_dest (dests_in self.now list) }
@@ -138,11 +159,13 @@ impl DestLists {
         dest_behind(&self.links, &self.subs, self.nodes, anchor, steps)
     }
 
-    /// The destination behind a node that is in a list; None exactly where the node is the last. At most 2
-    /// steps.
+    /// The destination behind a node that is in a list; None exactly where the node is the last. At
+    /// most 2 steps.
     pub(crate) fn next<L: Ledger>(&self, node: u32, steps: &mut Steps<L>) -> Option<(u32, SubNo)>
         requires { node < length self.now.lists * self.now.limit }
-        ensures behind { (list : ℕ) (before behind : List Dest) (sub : _) → list < length self.now.lists → dests_in self.now list ≡ before ++ (node, sub) ∷ behind → result ≡ first_dest behind }
+        ensures behind { (list : ℕ) (before behind : List Dest) (sub : _) →
+            list < length self.now.lists → dests_in self.now list ≡ before ++ (node, sub) ∷ behind →
+            result ≡ first_dest behind }
         ensures exists { IfSome result (λ dest. dest.0 < length self.now.lists * self.now.limit) }
         ensures cost { steps.new ≤ steps.old + 2 }
     {
@@ -160,7 +183,9 @@ fn dest_behind<L: Ledger>(
 ) -> Option<(u32, SubNo)>
     requires place { place < length links.now }
     requires subs { length subs.now ≡ nodes }
-    ensures answer { result ≡ (if nat_lt (slice_index links.now place) nodes then Some (dest_at subs.now (slice_index links.now place)) else None) }
+    ensures answer { result ≡
+        (if nat_lt (slice_index links.now place) nodes
+        then Some (dest_at subs.now (slice_index links.now place)) else None) }
     ensures cost { steps.new ≡ steps.old + 1 }
 {
     let behind = links.read(place, steps);
@@ -232,8 +257,11 @@ fn find_before<L: Ledger>(
 ) -> u32
     requires anchor { anchor < length links.now }
     requires nodes { length subs.now ≤ length links.now }
-    requires within { (node : ℕ) → 0 < times_in (chain links.now (slice_index links.now anchor) len) node → node < length subs.now }
-    ensures before { result ≡ place_before subs.now sub anchor (chain links.now (slice_index links.now anchor) len) }
+    requires within { (node : ℕ) →
+        0 < times_in (chain links.now (slice_index links.now anchor) len) node →
+        node < length subs.now }
+    ensures before { result ≡
+        place_before subs.now sub anchor (chain links.now (slice_index links.now anchor) len) }
     ensures cost { steps.new ≤ steps.old + len }
 {
     let mut before = anchor;

@@ -1,18 +1,21 @@
-//! The routes of the Software Bus: for each message id that has one, its destinations in order of subscription, linked by
-//! index, and its sequence count (cFE Software Bus, message routing; CCSDS 133.0-B, 4.1.3.4.3).
+//! The routes of the Software Bus: for each message id that has one, its destinations in order of
+//! subscription, linked by index, and its sequence count (cFE Software Bus, message routing; CCSDS
+//! 133.0-B, 4.1.3.4.3).
 //!
-//! A send finds its id's route in one look-up and goes along the destinations, at most two steps each, however many routes
-//! and destinations there are; a new destination goes last, and one that leaves takes no other with it. No call but `new`
-//! takes memory.
+//! A send finds its id's route in one look-up and goes along the destinations, at most two steps
+//! each, however many routes and destinations there are; a new destination goes last, and one that
+//! leaves takes no other with it. No call but `new` takes memory.
 //!
 //! ```
-//! /// An id gets a route with one destination, and its first sequence count, which is 0 behind 16383.
+//! /// An id gets a route with one destination, and its first sequence count, which is 0 behind
+//! /// 16383.
 //! fn first_count<L: Ledger>(
 //!     routes: &mut Routes,
 //!     sub: SubNo,
 //!     steps: &mut Steps<L>,
 //! ) -> Result<u16, SbStatus>
-//!     requires { routes.old ≡ record { msgids = 1; dests = 1; starts = (2049, 16383) ∷ []; routes = [] } }
+//!     requires { routes.old ≡
+//!         record { msgids = 1; dests = 1; starts = (2049, 16383) ∷ []; routes = [] } }
 //!     ensures count { result ≡ Ok 0 }
 //!     ensures cost { steps.new ≤ steps.old + 8 }
 //! {

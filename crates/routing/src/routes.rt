@@ -14,13 +14,14 @@ use std::alloc::{AllocError, Global};
 use std::marker::Model;
 use subscriptions::SubNo;
 
-/// How many sequence counts there are: a count has 14 bits (CCSDS 133.0-B, 4.1.3.4.3).
+// How many sequence counts there are: a count has 14 bits (CCSDS 133.0-B, 4.1.3.4.3).
 const COUNTS: u16 = 16384;
 
-/// The routes of message ids. Contracts see how many routes there may be, how many destinations each may have, the counts
-/// at which ids start, and the routes in order of making: a route's number is its place, and no route is ever removed. Of a
-/// route they see its id, how many counts it has given, modulo 16384, and its destinations in order of subscription, each
-/// with its node; no node is in two places.
+/// The routes of message ids. Contracts see how many routes there may be, how many destinations
+/// each may have, the counts at which ids start, and the routes in order of making: a route's
+/// number is its place, and no route is ever removed. Of a route they see its id, how many counts
+/// it has given, modulo 16384, and its destinations in order of subscription, each with its node;
+/// no node is in two places.
 #[derive(Drop)]
 pub struct Routes {
     /// The number of each id's route.
@@ -33,7 +34,8 @@ pub struct Routes {
     dests: DestLists,
     /// The count at which each id starts.
     starts: CountStarts,
-    /// The count at which each route's id starts, so that a count is no search. There is room for `msgids` of them.
+    /// The count at which each route's id starts, so that a count is no search. There is room for
+    /// `msgids` of them.
     firsts: Vec<u16>,
     /// How many routes there may be.
     msgids: u32,
@@ -49,15 +51,22 @@ impl Model for Routes {
     ghost use Rattle.routing.specs.Inside.{routes_with, AreNumbered, AreStarted};
     ghost use Rattle.std.specs.Vec.{vec_capacity};
 
-    ghost view = { λ r. record { msgids = r.msgids; dests = r.limit; starts = r.starts; routes = routes_with r.ids.items r.counted.items r.dests.lists } };
+    ghost view = { λ r.
+        record {
+          msgids = r.msgids;
+          dests = r.limit;
+          starts = r.starts;
+          routes = routes_with r.ids.items r.counted.items r.dests.lists;
+        } };
 
-    ghost invariant = { λ r. AreNumbered r.numbers r.ids.items (vec_capacity r.ids) r.counted.items r.dests r.msgids r.limit
+    ghost invariant = { λ r. AreNumbered r.numbers r.ids.items (vec_capacity r.ids) r.counted.items
+        r.dests r.msgids r.limit
         × AreStarted r.starts r.ids.items r.firsts.items (vec_capacity r.firsts) r.msgids };
 }
 
 impl Routes {
-    /// No routes yet, and room for `msgids` routes of `dests` destinations each, so many that all of them can be numbered
-    /// in 32 bits. No later call takes memory.
+    /// No routes yet, and room for `msgids` routes of `dests` destinations each, so many that all
+    /// of them can be numbered in 32 bits. No later call takes memory.
     ///
     /// # Errors
     /// Where memory runs out.
@@ -68,7 +77,9 @@ impl Routes {
         starts: CountStarts,
     ) -> Result<Routes, AllocError>
         requires { msgids * dests + msgids < 2 ^ 32 }
-        ensures { IfOk result (λ made. made ≡ record { msgids = msgids; dests = dests; starts = starts; routes = [] }) }
+        ensures { IfOk result
+            (λ made. made ≡
+            record { msgids = msgids; dests = dests; starts = starts; routes = [] }) }
     {
         let numbers = IdMap::new(alloc, msgids)?;
         let ids = Vec::with_capacity(alloc, msgids as usize)?;
@@ -87,8 +98,8 @@ impl Routes {
         })
     }
 
-    /// No id has two routes, there are at most as many routes as there may be, and each has at most as many destinations as
-    /// it may. Does nothing.
+    /// No id has two routes, there are at most as many routes as there may be, and each has at most
+    /// as many destinations as it may. Does nothing.
     pub fn recall_routes(&self)
         ensures once { (id : ℕ) → count_by (λ route. route.id == id) self.now.routes ≤ 1 }
         ensures fit { length self.now.routes ≤ self.now.msgids }
@@ -127,14 +138,20 @@ impl Routes {
         self.dests.len(route)
     }
 
-    /// Makes a route for a valid id that has none, and answers its number. MaxMsgsMet exactly where there are as many routes
-    /// as there may be; then nothing changes.
+    /// Makes a route for a valid id that has none, and answers its number. MaxMsgsMet exactly where
+    /// there are as many routes as there may be; then nothing changes.
+    ///
+    /// # Errors
+    /// `MaxMsgsMet` if and only if there are as many routes as there may be.
     pub fn add_route(&mut self, id: u16) -> Result<u32, SbStatus>
         requires first { 1 ≤ id }
         requires last { id ≤ MAX_ID }
         requires fresh { route_of self.old.routes id ≡ None }
-        ensures answer { result ≡ (if nat_lt (length self.old.routes) self.old.msgids then Ok (length self.old.routes) else Err MaxMsgsMet) }
-        ensures ok { OnOk result (self.new ≡ record self.old { routes = self.old.routes ++ fresh_route id ∷ [] }) }
+        ensures answer { result ≡
+            (if nat_lt (length self.old.routes) self.old.msgids then Ok (length self.old.routes)
+            else Err MaxMsgsMet) }
+        ensures ok { OnOk result
+            (self.new ≡ record self.old { routes = self.old.routes ++ fresh_route id ∷ [] }) }
         ensures err { OnErr result (self.new ≡ self.old) }
     {
         let route = self.ids.len() as u32;
@@ -147,8 +164,11 @@ impl Routes {
         Ok(route)
     }
 
-    /// Adds a destination behind all others of a route, under a node that no other has. MaxDestsMet exactly where the route
-    /// has as many as it may; then nothing changes. At most 8 steps.
+    /// Adds a destination behind all others of a route, under a node that no other has. MaxDestsMet
+    /// exactly where the route has as many as it may; then nothing changes. At most 8 steps.
+    ///
+    /// # Errors
+    /// `MaxDestsMet` if and only if the route has as many destinations as it may.
     pub fn add_dest<L: Ledger>(
         &mut self,
         route: u32,
@@ -156,9 +176,16 @@ impl Routes {
         steps: &mut Steps<L>,
     ) -> Result<(), SbStatus>
         requires { route < length self.old.routes }
-        ensures answer { result ≡ (if nat_lt (length (dests_at self.old route)) self.old.dests then Ok tt else Err MaxDestsMet) }
-        ensures ok { OnOk result (self.new ≡ with_dests self.old route (dests_at self.old route ++ (last_node (dests_at self.new route), sub) ∷ [])) }
-        ensures fresh { (other : ℕ) → OnOk result (has_node (last_node (dests_at self.new route)) (dests_at self.old other) ≡ false) }
+        ensures answer { result ≡
+            (if nat_lt (length (dests_at self.old route)) self.old.dests then Ok tt
+            else Err MaxDestsMet) }
+        ensures ok { OnOk result
+            (self.new ≡
+            with_dests self.old route
+            (dests_at self.old route ++ (last_node (dests_at self.new route), sub) ∷ [])) }
+        ensures fresh { (other : ℕ) →
+            OnOk result
+            (has_node (last_node (dests_at self.new route)) (dests_at self.old other) ≡ false) }
         ensures err { OnErr result (self.new ≡ self.old) }
         ensures cost { steps.new ≤ steps.old + 8 }
     {
@@ -169,18 +196,20 @@ impl Routes {
         Ok(())
     }
 
-    /// Takes a destination out of a route; the others stay in their order. It goes through the route up to there: a step for
-    /// each, and at most 8 more.
+    /// Takes a destination out of a route; the others stay in their order. It goes through the
+    /// route up to there: a step for each, and at most 8 more.
     pub fn remove_dest<L: Ledger>(&mut self, route: u32, sub: SubNo, steps: &mut Steps<L>)
         requires route { route < length self.old.routes }
         requires there { IsTrue (has_sub sub (dests_at self.old route)) }
-        ensures after { self.new ≡ with_dests self.old route (without sub (dests_at self.old route)) }
+        ensures after { self.new ≡
+            with_dests self.old route (without sub (dests_at self.old route)) }
         ensures cost { steps.new ≤ steps.old + length (dests_at self.old route) + 8 }
     {
         self.dests.remove(route, sub, steps);
     }
 
-    /// A route's first destination, with its node; None exactly where the route has none. At most 2 steps.
+    /// A route's first destination, with its node; None exactly where the route has none. At most 2
+    /// steps.
     pub fn first<L: Ledger>(&self, route: u32, steps: &mut Steps<L>) -> Option<(u32, SubNo)>
         requires { route < length self.now.routes }
         ensures first { result ≡ first_dest (dests_at self.now route) }
@@ -190,23 +219,26 @@ impl Routes {
         self.dests.first(route, steps)
     }
 
-    /// The destination behind a node that `first` or `next` answered, in the route where it stands; None exactly where it is
-    /// the last there. Of a node that stands in no route the answer says nothing. At most 2 steps.
+    /// The destination behind a node that `first` or `next` answered, in the route where it stands;
+    /// None exactly where it is the last there. Of a node that stands in no route the answer says
+    /// nothing. At most 2 steps.
     pub fn next<L: Ledger>(&self, node: u32, steps: &mut Steps<L>) -> Option<(u32, SubNo)>
         requires { node < self.now.msgids * self.now.dests }
-        ensures behind { (route : ℕ) (before behind : List Dest) (sub : _) → dests_at self.now route ≡ before ++ (node, sub) ∷ behind → result ≡ first_dest behind }
+        ensures behind { (route : ℕ) (before behind : List Dest) (sub : _) →
+            dests_at self.now route ≡ before ++ (node, sub) ∷ behind → result ≡ first_dest behind }
         ensures exists { IfSome result (λ dest. dest.0 < self.now.msgids * self.now.dests) }
         ensures cost { steps.new ≤ steps.old + 2 }
     {
         self.dests.next(node, steps)
     }
 
-    /// The next sequence count of a route: its id's start, one for each count that it has given, and one more, modulo 16384.
-    /// It counts as given. Takes a constant time.
+    /// The next sequence count of a route: its id's start, one for each count that it has given,
+    /// and one more, modulo 16384. It counts as given. Takes a constant time.
     pub fn next_count(&mut self, route: u32) -> u16
         requires { route < length self.old.routes }
         ensures count { result ≡ next_of self.old.starts (route_at self.old route) }
-        ensures after { self.new ≡ with_route self.old route (counted_on (route_at self.old route)) }
+        ensures after { self.new ≡
+            with_route self.old route (counted_on (route_at self.old route)) }
     {
         let place = route as usize;
         let start = self.firsts[place];
@@ -216,7 +248,8 @@ impl Routes {
     }
 }
 
-/// The law of counts: a route's next count goes by how many it has given altogether, however many those are.
+/// The law of counts: a route's next count goes by how many it has given altogether, however many
+/// those are.
 pub fn recall_counts()
     ensures { CountsGoByCalls }
 {}

@@ -15,7 +15,8 @@ fn first_count<L: Ledger>(
     sub: SubNo,
     steps: &mut Steps<L>,
 ) -> Result<u16, SbStatus>
-    requires { routes.old ≡ record { msgids = 1; dests = 1; starts = (2049, 16383) ∷ []; routes = [] } }
+    requires { routes.old ≡
+        record { msgids = 1; dests = 1; starts = (2049, 16383) ∷ []; routes = [] } }
     ensures count { result ≡ Ok 0 }
     ensures cost { steps.new ≤ steps.old + 8 }
 {
@@ -29,7 +30,8 @@ fn first_counted<L: Ledger>(routes: &mut Routes, sub: SubNo, blank: Blank) -> Re
     requires name { blank.name ≡ L.name }
     requires parts { blank.parts ≡ L.parts }
     requires some_part { 0 < blank.parts }
-    requires routes { routes.old ≡ record { msgids = 1; dests = 1; starts = (2049, 16383) ∷ []; routes = [] } }
+    requires routes { routes.old ≡
+        record { msgids = 1; dests = 1; starts = (2049, 16383) ∷ []; routes = [] } }
 {
     let mut steps = Steps::<L>::new(blank);
     first_count(routes, sub, &mut steps)
@@ -47,8 +49,8 @@ fn the_count_after_16383_is_0(rt: HostRuntime) -> Result<(), Fail> {
     Ok(())
 }
 
-/// A walk along up to 64 destinations takes at most 2 + 2 * 64 steps, whatever else is there. Answers how many it came by,
-/// and the number of the last one's subscription.
+/// A walk along up to 64 destinations takes at most 2 + 2 * 64 steps, whatever else is there.
+/// Answers how many it came by, and the number of the last one's subscription.
 fn walk<L: Ledger>(routes: &Routes, route: u32, steps: &mut Steps<L>) -> (u32, u32)
     requires { route < length routes.now.routes }
     ensures cost { steps.new ≤ steps.old + (2 + 2 * 64) }
@@ -85,7 +87,8 @@ fn subscribe<L: Ledger>(routes: &mut Routes, id: u16, number: u32, steps: &mut S
     }
 }
 
-/// 1024 ids with a destination each, and 63 more of one of them; then there is room for no further one.
+/// 1024 ids with a destination each, and 63 more of one of them; then there is room for no further
+/// one.
 fn fill_and_walk<L: Ledger, R: Abort>(rt: &R, routes: &mut Routes, blank: Blank)
     requires name { blank.name ≡ L.name }
     requires parts { blank.parts ≡ L.parts }

@@ -11,8 +11,8 @@ use fsw_base::Scope;
 use std::alloc::{AllocError, Global};
 use std::marker::Model;
 
-/// The live subscriptions. Contracts see how many may be live at once, how many were made so far, and those that are
-/// live, in order of number.
+/// The live subscriptions. Contracts see how many may be live at once, how many were made so far,
+/// and those that are live, in order of number.
 #[derive(Drop)]
 pub struct Subs {
     /// What each slot holds; None where it is free. Each subscription has a number of its own.
@@ -33,13 +33,23 @@ impl Model for Subs {
 
     ghost use Rattle.subscriptions.specs.Inside.{live_upto, AreKept, IsTop};
 
-    ghost view = { λ s. record { room = length s.slots.items; made = s.made; live = live_upto s.slots.items s.made } };
+    ghost view = { λ s.
+        record {
+          room = length s.slots.items;
+          made = s.made;
+          live = live_upto s.slots.items s.made;
+        } };
 
-    ghost invariant = { λ s. AreKept s.slots.items s.free.items s.made × (length s.slots.items < 2 ^ 32) × (length s.slots.items ≤ vec_capacity s.free) × IsTop s.slots.items s.top × (s.top ≤ length s.slots.items) };
+    ghost invariant = { λ s. AreKept s.slots.items s.free.items s.made ×
+        (length s.slots.items < 2 ^ 32) × (length s.slots.items ≤ vec_capacity s.free) ×
+        IsTop s.slots.items s.top × (s.top ≤ length s.slots.items) };
 }
 
 impl Subs {
     /// Room for `room` live subscriptions, none of which is made yet. No later call takes memory.
+    ///
+    /// # Errors
+    /// `AllocError` where memory runs out.
     pub fn new(alloc: Global, room: u32) -> Result<Subs, AllocError>
         ensures { IfOk result (λ subs. subs ≡ record { room = room; made = 0; live = [] }) }
     {
@@ -67,15 +77,16 @@ impl Subs {
         self.free.is_empty()
     }
 
-    /// The live subscriptions stand in order of number, and each in a slot below the room. Does nothing.
+    /// The live subscriptions stand in order of number, and each in a slot below the room. Does
+    /// nothing.
     pub fn recall_order(&self)
         ensures { AreInOrder self.now }
     {
         let _ = &self.slots;
     }
 
-    /// A new subscription of a message id to a pipe that lies in this place, of whose messages none waits. Whether the pair
-    /// is live already isn't asked. Takes a constant time.
+    /// A new subscription of a message id to a pipe that lies in this place, of whose messages none
+    /// waits. Whether the pair is live already isn't asked. Takes a constant time.
     pub fn add(&mut self, id: u16, pipe: u32, place: u32, limit: u32, scope: Scope) -> SubNo
         requires room { length self.old.live < self.old.room }
         requires number { self.old.made + 1 < 2 ^ 32 }
@@ -84,7 +95,17 @@ impl Subs {
         ensures free { list_any (λ s. s.slot == result.slot) self.old.live ≡ false }
         ensures after { self.new ≡ record self.old {
           made = result.number;
-          live = self.old.live ++ record { slot = result.slot; number = result.number; id = id; pipe = pipe; place = place; limit = limit; scope = scope; waiting = 0 } ∷ [];
+          live = self.old.live ++
+              record {
+                slot = result.slot;
+                number = result.number;
+                id = id;
+                pipe = pipe;
+                place = place;
+                limit = limit;
+                scope = scope;
+                waiting = 0;
+              } ∷ [];
         } }
     {
         let slot = self.free.pop().unwrap();
@@ -129,7 +150,8 @@ impl Subs {
         }
     }
 
-    /// What the limit of a subscription says of one message more; one that has ended has no limit. Takes a constant time.
+    /// What the limit of a subscription says of one message more; one that has ended has no limit.
+    /// Takes a constant time.
     pub fn admit(&self, sub: SubNo) -> Verdict
         ensures { result ≡ verdict_at self.now sub }
     {
@@ -139,7 +161,8 @@ impl Subs {
         }
     }
 
-    /// One more message of a subscription waits; no effect where it has ended. Takes a constant time.
+    /// One more message of a subscription waits; no effect where it has ended. Takes a constant
+    /// time.
     pub fn queued(&mut self, sub: SubNo)
         requires { ForSome (live_at self.old sub) (λ s. s.waiting + 1 < 2 ^ 32) }
         ensures { self.new ≡ with_change self.old sub one_more }
@@ -149,8 +172,8 @@ impl Subs {
         }
     }
 
-    /// One message of a subscription, of which at least one waits, waits no longer; no effect where it has ended. Takes a
-    /// constant time.
+    /// One message of a subscription, of which at least one waits, waits no longer; no effect where
+    /// it has ended. Takes a constant time.
     pub fn unqueued(&mut self, sub: SubNo)
         requires { ForSome (live_at self.old sub) (λ s. 1 ≤ s.waiting) }
         ensures { self.new ≡ with_change self.old sub one_fewer }
@@ -160,11 +183,12 @@ impl Subs {
         }
     }
 
-    /// A live subscription of a pipe; None exactly where it has none. For the deletion of a pipe: it looks at as many slots
-    /// as ever were used at once.
+    /// A live subscription of a pipe; None exactly where it has none. For the deletion of a pipe:
+    /// it looks at as many slots as ever were used at once.
     pub fn any_of_pipe(&self, pipe: u32) -> Option<SubNo>
         ensures some { IsSome result ↔ IsTrue (list_any (λ s. s.pipe == pipe) self.now.live) }
-        ensures own { IfSome result (λ sub. option_map (λ s. s.pipe) (live_at self.now sub) ≡ Some pipe) }
+        ensures own { IfSome result
+            (λ sub. option_map (λ s. s.pipe) (live_at self.now sub) ≡ Some pipe) }
     {
         for slot in 0..self.top {
             if let Some(place) = self.slots[slot as usize] {
@@ -203,7 +227,9 @@ fn held(slots: &[Option<Place>], sub: SubNo) -> Option<Place>
 // Sets how many messages of the subscription in a slot wait.
 fn set_waiting(slots: &mut Vec<Option<Place>>, slot: u32, waiting: u32)
     requires { slot < length slots.old.items }
-    ensures items { slots.new.items ≡ slice_set slots.old.items slot (with_waiting waiting (slice_index_or slots.old.items slot None)) }
+    ensures items { slots.new.items ≡
+        slice_set slots.old.items slot
+        (with_waiting waiting (slice_index_or slots.old.items slot None)) }
 {
     if let Some(place) = in_slot(slots, slot) {
         slots[slot as usize] = Some(Place { waiting, ..place });
@@ -224,7 +250,8 @@ fn free_slots(alloc: Global, room: u32) -> Result<Vec<Option<Place>>, AllocError
 // The numbers of so many slots, the first one last.
 fn all_slots(alloc: Global, room: u32) -> Result<Vec<u32>, AllocError>
     ensures all { IfOk result (λ free. length free.items ≡ room) }
-    ensures each { IfOk result (λ free. (i : ℕ) → i < room → slice_index free.items i + i + 1 ≡ room) }
+    ensures each { IfOk result
+        (λ free. (i : ℕ) → i < room → slice_index free.items i + i + 1 ≡ room) }
     ensures room { IfOk result (λ free. room ≤ vec_capacity free) }
 {
     let mut free = Vec::with_capacity(alloc, room as usize)?;

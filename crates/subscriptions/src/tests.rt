@@ -6,7 +6,8 @@ use crate::words::Verdict;
 use fsw_base::Scope;
 use std::test::Fail;
 
-/// A subscription that lets one message wait admits a first one, and is over its limit once that one waits.
+/// A subscription that lets one message wait admits a first one, and is over its limit once that
+/// one waits.
 fn second_verdict(subs: &mut Subs) -> Verdict
     requires { subs.old ≡ record { room = 1; made = 0; live = [] } }
     ensures { result ≡ Verdict.OverLimit }
