@@ -1,5 +1,6 @@
 //! A small value for the lock to guard.
-ghost use Rattle.std.specs.Prelude.{◌≡◌, ◌++◌, [], ◌∷◌, vec_capacity, vec_len, IfOk};
+ghost use Rattle.std.specs.Prelude.{◌≡◌, ◌<◌, ◌↔◌, ◌++◌, [], ◌∷◌, vec_capacity, vec_len};
+ghost use Rattle.std.specs.Prelude.{IfOk, IsTrue};
 ghost use Rattle.std.specs.Prelude.{if◌then◌else◌};
 
 use std::alloc::{AllocError, Global};
@@ -41,6 +42,7 @@ impl Visits {
     pub fn note(&mut self, app: u32, number: u64) -> bool
         ensures noted { self.new.noted.items ≡ self.old.noted.items
             ++ (if result then (app, number) ∷ [] else []) }
+        ensures told { IsTrue result ↔ (vec_len self.old.noted < vec_capacity self.old.noted) }
         ensures room { vec_capacity self.new.noted ≡ vec_capacity self.old.noted }
     {
         if self.noted.len() >= self.noted.capacity() {
