@@ -10,7 +10,7 @@ use Rattle.app_script.proofs.script.read_lines.Goals as goal
 
 pub returns-in-Err-clause-read : goal.returns-in-Err-clause-read
 returns-in-Err-clause-read c =
-    subst (λ (f : ReadFail). FailsAs f (after_lines 1 c.args.reading.now (lines_of c.args.bytes.now))) (sym c.located.ensures)
+    subst (λ (f : ReadFail). FailsAs f (after_lines 1 c.args.reading.now (lines_of c.args.bytes.now))) (sym c.located_failure.ensures)
     (lines_fault c.loop-rest.number c.loop-rest.reading (lines_of c.loop-rest.rest.now) (lines_of c.first_line.result.1.now) c.first_line.result.0.now c.in-Err.failure
     (after_lines 1 c.args.reading.now (lines_of c.args.bytes.now)) c.in-Err.ensures.read c.first_line.ensures.lines c.loop-rest.invariant.read)
 
@@ -18,7 +18,7 @@ pub loop-rest-preserved : goal.loop-rest-preserved
 loop-rest-preserved c = record {
   read = lines_more c.loop-rest.number c.loop-rest.reading c.line.new.self (lines_of c.loop-rest.rest.now) (lines_of c.first_line.result.1.now) c.first_line.result.0.now
       (after_lines 1 c.args.reading.now (lines_of c.args.bytes.now)) c.in-Ok.ensures.read c.first_line.ensures.lines c.loop-rest.invariant.read;
-  unbuilt = ap (λ u. first_of u (unbuilt_from (c.loop-rest.number + 1) (lines_of c.first_line.result.1.now))) c.noted-unbuilt.ensures
+  unbuilt = ap (λ u. first_of u (unbuilt_from (c.loop-rest.number + 1) (lines_of c.first_line.result.1.now))) c.first_unbuilt-unbuilt.ensures
       ∙ unbuilt_more c.loop-rest.number c.in-Ok.built c.loop-rest.unbuilt (lines_of c.loop-rest.rest.now) (lines_of c.first_line.result.1.now) c.first_line.result.0.now
       (unbuilt_line c.args.bytes.now) c.in-Ok.ensures.built c.first_line.ensures.lines c.loop-rest.invariant.unbuilt;
   count = omega (arith, c.first_line.ensures.shorter, c.loop-rest.invariant.count);
