@@ -1,0 +1,5 @@
+pub mod Answers
+pub mod Core
+pub mod Inside
+pub mod Rows
+pub mod Spans
