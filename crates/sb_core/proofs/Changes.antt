@@ -23,8 +23,7 @@ activities_keep a acts keeps =
       subscriptions_live = keeps.subscriptions_live;
       subscriptions_made = keeps.subscriptions_made;
       sends_made = keeps.sends_made;
-      few = keeps.few;
-      sends_room = keeps.sends_room;
+      sends_few = keeps.sends_few;
     }
 
 -- other pipes
@@ -39,8 +38,7 @@ pipes_keep a pipes keeps rows =
       subscriptions_live = keeps.subscriptions_live;
       subscriptions_made = keeps.subscriptions_made;
       sends_made = keeps.sends_made;
-      few = keeps.few;
-      sends_room = keeps.sends_room;
+      sends_few = keeps.sends_few;
     }
 
 -- a change of rows that keeps each row keeps all
@@ -80,6 +78,5 @@ subscriptions_leave a stays keeps =
       subscriptions_live = omega (arith, all, keeps.subscriptions_live);
       subscriptions_made = keeps.subscriptions_made;
       sends_made = keeps.sends_made;
-      few = keeps.few;
-      sends_room = keeps.sends_room;
+      sends_few = keeps.sends_few;
     }

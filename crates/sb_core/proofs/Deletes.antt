@@ -35,5 +35,5 @@ module _ (a : Inside) (next : Tables) (old : Plain) (app pipe : ℕ)
 
   pub deleted_acts : plain_of a ≡ old → unowned_cause (means a).bus app pipe ≡ None → Acts old (plain_of (record a { tables = next })) app (Delete pipe) Done
   deleted_acts viewed why =
-      acts_by_tables a next a.activities old app (Delete pipe) Done viewed (ap (λ (t : Tables). t.room) is)
+      acts_by_tables a next a.activities old app (Delete pipe) Done viewed
       (act_by (limits_of a.config) (means a) app (Delete pipe) None why ∙ ap (λ (w : Whole). (Done, w)) (sym deleted_means))

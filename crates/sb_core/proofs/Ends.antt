@@ -66,5 +66,5 @@ module _ (a : Inside) (acts : Vec Activity Global) (next : Tables) (old : Plain)
 
   pub ended_acts : plain_of a ≡ old → Acts old (plain_of (record a { activities = acts; tables = next })) app End Done
   ended_acts viewed =
-      acts_by_tables a next acts old app End Done viewed (ap (λ (t : Tables). t.room) is)
+      acts_by_tables a next acts old app End Done viewed
       (ap (λ (w : Whole). (Done, w)) (sym ended_means))

@@ -1,10 +1,22 @@
 -- Messages as they lie behind one another.
 use Rattle.std.proofs.Common.{◌≡◌, ℕ, ◌+◌, ◌-◌, ◌≤◌, List, [], ◌∷◌, ◌++◌, length, map, take, drop, All, refl, ap, ◌∙◌, arith, length-append}
+use Rattle.std.specs.Prelude.{slice_range}
 use Rattle.std.proofs.lemmas.List.{take-append-le, drop-append-le, drop_at, take_all, length-drop, map_push}
 use Rattle.std.proofs.lemmas.List.Elements.{All-head, All-tail, All-push, All-weaker}
 use Rattle.sb_core.specs.declared.messages.Span.{Span}
 use Rattle.sb_core.specs.Rows.{Kept}
-use Rattle.sb_core.specs.Spans.{AreLaid, kept_of, kept_in}
+
+-- the message of a span
+abbrev pub kept_of : List ℕ → Span → Kept
+kept_of bytes span = record { asked = span.len; message = slice_range bytes span.start (span.start + span.len) }
+
+-- all of them
+abbrev pub kept_in : List ℕ → List Span → List Kept
+kept_in bytes spans = map (kept_of bytes) spans
+
+-- each span lies within the bytes
+abbrev pub AreLaid : List ℕ → List Span → Type 0
+AreLaid bytes spans = All (λ span. span.start + span.len ≤ length bytes) spans
 
 -- bytes added at the end change no message that is there
 kept_of-append : (bytes more : List ℕ) (span : Span) → span.start + span.len ≤ length bytes → kept_of (bytes ++ more) span ≡ kept_of bytes span

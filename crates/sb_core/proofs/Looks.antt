@@ -154,7 +154,7 @@ module _ (a : Inside) (next : Tables) (acts : Vec Activity Global) (old : Plain)
 
   pub pend_acts : Acts old (plain_of (record a { tables = next; activities = acts })) app (Pend pipe) (waited answer)
   pend_acts =
-      acts_by_tables a next acts old app (Pend pipe) (waited answer) viewed (ap (λ (t : Tables). t.room) is)
+      acts_by_tables a next acts old app (Pend pipe) (waited answer) viewed
       (act_by (limits_of a.config) (means a) app (Pend pipe) None why
       ∙ ap (λ x. (x, record (means a) { bus = pended (means a).bus app pipe })) (sym answers)
       ∙ ap (λ w. (waited answer, w)) (sym pend_means))
@@ -181,7 +181,7 @@ module _ (a : Inside) (next : Tables) (acts : Vec Activity Global) (old : Plain)
 
   pub look_acts : Acts old (plain_of (record a { tables = next; activities = acts })) app (Look pipe) (waited answer)
   look_acts =
-      acts_by_tables a next acts old app (Look pipe) (waited answer) viewed (ap (λ (t : Tables). t.room) is)
+      acts_by_tables a next acts old app (Look pipe) (waited answer) viewed
       (ap (λ x. (x, record (means a) { bus = looked (means a).bus app pipe })) (sym answers)
       ∙ ap (λ w. (waited answer, w)) (sym look_means))
 

@@ -15,13 +15,13 @@ standings-active : (n : ℕ) → map standing_in (replicate n activities.Active)
 standings-active zero = refl
 standings-active (suc n) = ap (λ l. Active ∷ l) (standings-active n)
 
-pub opened_plain : (a : Inside) (limits : Limits) (apps numbers bytes : ℕ) → limits_of a.config ≡ limits → a.activities.items ≡ replicate apps activities.Active →
-    a.tables ≡ opened limits numbers → a.sends ≡ record { kept = []; places = numbers; spare = bytes } →
-    plain_of a ≡ record { limits = limits; numbers = numbers; spare = bytes; whole = opening_whole apps }
-opened_plain a limits apps numbers bytes same active tables sends =
-    let none : Sends = record { kept = []; places = numbers; spare = bytes } in
+pub opened_plain : (a : Inside) (limits : Limits) (apps messages bytes : ℕ) → limits_of a.config ≡ limits → a.activities.items ≡ replicate apps activities.Active →
+    a.tables ≡ opened limits → a.sends ≡ record { kept = []; places = messages; spare = bytes } →
+    plain_of a ≡ record { limits = limits; messages = messages; spare = bytes; whole = opening_whole apps }
+opened_plain a limits apps messages bytes same active tables sends =
+    let none : Sends = record { kept = []; places = messages; spare = bytes } in
     ap (λ t. plain_of (record a { tables = t })) tables
-    ∙ ap (λ m. plain_of (record a { tables = opened limits numbers; sends = m })) sends
-    ∙ ap (λ l. record { limits = l; numbers = numbers; spare = bytes; whole = means (record a { tables = opened limits numbers; sends = none }) }) same
-    ∙ ap (λ (st : List Standing). record { limits = limits; numbers = numbers; spare = bytes; whole = record { bus = record { pipes = []; pipes_created = 0; subscriptions = []; subscriptions_made = 0; routed = []; numbers_given = 0; standings = st }; nexts = [] } })
+    ∙ ap (λ m. plain_of (record a { tables = opened limits; sends = m })) sends
+    ∙ ap (λ l. record { limits = l; messages = messages; spare = bytes; whole = means (record a { tables = opened limits; sends = none }) }) same
+    ∙ ap (λ (st : List Standing). record { limits = limits; messages = messages; spare = bytes; whole = record { bus = record { pipes = []; pipes_created = 0; subscriptions = []; subscriptions_made = 0; routed = []; numbers_given = 0; standings = st }; nexts = [] } })
     (ap (map standing_in) active ∙ standings-active apps)

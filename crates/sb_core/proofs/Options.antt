@@ -28,5 +28,5 @@ module _ (a : Inside) (next : Tables) (old : Plain) (app pipe bits : ℕ)
 
   pub set_acts : plain_of a ≡ old → set_opts_cause (means a).bus app pipe bits ≡ None → Acts old (plain_of (record a { tables = next })) app (SetOpts pipe bits) Done
   set_acts viewed why =
-      acts_by_tables a next a.activities old app (SetOpts pipe bits) Done viewed (ap (λ (t : Tables). t.room) is)
+      acts_by_tables a next a.activities old app (SetOpts pipe bits) Done viewed
       (act_by (limits_of a.config) (means a) app (SetOpts pipe bits) None why ∙ ap (λ (w : Whole). (Done, w)) (sym set_means))

@@ -57,14 +57,14 @@ module _ (a : Inside) (next : Tables) (old : Plain) (app pipe : ℕ) (viewed : p
 
   pub none_acts : oldest_item a.tables.pipes pipe ≡ None → Acts old (plain_of (record a { tables = next })) app (Receive pipe) (Sb NoMessage)
   none_acts none =
-      acts_by_tables a next a.activities old app (Receive pipe) (Sb NoMessage) viewed (ap (λ (t : Tables). t.room) is)
+      acts_by_tables a next a.activities old app (Receive pipe) (Sb NoMessage) viewed
       (act_by (limits_of a.config) (means a) app (Receive pipe) (Some NoMessage)
       (receive_cause_is (means a).bus app pipe true true owned (is_empty-rows a.sends.kept a.tables.pipes pipe ∙ ap is_none none))
       ∙ ap (λ w. (Sb NoMessage, w)) (sym taken_means))
 
   pub some_acts : (item : ItemRow) → oldest_item a.tables.pipes pipe ≡ Some item → Acts old (plain_of (record a { tables = next })) app (Receive pipe) (Got item.number)
   some_acts item some =
-      acts_by_tables a next a.activities old app (Receive pipe) (Got item.number) viewed (ap (λ (t : Tables). t.room) is)
+      acts_by_tables a next a.activities old app (Receive pipe) (Got item.number) viewed
       (act_by (limits_of a.config) (means a) app (Receive pipe) None
       (receive_cause_is (means a).bus app pipe true false owned (is_empty-rows a.sends.kept a.tables.pipes pipe ∙ ap is_none some))
       ∙ ap (λ n. (Got n, record (means a) { bus = received (means a).bus pipe }))

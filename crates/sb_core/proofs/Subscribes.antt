@@ -1,5 +1,5 @@
 -- What a subscription leaves.
-use Rattle.std.proofs.Common.{◌≡◌, ℕ, ◌+◌, ◌%◌, ◌<◌, ◌≤◌, Bool, true, false, ◌&&◌, ◌||◌, not, cond, eqb, leb, add-zero, List, [], ◌∷◌, ◌++◌, length, map, None, refl, ap, sym, ◌∙◌, subst, arith}
+use Rattle.std.proofs.Common.{◌≡◌, ℕ, ◌+◌, ◌%◌, ◌^◌, ◌<◌, ◌≤◌, Bool, true, false, ◌&&◌, ◌||◌, not, cond, eqb, leb, add-zero, List, [], ◌∷◌, ◌++◌, length, map, None, refl, ap, sym, ◌∙◌, subst, arith}
 use Rattle.std.specs.List.{All, list_any}
 use Rattle.std.proofs.lemmas.Bool.{eqb-true}
 use Rattle.std.proofs.lemmas.Bool.Decides.{nat_tests}
@@ -233,7 +233,7 @@ module _ (a : Inside) (old : Plain) (app id pipe limit : ℕ) (scope : Scope) (v
       (has_next-rows a.tables.room.starts a.tables.routes id ∙ way))
 
   module _ (next : Tables) (is : next ≡ with_sub a.tables id pipe limit scope) where
-    pub subscribed_keeps : a.tables.subscriptions_made < a.tables.room.numbers → Keeps (record a { tables = next })
+    pub subscribed_keeps : a.tables.subscriptions_made + 1 < 2 ^ 32 → Keeps (record a { tables = next })
     subscribed_keeps left =
         let sub : Subscription = record { number = a.tables.subscriptions_made + 1; id = id; pipe = pipe; limit = limit; scope = scope } in
         let more : length (a.tables.subscriptions ++ sub ∷ []) ≡ length a.tables.subscriptions + 1 = length_push a.tables.subscriptions sub in
@@ -246,10 +246,9 @@ module _ (a : Inside) (old : Plain) (app id pipe limit : ℕ) (scope : Scope) (v
           ways = ways_kept a.tables.routes (with_route a.tables.routes id) id a.tables.subscriptions (a.tables.subscriptions ++ sub ∷ []) sub refl refl refl keeps.ways;
           once = once_with_route a.tables.routes id keeps.once;
           subscriptions_live = omega (arith, more, keeps.subscriptions_live);
-          subscriptions_made = omega (arith, left);
+          subscriptions_made = left;
           sends_made = keeps.sends_made;
-          few = keeps.few;
-          sends_room = keeps.sends_room;
+          sends_few = keeps.sends_few;
         })
 
     pub subscribed_acts : is_subscribed a.tables.subscriptions id pipe ≡ false → Acts old (plain_of (record a { tables = next })) app (Subscribe id pipe limit scope) Done
@@ -261,7 +260,7 @@ module _ (a : Inside) (old : Plain) (app id pipe limit : ℕ) (scope : Scope) (v
         ap (λ st. map (next_of st) (with_route a.tables.routes id)) starts
         ∙ nexts-with_route limits a.tables.routes id
         ∙ ap (λ st. with_next limits (map (next_of st) a.tables.routes) id) (sym starts) in
-        acts_by_tables a next a.activities old app (Subscribe id pipe limit scope) Done viewed (ap (λ (t : Tables). t.room) is)
+        acts_by_tables a next a.activities old app (Subscribe id pipe limit scope) Done viewed
         (made_by false fresh
         ∙ ap (λ (l : List ℕ). (Done, record { bus = record (with_subscription s id pipe limit scope) { routed = l }; nexts = with_next limits (means a).nexts id })) (sym (ids_of-with_route a.tables.routes id))
         ∙ ap (λ (ns : List NextCount). (Done, record { bus = record (with_subscription s id pipe limit scope) { routed = ids_of (with_route a.tables.routes id) }; nexts = ns })) (sym nexts)

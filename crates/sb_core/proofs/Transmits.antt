@@ -278,7 +278,7 @@ module _ (a : Inside) (next : Tables) (sends : Sends) (row : Kept) (old : Plain)
   longer : length sends.kept ≡ length a.sends.kept + 1
   longer = ap length sent ∙ length_push a.sends.kept row
 
-  pub sent_keeps : Keeps a → IsKept row → sends.places ≡ a.sends.places → length a.sends.kept < a.tables.room.numbers → Keeps (record a { tables = next; sends = sends })
+  pub sent_keeps : Keeps a → IsKept row → sends.places ≡ a.sends.places → length a.sends.kept < a.sends.places → Keeps (record a { tables = next; sends = sends })
   sent_keeps keeps short places room =
       let id = message_id bytes in
       let subs = route a.tables.subscriptions id in
@@ -296,18 +296,17 @@ module _ (a : Inside) (next : Tables) (sends : Sends) (row : Kept) (old : Plain)
             (λ sub one. has_route-counted_up a.tables.routes id sub.id inc ∙ one) a.tables.subscriptions keeps.ways;
         once = once_by_ids a.tables.routes (counted_up a.tables.routes id inc) (ids_of-counted_up a.tables.routes id inc) keeps.once;
         subscriptions_live = keeps.subscriptions_live;
-        sends_made = omega (arith, longer, room);
         subscriptions_made = keeps.subscriptions_made;
-        few = keeps.few;
-        sends_room = omega (arith, places, keeps.sends_room);
+        sends_made = omega (arith, longer, places, room);
+        sends_few = omega (arith, places, keeps.sends_few);
       })
 
   pub sent_acts : Keeps a → plain_of a ≡ old → transmit_cause (limits_of a.config) (means a).bus bytes ≡ None →
       row ≡ record { asked = length bytes; message = stamped (reads_of a.tables) bytes inc } →
       arrived ≡ reached_rows app number (route a.tables.subscriptions (message_id bytes)) a.tables.pipes →
-      a.sends.spare ≤ sends.spare + length bytes →
+      sends.places ≡ a.sends.places → a.sends.spare ≤ sends.spare + length bytes →
       Acts old (plain_of (record a { tables = next; sends = sends })) app (Transmit bytes inc) (Sent number arrived)
-  sent_acts keeps viewed why row_is arrives spare =
+  sent_acts keeps viewed why row_is arrives places spare =
       let w = means a in
       let s = w.bus in
       let id = message_id bytes in
@@ -326,7 +325,7 @@ module _ (a : Inside) (next : Tables) (sends : Sends) (row : Kept) (old : Plain)
       arrives ∙ ap (λ n. reached_rows app n subs a.tables.pipes) numbered
       ∙ reached-rows (a.sends.kept ++ row ∷ []) sending as_sent subs a.tables.pipes
       ∙ ap (reached sending subs) still in
-      acts_from a (record a { tables = next; sends = sends }) old app (Transmit bytes inc) (Sent number arrived) viewed refl (ap (λ (t : Tables). t.room) is) spare
+      acts_from a (record a { tables = next; sends = sends }) old app (Transmit bytes inc) (Sent number arrived) viewed refl places spare
       (act_by (limits_of a.config) w app (Transmit bytes inc) None why
       ∙ ap (completed (limits_of a.config) w (Transmit bytes inc)) (along subs first more sending s someone)
       ∙ ap (λ (ns : List NextCount). (Sent given (reached sending subs s.pipes), record { bus = record s { pipes = deliver sending subs s.pipes; numbers_given = given }; nexts = ns })) (moved keeps.once inc)

@@ -21,5 +21,5 @@ module _ (a : Inside) (next : Tables) (old : Plain) (app id pipe : ℕ)
   pub unsubscribed_acts : plain_of a ≡ old → unsubscribe_cause (means a).bus app id pipe ≡ None →
       Acts old (plain_of (record a { tables = next })) app (Unsubscribe id pipe) Done
   unsubscribed_acts viewed why =
-      acts_by_tables a next a.activities old app (Unsubscribe id pipe) Done viewed (ap (λ (t : Tables). t.room) is)
+      acts_by_tables a next a.activities old app (Unsubscribe id pipe) Done viewed
       (act_by (limits_of a.config) (means a) app (Unsubscribe id pipe) None why ∙ ap (λ t. (Done, means (record a { tables = t }))) (sym is))

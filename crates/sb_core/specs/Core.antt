@@ -1,5 +1,5 @@
 -- The core as its callers see it: its limits, what it may still give, and the state.
-use Rattle.std.specs.Prelude.{◌≡◌, ℕ, ◌+◌, ◌<◌, ◌≤◌, nat_le, Bool, true, length, IsTrue}
+use Rattle.std.specs.Prelude.{◌≡◌, ℕ, ◌+◌, ◌^◌, ◌<◌, ◌≤◌, nat_le, Bool, true, length, IsTrue}
 use Rattle.fsw_base.specs.Limits.{Limits}
 use Rattle.bus_words.specs.declared.calls.BusAnswer.{BusAnswer}
 use Rattle.bus_words.specs.declared.history.Call.{Call}
@@ -9,11 +9,11 @@ use Rattle.bus_words.specs.Entries.{call_bytes}
 use Rattle.bus_words.specs.Machine.{may_call}
 use Rattle.bus_words.specs.Acts.{Whole, act}
 
--- The limits, how many numbers of each kind are given at most, how many bytes of messages may still be sent (as long as
--- each message is kept for good), and the state.
+-- The limits, how many messages are sent at most and how many bytes of them may still be sent (as long as each message is
+-- kept for good), and the state.
 pub record Plain : Type 0 where
   pub limits : Limits
-  pub numbers : ℕ
+  pub messages : ℕ
   pub spare : ℕ
   pub whole : Whole
 
@@ -43,9 +43,9 @@ pub record MayAct (core : Plain) (app : ℕ) (call : Call) : Type 0 where
   pub standing : IsTrue (may_call (standing_of core.whole.bus app) call)
   pub within : IsTrue (is_within call)
   -- a number of each kind is left, and the call's bytes
-  pub pipes : core.whole.bus.pipes_created < core.numbers
-  pub subscriptions : core.whole.bus.subscriptions_made < core.numbers
-  pub sends : core.whole.bus.numbers_given < core.numbers
+  pub pipes : core.whole.bus.pipes_created + 1 < 2 ^ 32
+  pub subscriptions : core.whole.bus.subscriptions_made + 1 < 2 ^ 32
+  pub sends : core.whole.bus.numbers_given < core.messages
   pub bytes : call_bytes call ≤ core.spare
 
 -- the call was answered, and left the state, as the machine does by the state alone; of the bytes that may still be sent it
@@ -53,5 +53,5 @@ pub record MayAct (core : Plain) (app : ℕ) (call : Call) : Type 0 where
 pub record Acts (old new : Plain) (app : ℕ) (call : Call) (answer : BusAnswer) : Type 0 where
   pub made : act old.limits old.whole app call ≡ (answer, new.whole)
   pub limits : new.limits ≡ old.limits
-  pub numbers : new.numbers ≡ old.numbers
+  pub messages : new.messages ≡ old.messages
   pub spare : old.spare ≤ new.spare + call_bytes call

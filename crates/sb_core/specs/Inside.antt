@@ -26,12 +26,12 @@ means a = record {
 
 -- the core as its callers see it
 abbrev pub plain_of : Inside → Plain
-plain_of a = record { limits = limits_of a.config; numbers = a.tables.room.numbers; spare = a.sends.spare; whole = means a }
+plain_of a = record { limits = limits_of a.config; messages = a.sends.places; spare = a.sends.spare; whole = means a }
 
 -- What keeps the calls free of memory and their numbers in range.
 pub record Keeps (a : Inside) : Type 0 where
   -- the tables have the room that the limits ask for
-  pub room : a.tables.room ≡ room_for (limits_of a.config) a.tables.room.numbers
+  pub room : a.tables.room ≡ room_for (limits_of a.config)
   -- what waits or was received last names an accepted send
   pub rows : All (IsRow (length a.sends.kept)) a.tables.pipes
   -- what was sent has the length of a message
@@ -42,7 +42,6 @@ pub record Keeps (a : Inside) : Type 0 where
   pub once : AreOnce a.tables.routes
   -- numbers
   pub subscriptions_live : length a.tables.subscriptions ≤ a.tables.subscriptions_made
-  pub subscriptions_made : a.tables.subscriptions_made ≤ a.tables.room.numbers
-  pub sends_made : length a.sends.kept ≤ a.tables.room.numbers
-  pub few : a.tables.room.numbers < 2 ^ 32
-  pub sends_room : a.tables.room.numbers ≤ a.sends.places
+  pub subscriptions_made : a.tables.subscriptions_made < 2 ^ 32
+  pub sends_made : length a.sends.kept ≤ a.sends.places
+  pub sends_few : a.sends.places < 2 ^ 32

@@ -1,5 +1,5 @@
-//! The calls of subscriptions and messages, and the last call. Each answers and changes what the bus of
-//! the definitions does by its state alone.
+//! The calls of subscriptions and messages, and the last call. Each answers and changes what the
+//! bus of the definitions does by its state alone.
 ghost use Rattle.std.specs.Prelude.{◌≡◌, ◌+◌, ◌*◌, ◌≤◌, length};
 ghost use Rattle.ccsds_msg.specs.Message.{message_id};
 ghost use Rattle.bus_words.specs.declared.calls.BusAnswer.TheVariants.{Done};
@@ -31,8 +31,8 @@ impl SbCore {
     ///
     /// # Errors
     /// `BadArgument` for a depth of 0 or past the configuration's, and for a name that hasn't 1 to
-    /// 19 bytes; `MaxPipesMet` where as many pipes are live as the configuration allows; `PipeCrErr`
-    /// where a live pipe has the name. The first that applies.
+    /// 19 bytes; `MaxPipesMet` where as many pipes are live as the configuration allows;
+    /// `PipeCrErr` where a live pipe has the name. The first that applies.
     pub fn create_pipe(&mut self, app: AppNo, depth: u32, name: &[u8]) -> Result<u32, SbStatus>
         requires may { MayAct self.old app (Create depth name.now) }
         ensures { Acts self.old self.new app (Create depth name.now) (created result) }
@@ -44,8 +44,8 @@ impl SbCore {
         Ok(self.tables.create_pipe(&text, app, depth))
     }
 
-    /// Has messages of this id queued on the caller's pipe, up to `limit` of them at once. Where the
-    /// pipe is subscribed to the id already, this changes nothing. At most 2 steps for each
+    /// Has messages of this id queued on the caller's pipe, up to `limit` of them at once. Where
+    /// the pipe is subscribed to the id already, this changes nothing. At most 2 steps for each
     /// subscription of the id, and 10 more.
     ///
     /// # Errors
@@ -64,7 +64,8 @@ impl SbCore {
     ) -> Result<(), SbStatus>
         requires may { MayAct self.old app (Subscribe id pipe limit scope) }
         ensures does { Acts self.old self.new app (Subscribe id pipe limit scope) (done result) }
-        ensures cost { steps.new ≤ steps.old + 2 * length (route self.old.whole.bus.subscriptions id) + 10 }
+        ensures cost { steps.new
+            ≤ steps.old + 2 * length (route self.old.whole.bus.subscriptions id) + 10 }
     {
         let there = self.tables.is_subscribed(id, pipe, steps);
         if let Some(status) = self.subscribe_cause(app, id, pipe, there) {
@@ -93,7 +94,8 @@ impl SbCore {
     ) -> Result<(), SbStatus>
         requires may { MayAct self.old app (Unsubscribe id pipe) }
         ensures does { Acts self.old self.new app (Unsubscribe id pipe) (done result) }
-        ensures cost { steps.new ≤ steps.old + 3 * length (route self.old.whole.bus.subscriptions id) + 10 }
+        ensures cost { steps.new
+            ≤ steps.old + 3 * length (route self.old.whole.bus.subscriptions id) + 10 }
     {
         if let Some(status) = self.unsubscribe_cause(app, id, pipe) {
             return Err(status);
@@ -119,7 +121,9 @@ impl SbCore {
     ) -> Result<Sent, SbStatus>
         requires may { MayAct self.old app (Transmit bytes.now inc) }
         ensures does { Acts self.old self.new app (Transmit bytes.now inc) (sent result) }
-        ensures cost { steps.new ≤ steps.old + 32 + 4 * length (route self.old.whole.bus.subscriptions (message_id bytes.now)) }
+        ensures cost { steps.new
+            ≤ steps.old + 32 + 4 * length
+            (route self.old.whole.bus.subscriptions (message_id bytes.now)) }
     {
         if let Some(status) = self.transmit_cause(bytes) {
             return Err(status);
@@ -141,8 +145,8 @@ impl SbCore {
     /// message received from the pipe is let go, also where none waits.
     ///
     /// # Errors
-    /// `BadArgument` for a pipe that isn't live or isn't the caller's; `NoMessage` where none waits.
-    /// The first that applies.
+    /// `BadArgument` for a pipe that isn't live or isn't the caller's; `NoMessage` where none
+    /// waits. The first that applies.
     pub fn receive(&mut self, app: AppNo, pipe: u32) -> Result<u32, SbStatus>
         requires may { MayAct self.old app (Receive pipe) }
         ensures { Acts self.old self.new app (Receive pipe) (got result) }

@@ -9,7 +9,7 @@ use crate::plain::SbCore;
 use bus_tables::BusTables;
 use bus_words::NAME_BYTES;
 use ccsds_msg::read_header;
-use fsw_base::{AppNo, SbStatus};
+use fsw_base::{AppNo, MAX_ID, SbStatus};
 
 impl SbCore {
     /// Why the pipe can't be created.
@@ -102,7 +102,9 @@ fn bad_argument_if(test: bool) -> Option<SbStatus>
 
 // Whether the depth or the name is out of its range.
 fn is_bad_pipe(depth: u32, greatest: u32, name: &[u8]) -> bool
-    ensures { result ≡ (depth == 0 || nat_lt greatest depth || length name.now == 0 || nat_lt 19 (length name.now)) }
+    ensures { result ≡
+        (depth == 0 || nat_lt greatest depth || length name.now == 0 ||
+        nat_lt 19 (length name.now)) }
 {
     depth == 0 || depth > greatest || name.is_empty() || name.len() > NAME_BYTES
 }
@@ -123,7 +125,8 @@ fn is_bad_subscription(tables: &BusTables, app: AppNo, id: u16, pipe: u32) -> bo
 
 // Whether the id has no route where as many ids have one as may.
 fn lacks_route(tables: &BusTables, id: u16, most: u32) -> bool
-    ensures { result ≡ (not (has_way tables.now.routes id) && nat_le most (length tables.now.routes)) }
+    ensures { result ≡
+        (not (has_way tables.now.routes id) && nat_le most (length tables.now.routes)) }
 {
     !tables.has_route(id) && tables.routes_len() >= most
 }
@@ -132,7 +135,7 @@ fn lacks_route(tables: &BusTables, id: u16, most: u32) -> bool
 fn is_valid_id(id: u16) -> bool
     ensures { result ≡ is_valid_id id }
 {
-    1 <= id && id <= 0x1FFF
+    1 <= id && id <= MAX_ID
 }
 
 // Whether the bytes are one whole message.

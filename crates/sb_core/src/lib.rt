@@ -1,13 +1,14 @@
-//! The software bus without a journal (cFE Software Bus): pipes, subscriptions, and messages that are
-//! copied to every pipe subscribed to their id.
+//! The software bus without a journal (cFE Software Bus): pipes, subscriptions, and messages that
+//! are copied to every pipe subscribed to their id.
 //!
 //! It promises that each call answers and changes what the bus of the definitions does by its state
-//! alone, whatever came before; that a send's steps grow with the subscriptions of its id alone; and
-//! that no call after [`SbCore::new`] takes memory. Its numbers of pipes, subscriptions and sends end
-//! where the caller said at opening.
+//! alone, whatever came before; that a send's steps grow with the subscriptions of its id alone;
+//! and that no call after [`SbCore::new`] takes memory. Pipes, subscriptions and messages are
+//! numbered as long as their numbers have 32 bits.
 //!
-//! Messages stand in an interim form: every accepted message is kept for good, in room that was taken
-//! at opening. Blocks of a pool, given back once nothing waits for them, are to take its place.
+//! Messages stand in an interim form: every accepted message is kept for good, in room that was
+//! taken at opening. Blocks of a pool, given back once nothing waits for them, are to take its
+//! place.
 //!
 //! ```text
 //! let mut core = SbCore::new(alloc, &Config::usual(), 2, 1000, 16000)?;

@@ -1,6 +1,6 @@
-//! The messages that were sent, one behind another, by their numbers from 1. This form is an interim
-//! one: none of them ever leaves.
-ghost use Rattle.std.specs.Prelude.{◌≡◌, ◌+◌, ◌<◌, ◌≤◌, [], ◌∷◌, ◌++◌, length, true, vec_len, vec_capacity, IfOk};
+//! The messages that were sent, one behind another, by their numbers from 1. This form is an
+//! interim one: none of them ever leaves.
+ghost use Rattle.std.specs.Prelude.{◌≡◌, ◌+◌, ◌<◌, ◌≤◌, [], ◌∷◌, ◌++◌, length, true, IfOk};
 ghost use Rattle.ccsds_msg.specs.Message.{message_id};
 ghost use Rattle.bus_words.specs.Machine.{stamped};
 ghost use Rattle.bus_tables.specs.Rows.{has_way};
@@ -8,13 +8,15 @@ ghost use Rattle.sb_core.specs.Rows.{kept_at, reads_of, counted_up};
 
 use bus_tables::BusTables;
 use ccsds_msg::{id_of, set_count};
+use fsw_base::extend_reserved;
 use std::alloc::{AllocError, Global};
 use std::marker::Model;
 
-/// The bytes of the header that hold the sequence count, and those before them (CCSDS 133.0-B, 4.1.3).
+// The bytes of the header that hold the sequence count, and those before them (CCSDS 133.0-B,
+// 4.1.3).
 const HEADER_BYTES: usize = 6;
 
-/// Where a message lies among the bytes.
+// Where a message lies among the bytes.
 #[derive(Clone, Copy, Debug)]
 struct Span {
     start: usize,
@@ -31,25 +33,31 @@ pub(crate) struct Messages {
 }
 
 impl Model for Messages {
-    ghost use Rattle.std.specs.Prelude.{◌-◌, vec_len, vec_capacity};
+    ghost use Rattle.std.specs.Prelude.{◌+◌, ◌-◌, ◌≤◌, length, map, slice_range, vec_len, vec_capacity, All};
     ghost use Rattle.sb_core.specs.Rows.{Sends};
-    ghost use Rattle.sb_core.specs.Spans.{AreLaid, kept_in};
 
     ghost Value = { Sends };
 
     ghost view = { λ m. record {
-      kept = kept_in m.bytes.items m.spans.items;
+      kept = map
+          (λ span. record {
+            asked = span.len;
+            message = slice_range m.bytes.items span.start (span.start + span.len);
+          })
+          m.spans.items;
       places = vec_capacity m.spans;
       spare = vec_capacity m.bytes - vec_len m.bytes;
     } };
 
-    ghost invariant = { λ m. AreLaid m.bytes.items m.spans.items };
+    // Each message lies within the bytes.
+    ghost invariant = { λ m. All (λ s. s.start + s.len ≤ length m.bytes.items) m.spans.items };
 }
 
 impl Messages {
     /// None yet, with room for so many messages that have so many bytes in all.
     pub(crate) fn new(alloc: Global, places: u32, bytes: u32) -> Result<Messages, AllocError>
-        ensures { IfOk result (λ messages. messages ≡ record { kept = []; places = places; spare = bytes }) }
+        ensures { IfOk result
+            (λ messages. messages ≡ record { kept = []; places = places; spare = bytes }) }
     {
         Ok(Messages {
             spans: Vec::with_capacity(alloc, places as usize)?,
@@ -78,13 +86,15 @@ impl Messages {
     pub(crate) fn push(&mut self, front: &[u8], rest: &[u8])
         requires place { length self.old.kept < self.old.places }
         requires room { length front.now + length rest.now ≤ self.old.spare }
-        ensures kept { self.new.kept ≡ self.old.kept ++ record { asked = length front.now + length rest.now; message = front.now ++ rest.now } ∷ [] }
+        ensures kept { self.new.kept ≡ self.old.kept ++
+            record { asked = length front.now + length rest.now; message = front.now ++ rest.now }
+            ∷ [] }
         ensures places { self.new.places ≡ self.old.places }
         ensures spare { self.old.spare ≤ self.new.spare + (length front.now + length rest.now) }
     {
         let start = self.bytes.len();
-        put(&mut self.bytes, front);
-        put(&mut self.bytes, rest);
+        extend_reserved(&mut self.bytes, front);
+        extend_reserved(&mut self.bytes, rest);
         self.spans.push_reserved(Span {
             start,
             len: front.len() + rest.len(),
@@ -92,26 +102,20 @@ impl Messages {
     }
 }
 
-// Puts the text behind the bytes that are there, which have room for it.
-fn put(bytes: &mut Vec<u8>, text: &[u8])
-    requires room { vec_len bytes.old + length text.now ≤ vec_capacity bytes.old }
-    ensures items { bytes.new.items ≡ bytes.old.items ++ text.now }
-    ensures capacity { vec_capacity bytes.old ≤ vec_capacity bytes.new }
-{
-    let _ = bytes.extend_from_slice(text);
-}
-
-/// Keeps the message as it is delivered: with its id's next count, which then counts as given, where
-/// the send asks for it.
+/// Keeps the message as it is delivered: with its id's next count, which then counts as given,
+/// where the send asks for it.
 pub(crate) fn keep(tables: &mut BusTables, sends: &mut Messages, bytes: &[u8], inc: bool)
     requires message { 7 ≤ length bytes.now }
     requires route { has_way tables.old.routes (message_id bytes.now) ≡ true }
     requires place { length sends.old.kept < sends.old.places }
     requires room { length bytes.now ≤ sends.old.spare }
-    ensures kept { sends.new.kept ≡ sends.old.kept ++ record { asked = length bytes.now; message = stamped (reads_of tables.old) bytes.now inc } ∷ [] }
+    ensures kept { sends.new.kept ≡ sends.old.kept ++
+        record { asked = length bytes.now; message = stamped (reads_of tables.old) bytes.now inc }
+        ∷ [] }
     ensures places { sends.new.places ≡ sends.old.places }
     ensures spare { sends.old.spare ≤ sends.new.spare + length bytes.now }
-    ensures after { tables.new ≡ record tables.old { routes = counted_up tables.old.routes (message_id bytes.now) inc } }
+    ensures after { tables.new ≡
+        record tables.old { routes = counted_up tables.old.routes (message_id bytes.now) inc } }
 {
     if !inc {
         sends.push(bytes, &[]);

@@ -1,4 +1,5 @@
-//! Receives that wait. Nothing blocks here: an application that would wait is told so, and looks again in its next turn.
+//! Receives that wait. Nothing blocks here: an application that would wait is told so, and looks
+//! again in its next turn.
 ghost use Rattle.std.specs.Prelude.{◌≡◌, ◌≤◌, ◌-◌, not, length, slice_set, slice_index_or, count_by, if◌then◌else◌};
 ghost use Rattle.std.specs.List.{list_all};
 ghost use Rattle.bus_words.specs.declared.history.Call.TheVariants.{Pend, Look};
@@ -68,15 +69,16 @@ impl SbCore {
     }
 
     /// The pipe that the application waits on; 0, which no pipe has, where it doesn't wait.
-    pub fn waited(&self, app: AppNo) -> u32
+    pub fn pipe_waited_on(&self, app: AppNo) -> u32
         requires { app ≤ apps_in self.now }
         ensures { result ≡ waited_on (standing_of self.now.whole.bus app) }
     {
         waited_pipe(activity_of(&self.activities, app))
     }
 
-    /// Looks again for a message on this pipe, which the caller waits on ([`SbCore::waited`]). With a
-    /// message or a time-out the caller makes calls again. Where it still waits, nothing changes.
+    /// Looks again for a message on this pipe, which the caller waits on
+    /// ([`SbCore::pipe_waited_on`]). With a message or a time-out the caller makes calls again.
+    /// Where it still waits, nothing changes.
     pub fn look(&mut self, app: AppNo, pipe: u32) -> Pended
         requires may { MayAct self.old app (Look pipe) }
         ensures { Acts self.old self.new app (Look pipe) (waited result) }
@@ -105,16 +107,17 @@ impl SbCore {
     }
 }
 
-// Whether every application but this one has ended or waits on an empty pipe: no busy one is left where the
-// caller isn't counted.
+// Whether every application but this one has ended or waits on an empty pipe: no busy one is left
+// where the caller isn't counted.
 fn are_others_idle(activities: &[Activity], tables: &BusTables, app: AppNo) -> bool
     requires { app ≤ length activities.now }
-    ensures { result ≡ list_all (idle_in tables.now.pipes) (slice_set activities.now (app - 1) Activity.Ended) }
+    ensures { result ≡
+        list_all (idle_in tables.now.pipes) (slice_set activities.now (app - 1) Activity.Ended) }
 {
     busy(activities, tables) == busy_once(activity_of(activities, app), tables)
 }
 
-// What the application does.
+/// What the application does.
 pub(crate) fn activity_of(activities: &[Activity], app: AppNo) -> Activity
     requires { app ≤ length activities.now }
     ensures activity { result ≡ slice_index_or activities.now (app - 1) Activity.Ended }
@@ -125,7 +128,8 @@ pub(crate) fn activity_of(activities: &[Activity], app: AppNo) -> Activity
 
 // How many applications are busy.
 fn busy(activities: &[Activity], tables: &BusTables) -> usize
-    ensures { result ≡ count_by (λ activity. not (idle_in tables.now.pipes activity)) activities.now }
+    ensures { result ≡
+        count_by (λ activity. not (idle_in tables.now.pipes activity)) activities.now }
 {
     activities
         .iter()
@@ -154,7 +158,10 @@ fn busy_once(activity: Activity, tables: &BusTables) -> usize
 // Has the application wait on the pipe where it was told so.
 fn set_waiting(activities: &mut Vec<Activity>, app: AppNo, pipe: u32, answer: &Pended)
     requires { app ≤ length activities.old.items }
-    ensures { activities.new.items ≡ (if is_pending answer.now then slice_set activities.old.items (app - 1) (Activity.Waiting pipe) else activities.old.items) }
+    ensures { activities.new.items ≡
+        (if is_pending answer.now
+        then slice_set activities.old.items (app - 1) (Activity.Waiting pipe)
+        else activities.old.items) }
 {
     if answer.is_pending() {
         activities[(app.get() - 1) as usize] = Activity::Waiting(pipe);

@@ -20,8 +20,8 @@ impl SbCore {
         self.activities.len()
     }
 
-    /// Whether the application's standing lets it make this call: a look while it waits on that pipe,
-    /// its end while it hasn't ended, every other call while it is active.
+    /// Whether the application's standing lets it make this call: a look while it waits on that
+    /// pipe, its end while it hasn't ended, every other call while it is active.
     pub fn is_open(&self, app: AppNo, call: &BusCall<'_>) -> bool
         requires { app ≤ apps_in self.now }
         ensures { result ≡ may_call (standing_of self.now.whole.bus app) (call_of call.now) }

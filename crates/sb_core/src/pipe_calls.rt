@@ -10,8 +10,8 @@ use bus_words::PipeText;
 use fsw_base::{AppNo, SbStatus};
 
 impl SbCore {
-    /// Ends the caller's pipe: it leaves with its subscriptions and messages. No other pipe gets its
-    /// number.
+    /// Ends the caller's pipe: it leaves with its subscriptions and messages. No other pipe gets
+    /// its number.
     ///
     /// # Errors
     /// `BadArgument` for a pipe that isn't live or isn't the caller's.
@@ -31,8 +31,8 @@ impl SbCore {
         Ok(())
     }
 
-    /// Sets the option bits of the caller's pipe: with 0x01 the messages that the caller itself sends
-    /// are not for it, with 0 they are.
+    /// Sets the option bits of the caller's pipe: with 0x01 the messages that the caller itself
+    /// sends are not for it, with 0 they are.
     ///
     /// # Errors
     /// `BadArgument` for a pipe that isn't live or isn't the caller's, and for any other bit than

@@ -38,9 +38,8 @@ impl Model for SbCore {
 }
 
 impl SbCore {
-    /// A bus on which no call was made, for so many applications, at most 16, that gives so many
-    /// numbers of each kind: of pipes, of subscriptions and of messages; the messages that are sent
-    /// have so many bytes in all.
+    /// A bus on which no call was made, for so many applications, at most 16. At most so many
+    /// messages are sent to a subscription, and have so many bytes in all.
     ///
     /// # Errors
     /// Where memory runs out.
@@ -48,17 +47,24 @@ impl SbCore {
         alloc: Global,
         cfg: &Config,
         apps: usize,
-        numbers: u32,
+        messages: u32,
         bytes: u32,
     ) -> Result<SbCore, AllocError>
         requires { apps ≤ 16 }
-        ensures { IfOk result (λ core. core ≡ record { limits = limits_of cfg.now; numbers = numbers; spare = bytes; whole = opening_whole apps }) }
+        ensures { IfOk result
+            (λ core. core ≡
+            record {
+              limits = limits_of cfg.now;
+              messages = messages;
+              spare = bytes;
+              whole = opening_whole apps;
+            }) }
     {
         Ok(SbCore {
             config: cfg.again(),
             activities: all_active(alloc, apps)?,
-            tables: BusTables::new(alloc, cfg, numbers)?,
-            sends: Messages::new(alloc, numbers, bytes)?,
+            tables: BusTables::new(alloc, cfg)?,
+            sends: Messages::new(alloc, messages, bytes)?,
         })
     }
 }

@@ -1,4 +1,4 @@
-use Rattle.std.proofs.Common.{◌<◌, None, ap, sym, ◌∙◌, subst, arith}
+use Rattle.std.proofs.Common.{◌+◌, ◌^◌, ◌<◌, None, ap, sym, ◌∙◌, subst, arith}
 use Rattle.std.proofs.lemmas.List.{length-map}
 use Rattle.fsw_base.specs.Limits.{limits_of}
 use Rattle.bus_words.specs.Bus.{is_subscribed}
@@ -70,7 +70,7 @@ pub invariant_of-self : goal.invariant_of-self
 invariant_of-self g c =
     let a = c.self.inside in
     let why = at_fields a c.args.self.now c.self.view_is (λ limits s. subscribe_cause limits s c.args.app c.args.id c.args.pipe) None (sym c.subscribe_cause.ensures ∙ c.in_default.is) in
-    let P : Plain → Type 0 = λ o. o.whole.bus.subscriptions_made < o.numbers in
+    let P : Plain → Type 0 = λ o. o.whole.bus.subscriptions_made + 1 < 2 ^ 32 in
     subscribed_keeps a c.args.self.now c.args.app c.args.id c.args.pipe c.args.limit c.args.scope c.self.view_is why c.self.invariant c.subscribe.new.self c.subscribe.ensures.after
     (subst P (sym c.self.view_is) c.requires.may.subscriptions)
 

@@ -48,9 +48,8 @@ keep-requires-clause-route g c =
 pub keep-requires-clause-place : goal.keep-requires-clause-place
 keep-requires-clause-place g c =
     let a = c.self.inside in
-    let P : Plain → Type 0 = λ o. o.whole.bus.numbers_given < o.numbers in
-    let left = subst P (sym c.self.view_is) c.requires.may.sends in
-    omega (arith, left, c.self.invariant.sends_room)
+    let P : Plain → Type 0 = λ o. o.whole.bus.numbers_given < o.messages in
+    subst P (sym c.self.view_is) c.requires.may.sends
 
 pub keep-requires-clause-room : goal.keep-requires-clause-room
 keep-requires-clause-room g c =
@@ -71,7 +70,7 @@ invariant_of-self g c =
     let offer : Tables → ℕ → Tables = λ t n. record t { pipes = deliver_rows c.args.app number (route t.subscriptions n) t.pipes } in
     let counts : Tables = record a.tables { routes = counted_up a.tables.routes (message_id bytes) c.args.inc } in
     let is = c.deliver-reached.ensures.after ∙ ap (λ t. offer t c.id_of-id.result) c.keep.ensures.after ∙ ap (offer counts) c.id_of-id.ensures in
-    let P : Plain → Type 0 = λ o. o.whole.bus.numbers_given < o.numbers in
+    let P : Plain → Type 0 = λ o. o.whole.bus.numbers_given < o.messages in
     let same = length-stamped (reads_of a.tables) bytes c.args.inc long in
     sent_keeps a c.deliver-reached.new.self c.keep.new.sends row c.args.self.now c.args.app bytes c.args.inc number c.deliver-reached.result
     someone.first someone.more someone.is numbered c.keep.ensures.kept is c.self.invariant (record { least = omega (arith, same, long); most = omega (arith, same, at_most (length bytes) 65542 c.requires.may.within) })
@@ -95,4 +94,4 @@ returns-clause-does g c =
     ∙ ap (λ (t : Tables). reached_rows c.args.app number (route t.subscriptions c.id_of-id.result) t.pipes) c.keep.ensures.after
     ∙ ap (λ n. reached_rows c.args.app number (route a.tables.subscriptions n) a.tables.pipes) c.id_of-id.ensures in
     sent_acts a c.deliver-reached.new.self c.keep.new.sends row c.args.self.now c.args.app bytes c.args.inc number c.deliver-reached.result
-    someone.first someone.more someone.is numbered c.keep.ensures.kept is c.self.invariant c.self.view_is why refl arrives c.keep.ensures.spare
+    someone.first someone.more someone.is numbered c.keep.ensures.kept is c.self.invariant c.self.view_is why refl arrives c.keep.ensures.places c.keep.ensures.spare
