@@ -10,7 +10,7 @@ use Rattle.std.proofs.lemmas.Option.{slice_get_within, get_or_from_slice_get}
 use Rattle.std.proofs.lemmas.List.Elements.{All-get_or}
 use Rattle.bus_words.specs.Receipts.{receipt_in}
 use Rattle.bus_words.specs.Bus.{waited_on}
-use Rattle.sb_calls.specs.declared.pending.Pended.TheVariants as waits
+use Rattle.sb_core.specs.declared.pending.Pended.TheVariants as waits
 use Rattle.app_run.specs.Callers.{AnswersLook, pipe_waited_on}
 use Rattle.app_run.specs.Lines.{IsRun, most_receipts}
 use Rattle.app_run.specs.Received.{got_of}

@@ -4,7 +4,7 @@ use Rattle.std.specs.Prelude.{◌≡◌, ℕ}
 use Rattle.bus_words.specs.declared.calls.BusAnswer.{BusAnswer}
 use Rattle.bus_words.specs.declared.history.Call.{Call}
 use Rattle.bus_words.specs.Bus.{standing_of, waited_on}
-use Rattle.sb_calls.specs.declared.pending.Pended.{Pended}
+use Rattle.sb_core.specs.declared.pending.Pended.{Pended}
 use Rattle.sb_calls.specs.Core.{Core, MayCall, Does, Looks, state_of}
 
 -- An application's calls: the application, the bus that answers them, and which bus it is.

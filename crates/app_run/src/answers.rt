@@ -1,6 +1,6 @@
 //! The answers of the calls, as entries of the journal have them.
 ghost use Rattle.std.specs.Prelude.{◌≡◌};
-ghost use Rattle.sb_calls.specs.Answers.{created, done, named, sent, got, waited, pended};
+ghost use Rattle.sb_core.specs.Answers.{created, done, named, sent, got, waited, pended};
 
 use bus_words::{BusAnswer, PipeText};
 use fsw_base::SbStatus;

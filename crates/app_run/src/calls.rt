@@ -1,7 +1,7 @@
 //! The calls of one application.
 ghost use Rattle.std.specs.Prelude.{◌≡◌};
 ghost use Rattle.bus_words.specs.Receipts.{receipt_in};
-ghost use Rattle.sb_calls.specs.Answers.{created, found, done, bits_told, named, sent, got, pended};
+ghost use Rattle.sb_core.specs.Answers.{created, found, done, bits_told, named, sent, got, pended};
 ghost use Rattle.sb_calls.specs.Core.{state_of};
 ghost use Rattle.app_run.specs.Callers.{Caller, MayCallBus, Answers, AnswersLook, pipe_waited_on};
 

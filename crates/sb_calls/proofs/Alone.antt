@@ -1,7 +1,8 @@
 -- What an application gets from a pipe is what the pipe alone gives.
-use Rattle.std.proofs.Common.{◌≡◌, ℕ, ◌-◌, true, eqb, List, [], ◌∷◌, ◌++◌, length, sym, subst, arith}
+use Rattle.std.proofs.Common.{◌≡◌, ℕ, ◌-◌, true, eqb, Result, Ok, List, [], ◌∷◌, ◌++◌, length, sym, subst, arith}
 use Rattle.std.proofs.lemmas.Bool.Decides.{nat_tests}
 use Rattle.std.proofs.lemmas.List.{length-set}
+use Rattle.fsw_base.specs.declared.statuses.SbStatus.{SbStatus}
 use Rattle.bus_words.specs.declared.calls.BusAnswer.TheVariants.{Got}
 use Rattle.bus_words.specs.declared.history.Call.{Call}
 use Rattle.bus_words.specs.declared.history.Call.TheVariants.{Receive, Pend, Look}
@@ -12,9 +13,9 @@ use Rattle.bus_words.specs.Entries.{call_bytes}
 use Rattle.bus_words.specs.Log.{charged, allowance_of}
 use Rattle.bus_words.specs.Machine.{IsLegal}
 use Rattle.bus_words.proofs.Isolation.{gives_newest, stands_alone}
-use Rattle.sb_calls.specs.declared.pending.Pended.{Pended}
-use Rattle.sb_calls.specs.declared.pending.Pended.TheVariants as waits
-use Rattle.sb_calls.specs.Answers.{waited}
+use Rattle.sb_core.specs.declared.pending.Pended.{Pended}
+use Rattle.sb_core.specs.declared.pending.Pended.TheVariants as waits
+use Rattle.sb_core.specs.Answers.{waited, got, pended}
 use Rattle.sb_calls.specs.Core.{Core, Does, Looks, GotAlone, StandAlone, IsLegalCore, apps_of}
 
 length-charged : (left : List Allowance) (app bytes : ℕ) → length (charged left app bytes) ≡ length left
@@ -35,16 +36,17 @@ got_alone old new app pipe call number gets does =
     (given.0, sym (cc (given.1.answer)), given.1)
 
 -- by a receive
-pub received_alone : (old new : Core) (app pipe given number : ℕ) → given ≡ number → Does old new app (Receive pipe) (Got given) → GotAlone old app pipe (Receive pipe) number
-received_alone old new app pipe given number is does =
-    let P : ℕ → Type 0 = λ n. Does old new app (Receive pipe) (Got n) in
+pub received_alone : (old new : Core) (app pipe : ℕ) (result : Result ℕ SbStatus) (number : ℕ) → result ≡ Ok number → Does old new app (Receive pipe) (got result) →
+    GotAlone old app pipe (Receive pipe) number
+received_alone old new app pipe result number is does =
+    let P : Result ℕ SbStatus → Type 0 = λ r. Does old new app (Receive pipe) (got r) in
     got_alone old new app pipe (Receive pipe) number (itself pipe) (subst P is does)
 
 -- by one that may wait
-pub pended_alone : (old new : Core) (app pipe : ℕ) (answer : Pended) (number : ℕ) → answer ≡ waits.Got number → Does old new app (Pend pipe) (waited answer) →
+pub pended_alone : (old new : Core) (app pipe : ℕ) (result : Result Pended SbStatus) (number : ℕ) → result ≡ Ok (waits.Got number) → Does old new app (Pend pipe) (pended result) →
     GotAlone old app pipe (Pend pipe) number
-pended_alone old new app pipe answer number is does =
-    let P : Pended → Type 0 = λ a. Does old new app (Pend pipe) (waited a) in
+pended_alone old new app pipe result number is does =
+    let P : Result Pended SbStatus → Type 0 = λ r. Does old new app (Pend pipe) (pended r) in
     got_alone old new app pipe (Pend pipe) number (itself pipe) (subst P is does)
 
 -- and by a look

@@ -1,18 +1,5 @@
-mod After
-mod Alone
-mod Asks
-mod Changes
-mod Counts
-mod Creates
-mod Deletes
-mod Ends
-mod Meaning
-mod OpenedCore
-mod Options
-mod Pends
-mod Receipts
-mod Receives
-mod Refusals
-mod Subscribes
-mod Transmits
-mod Unsubscribes
+pub mod Alone
+pub mod Looks
+pub mod Opened
+pub mod Over
+pub mod Permits

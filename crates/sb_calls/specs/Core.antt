@@ -1,17 +1,18 @@
 -- The bus core as its callers see it: its limits and its journal. What the bus is follows from them.
-use Rattle.std.specs.Prelude.{◌≡◌, ℕ, ◌≤◌, nat_le, Bool, true, length, IsTrue}
+use Rattle.std.specs.Prelude.{◌≡◌, ℕ, ◌≤◌, length, IsTrue}
 use Rattle.fsw_base.specs.Limits.{Limits}
 use Rattle.bus_words.specs.declared.calls.BusAnswer.{BusAnswer}
 use Rattle.bus_words.specs.declared.calls.BusAnswer.TheVariants.{Got}
 use Rattle.bus_words.specs.declared.history.Call.{Call}
-use Rattle.bus_words.specs.declared.history.Call.TheVariants.{Create, Delete, SetOpts, GetOpts, Find, PipeName, Subscribe, Unsubscribe, Transmit, Receive, Pend, Look, End}
+use Rattle.bus_words.specs.declared.history.Call.TheVariants.{Look}
 use Rattle.bus_words.specs.Alone.{Received, Gives, receipts, solo_receipts, unmade, cut}
 use Rattle.bus_words.specs.Bus.{State, standing_of}
 use Rattle.bus_words.specs.Entries.{call_bytes}
 use Rattle.bus_words.specs.Log.{Log, HasRoom, with_entry}
-use Rattle.sb_calls.specs.declared.pending.Pended.{Pended}
-use Rattle.sb_calls.specs.declared.pending.Pended.TheVariants.{Pending}
-use Rattle.sb_calls.specs.Answers.{waited}
+use Rattle.sb_core.specs.declared.pending.Pended.{Pended}
+use Rattle.sb_core.specs.declared.pending.Pended.TheVariants.{Pending}
+use Rattle.sb_core.specs.Answers.{waited}
+pub use Rattle.sb_core.specs.Core.{is_within}
 use Rattle.bus_words.specs.Machine.{IsLegal, may_call, state_after, step}
 
 pub record Core : Type 0 where
@@ -29,22 +30,6 @@ state_of core = state_after core.limits (apps_of core) core.log.entries
 -- the core's history is one that the bus can have
 abbrev pub IsLegalCore : Core → Type 0
 IsLegalCore core = IsLegal core.limits (apps_of core) core.log.entries
-
--- a name of at most 64 bytes, a message of at most 65542
-abbrev pub is_within : Call → Bool
-is_within (Create depth name) = nat_le (length name) 64
-is_within (Delete pipe) = true
-is_within (SetOpts pipe bits) = true
-is_within (GetOpts pipe) = true
-is_within (Find name) = nat_le (length name) 64
-is_within (PipeName pipe) = true
-is_within (Subscribe id pipe limit scope) = true
-is_within (Unsubscribe id pipe) = true
-is_within (Transmit bytes inc) = nat_le (length bytes) 65542
-is_within (Receive pipe) = true
-is_within (Pend pipe) = true
-is_within (Look pipe) = true
-is_within End = true
 
 -- the application may make this call now
 pub record MayCall (core : Core) (app : ℕ) (call : Call) : Type 0 where

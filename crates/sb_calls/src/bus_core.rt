@@ -2,13 +2,13 @@
 ghost use Rattle.std.specs.Prelude.{◌≡◌, ◌≤◌, [], length, IfOk};
 ghost use Rattle.fsw_base.specs.Limits.{limits_of};
 ghost use Rattle.bus_words.specs.Log.{AreBudgets, allowances, allowance_of};
-ghost use Rattle.sb_calls.specs.Core.{IsLegalCore, StandAlone, apps_of};
+ghost use Rattle.bus_words.specs.Receipts.{receipt_in};
+ghost use Rattle.sb_calls.specs.Core.{IsLegalCore, StandAlone, apps_of, state_of};
 
-use crate::opening::{all_active, total_entries};
-use crate::rows::{Activity, SendRow};
-use bus_tables::BusTables;
-use bus_words::BusJournal;
+use crate::opening::{total_bytes, total_entries};
+use bus_words::{BusJournal, Receipt};
 use fsw_base::{AppNo, Budget, Config};
+use sb_core::SbCore;
 use std::alloc::{AllocError, Global};
 use std::marker::Model;
 
@@ -16,17 +16,10 @@ use std::marker::Model;
 /// made.
 #[derive(Drop)]
 pub struct BusCore {
-    // The limits that it was made with.
-    pub(crate) config: Config,
-    // Every call with its answer, in order. All that follows is the bus after these entries.
+    // The bus after the journal's entries.
+    pub(crate) core: SbCore,
+    // Every call with its answer, in order.
     pub(crate) journal: BusJournal,
-    // What each application does, from application 1.
-    pub(crate) activities: Vec<Activity>,
-    // The live pipes with what waits on them, the live subscriptions, and the routes with their
-    // counts.
-    pub(crate) tables: BusTables,
-    // The accepted sends that a subscription waited for, by number, from 1.
-    pub(crate) sends: Vec<SendRow>,
 }
 
 impl Model for BusCore {
@@ -49,15 +42,18 @@ impl BusCore {
     /// Where memory runs out.
     pub fn new(alloc: Global, cfg: &Config, budgets: &[Budget]) -> Result<BusCore, AllocError>
         requires { AreBudgets budgets.now }
-        ensures { IfOk result (λ core. core ≡ record { limits = limits_of cfg.now; log = record { entries = []; left = allowances budgets.now } }) }
+        ensures { IfOk result
+            (λ core. core ≡
+            record {
+              limits = limits_of cfg.now;
+              log = record { entries = []; left = allowances budgets.now };
+            }) }
     {
         let entries = total_entries(budgets);
+        let bytes = total_bytes(budgets);
         Ok(BusCore {
-            config: cfg.again(),
+            core: SbCore::new(alloc, cfg, budgets.len(), entries, bytes)?,
             journal: BusJournal::new(alloc, budgets)?,
-            activities: all_active(alloc, budgets.len())?,
-            tables: BusTables::new(alloc, cfg)?,
-            sends: Vec::with_capacity(alloc, entries as usize)?,
         })
     }
 
@@ -92,5 +88,14 @@ impl BusCore {
         ensures alone { StandAlone self.now }
     {
         &self.journal
+    }
+
+    /// The receipt of the message that the application received last from its live pipe of this
+    /// number; None exactly where it has no such pipe, or the pipe has no last message. It takes no
+    /// memory.
+    pub fn last_receipt(&self, app: AppNo, pipe: u32) -> Option<Receipt>
+        ensures { result ≡ receipt_in (state_of self.now) app pipe }
+    {
+        self.core.last_receipt(app, pipe)
     }
 }

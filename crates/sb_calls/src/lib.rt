@@ -1,5 +1,6 @@
 //! The calls of the software bus (cFE Software Bus): pipes, subscriptions, and messages that are
-//! copied to every pipe subscribed to their id. The core keeps a journal of every call with its answer.
+//! copied to every pipe subscribed to their id. Each call is that of the bus without a journal, and
+//! one entry of a journal: the call with its answer.
 //!
 //! It promises that each call answers and changes what the bus of the definitions does after the
 //! journal's history; that what a pipe gives is what that pipe alone gives, whatever befalls the
@@ -15,21 +16,16 @@
 //! ```
 #![tactic(auto)]
 
+mod answers;
 mod bus_core;
 mod calls;
-mod causes;
-mod entries;
-mod last_receipts;
-mod lookups;
 mod opening;
 mod pending;
 mod permits;
 mod pipe_calls;
-mod rows;
 
 pub use bus_core::BusCore;
-pub use calls::Sent;
-pub use pending::Pended;
+pub use sb_core::{Pended, Sent};
 
 #[cfg(test)]
 mod tests;

@@ -1,9 +1,7 @@
-//! The lists that a core takes when it opens.
-ghost use Rattle.std.specs.Prelude.{◌≡◌, ◌<◌, ◌^◌, length, replicate, sum_by, IfOk};
+//! What a core takes when it opens.
+ghost use Rattle.std.specs.Prelude.{◌≡◌, ◌<◌, ◌^◌, sum_by};
 
-use crate::rows::Activity;
 use fsw_base::Budget;
-use std::alloc::{AllocError, Global};
 
 /// How many entries the budgets allow in all.
 pub(crate) fn total_entries(budgets: &[Budget]) -> u32
@@ -13,13 +11,10 @@ pub(crate) fn total_entries(budgets: &[Budget]) -> u32
     budgets.iter().map(|budget| budget.entries).sum()
 }
 
-/// So many applications, all active.
-pub(crate) fn all_active(alloc: Global, apps: usize) -> Result<Vec<Activity>, AllocError>
-    ensures { IfOk result (λ activities. activities.items ≡ replicate apps Activity.Active) }
+/// How many bytes of names and messages the budgets allow in all.
+pub(crate) fn total_bytes(budgets: &[Budget]) -> u32
+    requires { sum_by (λ budget. budget.bytes) budgets.now < 2 ^ 32 }
+    ensures { result ≡ sum_by (λ budget. budget.bytes) budgets.now }
 {
-    let mut activities = Vec::with_capacity(alloc, apps)?;
-    for _ in 0..apps {
-        activities.push_reserved(Activity::Active);
-    }
-    Ok(activities)
+    budgets.iter().map(|budget| budget.bytes).sum()
 }

@@ -1,16 +1,18 @@
-//! The calls on a pipe that is there: its end, its option bits, its number and its name.
+//! The calls on a pipe that is there: its end, its option bits, its number and its name. Each is
+//! the core's call and one entry of the journal.
 ghost use Rattle.std.specs.Prelude.{◌≡◌};
 ghost use Rattle.sb_calls.specs.Core.{MayCall, Does};
-ghost use Rattle.sb_calls.specs.Answers.{done, found, bits_told, named};
+ghost use Rattle.sb_core.specs.Answers.{done, found, bits_told, named};
 
+use crate::answers::{of_bits, of_done, of_found, of_named};
 use crate::bus_core::BusCore;
 use bucket_list::{Ledger, Steps};
-use bus_words::{BusAnswer, BusCall, BusEntry, Call, PipeText};
+use bus_words::{BusCall, BusEntry, Call, PipeText};
 use fsw_base::{AppNo, SbStatus};
 
 impl BusCore {
-    /// Ends the caller's pipe: it leaves with its subscriptions and messages. No other pipe gets its
-    /// number.
+    /// Ends the caller's pipe: it leaves with its subscriptions and messages. No other pipe gets
+    /// its number.
     ///
     /// # Errors
     /// `BadArgument` for a pipe that isn't live or isn't the caller's.
@@ -23,22 +25,17 @@ impl BusCore {
         requires may { MayCall self.old app (Call.Delete pipe) }
         ensures { Does self.old self.new app (Call.Delete pipe) (done result) }
     {
-        let call = BusCall::Delete { pipe };
-        if let Some(status) = self.unowned_cause(app, pipe) {
-            self.refuse(app, call, status);
-            return Err(status);
-        }
-        self.tables.delete_pipe(pipe, steps);
+        let result = self.core.delete_pipe(app, pipe, steps);
         self.journal.push(&BusEntry {
             app,
-            call,
-            answer: BusAnswer::Done,
+            call: BusCall::Delete { pipe },
+            answer: of_done(&result),
         });
-        Ok(())
+        result
     }
 
-    /// Sets the option bits of the caller's pipe: with 0x01 the messages that the caller itself sends
-    /// are not for it, with 0 they are.
+    /// Sets the option bits of the caller's pipe: with 0x01 the messages that the caller itself
+    /// sends are not for it, with 0 they are.
     ///
     /// # Errors
     /// `BadArgument` for a pipe that isn't live or isn't the caller's, and for any other bit than
@@ -47,18 +44,13 @@ impl BusCore {
         requires may { MayCall self.old app (Call.SetOpts pipe bits) }
         ensures { Does self.old self.new app (Call.SetOpts pipe bits) (done result) }
     {
-        let call = BusCall::SetOpts { pipe, bits };
-        if let Some(status) = self.set_opts_cause(app, pipe, bits) {
-            self.refuse(app, call, status);
-            return Err(status);
-        }
-        self.tables.set_bits(pipe, bits);
+        let result = self.core.set_opts(app, pipe, bits);
         self.journal.push(&BusEntry {
             app,
-            call,
-            answer: BusAnswer::Done,
+            call: BusCall::SetOpts { pipe, bits },
+            answer: of_done(&result),
         });
-        Ok(())
+        result
     }
 
     /// Answers the option bits of a pipe, whoever's it is: 0, or 0x01 where the messages that its
@@ -70,13 +62,13 @@ impl BusCore {
         requires may { MayCall self.old app (Call.GetOpts pipe) }
         ensures { Does self.old self.new app (Call.GetOpts pipe) (bits_told result) }
     {
-        let call = BusCall::GetOpts { pipe };
-        let Some(bits) = self.bits_of(pipe) else {
-            self.refuse(app, call, SbStatus::BadArgument);
-            return Err(SbStatus::BadArgument);
-        };
-        self.tell(app, call, BusAnswer::Number(bits as u32));
-        Ok(bits)
+        let result = self.core.get_opts(pipe);
+        self.journal.push(&BusEntry {
+            app,
+            call: BusCall::GetOpts { pipe },
+            answer: of_bits(&result),
+        });
+        result
     }
 
     /// Answers the number of the live pipe of this name, whoever's it is.
@@ -87,13 +79,13 @@ impl BusCore {
         requires may { MayCall self.old app (Call.Find name.now) }
         ensures { Does self.old self.new app (Call.Find name.now) (found result) }
     {
-        let call = BusCall::Find { name };
-        let Some(number) = self.number_of(name) else {
-            self.refuse(app, call, SbStatus::BadArgument);
-            return Err(SbStatus::BadArgument);
-        };
-        self.tell(app, call, BusAnswer::Number(number));
-        Ok(number)
+        let result = self.core.find_pipe(name);
+        self.journal.push(&BusEntry {
+            app,
+            call: BusCall::Find { name },
+            answer: of_found(&result),
+        });
+        result
     }
 
     /// Answers the name of a pipe, 1 to 19 bytes, whoever's it is.
@@ -104,12 +96,12 @@ impl BusCore {
         requires may { MayCall self.old app (Call.PipeName pipe) }
         ensures { Does self.old self.new app (Call.PipeName pipe) (named result) }
     {
-        let call = BusCall::PipeName { pipe };
-        let Some(name) = self.name_of(pipe) else {
-            self.refuse(app, call, SbStatus::BadArgument);
-            return Err(SbStatus::BadArgument);
-        };
-        self.tell(app, call, BusAnswer::Name(name.again()));
-        Ok(name)
+        let result = self.core.pipe_name(pipe);
+        self.journal.push(&BusEntry {
+            app,
+            call: BusCall::PipeName { pipe },
+            answer: of_named(&result),
+        });
+        result
     }
 }

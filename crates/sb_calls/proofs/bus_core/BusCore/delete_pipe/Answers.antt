@@ -1,19 +1,17 @@
-use Rattle.std.proofs.Common.{None, sym, ◌∙◌}
-use Rattle.bus_words.specs.Machine.{unowned_cause}
-use Rattle.sb_calls.proofs.Refusals.{from_core}
-use Rattle.sb_calls.proofs.Deletes.{deleted_stands, deleted_does}
+use Rattle.std.proofs.Common.{refl}
+use Rattle.bus_words.specs.declared.history.Call.TheVariants.{Delete}
+use Rattle.sb_calls.proofs.Over.{may_act, stands_over, does_over}
 use Rattle.sb_calls.proofs.bus_core.BusCore.delete_pipe.Goals as goal
+
+pub delete_pipe-result-requires : goal.delete_pipe-result-requires
+delete_pipe-result-requires g c = record { may = may_act c.self.inside c.args.self.now c.args.app (Delete c.args.pipe) c.self.view_is c.self.invariant c.requires.may }
 
 pub invariant_of-self : goal.invariant_of-self
 invariant_of-self g c =
-    let a = c.self.inside in
-    let why = from_core a c.args.self.now c.self.view_is c.self.invariant (λ limits history s. unowned_cause s c.args.app c.args.pipe) None (sym c.unowned_cause.ensures ∙ c.in_default.is) in
-    deleted_stands a c.delete_pipe.new.self c.push.new.self c.args.self.now c.args.app c.args.pipe
-    (record { is = c.self.view_is; stands = c.self.invariant; may = c.requires.may }) why c.delete_pipe.ensures c.push.ensures
+    stands_over c.self.inside c.delete_pipe-result.new.self c.push.new.self c.args.self.now c.args.app (Delete c.args.pipe) _ c.of_done.result c.self.view_is c.self.invariant c.requires.may
+    c.delete_pipe-result.ensures c.of_done.ensures refl c.push.ensures
 
 pub returns : goal.returns
 returns g c =
-    let a = c.self.inside in
-    let why = from_core a c.args.self.now c.self.view_is c.self.invariant (λ limits history s. unowned_cause s c.args.app c.args.pipe) None (sym c.unowned_cause.ensures ∙ c.in_default.is) in
-    deleted_does a c.delete_pipe.new.self c.push.new.self c.args.self.now c.args.app c.args.pipe
-    (record { is = c.self.view_is; stands = c.self.invariant; may = c.requires.may }) why c.delete_pipe.ensures c.push.ensures
+    does_over c.self.inside c.delete_pipe-result.new.self c.push.new.self c.args.self.now c.args.app (Delete c.args.pipe) _ c.of_done.result c.self.view_is c.self.invariant c.requires.may
+    c.delete_pipe-result.ensures c.of_done.ensures refl c.push.ensures

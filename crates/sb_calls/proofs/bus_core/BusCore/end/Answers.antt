@@ -1,19 +1,18 @@
-use Rattle.std.proofs.Common.{◌-◌, set, ap}
-use Rattle.std.specs.Vec.{with_item}
-use Rattle.sb_calls.specs.declared.rows.Activity.TheVariants as activities
-use Rattle.sb_calls.proofs.Ends.{ended_stands, ended_does}
+use Rattle.std.proofs.Common.{refl}
+use Rattle.bus_words.specs.declared.calls.BusAnswer.TheVariants.{Done}
+use Rattle.bus_words.specs.declared.history.Call.TheVariants.{End}
+use Rattle.sb_calls.proofs.Over.{may_act, stands_over, does_over}
 use Rattle.sb_calls.proofs.bus_core.BusCore.end.Goals as goal
+
+pub end-requires : goal.end-requires
+end-requires g c = record { may = may_act c.self.inside c.args.self.now c.args.app End c.self.view_is c.self.invariant c.requires.may }
 
 pub invariant_of-self : goal.invariant_of-self
 invariant_of-self g c =
-    let a = c.self.inside in
-    ended_stands a (with_item a.activities (c.get.result - 1) activities.Ended) c.release.new.self c.push.new.self c.args.self.now c.args.app
-    (record { is = c.self.view_is; stands = c.self.invariant; may = c.requires.may })
-    (ap (λ n. set a.activities.items (n - 1) activities.Ended) c.get.ensures.value) c.release.ensures c.push.ensures
+    stands_over c.self.inside c.end.new.self c.push.new.self c.args.self.now c.args.app End _ Done c.self.view_is c.self.invariant c.requires.may
+    c.end.ensures refl refl c.push.ensures
 
 pub returns : goal.returns
 returns g c =
-    let a = c.self.inside in
-    ended_does a (with_item a.activities (c.get.result - 1) activities.Ended) c.release.new.self c.push.new.self c.args.self.now c.args.app
-    (record { is = c.self.view_is; stands = c.self.invariant; may = c.requires.may })
-    (ap (λ n. set a.activities.items (n - 1) activities.Ended) c.get.ensures.value) c.release.ensures c.push.ensures
+    does_over c.self.inside c.end.new.self c.push.new.self c.args.self.now c.args.app End _ Done c.self.view_is c.self.invariant c.requires.may
+    c.end.ensures refl refl c.push.ensures

@@ -1,14 +1,14 @@
-use Rattle.std.proofs.Common.{sym, ◌∙◌}
-use Rattle.sb_calls.specs.Core.{state_of}
-use Rattle.sb_calls.proofs.Asks.{no_number, number_step}
+use Rattle.std.proofs.Common.{refl}
+use Rattle.bus_words.specs.declared.history.Call.TheVariants.{Find}
+use Rattle.sb_calls.proofs.Over.{stands_over, does_over}
 use Rattle.sb_calls.proofs.bus_core.BusCore.find_pipe.Goals as goal
 
-pub refuse-requires-clause-why : goal.refuse-requires-clause-why
-refuse-requires-clause-why c =
-    let now = c.args.self.now in
-    no_number now.limits now.log.entries (state_of now) c.args.app c.args.name.now (sym c.number_of.ensures ∙ c.in_default.is)
+pub invariant_of-self : goal.invariant_of-self
+invariant_of-self c =
+    stands_over c.self.inside c.self.inside.core c.push.new.self c.args.self.now c.args.app (Find c.args.name.now) _ c.of_found.result c.self.view_is c.self.invariant c.requires.may
+    (c.find_pipe-result.ensures c.args.app) c.of_found.ensures refl c.push.ensures
 
-pub tell-requires-clause-answered : goal.tell-requires-clause-answered
-tell-requires-clause-answered c =
-    let now = c.args.self.now in
-    number_step now.limits now.log.entries (state_of now) c.args.app c.args.name.now c.in-Some.number (sym c.number_of.ensures ∙ c.in-Some.is)
+pub returns : goal.returns
+returns c =
+    does_over c.self.inside c.self.inside.core c.push.new.self c.args.self.now c.args.app (Find c.args.name.now) _ c.of_found.result c.self.view_is c.self.invariant c.requires.may
+    (c.find_pipe-result.ensures c.args.app) c.of_found.ensures refl c.push.ensures

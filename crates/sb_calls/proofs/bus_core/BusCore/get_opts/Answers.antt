@@ -1,14 +1,14 @@
-use Rattle.std.proofs.Common.{sym, ◌∙◌}
-use Rattle.sb_calls.specs.Core.{state_of}
-use Rattle.sb_calls.proofs.Asks.{no_bits, bits_step}
+use Rattle.std.proofs.Common.{refl}
+use Rattle.bus_words.specs.declared.history.Call.TheVariants.{GetOpts}
+use Rattle.sb_calls.proofs.Over.{stands_over, does_over}
 use Rattle.sb_calls.proofs.bus_core.BusCore.get_opts.Goals as goal
 
-pub refuse-requires-clause-why : goal.refuse-requires-clause-why
-refuse-requires-clause-why c =
-    let now = c.args.self.now in
-    no_bits now.limits now.log.entries (state_of now) c.args.app c.args.pipe (sym c.bits_of.ensures ∙ c.in_default.is)
+pub invariant_of-self : goal.invariant_of-self
+invariant_of-self c =
+    stands_over c.self.inside c.self.inside.core c.push.new.self c.args.self.now c.args.app (GetOpts c.args.pipe) _ c.of_bits.result c.self.view_is c.self.invariant c.requires.may
+    (c.get_opts-result.ensures c.args.app) c.of_bits.ensures refl c.push.ensures
 
-pub tell-requires-clause-answered : goal.tell-requires-clause-answered
-tell-requires-clause-answered c =
-    let now = c.args.self.now in
-    bits_step now.limits now.log.entries (state_of now) c.args.app c.args.pipe c.in-Some.bits (sym c.bits_of.ensures ∙ c.in-Some.is)
+pub returns : goal.returns
+returns c =
+    does_over c.self.inside c.self.inside.core c.push.new.self c.args.self.now c.args.app (GetOpts c.args.pipe) _ c.of_bits.result c.self.view_is c.self.invariant c.requires.may
+    (c.get_opts-result.ensures c.args.app) c.of_bits.ensures refl c.push.ensures

@@ -1,14 +1,14 @@
-use Rattle.std.proofs.Common.{Some, ap, sym, ◌∙◌}
-use Rattle.sb_calls.specs.Core.{state_of}
-use Rattle.sb_calls.proofs.Asks.{no_name, name_step}
+use Rattle.std.proofs.Common.{refl}
+use Rattle.bus_words.specs.declared.history.Call.TheVariants.{PipeName}
+use Rattle.sb_calls.proofs.Over.{stands_over, does_over}
 use Rattle.sb_calls.proofs.bus_core.BusCore.pipe_name.Goals as goal
 
-pub refuse-requires-clause-why : goal.refuse-requires-clause-why
-refuse-requires-clause-why c =
-    let now = c.args.self.now in
-    no_name now.limits now.log.entries (state_of now) c.args.app c.args.pipe (sym c.name_of.ensures ∙ c.in_default.is)
+pub invariant_of-self : goal.invariant_of-self
+invariant_of-self c =
+    stands_over c.self.inside c.self.inside.core c.push.new.self c.args.self.now c.args.app (PipeName c.args.pipe) _ c.of_named.result c.self.view_is c.self.invariant c.requires.may
+    (c.pipe_name-result.ensures c.args.app) c.of_named.ensures refl c.push.ensures
 
-pub tell-requires-clause-answered : goal.tell-requires-clause-answered
-tell-requires-clause-answered c =
-    let now = c.args.self.now in
-    name_step now.limits now.log.entries (state_of now) c.args.app c.args.pipe c.again.result (sym c.name_of.ensures ∙ c.in-Some.is ∙ ap Some (sym c.again.ensures))
+pub returns : goal.returns
+returns c =
+    does_over c.self.inside c.self.inside.core c.push.new.self c.args.self.now c.args.app (PipeName c.args.pipe) _ c.of_named.result c.self.view_is c.self.invariant c.requires.may
+    (c.pipe_name-result.ensures c.args.app) c.of_named.ensures refl c.push.ensures

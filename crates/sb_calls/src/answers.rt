@@ -1,0 +1,90 @@
+//! The answers of the calls, as the journal has them.
+ghost use Rattle.std.specs.Prelude.{◌≡◌};
+ghost use Rattle.sb_core.specs.Answers.{created, found, bits_told, named, done, sent, got, pended};
+
+use bus_words::{BusAnswer, PipeText};
+use fsw_base::SbStatus;
+use sb_core::{Pended, Sent};
+
+/// Of the creation of a pipe.
+pub(crate) fn of_created(told: &Result<u32, SbStatus>) -> BusAnswer
+    ensures { result ≡ created told.now }
+{
+    match told {
+        Ok(number) => BusAnswer::Number(*number),
+        Err(status) => BusAnswer::Sb(*status),
+    }
+}
+
+/// Of a search for a pipe.
+pub(crate) fn of_found(told: &Result<u32, SbStatus>) -> BusAnswer
+    ensures { result ≡ found told.now }
+{
+    match told {
+        Ok(number) => BusAnswer::Number(*number),
+        Err(status) => BusAnswer::Sb(*status),
+    }
+}
+
+/// Of a question for option bits.
+pub(crate) fn of_bits(told: &Result<u8, SbStatus>) -> BusAnswer
+    ensures { result ≡ bits_told told.now }
+{
+    match told {
+        Ok(bits) => BusAnswer::Number(*bits as u32),
+        Err(status) => BusAnswer::Sb(*status),
+    }
+}
+
+/// Of a question for a name.
+pub(crate) fn of_named(told: &Result<PipeText, SbStatus>) -> BusAnswer
+    ensures { result ≡ named told.now }
+{
+    match told {
+        Ok(name) => BusAnswer::Name(name.again()),
+        Err(status) => BusAnswer::Sb(*status),
+    }
+}
+
+/// Of a call that has nothing to tell.
+pub(crate) fn of_done(told: &Result<(), SbStatus>) -> BusAnswer
+    ensures { result ≡ done told.now }
+{
+    match told {
+        Ok(()) => BusAnswer::Done,
+        Err(status) => BusAnswer::Sb(*status),
+    }
+}
+
+/// Of a send.
+pub(crate) fn of_sent(told: &Result<Sent, SbStatus>) -> BusAnswer
+    ensures { result ≡ sent told.now }
+{
+    match told {
+        Ok(sent) => BusAnswer::Sent {
+            number: sent.number,
+            reached: sent.reached,
+        },
+        Err(status) => BusAnswer::Sb(*status),
+    }
+}
+
+/// Of a receive.
+pub(crate) fn of_got(told: &Result<u32, SbStatus>) -> BusAnswer
+    ensures { result ≡ got told.now }
+{
+    match told {
+        Ok(number) => BusAnswer::Got(*number),
+        Err(status) => BusAnswer::Sb(*status),
+    }
+}
+
+/// Of a receive that may wait.
+pub(crate) fn of_pended(told: &Result<Pended, SbStatus>) -> BusAnswer
+    ensures { result ≡ pended told.now }
+{
+    match told {
+        Ok(it) => it.told(),
+        Err(status) => BusAnswer::Sb(*status),
+    }
+}

@@ -1,0 +1,42 @@
+-- What a call leaves: the fields stand for what the machine leaves.
+use Rattle.std.proofs.Common.{◌≡◌, ℕ, ◌+◌, ◌≤◌, Option, refl, ap, sym, subst, arith, Vec, Global}
+use Rattle.fsw_base.specs.Limits.{Limits, limits_of}
+use Rattle.fsw_base.specs.declared.statuses.SbStatus.{SbStatus}
+use Rattle.bus_words.specs.declared.calls.BusAnswer.{BusAnswer}
+use Rattle.bus_words.specs.declared.history.Call.{Call}
+use Rattle.bus_words.specs.Bus.{State}
+use Rattle.bus_words.specs.Entries.{call_bytes}
+use Rattle.bus_words.specs.Machine.{cause_with, decided_with}
+use Rattle.bus_words.specs.Acts.{Whole, act, completed, reads_in}
+use Rattle.bus_tables.specs.Tables.{Tables}
+use Rattle.sb_core.specs.declared.plain.SbCore.TheInside.{Inside}
+use Rattle.sb_core.specs.Core.{Plain, Acts}
+use Rattle.sb_core.specs.declared.activities.Activity.{Activity}
+use Rattle.sb_core.specs.Inside.{plain_of, means}
+
+-- the answer and the state of a call whose cause is known
+pub act_by : (limits : Limits) (w : Whole) (app : ℕ) (call : Call) (why : Option SbStatus) → cause_with (reads_in w) limits w.bus app call ≡ why →
+    act limits w app call ≡ completed limits w call (decided_with (reads_in w) limits w.bus app call why)
+act_by limits w app call why is = ap (λ o. completed limits w call (decided_with (reads_in w) limits w.bus app call o)) is
+
+-- the call does what the machine does
+pub acts_from : (a b : Inside) (old : Plain) (app : ℕ) (call : Call) (answer : BusAnswer) → plain_of a ≡ old →
+    limits_of b.config ≡ limits_of a.config → b.sends.places ≡ a.sends.places → a.sends.spare ≤ b.sends.spare + call_bytes call →
+    act (limits_of a.config) (means a) app call ≡ (answer, means b) → Acts old (plain_of b) app call answer
+acts_from a b old app call answer is limits places spare made =
+    let P : Plain → Type 0 = λ o. Acts o (plain_of b) app call answer in
+    subst P is (record { made = made; limits = limits; messages = places; spare = spare })
+
+-- where all but the tables and activities stays
+pub acts_by_tables : (a : Inside) (next : Tables) (acts : Vec Activity Global) (old : Plain) (app : ℕ) (call : Call) (answer : BusAnswer) → plain_of a ≡ old →
+    act (limits_of a.config) (means a) app call ≡ (answer, means (record a { tables = next; activities = acts })) →
+    Acts old (plain_of (record a { tables = next; activities = acts })) app call answer
+acts_by_tables a next acts old app call answer is made =
+    acts_from a (record a { tables = next; activities = acts }) old app call answer is refl refl (omega arith) made
+
+-- where nothing changes
+pub acts_still : (a : Inside) (old : Plain) (app : ℕ) (call : Call) (answer : BusAnswer) → plain_of a ≡ old →
+    act (limits_of a.config) (means a) app call ≡ (answer, means a) → Acts old old app call answer
+acts_still a old app call answer is made =
+    let P : Plain → Type 0 = λ o. Acts old o app call answer in
+    subst P is (acts_by_tables a a.tables a.activities old app call answer is made)

@@ -1,0 +1,16 @@
+pub mod After
+pub mod Asks
+pub mod Refusals
+pub mod Changes
+pub mod Deletes
+pub mod Ends
+pub mod Laid
+pub mod Looks
+pub mod Meaning
+pub mod Opened
+pub mod Options
+pub mod Receipts
+pub mod Receives
+pub mod Subscribes
+pub mod Transmits
+pub mod Unsubscribes

@@ -1,0 +1,11 @@
+use Rattle.std.proofs.Common.{not, None, ap, ◌∙◌}
+use Rattle.fsw_base.specs.declared.statuses.SbStatus.TheVariants.{BadArgument}
+use Rattle.bus_words.specs.Machine.{refused_if}
+use Rattle.sb_core.proofs.Refusals.{owns_here}
+use Rattle.sb_core.proofs.plain.SbCore.unowned_cause.Goals as goal
+
+pub returns : goal.returns
+returns c =
+    c.bad_argument_if.ensures
+    ∙ ap (λ b. refused_if (not b) BadArgument None)
+    (c.owns.ensures ∙ owns_here c.self.inside c.args.self.now c.self.view_is c.args.app c.args.pipe)

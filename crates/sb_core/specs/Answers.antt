@@ -1,0 +1,60 @@
+-- The answers of the calls, as entries of a history have them.
+use Rattle.std.specs.Prelude.{ℕ, Bool, true, false, List, Result, Ok, Err}
+use Rattle.fsw_base.specs.declared.statuses.SbStatus.{SbStatus}
+use Rattle.bus_words.specs.declared.calls.BusAnswer.{BusAnswer}
+use Rattle.bus_words.specs.declared.calls.BusAnswer.TheVariants as answers
+use Rattle.sb_core.specs.declared.calls.Sent.{Sent}
+use Rattle.sb_core.specs.declared.pending.Pended.{Pended}
+use Rattle.sb_core.specs.declared.pending.Pended.TheVariants as waits
+
+-- the number of a pipe, or the refusal
+abbrev pub created : Result ℕ SbStatus → BusAnswer
+created (Ok number) = answers.Number number
+created (Err status) = answers.Sb status
+
+-- the number of the pipe that was found, or the refusal
+abbrev pub found : Result ℕ SbStatus → BusAnswer
+found (Ok number) = answers.Number number
+found (Err status) = answers.Sb status
+
+-- the option bits, or the refusal
+abbrev pub bits_told : Result ℕ SbStatus → BusAnswer
+bits_told (Ok bits) = answers.Number bits
+bits_told (Err status) = answers.Sb status
+
+-- the name, or the refusal
+abbrev pub named : Result (List ℕ) SbStatus → BusAnswer
+named (Ok name) = answers.Name name
+named (Err status) = answers.Sb status
+
+-- done, or the refusal
+abbrev pub done : Result (Unit {0}) SbStatus → BusAnswer
+done (Ok nothing) = answers.Done
+done (Err status) = answers.Sb status
+
+-- what a send was answered
+abbrev pub sent : Result Sent SbStatus → BusAnswer
+sent (Ok it) = answers.Sent it.number it.reached
+sent (Err status) = answers.Sb status
+
+-- the number of a message, or the refusal
+abbrev pub got : Result ℕ SbStatus → BusAnswer
+got (Ok number) = answers.Got number
+got (Err status) = answers.Sb status
+
+-- what a receive that may wait was answered
+abbrev pub waited : Pended → BusAnswer
+waited (waits.Got number) = answers.Got number
+waited waits.TimeOut = answers.TimeOut
+waited waits.Pending = answers.Pending
+
+-- that, or the refusal
+abbrev pub pended : Result Pended SbStatus → BusAnswer
+pended (Ok it) = waited it
+pended (Err status) = answers.Sb status
+
+-- whether the application is to wait
+abbrev pub is_pending : Pended → Bool
+is_pending (waits.Got number) = false
+is_pending waits.TimeOut = false
+is_pending waits.Pending = true

@@ -1,0 +1,57 @@
+-- The core as its callers see it: its limits, what it may still give, and the state.
+use Rattle.std.specs.Prelude.{◌≡◌, ℕ, ◌+◌, ◌^◌, ◌<◌, ◌≤◌, nat_le, Bool, true, length, IsTrue}
+use Rattle.fsw_base.specs.Limits.{Limits}
+use Rattle.bus_words.specs.declared.calls.BusAnswer.{BusAnswer}
+use Rattle.bus_words.specs.declared.history.Call.{Call}
+use Rattle.bus_words.specs.declared.history.Call.TheVariants.{Create, Delete, SetOpts, GetOpts, Find, PipeName, Subscribe, Unsubscribe, Transmit, Receive, Pend, Look, End}
+use Rattle.bus_words.specs.Bus.{standing_of}
+use Rattle.bus_words.specs.Entries.{call_bytes}
+use Rattle.bus_words.specs.Machine.{may_call}
+use Rattle.bus_words.specs.Acts.{Whole, act}
+
+-- The limits, how many messages are sent at most and how many bytes of them may still be sent (as long as each message is
+-- kept for good), and the state.
+pub record Plain : Type 0 where
+  pub limits : Limits
+  pub messages : ℕ
+  pub spare : ℕ
+  pub whole : Whole
+
+-- how many applications the core serves
+abbrev pub apps_in : Plain → ℕ
+apps_in core = length core.whole.bus.standings
+
+-- a name of at most 64 bytes, a message of at most 65542
+abbrev pub is_within : Call → Bool
+is_within (Create depth name) = nat_le (length name) 64
+is_within (Delete pipe) = true
+is_within (SetOpts pipe bits) = true
+is_within (GetOpts pipe) = true
+is_within (Find name) = nat_le (length name) 64
+is_within (PipeName pipe) = true
+is_within (Subscribe id pipe limit scope) = true
+is_within (Unsubscribe id pipe) = true
+is_within (Transmit bytes inc) = nat_le (length bytes) 65542
+is_within (Receive pipe) = true
+is_within (Pend pipe) = true
+is_within (Look pipe) = true
+is_within End = true
+
+-- the application may make this call now
+pub record MayAct (core : Plain) (app : ℕ) (call : Call) : Type 0 where
+  pub known : app ≤ apps_in core
+  pub standing : IsTrue (may_call (standing_of core.whole.bus app) call)
+  pub within : IsTrue (is_within call)
+  -- a number of each kind is left, and the call's bytes
+  pub pipes : core.whole.bus.pipes_created + 1 < 2 ^ 32
+  pub subscriptions : core.whole.bus.subscriptions_made + 1 < 2 ^ 32
+  pub sends : core.whole.bus.numbers_given < core.messages
+  pub bytes : call_bytes call ≤ core.spare
+
+-- the call was answered, and left the state, as the machine does by the state alone; of the bytes that may still be sent it
+-- took no more than its own
+pub record Acts (old new : Plain) (app : ℕ) (call : Call) (answer : BusAnswer) : Type 0 where
+  pub made : act old.limits old.whole app call ≡ (answer, new.whole)
+  pub limits : new.limits ≡ old.limits
+  pub messages : new.messages ≡ old.messages
+  pub spare : old.spare ≤ new.spare + call_bytes call

@@ -1,0 +1,34 @@
+//! The software bus without a journal (cFE Software Bus): pipes, subscriptions, and messages that
+//! are copied to every pipe subscribed to their id.
+//!
+//! It promises that each call answers and changes what the bus of the definitions does by its state
+//! alone, whatever came before; that a send's steps grow with the subscriptions of its id alone;
+//! and that no call after [`SbCore::new`] takes memory. Pipes, subscriptions and messages are
+//! numbered as long as their numbers have 32 bits.
+//!
+//! Messages stand in an interim form: every accepted message is kept for good, in room that was
+//! taken at opening. Blocks of a pool, given back once nothing waits for them, are to take its
+//! place.
+//!
+//! ```text
+//! let mut core = SbCore::new(alloc, &Config::usual(), 2, 1000, 16000)?;
+//! let pipe = core.create_pipe(app, 4, b"TLM");             // Ok(1): pipes are numbered from 1
+//! let done = core.subscribe(app, 0x0801, 1, 4, Scope::Global, &mut steps);
+//! let sent = core.transmit(app, packet, true, &mut steps); // Ok(Sent { number: 1, reached: 1 })
+//! let got = core.receive(app, 1);                          // Ok(1): the number of the message
+//! ```
+#![tactic(auto)]
+
+mod activities;
+mod calls;
+mod causes;
+mod last_receipts;
+mod messages;
+mod pending;
+mod permits;
+mod pipe_calls;
+mod plain;
+
+pub use calls::Sent;
+pub use pending::Pended;
+pub use plain::SbCore;

@@ -1,0 +1,179 @@
+//! Receives that wait. Nothing blocks here: an application that would wait is told so, and looks
+//! again in its next turn.
+ghost use Rattle.std.specs.Prelude.{◌≡◌, ◌≤◌, ◌-◌, not, length, slice_set, slice_index_or, count_by, if◌then◌else◌};
+ghost use Rattle.std.specs.List.{list_all};
+ghost use Rattle.bus_words.specs.declared.history.Call.TheVariants.{Pend, Look};
+ghost use Rattle.bus_words.specs.Bus.{standing_of, waited_on};
+ghost use Rattle.bus_words.specs.Machine.{pended_answer};
+ghost use Rattle.sb_core.specs.Answers.{pended, waited, is_pending};
+ghost use Rattle.sb_core.specs.Core.{MayAct, Acts, apps_in};
+ghost use Rattle.sb_core.specs.Rows.{idle_in, standing_in};
+
+use crate::activities::Activity;
+use crate::plain::SbCore;
+use bus_tables::BusTables;
+use bus_words::BusAnswer;
+use fsw_base::{AppNo, SbStatus};
+
+/// What a receive that may wait was answered.
+#[derive(Clone, Copy, Debug, PartialEq, Eq)]
+pub enum Pended {
+    /// The number of the message received.
+    Got(u32),
+    /// No message waits, and none can come: every other application has ended or waits on an empty
+    /// pipe.
+    TimeOut,
+    /// No message waits yet. The application waits on the pipe and may only look again, or end.
+    Pending,
+}
+
+impl Pended {
+    /// Whether the application is to wait.
+    pub fn is_pending(&self) -> bool
+        ensures { result ≡ is_pending self.now }
+    {
+        matches!(self, Pended::Pending)
+    }
+
+    /// The answer as entries of a history have it.
+    pub fn told(&self) -> BusAnswer
+        ensures { result ≡ waited self.now }
+    {
+        match self {
+            Pended::Got(number) => BusAnswer::Got(*number),
+            Pended::TimeOut => BusAnswer::TimeOut,
+            Pended::Pending => BusAnswer::Pending,
+        }
+    }
+}
+
+impl SbCore {
+    /// Takes the oldest message that waits on the caller's pipe, and answers its number. Where none
+    /// waits, it is a time-out where none can come any more; else the caller waits on the pipe from
+    /// then on, and looks again by [`SbCore::look`]. The last message received from the pipe is let
+    /// go in each case.
+    ///
+    /// # Errors
+    /// `BadArgument` for a pipe that isn't live or isn't the caller's.
+    pub fn pend(&mut self, app: AppNo, pipe: u32) -> Result<Pended, SbStatus>
+        requires may { MayAct self.old app (Pend pipe) }
+        ensures { Acts self.old self.new app (Pend pipe) (pended result) }
+    {
+        if let Some(status) = self.unowned_cause(app, pipe) {
+            return Err(status);
+        }
+        let answer = self.pended(app, pipe);
+        self.tables.take(pipe);
+        set_waiting(&mut self.activities, app, pipe, &answer);
+        Ok(answer)
+    }
+
+    /// The pipe that the application waits on; 0, which no pipe has, where it doesn't wait.
+    pub fn pipe_waited_on(&self, app: AppNo) -> u32
+        requires { app ≤ apps_in self.now }
+        ensures { result ≡ waited_on (standing_of self.now.whole.bus app) }
+    {
+        waited_pipe(activity_of(&self.activities, app))
+    }
+
+    /// Looks again for a message on this pipe, which the caller waits on
+    /// ([`SbCore::pipe_waited_on`]). With a message or a time-out the caller makes calls again.
+    /// Where it still waits, nothing changes.
+    pub fn look(&mut self, app: AppNo, pipe: u32) -> Pended
+        requires may { MayAct self.old app (Look pipe) }
+        ensures { Acts self.old self.new app (Look pipe) (waited result) }
+    {
+        let answer = self.pended(app, pipe);
+        if answer.is_pending() {
+            return answer;
+        }
+        self.tables.take(pipe);
+        self.activities[(app.get() - 1) as usize] = Activity::Active;
+        answer
+    }
+
+    // What a receive on the pipe that may wait is answered.
+    fn pended(&self, app: AppNo, pipe: u32) -> Pended
+        requires { app ≤ apps_in self.now }
+        ensures { waited result ≡ pended_answer self.now.whole.bus app pipe }
+    {
+        if let Some(item) = self.tables.oldest(pipe) {
+            return Pended::Got(item.number);
+        }
+        if are_others_idle(&self.activities, &self.tables, app) {
+            return Pended::TimeOut;
+        }
+        Pended::Pending
+    }
+}
+
+// Whether every application but this one has ended or waits on an empty pipe: no busy one is left
+// where the caller isn't counted.
+fn are_others_idle(activities: &[Activity], tables: &BusTables, app: AppNo) -> bool
+    requires { app ≤ length activities.now }
+    ensures { result ≡
+        list_all (idle_in tables.now.pipes) (slice_set activities.now (app - 1) Activity.Ended) }
+{
+    busy(activities, tables) == busy_once(activity_of(activities, app), tables)
+}
+
+/// What the application does.
+pub(crate) fn activity_of(activities: &[Activity], app: AppNo) -> Activity
+    requires { app ≤ length activities.now }
+    ensures activity { result ≡ slice_index_or activities.now (app - 1) Activity.Ended }
+    ensures first { 1 ≤ app }
+{
+    activities[(app.get() - 1) as usize]
+}
+
+// How many applications are busy.
+fn busy(activities: &[Activity], tables: &BusTables) -> usize
+    ensures { result ≡
+        count_by (λ activity. not (idle_in tables.now.pipes activity)) activities.now }
+{
+    activities
+        .iter()
+        .filter(|activity| !is_idle(activity, tables))
+        .count()
+}
+
+// Whether the application has ended or waits on an empty pipe.
+fn is_idle(activity: &Activity, tables: &BusTables) -> bool
+    ensures { result ≡ idle_in tables.now.pipes activity.now }
+{
+    match activity {
+        Activity::Active => false,
+        Activity::Waiting(pipe) => tables.oldest(*pipe).is_none(),
+        Activity::Ended => true,
+    }
+}
+
+// 1 where the application isn't idle.
+fn busy_once(activity: Activity, tables: &BusTables) -> usize
+    ensures { result ≡ (if not (idle_in tables.now.pipes activity) then 1 else 0) }
+{
+    if is_idle(&activity, tables) { 0 } else { 1 }
+}
+
+// Has the application wait on the pipe where it was told so.
+fn set_waiting(activities: &mut Vec<Activity>, app: AppNo, pipe: u32, answer: &Pended)
+    requires { app ≤ length activities.old.items }
+    ensures { activities.new.items ≡
+        (if is_pending answer.now
+        then slice_set activities.old.items (app - 1) (Activity.Waiting pipe)
+        else activities.old.items) }
+{
+    if answer.is_pending() {
+        activities[(app.get() - 1) as usize] = Activity::Waiting(pipe);
+    }
+}
+
+// The pipe that the application waits on.
+fn waited_pipe(activity: Activity) -> u32
+    ensures { result ≡ waited_on (standing_in activity) }
+{
+    match activity {
+        Activity::Waiting(pipe) => pipe,
+        Activity::Active | Activity::Ended => 0,
+    }
+}

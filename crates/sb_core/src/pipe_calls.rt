@@ -1,0 +1,81 @@
+//! The calls on a pipe that is there: its end, its option bits, its number and its name.
+ghost use Rattle.std.specs.Prelude.{◌≡◌, ℕ};
+ghost use Rattle.bus_words.specs.declared.history.Call.TheVariants.{Delete, SetOpts, GetOpts, Find, PipeName};
+ghost use Rattle.sb_core.specs.Core.{MayAct, Acts};
+ghost use Rattle.sb_core.specs.Answers.{done, found, bits_told, named};
+
+use crate::plain::SbCore;
+use bucket_list::{Ledger, Steps};
+use bus_words::PipeText;
+use fsw_base::{AppNo, SbStatus};
+
+impl SbCore {
+    /// Ends the caller's pipe: it leaves with its subscriptions and messages. No other pipe gets
+    /// its number.
+    ///
+    /// # Errors
+    /// `BadArgument` for a pipe that isn't live or isn't the caller's.
+    pub fn delete_pipe<L: Ledger>(
+        &mut self,
+        app: AppNo,
+        pipe: u32,
+        steps: &mut Steps<L>,
+    ) -> Result<(), SbStatus>
+        requires may { MayAct self.old app (Delete pipe) }
+        ensures { Acts self.old self.new app (Delete pipe) (done result) }
+    {
+        if let Some(status) = self.unowned_cause(app, pipe) {
+            return Err(status);
+        }
+        self.tables.delete_pipe(pipe, steps);
+        Ok(())
+    }
+
+    /// Sets the option bits of the caller's pipe: with 0x01 the messages that the caller itself
+    /// sends are not for it, with 0 they are.
+    ///
+    /// # Errors
+    /// `BadArgument` for a pipe that isn't live or isn't the caller's, and for any other bit than
+    /// 0x01.
+    pub fn set_opts(&mut self, app: AppNo, pipe: u32, bits: u8) -> Result<(), SbStatus>
+        requires may { MayAct self.old app (SetOpts pipe bits) }
+        ensures { Acts self.old self.new app (SetOpts pipe bits) (done result) }
+    {
+        if let Some(status) = self.set_opts_cause(app, pipe, bits) {
+            return Err(status);
+        }
+        self.tables.set_bits(pipe, bits);
+        Ok(())
+    }
+
+    /// Answers the option bits of a pipe, whoever's it is: 0, or 0x01 where the messages that its
+    /// owner sends are not for it.
+    ///
+    /// # Errors
+    /// `BadArgument` for a pipe that isn't live.
+    pub fn get_opts(&self, pipe: u32) -> Result<u8, SbStatus>
+        ensures { (app : ℕ) → Acts self.now self.now app (GetOpts pipe) (bits_told result) }
+    {
+        self.tables.bits(pipe).ok_or(SbStatus::BadArgument)
+    }
+
+    /// Answers the number of the live pipe of this name, whoever's it is.
+    ///
+    /// # Errors
+    /// `BadArgument` where no live pipe has the name.
+    pub fn find_pipe(&self, name: &[u8]) -> Result<u32, SbStatus>
+        ensures { (app : ℕ) → Acts self.now self.now app (Find name.now) (found result) }
+    {
+        self.tables.find(name).ok_or(SbStatus::BadArgument)
+    }
+
+    /// Answers the name of a pipe, 1 to 19 bytes, whoever's it is.
+    ///
+    /// # Errors
+    /// `BadArgument` for a pipe that isn't live.
+    pub fn pipe_name(&self, pipe: u32) -> Result<PipeText, SbStatus>
+        ensures { (app : ℕ) → Acts self.now self.now app (PipeName pipe) (named result) }
+    {
+        self.tables.name(pipe).ok_or(SbStatus::BadArgument)
+    }
+}
