@@ -11,7 +11,8 @@ use Rattle.es_pool.specs.Pool.{PoolState, DrawsFor, DrawsIf, Draws, Reuses, Cuts
 use Rattle.es_pool.specs.declared.blocks.CutBlock.{CutBlock}
 use Rattle.buf_desc.specs.Slots.{slot_at, sealed_at, is_free, is_sealed, is_live, free_size, sealed_in}
 use Rattle.buf_desc.specs.Block.{Unsent as UnsentBlock}
-use Rattle.buf_desc.specs.Desk.{Buffers, Takes, Fits, IsKept, placed}
+use Rattle.buf_desc.specs.Desk.{Buffers, Takes, placed}
+use Rattle.buf_desc.specs.Inside.{Fits, IsKept}
 use Rattle.buf_desc.specs.declared.slot.Slot.{Slot}
 use Rattle.buf_desc.specs.declared.slot.Slot.TheVariants.{Free, Unsent, Sealed}
 

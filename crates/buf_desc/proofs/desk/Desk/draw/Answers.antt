@@ -3,7 +3,8 @@ use Rattle.std.specs.Vec.{vec_capacity}
 use Rattle.es_pool.specs.Pool.{PoolState}
 use Rattle.std.proofs.lemmas.List.{length-take-le}
 use Rattle.buf_desc.specs.Block.{Unsent as UnsentBlock}
-use Rattle.buf_desc.specs.Desk.{Buffers, Takes, IsKept}
+use Rattle.buf_desc.specs.Desk.{Buffers, Takes}
+use Rattle.buf_desc.specs.Inside.{IsKept}
 use Rattle.buf_desc.specs.declared.slot.Slot.{Slot}
 use Rattle.buf_desc.specs.declared.slot.Slot.TheVariants.{Unsent}
 use Rattle.buf_desc.proofs.Keeps.{reused, cut_off, taken_again, taken_new, kept_at, own_again, own_new}
