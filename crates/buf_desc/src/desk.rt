@@ -1,8 +1,8 @@
 //! The desk: which block is where, and when it goes back to the pool.
-ghost use Rattle.std.specs.Prelude.{◌≡◌, ℕ, ◌+◌, ◌-◌, ◌<◌, ◌≤◌, ◌↔◌, [], true, false, length, take, replicate, IsTrue, IsOk, IfOk, IfErr, OnErr};
+ghost use Rattle.std.specs.Prelude.{◌≡◌, ℕ, ◌+◌, ◌-◌, ◌<◌, ◌≤◌, ◌↔◌, true, false, length, take, replicate, IsTrue, IsOk, IfOk, IfErr, OnErr};
 ghost use Rattle.es_pool.specs.Pool.{fits, is_out, size_at};
 ghost use Rattle.buf_desc.specs.Slots.{slot_at, sealed_at, is_sealed, is_live, number_in};
-ghost use Rattle.buf_desc.specs.Desk.{Buffers, Takes, IsOf, sealed, freed, resealed, after_drop, after_settle};
+ghost use Rattle.buf_desc.specs.Desk.{Buffers, Takes, IsOf, uncut, sealed, freed, resealed, after_drop, after_settle};
 
 use crate::block::Block;
 use crate::sent::Sent;
@@ -59,11 +59,7 @@ impl<'r> Desk<'r> {
         region: &'r mut [u8],
     ) -> Result<Desk<'r>, AllocError>
         requires { pool ≤ length region.old }
-        ensures { IfOk result
-            (λ desk. desk ≡
-            record {
-            pool = record { bytes = pool; most = pool; sizes = sizes; blocks = []; requests = 0;
-            errors = 0 }; slots = [] }) }
+        ensures { IfOk result (λ desk. desk ≡ uncut pool sizes) }
     {
         let pool = Pool::new(alloc, pool, sizes)?;
         let slots = Vec::with_capacity(alloc, pool.most_blocks() as usize)?;
