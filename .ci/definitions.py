@@ -97,7 +97,7 @@ def imports(text):
     names = {}
     for path, listed in IMPORT.findall(text):
         parts = path.split('.')
-        if len(parts) < 3 or parts[1] != 'specs' or parts[2] == 'declared':
+        if len(parts) < 3 or parts[1] != 'specs' or parts[2] in ('declared', 'contracts'):
             continue
         for item in listed.split(','):
             words = item.split(' as ')

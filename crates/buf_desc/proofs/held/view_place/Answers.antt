@@ -1,0 +1,10 @@
+use Rattle.std.proofs.Common.{rules, ◌≡◌, ℕ}
+use Rattle.std.proofs.lemmas.List.Sorted.{answers_always}
+use Rattle.buf_desc.proofs.Ordered.{searched}
+use Rattle.buf_desc.proofs.held.view_place.Goals as goal
+
+pub returns : goal.returns
+returns g c =
+    let facts = c.binary_search_by_key.ensures in
+    let by_key = facts.position (λ (entry : ℕ × g.row.V.Denot). entry.0) (answers_always _ _ _ (λ f a r h called. search rules)) in
+    rw (← c.deref.ensures.value) (searched (λ (entry : ℕ × g.row.V.Denot). entry.0) _ (rw c.deref.ensures.value c.requires.rising) c.args.pipe _ facts.bound by_key)

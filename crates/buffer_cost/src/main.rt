@@ -1,0 +1,36 @@
+//! Carries a message from a sender to one receiver, so that what a buffer costs can be measured
+//! from outside. The first argument is the number of turns, the second the bytes of the message, 1
+//! to 80000; each turn takes a block with a copy, seals it, views it, reads its first byte, gives
+//! the view back and drops the use.
+#![tactic(auto)]
+
+mod turns;
+
+use bucket_list::Blank;
+use buf_desc::Desk;
+use fsw_base::BlockSizes;
+use std::marker::Brand;
+use std::{env, io};
+
+// The bytes of the pool: enough for one block of any size.
+const BYTES: u32 = 100_000;
+
+fn main(rt: HostRuntime) -> io::Result<()> {
+    let mut words = [0, 0];
+    let mut place = 0;
+    for word in env::args(&rt)? {
+        if place < 2 {
+            words[place] = word.as_str().parse::<u32>().unwrap_or(0);
+            place += 1;
+        }
+    }
+    let [turns, size] = words;
+    let mut region = Vec::new(rt.alloc());
+    region.resize(BYTES as usize, 0)?;
+    let mut message = Vec::new(rt.alloc());
+    message.resize(size.clamp(1, 80_000) as usize, 1)?;
+    let mut desk = Desk::new(rt.alloc(), BYTES, BlockSizes::usual(), &mut region)?;
+    let read = turns::carry::<Brand>(&mut desk, &message, turns, Blank::new(1));
+    let out = desk.pool().blocks_in_use();
+    println!(rt; "turns={turns} size={} read={read} out={out}", message.len())
+}
