@@ -13,7 +13,8 @@ use pipe_table::{PipeNo, PipeTable};
 use routing::Routes;
 use subscriptions::{SubNo, Subs, Verdict};
 
-/// Offers the message of this send to the subscriptions of its id, in order, and tells how many pipes took it.
+/// Offers the message of this send to the subscriptions of its id, in order, and tells how many
+/// pipes took it.
 pub(crate) fn along<L: Ledger>(
     pipes: &mut PipeTable,
     subs: &mut Subs,
@@ -27,8 +28,12 @@ pub(crate) fn along<L: Ledger>(
     requires few { length subs.old.live < 2 ^ 32 }
     requires queued { AreQueued pipes.old.live subs.old }
     requires routed { AreRouted subs.old routes.now }
-    ensures rows { map row_in pipes.new.live ≡ deliver_rows sender number (route (map sub_in subs.old.live) id) (map row_in pipes.old.live) }
-    ensures reached { result ≡ reached_rows sender number (route (map sub_in subs.old.live) id) (map row_in pipes.old.live) }
+    ensures rows { map row_in pipes.new.live ≡
+        deliver_rows sender number (route (map sub_in subs.old.live) id)
+        (map row_in pipes.old.live) }
+    ensures reached { result ≡
+        reached_rows sender number (route (map sub_in subs.old.live) id)
+        (map row_in pipes.old.live) }
     ensures frame { frame pipes.new ≡ frame pipes.old }
     ensures subs { still subs.new ≡ still subs.old }
     ensures queued { AreQueued pipes.new.live subs.new }
@@ -56,14 +61,18 @@ fn offer(pipes: &mut PipeTable, subs: &mut Subs, sub: SubNo, sender: AppNo, numb
     requires live { IsSome (live_at subs.old sub) }
     requires number { 1 ≤ number }
     requires queued { AreQueued pipes.old.live subs.old }
-    ensures rows { ForSome (live_at subs.old sub) (λ s. map row_in pipes.new.live ≡ with_row (offered_row sender number (sub_in s)) s.pipe (map row_in pipes.old.live)) }
-    ensures taken { ForSome (live_at subs.old sub) (λ s. result ≡ row_takes sender (sub_in s) (map row_in pipes.old.live)) }
+    ensures rows { ForSome (live_at subs.old sub)
+        (λ s. map row_in pipes.new.live ≡
+        with_row (offered_row sender number (sub_in s)) s.pipe (map row_in pipes.old.live)) }
+    ensures taken { ForSome (live_at subs.old sub)
+        (λ s. result ≡ row_takes sender (sub_in s) (map row_in pipes.old.live)) }
     ensures once { result ≤ 1 }
     ensures frame { frame pipes.new ≡ frame pipes.old }
     ensures subs { still subs.new ≡ still subs.old }
     ensures queued { AreQueued pipes.new.live subs.new }
 {
-    // Do nothing; the proof learns of them that no two pipes, and no two subscriptions, have one number.
+    // Do nothing; the proof learns of them that no two pipes, and no two subscriptions, have one
+    // number.
     pipes.recall_order();
     subs.recall_order();
     let row = subs.at(sub);

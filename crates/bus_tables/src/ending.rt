@@ -21,7 +21,8 @@ pub(crate) fn end_subscription<L: Ledger>(
     ensures routed { AreRouted subs.new routes.new }
     ensures same { routes.new ≡ record routes.old { routes = routes.new.routes } }
     ensures ways { ways_of routes.new ≡ ways_of routes.old }
-    ensures cost { ForSome (live_at subs.old sub) (λ s. steps.new ≤ steps.old + length (of_id s.id subs.old) + 8) }
+    ensures cost { ForSome (live_at subs.old sub)
+        (λ s. steps.new ≤ steps.old + length (of_id s.id subs.old) + 8) }
 {
     // Does nothing; the proof learns of it that no two subscriptions have one number.
     subs.recall_order();
@@ -40,7 +41,8 @@ pub(crate) fn end_of_pipe<L: Ledger>(
     steps: &mut Steps<L>,
 )
     requires { AreRouted subs.old routes.old }
-    ensures after { subs.new ≡ record subs.old { live = filter (λ s. not (s.pipe == pipe)) subs.old.live } }
+    ensures after { subs.new ≡
+        record subs.old { live = filter (λ s. not (s.pipe == pipe)) subs.old.live } }
     ensures routed { AreRouted subs.new routes.new }
     ensures same { routes.new ≡ record routes.old { routes = routes.new.routes } }
     ensures ways { ways_of routes.new ≡ ways_of routes.old }

@@ -23,9 +23,12 @@ pub(crate) fn item_row(item: Option<Item>) -> Option<ItemRow>
 pub(crate) fn route_for(routes: &mut Routes, id: u16) -> u32
     requires first { 1 ≤ id }
     requires last { id ≤ 0x1FFF }
-    requires room { route_of routes.old.routes id ≡ None → length routes.old.routes < routes.old.msgids }
-    ensures old { (route : _) → route_of routes.old.routes id ≡ Some route → (result ≡ route) × (routes.new ≡ routes.old) }
-    ensures new { route_of routes.old.routes id ≡ None → (result ≡ length routes.old.routes) × (routes.new ≡ record routes.old { routes = routes.old.routes ++ fresh_route id ∷ [] }) }
+    requires room { route_of routes.old.routes id ≡ None →
+        length routes.old.routes < routes.old.msgids }
+    ensures old { (route : _) → route_of routes.old.routes id ≡ Some route → (result ≡ route) ×
+        (routes.new ≡ routes.old) }
+    ensures new { route_of routes.old.routes id ≡ None → (result ≡ length routes.old.routes) ×
+        (routes.new ≡ record routes.old { routes = routes.old.routes ++ fresh_route id ∷ [] }) }
 {
     if let Some(route) = routes.route_of(id) {
         return route;

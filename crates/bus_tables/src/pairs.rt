@@ -6,8 +6,8 @@ use bucket_list::{Ledger, Steps};
 use routing::Routes;
 use subscriptions::{SubNo, Subs};
 
-/// The first live subscription of an id to a pipe; None exactly where there is none. It goes along the id's
-/// destinations up to there.
+/// The first live subscription of an id to a pipe; None exactly where there is none. It goes along
+/// the id's destinations up to there.
 pub(crate) fn first_of<L: Ledger>(
     subs: &Subs,
     routes: &Routes,

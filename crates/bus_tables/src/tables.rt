@@ -22,8 +22,8 @@ use std::alloc::{AllocError, Global};
 use std::marker::Model;
 use subscriptions::Subs;
 
-/// A message that waits on a pipe or was received last: the number of its send, and the number of the subscription that
-/// queued it.
+/// A message that waits on a pipe or was received last: the number of its send, and the number of
+/// the subscription that queued it.
 #[derive(Clone, Copy, Debug, PartialEq, Eq)]
 pub struct ItemRow {
     /// The number of its send.
@@ -32,7 +32,8 @@ pub struct ItemRow {
     pub subscription: u32,
 }
 
-/// The pipes, subscriptions and routes of a bus. Contracts see each as a list, and the room that was taken for them.
+/// The pipes, subscriptions and routes of a bus. Contracts see each as a list, and the room that
+/// was taken for them.
 #[derive(Drop)]
 pub struct BusTables {
     /// The pipes, with what waits on them.
@@ -56,7 +57,8 @@ impl Model for BusTables {
 }
 
 impl BusTables {
-    /// No pipe, subscription or route, with the room that the limits ask for. No later call takes memory.
+    /// No pipe, subscription or route, with the room that the limits ask for. No later call takes
+    /// memory.
     ///
     /// # Errors
     /// Where memory runs out.
@@ -100,7 +102,9 @@ impl BusTables {
 
     /// The number of the live pipe of this name. Looks at every live pipe.
     pub fn find(&self, name: &[u8]) -> Option<u32>
-        ensures { result ≡ option_map (λ row. row.number) (find (λ row. bytes_eq row.name name.now) self.now.pipes) }
+        ensures { result ≡
+            option_map (λ row. row.number)
+            (find (λ row. bytes_eq row.name name.now) self.now.pipes) }
     {
         self.pipes.find(name)
     }
@@ -122,8 +126,8 @@ impl BusTables {
         item_row(self.pipes.last(number))
     }
 
-    /// Whether the pipe is subscribed to the id. Goes along the id's subscriptions alone: at most 2 steps for each, and 2
-    /// more.
+    /// Whether the pipe is subscribed to the id. Goes along the id's subscriptions alone: at most 2
+    /// steps for each, and 2 more.
     pub fn is_subscribed<L: Ledger>(&self, id: u16, pipe: u32, steps: &mut Steps<L>) -> bool
         ensures is { result ≡ is_subscribed self.now.subscriptions id pipe }
         ensures cost { steps.new ≤ steps.old + 2 * length (route self.now.subscriptions id) + 2 }
@@ -176,7 +180,8 @@ impl BusTables {
         self.pipes.recall_order();
     }
 
-    /// Creates a pipe that holds up to `depth` messages, and answers its number: one more than were created.
+    /// Creates a pipe that holds up to `depth` messages, and answers its number: one more than were
+    /// created.
     pub fn create_pipe(&mut self, name: &PipeText, owner: AppNo, depth: u32) -> u32
         requires room { length self.old.pipes < self.old.room.pipes }
         requires number { self.old.pipes_created + 1 < 2 ^ 32 }
@@ -191,8 +196,9 @@ impl BusTables {
         self.pipes.create(name, owner, depth).number
     }
 
-    /// Ends the live pipe of this number, with its subscriptions and what waits on it; no effect where none is live. Looks
-    /// at as many subscriptions as ever were live at once, for each that ends and once more.
+    /// Ends the live pipe of this number, with its subscriptions and what waits on it; no effect
+    /// where none is live. Looks at as many subscriptions as ever were live at once, for each that
+    /// ends and once more.
     pub fn delete_pipe<L: Ledger>(&mut self, number: u32, steps: &mut Steps<L>)
         ensures { self.new ≡ record self.old {
           pipes = filter (λ row. not (row.number == number)) self.old.pipes;
@@ -203,9 +209,11 @@ impl BusTables {
         self.pipes.remove(number);
     }
 
-    /// The number of the live pipe that was created first of the application's. Looks at every live pipe.
+    /// The number of the live pipe that was created first of the application's. Looks at every live
+    /// pipe.
     pub fn first_of(&self, app: AppNo) -> Option<u32>
-        ensures { result ≡ option_map (λ row. row.number) (find (λ row. row.owner == app) self.now.pipes) }
+        ensures { result ≡
+            option_map (λ row. row.number) (find (λ row. row.owner == app) self.now.pipes) }
     {
         self.pipes.first_of(app)
     }
@@ -214,7 +222,8 @@ impl BusTables {
     pub fn release<L: Ledger>(&mut self, app: AppNo, steps: &mut Steps<L>)
         ensures { self.new ≡ record self.old {
           pipes = filter (λ row. not (row.owner == app)) self.old.pipes;
-          subscriptions = filter (λ sub. not (owns_row self.old.pipes app sub.pipe)) self.old.subscriptions;
+          subscriptions = filter (λ sub. not (owns_row self.old.pipes app sub.pipe))
+              self.old.subscriptions;
         } }
     {
         while let Some(number) = self.first_of(app) {
@@ -226,13 +235,14 @@ impl BusTables {
 
     /// Sets the option bits of the live pipe of this number. Takes a constant time.
     pub fn set_bits(&mut self, number: u32, bits: u8)
-        ensures { self.new ≡ record self.old { pipes = with_row (row_with_bits bits) number self.old.pipes } }
+        ensures { self.new ≡
+            record self.old { pipes = with_row (row_with_bits bits) number self.old.pipes } }
     {
         self.pipes.set_bits(number, bits);
     }
 
-    /// Lets the last message of the live pipe of this number go, and takes the one that waits longest, if any, in its
-    /// place. Takes a constant time.
+    /// Lets the last message of the live pipe of this number go, and takes the one that waits
+    /// longest, if any, in its place. Takes a constant time.
     pub fn take(&mut self, number: u32)
         ensures { self.new ≡ record self.old { pipes = with_row after_take number self.old.pipes } }
     {
@@ -242,8 +252,9 @@ impl BusTables {
         self.pipes.take(number);
     }
 
-    /// Subscribes a live pipe to an id, 1 to 0x1FFF, of which it has no subscription yet: up to `limit` messages of it may
-    /// wait at once. The id gets a route where it has none. At most 8 steps.
+    /// Subscribes a live pipe to an id, 1 to 0x1FFF, of which it has no subscription yet: up to
+    /// `limit` messages of it may wait at once. The id gets a route where it has none. At most 8
+    /// steps.
     pub fn subscribe<L: Ledger>(
         &mut self,
         id: u16,
@@ -256,11 +267,19 @@ impl BusTables {
         requires last { id ≤ 0x1FFF }
         requires live { list_any (λ row. row.number == pipe) self.old.pipes ≡ true }
         requires new { is_subscribed self.old.subscriptions id pipe ≡ false }
-        requires way { has_way self.old.routes id ≡ false → length self.old.routes < self.old.room.msgids }
+        requires way { has_way self.old.routes id ≡ false →
+            length self.old.routes < self.old.room.msgids }
         requires dests { length (route self.old.subscriptions id) < self.old.room.dests }
         requires number { self.old.subscriptions_made + 1 < 2 ^ 32 }
         ensures after { self.new ≡ record self.old {
-          subscriptions = self.old.subscriptions ++ record { number = self.old.subscriptions_made + 1; id = id; pipe = pipe; limit = limit; scope = scope } ∷ [];
+          subscriptions = self.old.subscriptions ++
+              record {
+                number = self.old.subscriptions_made + 1;
+                id = id;
+                pipe = pipe;
+                limit = limit;
+                scope = scope;
+              } ∷ [];
           subscriptions_made = self.old.subscriptions_made + 1;
           routes = with_route self.old.routes id;
         } }
@@ -268,16 +287,22 @@ impl BusTables {
     {
         let place = self.pipes.place_of(pipe).unwrap();
         let route = route_for(&mut self.routes, id);
-        // Does nothing; the proof learns of it that there is room for all subscriptions that routes may have.
+        // Does nothing; the proof learns of it that there is room for all subscriptions that routes
+        // may have.
         self.routes.recall_routes();
         let sub = self.subs.add(id, pipe, place, limit, scope);
         let _ = self.routes.add_dest(route, sub, steps);
     }
 
-    /// Ends the pipe's subscription to the id; no effect where it has none. Goes along the id's subscriptions alone: at
-    /// most 3 steps for each, and 10 more.
+    /// Ends the pipe's subscription to the id; no effect where it has none. Goes along the id's
+    /// subscriptions alone: at most 3 steps for each, and 10 more.
     pub fn unsubscribe<L: Ledger>(&mut self, id: u16, pipe: u32, steps: &mut Steps<L>)
-        ensures after { self.new ≡ record self.old { subscriptions = filter (λ sub. not (sub.id == id && sub.pipe == pipe)) self.old.subscriptions } }
+        ensures after { self.new ≡
+            record
+            self.old {
+              subscriptions = filter (λ sub. not (sub.id == id && sub.pipe == pipe))
+                  self.old.subscriptions;
+            } }
         ensures cost { steps.new ≤ steps.old + 3 * length (route self.old.subscriptions id) + 10 }
     {
         // Does nothing; the proof learns of it that no two subscriptions have one number.
@@ -287,20 +312,23 @@ impl BusTables {
         }
     }
 
-    /// The next sequence count of an id that has a route: its start, one for each count that it has given, and one more,
-    /// modulo 16384 (CCSDS 133.0-B, 4.1.3.4.3). It counts as given. Takes a constant time.
+    /// The next sequence count of an id that has a route: its start, one for each count that it has
+    /// given, and one more, modulo 16384 (CCSDS 133.0-B, 4.1.3.4.3). It counts as given. Takes a
+    /// constant time.
     pub fn next_count(&mut self, id: u16) -> u16
         requires { has_way self.old.routes id ≡ true }
-        ensures count { result ≡ (start_of self.old.room.starts id + counted_in self.old.routes id + 1) % 16384 }
+        ensures count { result ≡
+            (start_of self.old.room.starts id + counted_in self.old.routes id + 1) % 16384 }
         ensures after { self.new ≡ record self.old { routes = counted_on self.old.routes id } }
     {
         let route = self.routes.route_of(id).unwrap();
         self.routes.next_count(route)
     }
 
-    /// Offers the message of this send, numbered from 1, to the subscriptions of its id, in order, and tells how many pipes
-    /// took it. A pipe takes it where it doesn't ignore the sender, fewer messages of the subscription wait than its limit
-    /// says, and fewer in all than its depth. Goes along the id's subscriptions alone: at most 2 steps for each, and 2 more.
+    /// Offers the message of this send, numbered from 1, to the subscriptions of its id, in order,
+    /// and tells how many pipes took it. A pipe takes it where it doesn't ignore the sender, fewer
+    /// messages of the subscription wait than its limit says, and fewer in all than its depth. Goes
+    /// along the id's subscriptions alone: at most 2 steps for each, and 2 more.
     pub fn deliver<L: Ledger>(
         &mut self,
         id: u16,
@@ -310,8 +338,14 @@ impl BusTables {
     ) -> u32
         requires number { 1 ≤ number }
         requires few { length self.old.subscriptions < 2 ^ 32 }
-        ensures after { self.new ≡ record self.old { pipes = deliver_rows sender number (route self.old.subscriptions id) self.old.pipes } }
-        ensures reached { result ≡ reached_rows sender number (route self.old.subscriptions id) self.old.pipes }
+        ensures after { self.new ≡
+            record
+            self.old {
+              pipes = deliver_rows sender number (route self.old.subscriptions id)
+                  self.old.pipes;
+            } }
+        ensures reached { result ≡
+            reached_rows sender number (route self.old.subscriptions id) self.old.pipes }
         ensures cost { steps.new ≤ steps.old + 2 * length (route self.old.subscriptions id) + 2 }
     {
         along(

@@ -58,8 +58,8 @@ fn the_first_message_waits(rt: HostRuntime) -> Result<(), Fail> {
     Ok(())
 }
 
-/// Two pipes take a message of an id, and one receives it; then its subscription ends, the other pipe is deleted, and the
-/// application released.
+/// Two pipes take a message of an id, and one receives it; then its subscription ends, the other
+/// pipe is deleted, and the application released.
 fn come_and_go<L: Ledger, R: Abort>(
     rt: &R,
     tables: &mut BusTables,
