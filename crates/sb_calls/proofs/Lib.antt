@@ -1,5 +1,5 @@
+pub mod Allowed
 pub mod Alone
 pub mod Looks
 pub mod Opened
 pub mod Over
-pub mod Permits

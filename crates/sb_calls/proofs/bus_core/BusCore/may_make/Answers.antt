@@ -2,7 +2,7 @@ use Rattle.std.proofs.Common.{◌≤◌, length, ap, arith}
 use Rattle.bus_words.specs.Entries.{call_of}
 use Rattle.sb_calls.specs.Core.{Core, apps_of}
 use Rattle.sb_calls.proofs.Over.{apps_are}
-use Rattle.sb_calls.proofs.Permits.{permitted}
+use Rattle.sb_calls.proofs.Allowed.{permitted}
 use Rattle.sb_calls.proofs.bus_core.BusCore.may_make.Goals as goal
 
 pub is_open-lets-requires : goal.is_open-lets-requires
