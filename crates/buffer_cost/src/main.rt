@@ -8,7 +8,7 @@ mod turns;
 
 use bucket_list::Blank;
 use buf_desc::Desk;
-use fsw_base::BlockSizes;
+use fsw_base::{BlockSizes, MAX_BLOCK_SIZE};
 use std::marker::Brand;
 use std::{env, io};
 
@@ -28,7 +28,7 @@ fn main(rt: HostRuntime) -> io::Result<()> {
     let mut region = Vec::new(rt.alloc());
     region.resize(BYTES as usize, 0)?;
     let mut message = Vec::new(rt.alloc());
-    message.resize(size.clamp(1, 80_000) as usize, 1)?;
+    message.resize(size.clamp(1, MAX_BLOCK_SIZE) as usize, 1)?;
     let mut desk = Desk::new(rt.alloc(), BYTES, BlockSizes::usual(), &mut region)?;
     let read = turns::carry::<Brand>(&mut desk, &message, turns, Blank::new(1));
     let out = desk.pool().blocks_in_use();
