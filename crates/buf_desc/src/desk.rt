@@ -174,8 +174,10 @@ impl<'r> Desk<'r> {
         ensures { self.new ≡
             resealed self.old desc
             (record
-            (sealed_at self.old.slots desc) { uses = (sealed_at self.old.slots desc).uses +
-            count }) }
+            (sealed_at self.old.slots desc) {
+              uses = (sealed_at self.old.slots desc).uses +
+                  count;
+            }) }
     {
         count_uses(&mut self.slots, desc, count);
     }
@@ -246,8 +248,10 @@ impl<'r> Desk<'r> {
         requires sealed { is_sealed (slot_at self.old.slots desc) ≡ true }
         requires room { (sealed_at self.old.slots desc).views < 4294967295 }
         ensures view { result ≡
-            record { loan = (sealed_at self.old.slots desc).loan;
-            bytes = (sealed_at self.old.slots desc).bytes } }
+            record {
+              loan = (sealed_at self.old.slots desc).loan;
+              bytes = (sealed_at self.old.slots desc).bytes;
+            } }
         ensures after { self.new ≡
             resealed self.old desc
             (record

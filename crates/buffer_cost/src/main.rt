@@ -32,5 +32,8 @@ fn main(rt: HostRuntime) -> io::Result<()> {
     let mut desk = Desk::new(rt.alloc(), BYTES, BlockSizes::usual(), &mut region)?;
     let read = turns::carry::<Brand>(&mut desk, &message, turns, Blank::new(1));
     let out = desk.pool().blocks_in_use();
-    println!(rt; "turns={turns} size={} read={read} out={out}", message.len())
+    println!(rt;
+        "turns={turns} size={} read={read} out={out}",
+        message.len()
+    )
 }
