@@ -1,5 +1,5 @@
 //! The largest configuration.
-ghost use Rattle.std.specs.Prelude.{◌≡◌, ◌+◌, ◌*◌, ◌<◌, ◌≤◌, false, length, OnOk};
+ghost use Rattle.std.specs.Prelude.{◌≡◌, ◌+◌, ◌*◌, ◌<◌, ◌≤◌, length};
 ghost use Rattle.bus_words.specs.Bus.{route};
 ghost use Rattle.sb_calls.specs.Core.{state_of};
 
@@ -43,26 +43,35 @@ enum Filling {
 /// `Memory` where there is none for the bus; `Write` where the sink fails.
 pub fn print_largest<L: Ledger, K: Sink>(
     alloc: Global,
-    sink: &mut SinkGuard<'_, K>,
+    sink: &mut K,
     blank: Blank,
 ) -> Result<(), Fail>
     requires name { blank.name ≡ L.name }
     requires parts { blank.parts ≡ L.parts }
     requires some_part { 0 < blank.parts }
-    requires none_failed { sink.old.failed ≡ false }
 {
     let mut steps = Steps::<L>::new(blank);
     let mut core = BusCore::new(alloc, &config_of(&LIMITS), budgets(16))?;
+    print_filled(&mut core, sink, &mut steps)?;
+    Ok(())
+}
+
+// Fills this bus, and prints how many calls it took.
+fn print_filled<L: Ledger, K: Sink>(
+    core: &mut BusCore,
+    sink: &mut K,
+    steps: &mut Steps<L>,
+) -> Result<(), WriteFault> {
     print_title("the largest configuration", sink)?;
-    let pipes = fill(&mut core, Filling::Pipes, 257, &mut steps);
+    let pipes = fill(core, Filling::Pipes, 257, steps);
     print_figure(b"pipes ", pipes, sink)?;
-    let ids = fill(&mut core, Filling::Ids, 1025, &mut steps);
+    let ids = fill(core, Filling::Ids, 1025, steps);
     print_figure(b"ids ", ids, sink)?;
-    let dests = fill(&mut core, Filling::Dests, 65, &mut steps);
+    let dests = fill(core, Filling::Dests, 65, steps);
     print_figure(b"destinations ", dests, sink)?;
-    let all = pipes_reached(&mut core, 1, &mut steps);
+    let all = pipes_reached(core, 1, steps);
     print_figure(b"reached ", all, sink)?;
-    let one = pipes_reached(&mut core, 1024, &mut steps);
+    let one = pipes_reached(core, 1024, steps);
     print_figure(b"reached ", one, sink)?;
     Ok(())
 }
@@ -136,16 +145,11 @@ fn pipes_reached<L: Ledger>(core: &mut BusCore, id: u16, steps: &mut Steps<L>) -
 }
 
 // Prints a figure as a line.
-fn print_figure<K: Sink>(
-    name: &[u8],
-    figure: u32,
-    sink: &mut SinkGuard<'_, K>,
-) -> Result<(), WriteFault>
-    ensures { OnOk result (sink.new.failed ≡ false) }
-{
+fn print_figure<K: Sink>(name: &[u8], figure: u32, sink: &mut K) -> Result<(), WriteFault> {
+    let mut guard = SinkGuard::new(sink);
     let mut page = Page::new();
-    put(sink, &mut page, name);
-    put_number(sink, &mut page, figure);
-    put(sink, &mut page, b"\n");
-    finish(sink, &mut page)
+    put(&mut guard, &mut page, name);
+    put_number(&mut guard, &mut page, figure);
+    put(&mut guard, &mut page, b"\n");
+    finish(&mut guard, &mut page)
 }

@@ -21,12 +21,11 @@ use crate::fail::Fail;
 use crate::largest::print_largest;
 use crate::printing::print_example;
 use bucket_list::Blank;
-use fsw_base::{SinkGuard, StdSink};
+use fsw_base::StdSink;
 use std::marker::Brand;
 
 fn main(rt: HostRuntime) -> Result<(), Fail> {
-    let mut output = StdSink::new(rt.stdout());
-    let mut sink = SinkGuard::new(&mut output);
+    let mut sink = StdSink::new(rt.stdout());
     for example in &EXAMPLES {
         print_example::<Brand, StdSink>(rt.alloc(), example, &mut sink, Blank::new(1))?;
     }

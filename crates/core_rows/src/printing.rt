@@ -1,5 +1,5 @@
 //! Examples as text.
-ghost use Rattle.std.specs.Prelude.{◌≡◌, ◌<◌, false, OnOk};
+ghost use Rattle.std.specs.Prelude.{◌≡◌, ◌<◌};
 
 use crate::example::Example;
 use crate::fail::Fail;
@@ -21,29 +21,35 @@ use text_page::write_text;
 pub fn print_example<L: Ledger, K: Sink>(
     alloc: Global,
     example: &Example,
-    sink: &mut SinkGuard<'_, K>,
+    sink: &mut K,
     blank: Blank,
 ) -> Result<(), Fail>
     requires name { blank.name ≡ L.name }
     requires parts { blank.parts ≡ L.parts }
     requires some_part { 0 < blank.parts }
-    requires none_failed { sink.old.failed ≡ false }
-    ensures { OnOk result (sink.new.failed ≡ false) }
 {
     let mut steps = Steps::<L>::new(blank);
     let mut core = BusCore::new(alloc, &config_of(example.limits), budgets(example.apps))?;
+    print_played(alloc, example, &mut core, sink, &mut steps)
+}
+
+// Plays an example on this bus, which no call was made on, and prints its title and its report.
+fn print_played<L: Ledger, K: Sink>(
+    alloc: Global,
+    example: &Example,
+    core: &mut BusCore,
+    sink: &mut K,
+    steps: &mut Steps<L>,
+) -> Result<(), Fail> {
     let mut buffer = vec![in alloc; 0u8; MOST_BYTES]?;
     let mut seen = Vec::with_capacity(alloc, example.steps.len())?;
     print_title(example.title, sink)?;
     for step in example.steps {
-        match play(&mut core, step, &mut buffer, &mut steps) {
-            Outcome::Entry => {}
-            Outcome::Seen(app, receipt) => note(&mut seen, app, receipt)?,
-            Outcome::NotAllowed => write_text(sink, b"not allowed\n")?,
-        }
+        let outcome = play(core, step, &mut buffer, steps);
+        tell(outcome, &mut seen, sink)?;
     }
     let receipts = receipt_lists(alloc, example.apps, &seen)?;
-    write_report(&core, &receipts, sink)?;
+    write_report(core, &receipts, &mut SinkGuard::new(sink))?;
     Ok(())
 }
 
@@ -51,12 +57,23 @@ pub fn print_example<L: Ledger, K: Sink>(
 ///
 /// # Errors
 /// The sink's fault, where it fails.
-pub fn print_title<K: Sink>(title: &str, sink: &mut SinkGuard<'_, K>) -> Result<(), WriteFault>
-    requires { sink.old.failed ≡ false }
-    ensures { OnOk result (sink.new.failed ≡ false) }
-{
-    write_text(sink, title.as_bytes())?;
-    write_text(sink, b"\n")
+pub fn print_title<K: Sink>(title: &str, sink: &mut K) -> Result<(), WriteFault> {
+    let mut guard = SinkGuard::new(sink);
+    write_text(&mut guard, title.as_bytes())?;
+    write_text(&mut guard, b"\n")
+}
+
+// Notes what a step left to tell, or writes that its application may not make the call.
+fn tell<K: Sink>(
+    outcome: Outcome,
+    seen: &mut Vec<(AppNo, Receipt)>,
+    sink: &mut K,
+) -> Result<(), Fail> {
+    match outcome {
+        Outcome::Entry => Ok(()),
+        Outcome::Seen(app, receipt) => Ok(note(seen, app, receipt)?),
+        Outcome::NotAllowed => Ok(write_text(&mut SinkGuard::new(sink), b"not allowed\n")?),
+    }
 }
 
 // Adds what an application saw.
