@@ -16,13 +16,10 @@ use std::{env, io};
 const BYTES: u32 = 100_000;
 
 fn main(rt: HostRuntime) -> io::Result<()> {
+    // The last two words; the program's own name comes before them.
     let mut words = [0, 0];
-    let mut place = 0;
     for word in env::args(&rt)? {
-        if place < 2 {
-            words[place] = word.as_str().parse::<u32>().unwrap_or(0);
-            place += 1;
-        }
+        words = [words[1], word.as_str().parse::<u32>().unwrap_or(0)];
     }
     let [turns, size] = words;
     let mut region = Vec::new(rt.alloc());
