@@ -161,12 +161,8 @@ def comment_on(crate, name, word):
     return '?'
 
 
-def moved(lines, missing, gone):
-    """For names that stand in another file now: the entry that they have there, by place."""
-    to = defaultdict(list)
-    for crate, name, word in missing:
-        to[word].append((crate, name))
-    entries = []
+def placed(lines):
+    """Each line with the crate and the file of definitions that it stands under; None where it is under none."""
     crate = name = None
     for line in lines:
         if line.startswith('## '):
@@ -175,7 +171,21 @@ def moved(lines, missing, gone):
         elif line.startswith('### '):
             named = re.search(r'`specs/([\w/]+)\.antt`', line)
             name = named.group(1) if named else None
-        elif line.startswith('- ') and crate and name:
+        yield line, crate, name
+
+
+def is_entry(line, crate, name):
+    return line.startswith('- ') and crate and name
+
+
+def moved(lines, missing, gone):
+    """For names that stand in another file now: the entry that they have there, by place."""
+    to = defaultdict(list)
+    for crate, name, word in missing:
+        to[word].append((crate, name))
+    entries = []
+    for line, crate, name in placed(lines):
+        if is_entry(line, crate, name):
             head, colon, words = line.partition(':')
             lost = [word for word in re.findall(r'`([^`]+)`', head) if (crate, name, word) in gone]
             for place in sorted({to[word][0] for word in lost if len(to[word]) == 1}):
@@ -209,20 +219,14 @@ def put(out, crate, name, entry):
 def mended(lines, missing, gone):
     """The page's lines with an entry for each missing name, and without the names that are defined nowhere."""
     out = []
-    crate = name = None
-    for line in lines:
-        if line.startswith('## '):
-            named = re.search(r'`(\w+)`', line)
-            crate, name = (named.group(1) if named else None), None
-        elif line.startswith('### '):
-            named = re.search(r'`specs/([\w/]+)\.antt`', line)
-            name = named.group(1) if named else None
-        elif line.startswith('- ') and crate and name:
+    for line, crate, name in placed(lines):
+        if is_entry(line, crate, name):
             head, colon, words = line.partition(':')
-            kept = [word for word in re.findall(r'`([^`]+)`', head) if (crate, name, word) not in gone]
-            if not kept:
+            named = re.findall(r'`([^`]+)`', head)
+            kept = [word for word in named if (crate, name, word) not in gone]
+            if named and not kept:
                 continue
-            if len(kept) < len(re.findall(r'`([^`]+)`', head)):
+            if len(kept) < len(named):
                 line = '- ' + ', '.join(f'`{word}`' for word in kept) + colon + words
         out.append(line)
     told = set()
@@ -239,19 +243,12 @@ def mended(lines, missing, gone):
 
 def page():
     """The page's entries: ((crate, file, name), line); and lines that are out of place."""
-    crate = name = None
     entries, faults = {}, []
-    for number, line in enumerate(PAGE.read_text().splitlines(), 1):
+    for number, (line, crate, name) in enumerate(placed(PAGE.read_text().splitlines()), 1):
         where = f'docs/DEFINITIONS.md:{number}'
-        if line.startswith('## '):
-            named = re.search(r'`(\w+)`', line)
-            crate, name = (named.group(1) if named else None), None
-        elif line.startswith('### '):
-            named = re.search(r'`specs/([\w/]+)\.antt`', line)
-            name = named.group(1) if named else None
-            if named and crate and defined(crate, name) is None:
-                faults.append(f'{where}: crates/{crate} has no specs/{name}.antt')
-        elif line.startswith('- ') and crate and name:
+        if line.startswith('### ') and crate and name and defined(crate, name) is None:
+            faults.append(f'{where}: crates/{crate} has no specs/{name}.antt')
+        elif is_entry(line, crate, name):
             for word in re.findall(r'`([^`]+)`', line.split(':', 1)[0]):
                 if (crate, name, word) in entries:
                     faults.append(f'{where}: `{word}` stands twice')

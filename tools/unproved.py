@@ -29,7 +29,7 @@ def given_input():
 def tell_what_runs():
     is_built = os.path.exists(PROGRAM)
     why = "the sources have changed since the build" if is_built else "nothing is built yet"
-    what = "this run is compiled and not proved, in half a minute"
+    what = "this run is compiled and not proved, which takes about half a minute"
     tell(f"{why}: {what}; ./fsw build makes the proved program")
 
 

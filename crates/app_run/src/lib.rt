@@ -5,9 +5,8 @@
 //! application's receipts are those that its lines tell in this history, and that it ends.
 //!
 //! ```text
-//! let
-//! script = read_script(alloc, b"app A\ncreate p0 4 A\nsub 0x0801 p0\nsend 0x0801 7 1\nrecv
-//! p0\n")?;
+//! let text = b"app A\ncreate p0 4 A\nsub 0x0801 p0\nsend 0x0801 7 1\nrecv p0\n";
+//! let script = read_script(alloc, text)?;
 //! let finished = lockstep(alloc, &script)?;
 //! finished.bus.journal().len()         // 5: an entry a call, and one for the end
 //! finished.receipts[0].len()           // 1: the message received

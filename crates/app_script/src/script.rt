@@ -194,11 +194,9 @@ fn read_all(alloc: Global, reading: &mut Reading, bytes: &[u8]) -> Result<Option
 ///
 /// # Errors
 /// `Fault` where they are no script: that of the first faulty line, with the line's number from 1;
-/// the first in the order of [`FaultKind`]. `TooLarge` and `NoApp` are faults of the whole, with
-/// the number
-/// 0. `NotYet` comes only where the bytes are a script, at the first line that this program doesn't
-///    run
-/// yet. `Memory` where memory runs out.
+/// the first in the order of [`FaultKind`]. `TooLarge` and `NoApp` are faults of the whole, and
+/// have the number 0. `NotYet` comes only where the bytes are a script, at the first line that
+/// this program doesn't run yet. `Memory` where memory runs out.
 #[tactic(auto, unfolding(crate::specs::Grammar::grammar, crate::specs::Grammar::built_script))]
 pub fn read_script(alloc: Global, bytes: &[u8]) -> Result<Script, ReadFail>
     ensures { GivesScript result (built_script bytes.now) }

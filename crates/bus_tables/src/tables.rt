@@ -79,21 +79,22 @@ impl BusTables {
         self.pipes.len()
     }
 
-    /// Whether a pipe of this number is live and the application's. Takes a constant time.
+    /// Whether a pipe of this number is live and the application's. The number is looked up by
+    /// halves among the live ones.
     pub fn owns(&self, app: AppNo, number: u32) -> bool
         ensures { result ≡ owns_row self.now.pipes app number }
     {
         self.pipes.owns(app, number)
     }
 
-    /// The option bits of the live pipe of this number. Takes a constant time.
+    /// The option bits of the live pipe of this number, looked up by halves.
     pub fn bits(&self, number: u32) -> Option<u8>
         ensures { result ≡ option_map (λ row. row.bits) (row_of self.now.pipes number) }
     {
         self.pipes.bits(number)
     }
 
-    /// The name of the live pipe of this number. Takes a constant time.
+    /// The name of the live pipe of this number, looked up by halves.
     pub fn name(&self, number: u32) -> Option<PipeText>
         ensures { result ≡ option_map (λ row. row.name) (row_of self.now.pipes number) }
     {
@@ -109,14 +110,14 @@ impl BusTables {
         self.pipes.find(name)
     }
 
-    /// What waits longest on the live pipe of this number. Takes a constant time.
+    /// What waits longest on the live pipe of this number, looked up by halves.
     pub fn oldest(&self, number: u32) -> Option<ItemRow>
         ensures { result ≡ oldest_item self.now.pipes number }
     {
         item_row(self.pipes.oldest(number))
     }
 
-    /// What was received last on the application's live pipe of this number. Takes a constant time.
+    /// What was received last on the application's live pipe of this number, looked up by halves.
     pub fn last(&self, app: AppNo, number: u32) -> Option<ItemRow>
         ensures { result ≡ last_row_item self.now.pipes app number }
     {
@@ -233,7 +234,7 @@ impl BusTables {
         }
     }
 
-    /// Sets the option bits of the live pipe of this number. Takes a constant time.
+    /// Sets the option bits of the live pipe of this number, looked up by halves.
     pub fn set_bits(&mut self, number: u32, bits: u8)
         ensures { self.new ≡
             record self.old { pipes = with_row (row_with_bits bits) number self.old.pipes } }
@@ -242,7 +243,7 @@ impl BusTables {
     }
 
     /// Lets the last message of the live pipe of this number go, and takes the one that waits
-    /// longest, if any, in its place. Takes a constant time.
+    /// longest, if any, in its place. The number is looked up by halves.
     pub fn take(&mut self, number: u32)
         ensures { self.new ≡ record self.old { pipes = with_row after_take number self.old.pipes } }
     {

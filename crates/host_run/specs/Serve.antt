@@ -159,7 +159,7 @@ Completes result fed fed' old new =
     ¬ Rose fed.faults fed'.faults → ¬ Rose old.faults new.faults →
     (result ≡ status.Done) ⊎ (result ≡ status.NoMemory)
 
--- The headline, as far as it goes today: where all was done, the whole input was read and is a script, and there is a
+-- The headline of runs in rotation: where all was done, the whole input was read and is a script, and there is a
 -- history that the bus can have under the script's limits, that merges the calls of the script's applications, each once
 -- and in order, that the audit was shown, and of which the report was written.
 abbrev pub Headline : HostStatus → Fed → Fed → Made → Made → Type 0

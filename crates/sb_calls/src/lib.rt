@@ -4,8 +4,8 @@
 //!
 //! It promises that each call answers and changes what the bus of the definitions does after the
 //! journal's history; that what a pipe gives is what that pipe alone gives, whatever befalls the
-//! others; that a send's steps grow with the subscriptions of its id alone; and that no call after
-//! [`BusCore::new`] takes memory.
+//! others; and that a send's steps grow with the subscriptions of its id alone. No call but
+//! [`BusCore::new`] has an allocator, and none takes memory by its code.
 //!
 //! ```text
 //! let mut core = BusCore::new(alloc, &Config::usual(), &budgets)?;

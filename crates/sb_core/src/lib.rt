@@ -2,9 +2,9 @@
 //! are copied to every pipe subscribed to their id.
 //!
 //! It promises that each call answers and changes what the bus of the definitions does by its state
-//! alone, whatever came before; that a send's steps grow with the subscriptions of its id alone;
-//! and that no call after [`SbCore::new`] takes memory. Pipes, subscriptions and messages are
-//! numbered as long as their numbers have 32 bits.
+//! alone, whatever came before; and that a send's steps grow with the subscriptions of its id
+//! alone. No call but [`SbCore::new`] has an allocator, and none takes memory by its code. Pipes,
+//! subscriptions and messages are numbered as long as their numbers have 32 bits.
 //!
 //! Messages stand in an interim form: every accepted message is kept for good, in room that was
 //! taken at opening. Blocks of a pool, given back once nothing waits for them, are to take its
