@@ -11,8 +11,9 @@ use sb_calls::{Pended, Sent};
 
 /// The calls of the software bus that one application makes.
 ///
-/// Each call has the condition, the answer and the refusals of the core's call of the same name. No
-/// other application calls between two calls of one value. No call takes memory.
+/// Each call has the condition, the answer and the refusals of the core's call of the same name
+/// (`bus_end` those of its `end`). No other application calls between two calls of one value. By
+/// the code, no call takes memory.
 pub trait Calls {
     /// The application and the bus that it calls.
     ghost caller: { Self → Caller };

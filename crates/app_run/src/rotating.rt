@@ -32,10 +32,10 @@ pub struct Finished {
 
 /// Runs a script: each application that has not ended takes a turn, in order of number, again and
 /// again. A turn is its next line; or one look, while it waits; or its end, once its lines are
-/// through. All memory is taken before the first call.
+/// through. By the code, all memory is taken before the first call.
 ///
 /// # Errors
-/// Where memory runs out; then no application ran.
+/// Where memory runs out; by the code, no application ran then.
 pub fn lockstep(alloc: Global, script: &Script) -> Result<Finished, AllocError>
     ensures history { IfOk result (λ finished. finished.bus.log.entries ≡ rotation script.now) }
     ensures limits { IfOk result (λ finished. finished.bus.limits ≡ script.now.limits) }
@@ -81,7 +81,8 @@ fn open(alloc: Global, script: &Script) -> Result<OpenedRun<'_>, AllocError>
     })
 }
 
-// Makes all calls of a run. Having no allocator, it takes no memory.
+// Makes all calls of a run. It has no allocator among its parameters, and takes no memory by its
+// code.
 fn run(run: OpenedRun<'_>) -> Finished
     requires bus { run.bus ≡ opened run.script.now }
     requires runners { run.runners.items ≡ all_beginning run.script.now }

@@ -69,8 +69,8 @@ impl<'s> Runner<'s> {
     ghost use Rattle.app_run.specs.Turns.{MayTurn, TakesTurn, Turns, turned_of};
     ghost use Rattle.app_run.specs.Callers.{SameBus};
 
-    /// The application before its first line: its registers are 0, and it has no receipt. All
-    /// memory that its run takes is taken here.
+    /// The application before its first line: its registers are 0, and it has no receipt. By
+    /// the code, all memory that its run takes is taken here.
     ///
     /// # Errors
     /// Where memory runs out.

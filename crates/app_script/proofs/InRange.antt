@@ -7,8 +7,8 @@ use Rattle.std.proofs.lemmas.List.Sums.{sum_by-cons}
 use Rattle.script_words.specs.Text.{is_same}
 use Rattle.script_lines.specs.declared.line.Line.{Line}
 use Rattle.script_lines.specs.declared.line.Line.TheVariants.{Create, Find, Send, SendRaw}
-use Rattle.line_spelling.specs.Ranges.{is_visible, is_name, is_readable}
-use Rattle.line_spelling.proofs.Booleans.{and_first, and_second}
+use Rattle.script_lines.specs.Ranges.{is_visible, is_name, is_readable}
+use Rattle.script_lines.proofs.Booleans.{and_first, and_second}
 use Rattle.script_settings.specs.Settings.{is_app_name}
 use Rattle.script_settings.specs.Accounts.{account_of, budget_of}
 use Rattle.app_script.specs.Script.{Application, ScriptText}

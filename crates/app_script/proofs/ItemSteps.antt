@@ -11,7 +11,7 @@ use Rattle.script_lines.specs.CallLines.{call_line_of}
 use Rattle.script_settings.specs.Settings.{is_among, set_of, sizes_of, seq_of, app_of, script_of}
 use Rattle.script_settings.specs.declared.settings.LimitName.{LimitName}
 use Rattle.fsw_base.specs.Limits.{Limits}
-use Rattle.line_spelling.proofs.Booleans.{and_first, and_second, both}
+use Rattle.script_lines.proofs.Booleans.{and_first, and_second, both}
 use Rattle.app_script.specs.declared.forms.Form.{Form}
 use Rattle.app_script.specs.declared.forms.Form.TheVariants as form
 use Rattle.app_script.specs.Forms.{form_of, is_misplaced}

@@ -10,7 +10,7 @@ use Rattle.script_words.specs.Readings.{◌>>=◌}
 use Rattle.script_words.specs.Text.{is_same}
 use Rattle.script_lines.specs.declared.line.Line.{Line}
 use Rattle.script_settings.specs.Accounts.{account_of, charge_of}
-use Rattle.line_spelling.proofs.Booleans.{and_first, and_second}
+use Rattle.script_lines.proofs.Booleans.{and_first, and_second}
 use Rattle.app_script.specs.Items.{Setting, Limit, Sizes, Start, Item, Version, Configures, Begins, Calls}
 use Rattle.app_script.specs.Language.{with_setting, configured, is_same_setting, are_new_settings, app_items, script_items}
 use Rattle.app_script.specs.Script.{Application}

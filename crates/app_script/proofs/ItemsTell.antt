@@ -13,7 +13,7 @@ use Rattle.script_lines.specs.declared.line.Line.{Line}
 use Rattle.script_settings.specs.declared.settings.LimitName.{LimitName}
 use Rattle.script_settings.specs.Settings.{limit_number, is_among}
 use Rattle.script_settings.specs.Accounts.{account_of, charge_of}
-use Rattle.line_spelling.proofs.Booleans.{and_first, and_second, both, not_false}
+use Rattle.script_lines.proofs.Booleans.{and_first, and_second, both, not_false}
 use Rattle.app_script.specs.Items.{Setting, Limit, Sizes, Start, Item, Version, Configures, Begins, Calls}
 use Rattle.app_script.specs.Language.{with_setting, configured, is_same_setting, are_new_settings, app_items, script_items}
 use Rattle.app_script.specs.Script.{Application}

@@ -6,7 +6,7 @@ use Rattle.fsw_base.specs.Starts.{is_start, are_distinct_ids, are_count_starts}
 use Rattle.fsw_base.specs.Limits.{Limits}
 use Rattle.fsw_base.specs.declared.script_faults.ScriptFault.{ScriptFault}
 use Rattle.script_words.specs.Text.{lines_of}
-use Rattle.line_spelling.proofs.Booleans.{and_first}
+use Rattle.script_lines.proofs.Booleans.{and_first}
 use Rattle.app_script.specs.Script.{ScriptText}
 use Rattle.app_script.specs.Language.{IsText, configured}
 use Rattle.app_script.specs.Grammar.{Progress, opening, apps_of, progress_of, grammar, ◌>=>◌}

@@ -14,12 +14,12 @@ use Rattle.script_words.specs.Counts.{Word, one, two, few}
 use Rattle.script_words.specs.Numbers.{number_of, within}
 use Rattle.script_lines.specs.declared.line.Line.{Line}
 use Rattle.script_lines.specs.CallLines.{call_line_of}
-use Rattle.line_spelling.specs.Ranges.{is_readable}
-use Rattle.line_spelling.proofs.Booleans.{and_first, and_second, both, not_false}
-use Rattle.line_spelling.proofs.Holding.{Holds, then, any, guard, refuse, either, accept}
-use Rattle.line_spelling.proofs.ReadTexts.{behind_is_text}
-use Rattle.line_spelling.proofs.ReadWords.{within_in, below_in}
-use Rattle.line_spelling.proofs.ReadLines.{call_readable}
+use Rattle.script_lines.specs.Ranges.{is_readable}
+use Rattle.script_lines.proofs.Booleans.{and_first, and_second, both, not_false}
+use Rattle.script_lines.proofs.Holding.{Holds, then, any, guard, refuse, either, accept}
+use Rattle.script_lines.proofs.ReadTexts.{behind_is_text}
+use Rattle.script_lines.proofs.ReadWords.{within_in, below_in}
+use Rattle.script_lines.proofs.ReadLines.{call_readable}
 use Rattle.script_settings.specs.declared.settings.LimitName.{LimitName}
 use Rattle.script_settings.specs.declared.settings.LimitName.TheVariants.{MsgIds, Pipes, Dests, Depth, MsgMax, Pool, AppPool, Tables, Handles, TableMax, TablePool}
 use Rattle.app_script.specs.declared.forms.Form.{Form}

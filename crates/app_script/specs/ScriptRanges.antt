@@ -5,7 +5,7 @@ use Rattle.fsw_base.specs.Limits.{Limits}
 use Rattle.fsw_base.specs.Blocks.{are_block_sizes}
 use Rattle.fsw_base.specs.Starts.{are_count_starts}
 use Rattle.script_words.specs.Text.{is_same}
-use Rattle.line_spelling.specs.Ranges.{is_readable}
+use Rattle.script_lines.specs.Ranges.{is_readable}
 use Rattle.script_settings.specs.declared.settings.LimitName.{LimitName}
 use Rattle.script_settings.specs.declared.settings.LimitName.TheVariants.{MsgIds, Pipes, Dests, Depth, MsgMax, Pool, AppPool, Tables, Handles, TableMax, TablePool}
 use Rattle.script_settings.specs.Settings.{least, greatest, is_app_name}

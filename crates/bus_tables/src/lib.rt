@@ -1,10 +1,10 @@
-//! The pipes, subscriptions and routes of a software bus, kept so that a call looks at no more than
-//! it needs: a pipe is found by its number, a route by its message id, and a send goes along the
-//! destinations of its id alone, with the count of what waits ready at each (cFE Software Bus).
+//! The pipes, subscriptions and routes of a software bus, kept so that a send goes along the
+//! destinations of its id alone, with the count of what waits ready at each; by the code, a pipe's
+//! number is looked up by halves, and a route at one place (cFE Software Bus).
 //!
 //! Contracts see three lists: pipes and subscriptions in order of number, and routes with their
 //! counts. Behind them stand the table of pipes, the subscriptions and the routes, each of a crate
-//! of its own, and the facts that tie them together. No call but `new` takes memory.
+//! of its own, and the facts that tie them together. By the code, no call but `new` takes memory.
 //!
 //! ```
 //! /// A message for the one subscription of an id reaches its pipe, and waits there.

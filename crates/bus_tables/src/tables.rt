@@ -57,8 +57,8 @@ impl Model for BusTables {
 }
 
 impl BusTables {
-    /// No pipe, subscription or route, with the room that the limits ask for. No later call takes
-    /// memory.
+    /// No pipe, subscription or route, with the room that the limits ask for. By the code, no later
+    /// call takes memory.
     ///
     /// # Errors
     /// Where memory runs out.
@@ -79,8 +79,8 @@ impl BusTables {
         self.pipes.len()
     }
 
-    /// Whether a pipe of this number is live and the application's. The number is looked up by
-    /// halves among the live ones.
+    /// Whether a pipe of this number is live and the application's. By the code, the number is
+    /// looked up by halves among the live ones.
     pub fn owns(&self, app: AppNo, number: u32) -> bool
         ensures { result ≡ owns_row self.now.pipes app number }
     {
@@ -101,7 +101,7 @@ impl BusTables {
         self.pipes.name(number)
     }
 
-    /// The number of the live pipe of this name. Looks at every live pipe.
+    /// The number of the live pipe of this name. By the code, goes along the live pipes up to it.
     pub fn find(&self, name: &[u8]) -> Option<u32>
         ensures { result ≡
             option_map (λ row. row.number)
@@ -136,14 +136,14 @@ impl BusTables {
         first_of(&self.subs, &self.routes, id, pipe, steps).is_some()
     }
 
-    /// Whether the id has a route. Takes a constant time.
+    /// Whether the id has a route. By the code, takes a constant time.
     pub fn has_route(&self, id: u16) -> bool
         ensures { result ≡ has_way self.now.routes id }
     {
         self.routes.route_of(id).is_some()
     }
 
-    /// How many subscriptions are live. Takes a constant time.
+    /// How many subscriptions are live. By the code, takes a constant time.
     pub fn subscriptions_len(&self) -> u32
         ensures { result ≡ length self.now.subscriptions }
     {
@@ -157,7 +157,7 @@ impl BusTables {
         self.routes.len()
     }
 
-    /// How many live subscriptions the id has. Takes a constant time.
+    /// How many live subscriptions the id has. By the code, takes a constant time.
     pub fn dests_of(&self, id: u16) -> u32
         ensures { result ≡ length (route self.now.subscriptions id) }
     {
@@ -198,8 +198,8 @@ impl BusTables {
     }
 
     /// Ends the live pipe of this number, with its subscriptions and what waits on it; no effect
-    /// where none is live. Looks at as many subscriptions as ever were live at once, for each that
-    /// ends and once more.
+    /// where none is live. By the code, looks at as many subscriptions as ever were live at once,
+    /// for each that ends and once more.
     pub fn delete_pipe<L: Ledger>(&mut self, number: u32, steps: &mut Steps<L>)
         ensures { self.new ≡ record self.old {
           pipes = filter (λ row. not (row.number == number)) self.old.pipes;
@@ -210,8 +210,8 @@ impl BusTables {
         self.pipes.remove(number);
     }
 
-    /// The number of the live pipe that was created first of the application's. Looks at every live
-    /// pipe.
+    /// The number of the live pipe that was created first of the application's. By the code, goes
+    /// along the live pipes up to it.
     pub fn first_of(&self, app: AppNo) -> Option<u32>
         ensures { result ≡
             option_map (λ row. row.number) (find (λ row. row.owner == app) self.now.pipes) }
@@ -314,8 +314,8 @@ impl BusTables {
     }
 
     /// The next sequence count of an id that has a route: its start, one for each count that it has
-    /// given, and one more, modulo 16384 (CCSDS 133.0-B, 4.1.3.4.3). It counts as given. Takes a
-    /// constant time.
+    /// given, and one more, modulo 16384 (CCSDS 133.0-B, 4.1.3.4.3). It counts as given. By
+    /// the code, takes a constant time.
     pub fn next_count(&mut self, id: u16) -> u16
         requires { has_way self.old.routes id ≡ true }
         ensures count { result ≡

@@ -104,8 +104,7 @@ pub enum BusAnswer {
     },
     /// The number of the message received.
     Got(u32),
-    /// No message is there, and none can come: every other application has ended or waits on an
-    /// empty pipe.
+    /// No message is there, and every other application has ended or waits on an empty pipe.
     TimeOut,
     /// No message is there yet; the application waits.
     Pending,

@@ -10,8 +10,8 @@ ghost use Rattle.bus_words.specs.Runs.{callers, stepped, Follows};
 ghost use Rattle.bus_words.specs.Alone.{Received, Gives, unmade, solo_receipts, cut, gets_from, receipts};
 
 /// A legal history is a run: its calls, made in order from where the bus opens, give the same
-/// answers and the same bus again. And it goes on by any call that its application may make,
-/// answered by the machine's step.
+/// answers and the same bus again. And it goes on by any call that its application may make
+/// and that makes an entry, answered by the machine's step.
 pub fn histories_are_runs()
     ensures runs { (limits : Limits) (apps : ℕ) (history : List Entry) → IsLegal limits apps history
         →

@@ -38,9 +38,10 @@ pub fn pool_and_plain(
 }
 
 /// Makes the calls on both pools, in order, and answers whether the two gave the same answer and
-/// then showed the same figures at each of them. They always do: whatever the calls, the pool is
-/// led as its own contract says, the plain pool's account moves by its own calls, a return with the
-/// class that its block has, and it stays the account of the pool. At most 8 steps a call.
+/// then showed the same figures at each of them. They always do, where a return that the pool
+/// refuses is counted in both: whatever the calls, the pool is led as its own contract says, the
+/// plain pool's account moves by its own calls, a return with the class that its block has, and it
+/// stays the account of the pool. At most 8 steps a call.
 pub fn agree<L: Ledger>(
     pool: &mut Pool,
     plain: &mut PlainPool,

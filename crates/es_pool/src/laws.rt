@@ -3,7 +3,7 @@ ghost use Rattle.std.specs.Prelude.{◌≡◌, ℕ, ◌+◌, ◌<◌, length};
 ghost use Rattle.fsw_base.specs.PoolAccounts.{Account, has_room_for, after_draw, after_draws};
 ghost use Rattle.es_pool.specs.Pool.{PoolState, DrawsFor, fits};
 
-/// A draw takes one from what fits: after it so many blocks of its size fit exactly where one more
+/// A draw takes one from what fits: after it so many blocks of its size fit if and only if one more
 /// fitted before. So where there was room for two blocks, a second one is given once the first was.
 /// The same holds of an account; and a draw of some blocks and one more at once is a draw of one
 /// behind them.

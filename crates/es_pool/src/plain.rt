@@ -70,8 +70,7 @@ impl PlainPool {
         })
     }
 
-    /// Draws a block for `size` bytes, and answers its class. `ErrMemBlockSize` exactly where no
-    /// block size is large enough, or there is no room for one more block.
+    /// Draws a block for `size` bytes, and answers its class.
     ///
     /// # Errors
     /// `ErrMemBlockSize` if and only if no block size is large enough, or there is no room for one

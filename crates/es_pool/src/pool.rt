@@ -53,8 +53,8 @@ impl Model for Pool {
 }
 
 impl Pool {
-    /// A pool of `bytes` bytes with these block sizes, of which nothing is cut. All its memory is
-    /// taken here.
+    /// A pool of `bytes` bytes with these block sizes, of which nothing is cut. By the code, all
+    /// its memory is taken here.
     ///
     /// # Errors
     /// `AllocError` where memory runs out.
@@ -111,11 +111,11 @@ impl Pool {
     }
 
     /// Draws a block for `size` bytes: of the smallest block size that is large enough, a free one
-    /// where there is one, else one cut from the rest. A larger free block is never taken in its
-    /// place. At most 8 steps.
+    /// where there is one, otherwise one cut from the rest. A larger free block is never taken in
+    /// its place. At most 8 steps.
     ///
     /// # Errors
-    /// `ErrMemBlockSize` exactly where no block size is large enough, or no block is free and the
+    /// `ErrMemBlockSize` if and only if no block size is large enough, or no block is free and the
     /// rest is too small.
     pub fn get<L: Ledger>(&mut self, size: u32, steps: &mut Steps<L>) -> Result<BlockNo, EsStatus>
         ensures given { IsOk result ↔ IsTrue (fits self.old size 1) }
@@ -148,8 +148,8 @@ impl Pool {
     /// counted.
     ///
     /// # Errors
-    /// `BufferNotInPool` exactly where the block was never cut, `PoolBlockInvalid` exactly where it
-    /// is free now.
+    /// `BufferNotInPool` if and only if the block was never cut, `PoolBlockInvalid` if and only if
+    /// it is free now.
     pub fn put<L: Ledger>(&mut self, block: BlockNo, steps: &mut Steps<L>) -> Result<(), EsStatus>
         ensures ok { IsOk result ↔ IsTrue (is_out self.old block) }
         ensures not_in_pool { (result ≡ Err EsStatus.BufferNotInPool) ↔
@@ -222,7 +222,7 @@ impl Pool {
         }
     }
 
-    /// The class of a block; None exactly where it was never cut.
+    /// The class of a block; None if and only if it was never cut.
     pub fn class_of(&self, block: BlockNo) -> Option<u32>
         ensures cut { IsSome result ↔ (block < length self.now.blocks) }
         ensures class { IfSome result (λ class. class ≡ class_at self.now block) }
@@ -237,7 +237,7 @@ impl Pool {
         self.in_use
     }
 
-    /// How many blocks are out. Takes a constant time.
+    /// How many blocks are out. By the code, takes a constant time.
     pub fn blocks_in_use(&self) -> u32
         ensures { result ≡ out_among self.now.blocks }
     {

@@ -12,7 +12,7 @@ pub trait Audit {
     /// The histories that it was shown, where it tells them.
     ghost shown: { Self → Option (List (List Entry)) };
 
-    /// Is shown a bus on which every application has ended. Its history is put behind those shown
+    /// Is shown a bus; `serve` shows the one of a whole run. Its history is put behind those shown
     /// before, or nothing is told from then on.
     fn closed(&mut self, bus: &BusCore)
         ensures { IsShown (shown self.old) (shown self.new) bus.now.log.entries };
@@ -52,8 +52,7 @@ impl<'a, A: Audit> AuditGuard<'a, A> {
         AuditGuard { audit }
     }
 
-    /// Shows the audit a bus on which every application has ended. Nothing may have been written
-    /// through the sink's guard.
+    /// Shows the audit a bus. Nothing may have been written through the sink's guard.
     pub fn closed<K: Sink>(&mut self, bus: &BusCore, _sink: &SinkGuard<'_, K>)
         requires { _sink.now.untouched ≡ true }
         ensures shown { IsShown self.old.shown self.new.shown bus.now.log.entries }

@@ -12,7 +12,7 @@ use sb_calls::BusCore;
 use std::alloc::{AllocError, Global};
 use std::marker::Model;
 
-/// Copies of the journals that it was shown. All its memory is taken when it is made.
+/// Copies of the journals that it was shown. By the code, all its memory is taken when it is made.
 ///
 /// It tells what it was shown until it is shown one journal more than it has room for, or one that
 /// isn't within its budgets.

@@ -29,7 +29,8 @@ pub enum Reading {
 /// Reads a source to its end, at most one byte more than an input may have, and no further after a
 /// failure.
 ///
-/// Memory is taken once, before the first read. No read through this guard may have failed before.
+/// By the code, memory is taken once, before the first read. No read through this guard may have
+/// failed before.
 pub fn read_all<S: Source>(alloc: Global, source: &mut SourceGuard<'_, S>) -> Reading
     requires { source.old.failed ≡ false }
     ensures bytes { ReadsAll result source.old.left source.new.left }

@@ -29,13 +29,13 @@ const TOO_LARGE: ScriptFault = ScriptFault {
 ///
 /// - `Usage`, on all other words: nothing is read, and the usage line is written.
 /// - `Script`, where the input is no script, or has a line that the program doesn't run yet, or is
-///   longer than 1,048,576 bytes; at most one byte more than that is read. No application ran, and
-///   the line of the first fault is written.
+///   longer than 1,048,576 bytes; at most one byte more than that is read. The line of the first
+///   fault is written; by the code, no application ran.
 /// - `ReadFault`, only where the source's count of faults rose, or stands at its last value:
 ///   nothing is written.
 /// - `WriteFault`, only where the sink's count of faults rose, or stands at its last value: a front
 ///   of the text due is written.
-/// - `NoMemory`, never on other words: no application ran, and nothing is written.
+/// - `NoMemory`, never on other words: nothing is written; by the code, no application ran.
 pub fn serve<R, S: Source, K: Sink, G: Gate, A: Audit>(
     _rt: &R,
     alloc: Global,

@@ -1,11 +1,5 @@
 pub mod PieceLemmas
-pub mod Booleans
-pub mod Holding
 pub mod WordLemmas
-pub mod ReadTexts
-pub mod ReadWords
-pub mod ReadLines
-pub mod Trimming
 pub mod SpelledNumbers
 pub mod SpelledWords
 pub mod LineReadings

@@ -19,8 +19,8 @@ use Rattle.script_lines.specs.MemoryLines.{alloc_of, xmit_of, release_of, form_o
 use Rattle.script_lines.specs.EventLines.{pair_word, filter_of, registered, evreg_of, two_and_text, text_of, evented, event_of, evreset_of, logmode_of}
 use Rattle.script_lines.specs.TableLines.{table_alone, triple_word, rule_of, table_words, described, treg_of, tshare_of, placed, load_of, shown, show_of}
 use Rattle.line_spelling.specs.Spelling.{behind, pipe_word, buffer_word, pool_word, grant_word, table_word, scope_text, mode_text, content_text, filter_text, rule_text, text_words}
-use Rattle.line_spelling.specs.Ranges.{is_name, is_spelled, is_event_text, is_filter, is_rule}
-use Rattle.line_spelling.proofs.Booleans.{and_first, and_second}
+use Rattle.script_lines.specs.Ranges.{is_name, is_spelled, is_event_text, is_filter, is_rule}
+use Rattle.script_lines.proofs.Booleans.{and_first, and_second}
 use Rattle.line_spelling.proofs.WordLemmas.{is_word, words-next, behind-next, from_space}
 use Rattle.line_spelling.proofs.SpelledNumbers.{number_reads, within_reads, within_most, id_reads, hex_text_reads, pipe_reads, buffer_reads, pool_reads, grant_reads, table_reads}
 use Rattle.line_spelling.proofs.SpelledWords.{name_reads, mode_reads, scope_reads, kind_reads, kind_small, hex_word_reads, filter_reads, filter_kept, rule_reads, rule_kept, each-map, each-same, map-self, map_length, ReadsContent}

@@ -32,9 +32,9 @@ use Rattle.script_lines.specs.TableLines.{table_line_of, table_alone, load_of, s
 use Rattle.script_lines.specs.TableLines as tables
 use Rattle.script_lines.specs.CallLines.{table_or_show, event_or_table, memory_or_event, call_word, call_line_of}
 use Rattle.line_spelling.specs.Spelling.{spaced, behind, pipe_word, buffer_word, pool_word, grant_word, table_word, scope_text, mode_text, content_text, filter_text, rule_text, text_words, line_words, line_text}
-use Rattle.line_spelling.specs.Ranges.{is_visible, is_name, is_spelled, is_event_text, is_content, is_filter, is_rule, is_readable}
+use Rattle.script_lines.specs.Ranges.{is_visible, is_name, is_spelled, is_event_text, is_content, is_filter, is_rule, is_readable}
 use Rattle.line_spelling.specs.ReadsBack.{IsReadAs}
-use Rattle.line_spelling.proofs.Booleans.{and_first, and_second, all_append, all_weaker}
+use Rattle.script_lines.proofs.Booleans.{and_first, and_second, all_append, all_weaker}
 use Rattle.line_spelling.proofs.PieceLemmas.{spaced_parts}
 use Rattle.line_spelling.proofs.WordLemmas.{is_word, visible_is_text, words-first, words-behind, behind-first, AreWords, no_words, ◌◃◌, keyword, words_are_text}
 use Rattle.line_spelling.proofs.SpelledNumbers.{number_fits, id_fits, hex_text_fits, pipe_fits, buffer_fits, pool_fits, grant_fits, table_fits}

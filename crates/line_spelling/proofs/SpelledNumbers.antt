@@ -8,9 +8,9 @@ use Rattle.text_page.specs.Texts.{hex_digit, hex_bytes, hex_id}
 use Rattle.script_words.specs.Text.{has_bytes}
 use Rattle.script_words.specs.Numbers.{is_digit, is_hex_digit, digit_value, value_in, is_decimal, is_hexadecimal, small, number_of, register_of, within, is_hex, pipe_of, buffer_of, pool_of, grant_of, table_of}
 use Rattle.script_words.specs.Numbers as numbers
-use Rattle.line_spelling.specs.Ranges.{is_visible, is_spelled}
+use Rattle.script_lines.specs.Ranges.{is_visible, is_spelled}
 use Rattle.line_spelling.specs.Spelling.{pipe_word, buffer_word, pool_word, grant_word, table_word}
-use Rattle.line_spelling.proofs.Booleans.{and_first, and_second, both, all_append, all_weaker, between, at_least, at_most, differ}
+use Rattle.script_lines.proofs.Booleans.{and_first, and_second, both, all_append, all_weaker, between, at_least, at_most, differ}
 use Rattle.line_spelling.proofs.WordLemmas.{IsWord}
 
 -- ---- decimal digits

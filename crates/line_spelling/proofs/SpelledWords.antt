@@ -23,8 +23,8 @@ use Rattle.script_lines.specs.BusLines.{hex_word}
 use Rattle.script_lines.specs.EventLines.{pair_word, filter_of, kind_of}
 use Rattle.script_lines.specs.TableLines.{triple_word, rule_of}
 use Rattle.line_spelling.specs.Spelling.{behind, scope_text, mode_text, content_text, filter_text, rule_text}
-use Rattle.line_spelling.specs.Ranges.{is_visible, is_name, is_spelled, is_content, is_filter, is_rule}
-use Rattle.line_spelling.proofs.Booleans.{and_first, and_second, both, all_append, all_weaker, at_most, differ}
+use Rattle.script_lines.specs.Ranges.{is_visible, is_name, is_spelled, is_content, is_filter, is_rule}
+use Rattle.script_lines.proofs.Booleans.{and_first, and_second, both, all_append, all_weaker, at_most, differ}
 use Rattle.line_spelling.proofs.WordLemmas.{IsWord, AreWords}
 use Rattle.line_spelling.proofs.SpelledNumbers.{decimal_digits, number_reads, number_fits, within_reads, within_most, hex_here, id_reads, id_fits, hex_text_form, hex_text_reads}
 

@@ -7,9 +7,9 @@ use Rattle.std.proofs.lemmas.List.{length-append}
 use Rattle.std.proofs.lemmas.List.Splits.{slice_split-cons_no}
 use Rattle.script_words.specs.Text.{is_blank, is_no_blank, is_text, has_bytes, words_of, from_word, behind_word}
 use Rattle.script_words.specs.Counts.{Word}
-use Rattle.line_spelling.specs.Ranges.{is_visible}
+use Rattle.script_lines.specs.Ranges.{is_visible}
 use Rattle.line_spelling.specs.Spelling.{behind}
-use Rattle.line_spelling.proofs.Booleans.{and_first, and_second, both, all_append, all_weaker, at_least, at_most, differ}
+use Rattle.script_lines.proofs.Booleans.{and_first, and_second, both, all_append, all_weaker, at_least, at_most, differ}
 
 -- a word's form: a byte at least, and visible bytes alone
 abbrev pub is_word : Word → Bool

@@ -19,7 +19,7 @@ mod printing;
 mod table_lines;
 mod words;
 
-pub use laws::{printed_lines_read_back, read_lines_are_readable};
+pub use laws::printed_lines_read_back;
 pub use printing::print_line;
 
 #[cfg(test)]

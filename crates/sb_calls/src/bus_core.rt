@@ -12,8 +12,8 @@ use sb_core::SbCore;
 use std::alloc::{AllocError, Global};
 use std::marker::Model;
 
-/// The software bus of up to 16 applications, with its journal. All its memory is taken when it is
-/// made.
+/// The software bus of up to 16 applications, with its journal. By the code, all its memory is
+/// taken when it is made.
 #[derive(Drop)]
 pub struct BusCore {
     // The bus after the journal's entries.
@@ -91,8 +91,8 @@ impl BusCore {
     }
 
     /// The receipt of the message that the application received last from its live pipe of this
-    /// number; None exactly where it has no such pipe, or the pipe has no last message. It takes no
-    /// memory.
+    /// number; None exactly where it has no such pipe, or the pipe has no last message. By the
+    /// code, it takes no memory.
     pub fn last_receipt(&self, app: AppNo, pipe: u32) -> Option<Receipt>
         ensures { result ≡ receipt_in (state_of self.now) app pipe }
     {

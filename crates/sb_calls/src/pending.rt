@@ -14,9 +14,9 @@ use sb_core::Pended;
 
 impl BusCore {
     /// Takes the oldest message that waits on the caller's pipe, and answers its number. Where none
-    /// waits, it is a time-out where none can come any more; else the caller waits on the pipe from
-    /// then on, and looks again by [`BusCore::look`]. The last message received from the pipe is
-    /// let go in each case.
+    /// waits, it is a time-out if every other application has ended or waits on an empty pipe;
+    /// otherwise the caller waits on the pipe from then on, and looks again by [`BusCore::look`].
+    /// The last message received from the pipe is let go in each case.
     ///
     /// # Errors
     /// `BadArgument` for a pipe that isn't live or isn't the caller's.

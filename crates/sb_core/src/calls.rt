@@ -105,9 +105,10 @@ impl SbCore {
     }
 
     /// Sends a message to every pipe that is subscribed to its id, in order of subscription. A pipe
-    /// that is full, or where as many messages of the subscription wait as its limit says, misses
-    /// it. With `inc` the message gets the id's next sequence count (CCSDS 133.0-B, 4.1.3.4.3). At
-    /// most 4 steps for each subscription of the id, and 32 more, whatever else there is.
+    /// that is full, that ignores what its owner sends where that is the sender, or where as many
+    /// messages of the subscription wait as its limit says, misses it. With `inc` the message gets
+    /// the id's next sequence count (CCSDS 133.0-B, 4.1.3.4.3). At most 4 steps for each
+    /// subscription of the id, and 32 more, whatever else there is.
     ///
     /// # Errors
     /// `BadArgument` for bytes that are no message; `MsgTooBig` for more bytes than the

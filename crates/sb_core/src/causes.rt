@@ -1,4 +1,5 @@
-//! Why a call is refused: the first cause that applies, in the order of the definitions.
+//! Why a call is refused: the first cause that applies, in the order of the bus machine
+//! (`bus_words`).
 ghost use Rattle.std.specs.Prelude.{◌≡◌, None, ◌==◌, ◌||◌, ◌&&◌, not, nat_lt, nat_le, length, is_some, ◌≤◌};
 ghost use Rattle.ccsds_msg.specs.Message.{fault, is_valid_id};
 ghost use Rattle.bus_words.specs.Bus.{is_subscribed};

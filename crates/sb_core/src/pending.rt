@@ -20,8 +20,7 @@ use fsw_base::{AppNo, SbStatus};
 pub enum Pended {
     /// The number of the message received.
     Got(u32),
-    /// No message waits, and none can come: every other application has ended or waits on an empty
-    /// pipe.
+    /// No message waits, and every other application has ended or waits on an empty pipe.
     TimeOut,
     /// No message waits yet. The application waits on the pipe and may only look again, or end.
     Pending,
@@ -49,9 +48,9 @@ impl Pended {
 
 impl SbCore {
     /// Takes the oldest message that waits on the caller's pipe, and answers its number. Where none
-    /// waits, it is a time-out where none can come any more; else the caller waits on the pipe from
-    /// then on, and looks again by [`SbCore::look`]. The last message received from the pipe is let
-    /// go in each case.
+    /// waits, it is a time-out if every other application has ended or waits on an empty pipe;
+    /// otherwise the caller waits on the pipe from then on, and looks again by [`SbCore::look`].
+    /// The last message received from the pipe is let go in each case.
     ///
     /// # Errors
     /// `BadArgument` for a pipe that isn't live or isn't the caller's.

@@ -10,8 +10,8 @@ use fsw_base::Config;
 use std::alloc::{AllocError, Global};
 use std::marker::Model;
 
-/// The software bus of up to 16 applications, without a journal. All its memory is taken when it is
-/// made.
+/// The software bus of up to 16 applications, without a journal. By the code, all its memory is
+/// taken when it is made.
 #[derive(Drop)]
 pub struct SbCore {
     // The limits that it was made with.

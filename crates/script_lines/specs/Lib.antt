@@ -3,3 +3,4 @@ pub mod MemoryLines
 pub mod EventLines
 pub mod TableLines
 pub mod CallLines
+pub mod Ranges

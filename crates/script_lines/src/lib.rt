@@ -2,7 +2,8 @@
 //! A line names its registers by number, owns its texts, and has each word that was left out as its
 //! default.
 //!
-//! A reader answers just the line that the words stand for, or the line's first fault.
+//! A reader answers just the line that the words stand for, or the line's first fault; and each
+//! number, register, name and text of a line that is read is in its range.
 //!
 //! ```
 //! /// The call line of a text; None where it is none.
@@ -21,6 +22,7 @@
 mod bus_lines;
 mod call_lines;
 mod event_lines;
+mod laws;
 mod line;
 mod memory_lines;
 mod table_lines;
@@ -30,6 +32,7 @@ mod tests;
 pub use bus_lines::BusWord;
 pub use call_lines::{CallWord, call_line, call_word};
 pub use event_lines::EventWord;
+pub use laws::read_lines_are_readable;
 pub use line::{BoxedRules, Line, MAX_RULES, Rule, RuleList};
 pub use memory_lines::MemoryWord;
 pub use script_words::numbers::REGISTERS;

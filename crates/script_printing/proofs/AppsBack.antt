@@ -16,8 +16,8 @@ use Rattle.script_lines.specs.EventLines.{event_word}
 use Rattle.script_lines.specs.TableLines.{table_word}
 use Rattle.script_lines.specs.CallLines.{table_or_show, event_or_table, memory_or_event, call_word}
 use Rattle.line_spelling.specs.Spelling.{spaced, line_text}
-use Rattle.line_spelling.specs.Ranges.{is_visible, is_readable}
-use Rattle.line_spelling.proofs.Booleans.{and_first, and_second, both, all_weaker, between, at_least, at_most}
+use Rattle.script_lines.specs.Ranges.{is_visible, is_readable}
+use Rattle.script_lines.proofs.Booleans.{and_first, and_second, both, all_weaker, between, at_least, at_most}
 use Rattle.line_spelling.proofs.WordLemmas.{IsWord, AreWords, no_words, ◌◃◌, keyword}
 use Rattle.line_spelling.proofs.LinesBack.{reads_back}
 use Rattle.app_script.specs.declared.forms.Form.{Form}

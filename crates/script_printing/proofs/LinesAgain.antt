@@ -7,9 +7,9 @@ use Rattle.std.proofs.lemmas.List.{length-append}
 use Rattle.std.proofs.lemmas.List.Splits.{slice_split-cons_no}
 use Rattle.script_words.specs.Text.{is_feed, is_text, without_return, without_empty_last, lines_of, words_of, behind_word, has_bytes}
 use Rattle.script_words.specs.Counts.{Word}
-use Rattle.line_spelling.specs.Ranges.{is_visible}
+use Rattle.script_lines.specs.Ranges.{is_visible}
 use Rattle.line_spelling.specs.Spelling.{spaced, behind}
-use Rattle.line_spelling.proofs.Booleans.{and_first, and_second, all_append, all_weaker}
+use Rattle.script_lines.proofs.Booleans.{and_first, and_second, all_append, all_weaker}
 use Rattle.line_spelling.proofs.PieceLemmas.{spaced_parts}
 use Rattle.line_spelling.proofs.WordLemmas.{is_word, visible_is_text, words-first, words-behind, behind-first, AreWords, words_are_text}
 use Rattle.app_script.specs.declared.forms.Form.{Form}

@@ -11,7 +11,7 @@ use Rattle.script_words.specs.Numbers.{number_of}
 use Rattle.script_words.specs.Text.{is_same}
 use Rattle.script_words.specs.Counts.{Word, next, none, one, two, few}
 use Rattle.line_spelling.specs.Spelling.{spaced}
-use Rattle.line_spelling.proofs.Booleans.{and_first, and_second, both, all_append, all_weaker}
+use Rattle.script_lines.proofs.Booleans.{and_first, and_second, both, all_append, all_weaker}
 use Rattle.line_spelling.proofs.WordLemmas.{IsWord, AreWords, no_words, ◌◃◌, keyword}
 use Rattle.line_spelling.proofs.SpelledNumbers.{number_reads, number_fits, within_reads, within_most, id_reads, id_fits}
 use Rattle.line_spelling.proofs.SpelledWords.{each-same, elements_fit, map_length}

@@ -1,13 +1,14 @@
-//! A lock that gives its value to one application at a time, in the order in which they ask. The
-//! value has a history of entries, and each application a seat, which remembers in the proof what
-//! it has seen of the history and which entries it made.
+//! A lock that gives its value to one application at a time, in the order of their tickets (the
+//! rule of the lock's words keeps it; no call's clause tells it). The value has a history of
+//! entries, and each application a seat, which remembers in the proof what it has seen of the
+//! history and which entries it made.
 //!
 //! It promises that there is one history: whoever has a turn finds a history that extends all that
 //! its seat had seen and has of its application just the seat's own entries, in order, and the
 //! closed lock's history extends what every seat saw and has no others' entries.
 //!
 //! ```text
-//! let (lock, mut main) = TurnLock::new(alloc, value, 1)?;     // the one call that takes memory
+//! let (lock, mut main) = TurnLock::new(alloc, value, 1)?;     // the one that takes memory
 //! let mut seat = lock.split(&mut main, app);                  // a seat may go to another thread
 //! let mut turn = lock.enter(rt, &mut seat);                   // waits for the seat's turn
 //! if turn.value_mut().note(app.get(), 7) {                    // the value makes an entry,
@@ -20,7 +21,8 @@
 //! let value = lock.close(main);
 //! ```
 //!
-//! Whoever waits for a change of the value sleeps until somebody makes an entry and wakes:
+//! Whoever waits for a change of the value sleeps until somebody makes an entry and wakes (no
+//! clause speaks of this):
 //!
 //! ```text
 //! let turn = lock.enter(rt, &mut seat);

@@ -47,7 +47,8 @@ impl<T: Historied> Model for TurnLock<T> {
 
 impl<T: Historied> TurnLock<T> {
     /// A lock that holds this value, whose history is empty, and its main seat. At most `seats`
-    /// seats can be split off, 1 to [`MOST_SEATS`]. It is the one call that takes memory.
+    /// seats can be split off, 1 to [`MOST_SEATS`]. By the code, it is the one call that takes
+    /// memory.
     ///
     /// # Errors
     /// `AllocError` where there is no memory; the value is dropped then.
@@ -140,7 +141,8 @@ impl<T: Historied> TurnLock<T> {
     /// Sleeps while the history that was published last has so many entries, modulo 2^32, until
     /// [`TurnLock::wake`] is called, and returns at once where it has another number. It may return
     /// early. So whoever waits for a change takes a turn, reads the history's length, leaves, and
-    /// sleeps with that length; no turn should be out with who sleeps.
+    /// sleeps with that length; no turn should be out with who sleeps. No clause speaks of
+    /// sleeping.
     pub fn sleep<R: Wait>(&self, rt: &R, entries: u32) {
         self.board.sleep_at_count(rt, entries);
     }

@@ -4,8 +4,8 @@ use Rattle.std.specs.Prelude.{filter}
 use Rattle.std.specs.List.{list_all, slice_split, onto_first, position_or_len}
 use Rattle.std.proofs.lemmas.Bool.{le-leb, eq-eqb, eqb-false}
 use Rattle.script_words.specs.Text.{is_blank, is_no_blank, is_text, has_bytes, words_of, from_word, behind_word, trimmed, is_same}
-use Rattle.line_spelling.specs.Ranges.{is_visible}
-use Rattle.line_spelling.proofs.Booleans.{and_first, and_second, both, at_least, at_most}
+use Rattle.script_lines.specs.Ranges.{is_visible}
+use Rattle.script_lines.proofs.Booleans.{and_first, and_second, both, at_least, at_most}
 
 -- ---- parts of a list
 

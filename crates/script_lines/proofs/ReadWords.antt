@@ -10,9 +10,9 @@ use Rattle.script_words.specs.Counts.{Word, next, none, one, two, three, next_tw
 use Rattle.script_words.specs.Numbers.{is_digit, is_upper_digit, is_lower_digit, is_hex_digit, digit_value, value_in, is_hexadecimal, is_decimal, small, number_of, register_of, within, is_hex, hex_bytes, parts_of, numbers_2, pipe_of, buffer_of, pool_of, grant_of, table_of}
 use Rattle.script_words.specs.Content.{name_of, filling_of, content_of}
 use Rattle.script_lines.specs.BusLines.{hex_word}
-use Rattle.line_spelling.specs.Ranges.{is_visible, is_name, is_spelled, is_content}
-use Rattle.line_spelling.proofs.Booleans.{and_first, and_second, both, at_most}
-use Rattle.line_spelling.proofs.Holding.{Holds, then, any, guard, either, accept, decides}
+use Rattle.script_lines.specs.Ranges.{is_visible, is_name, is_spelled, is_content}
+use Rattle.script_lines.proofs.Booleans.{and_first, and_second, both, at_most}
+use Rattle.script_lines.proofs.Holding.{Holds, then, any, guard, either, accept, decides}
 
 -- ---- numbers
 
