@@ -8,7 +8,7 @@ use crate::playing::{MOST_BYTES, Outcome, play};
 use bucket_list::{Blank, Ledger, Steps};
 use bus_words::{Receipt, ReceiptList};
 use fsw_base::{AppNo, Sink, SinkGuard, WriteFault};
-use run_report::write_report;
+use run_report::write_journal;
 use sb_calls::BusCore;
 use std::alloc::{AllocError, Global};
 use text_page::write_text;
@@ -49,7 +49,7 @@ fn print_played<L: Ledger, K: Sink>(
         tell(outcome, &mut seen, sink)?;
     }
     let receipts = receipt_lists(alloc, example.apps, &seen)?;
-    write_report(core, &receipts, &mut SinkGuard::new(sink))?;
+    write_journal(core.journal(), &receipts, &mut SinkGuard::new(sink))?;
     Ok(())
 }
 

@@ -5,6 +5,7 @@ mod audit;
 mod fault_line;
 mod mem_audit;
 mod reading;
+mod reporting;
 mod serve;
 #[cfg(test)]
 mod serve_tests;

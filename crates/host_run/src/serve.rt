@@ -9,12 +9,12 @@ ghost use Rattle.host_run.specs.Words.{is_lockstep};
 use crate::audit::{Audit, AuditGuard};
 use crate::fault_line::write_fault;
 use crate::reading::{Reading, read_all};
+use crate::reporting::write_report;
 use crate::status::HostStatus;
 use crate::words::Words;
 use app_run::lockstep;
 use app_script::{ReadFail, Script, read_script};
 use fsw_base::{FaultKind, Gate, ScriptFault, Sink, SinkGuard, Source, SourceGuard, WriteFault};
-use run_report::write_report;
 use std::alloc::Global;
 use text_page::write_text;
 

@@ -4,7 +4,7 @@
 //! It promises that the sink is given exactly the report's text, or, where it fails, a front of it.
 //!
 //! ```text
-//! write_report(&bus, &receipts, &mut sink)?;
+//! write_journal(bus.journal(), &receipts, &mut sink)?;
 //! // fsw 1
 //! // bus
 //! // 1 a1 create 4 ALPHA -> CFE_SUCCESS 1
@@ -18,7 +18,7 @@ mod receipts;
 mod writer;
 
 pub use laws::reports_tell_applications_and_answers;
-pub use writer::{write_journal, write_report};
+pub use writer::write_journal;
 
 #[cfg(test)]
 mod tests;

@@ -8,31 +8,7 @@ use crate::entries::put_entries;
 use crate::receipts::put_receipts;
 use bus_words::{BusJournal, ReceiptList};
 use fsw_base::{Sink, SinkGuard, WriteFault};
-use sb_calls::BusCore;
 use text_page::{Page, finish, put};
-
-/// Writes the report of a bus, as [`write_journal`] does that of its journal.
-///
-/// # Errors
-/// As [`write_journal`].
-pub fn write_report<K: Sink>(
-    bus: &BusCore,
-    receipts: &[ReceiptList],
-    sink: &mut SinkGuard<'_, K>,
-) -> Result<(), WriteFault>
-    requires { sink.old.failed ≡ false }
-    ensures ok { OnOk result
-        (Grew sink.old.written sink.new.written (report_of bus.now.log receipts.now)) }
-    ensures none_failed { OnOk result (sink.new.failed ≡ false) }
-    ensures err { OnErr result
-        (CutShort sink.old.written sink.new.written (report_of bus.now.log receipts.now)) }
-    ensures failed { OnErr result (sink.new.failed ≡ true) }
-    ensures cause { OnErr result (Rose sink.old.faults sink.new.faults) }
-    ensures never_falls { sink.old.faults ≤ sink.new.faults }
-    ensures same_sink { sink.new.sink ≡ sink.old.sink }
-{
-    write_journal(bus.journal(), receipts, sink)
-}
 
 /// Writes the report of a journal and of the receipts of the applications 1, 2, 3 and so on.
 ///
