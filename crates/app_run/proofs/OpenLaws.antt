@@ -11,7 +11,7 @@ use Rattle.bus_words.specs.declared.history.Entry.{Entry}
 use Rattle.bus_words.specs.declared.journal.Allowance.{Allowance}
 use Rattle.bus_words.specs.declared.receipts.Receipt.{Receipt}
 use Rattle.bus_words.specs.Bus.{State, Standing, Active, Ended, opening, standing_of}
-use Rattle.bus_words.specs.Log.{AreBudgets, allowances, allowance_of}
+use Rattle.bus_words.specs.Log.{AreBudgets, allowance_of, left_of}
 use Rattle.sb_calls.specs.Core.{Core, apps_of, state_of}
 use Rattle.script_lines.specs.declared.line.Line.{Line}
 use Rattle.script_lines.specs.declared.line.Line.TheVariants.{Create, Find, Send, SendRaw, Pend, Allocate}
@@ -89,9 +89,7 @@ budget-bytes lines = omega (arith, bytes-in no_calls lines)
 -- The bus as it opens. --
 
 pub apps-opened : (script : ScriptText) → apps_of (opened script) ≡ length script.apps
-apps-opened script =
-    length-map (budgets_for script) (λ (budget : Budget). record { entries = budget.entries; bytes = budget.bytes })
-    ∙ length-map script.apps (λ (a : Application). budget_of a.lines)
+apps-opened script = length-map script.apps (λ (a : Application). budget_of a.lines)
 
 active-at : (n i : ℕ) → i < n → slice_index_or (replicate n Active) i Ended ≡ Active
 active-at zero i below = absurd (omega (arith, below))
@@ -109,7 +107,7 @@ map-at f (x ∷ xs) zero d e within = refl
 map-at f (x ∷ xs) (suc i) d e within = map-at f xs i d e (omega (arith, within))
 
 allowance-opened : (script : ScriptText) (k : ℕ) → 1 ≤ k → k ≤ length script.apps →
-    allowance_of (opened script).log.left k
+    allowance_of (left_of (opened script).log) k
     ≡ record { entries = (budget_of (app_at script k).lines).entries; bytes = (budget_of (app_at script k).lines).bytes }
 allowance-opened script k first last =
     map-at (λ (budget : Budget). record { entries = budget.entries; bytes = budget.bytes }) (budgets_for script) (k - 1)
@@ -315,11 +313,11 @@ are-budgets script range some few =
     }
 
 abbrev core_with : Limits → List Budget → Core
-core_with limits budgets = record { limits = limits; log = record { entries = []; left = allowances budgets } }
+core_with limits budgets = record { limits = limits; log = record { budgets = budgets; entries = [] } }
 
 -- the bus that was opened with these limits and budgets
 pub opened-is : (script : ScriptText) (bus : Core) (limits : Limits) (budgets given : List Budget) →
-    bus ≡ record { limits = limits; log = record { entries = []; left = allowances given } } → limits ≡ script.limits → given ≡ budgets → budgets ≡ budgets_for script →
+    bus ≡ record { limits = limits; log = record { budgets = given; entries = [] } } → limits ≡ script.limits → given ≡ budgets → budgets ≡ budgets_for script →
     bus ≡ opened script
 opened-is script bus limits budgets given is same deref found =
     is

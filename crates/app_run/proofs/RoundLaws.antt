@@ -9,7 +9,7 @@ use Rattle.bus_words.specs.declared.history.Call.{Call}
 use Rattle.bus_words.specs.declared.history.Entry.{Entry}
 use Rattle.bus_words.specs.Bus.{standing_of, opening}
 use Rattle.bus_words.specs.Entries.{call_bytes}
-use Rattle.bus_words.specs.Log.{allowance_of, charged}
+use Rattle.bus_words.specs.Log.{allowance_of, charged, left_of}
 use Rattle.bus_words.specs.Machine.{IsLegal, step, may_call}
 use Rattle.sb_calls.specs.Core.{Core, Does, IsLegalCore, apps_of, state_of}
 use Rattle.script_runs.specs.Rotation.{Running, SoFar, turn, rotated}
@@ -22,7 +22,7 @@ use Rattle.app_run.specs.Lines.{bytes_due}
 use Rattle.app_run.specs.Runners.{Progress, going}
 use Rattle.app_run.specs.Turns.{so_far, Stands, TakesTurn, Moved, tells, entries_to_come}
 use Rattle.app_run.proofs.ToldLaws.{TellsOn, GoesOn, tells-turn, seen-other, told_on-same}
-use Rattle.app_run.proofs.TurnLaws.{apps-does}
+use Rattle.app_run.proofs.TurnLaws.{apps-does, left-does}
 
 -- Another application's call. --
 
@@ -32,22 +32,20 @@ record Called (before after : Core) (who : ℕ) (call : Call) (answer : BusAnswe
   may : IsTrue (may_call (standing_of (state_of before) who) call)
   entries : after.log.entries ≡ before.log.entries ++ record { app = who; call = call; answer = answer } ∷ []
   limits : after.limits ≡ before.limits
-  left : after.log.left ≡ charged before.log.left who (call_bytes call)
+  left : left_of after.log ≡ charged (left_of before.log) who (call_bytes call)
   state : state_of after ≡ (step before.limits before.log.entries (state_of before) who call).1
 
 called : (before after : Core) (who : ℕ) (call : Call) (answer : BusAnswer) → Does before after who call answer → Called before after who call answer
 called before after who call answer does =
     let e : Entry = record { app = who; call = call; answer = answer } in
-    let legal = subst (λ (core : Core). IsLegalCore core) does.entry does.legal in
-    let legal-now : IsLegal before.limits (apps_of before) (before.log.entries ++ e ∷ []) =
-    subst (λ n. IsLegal before.limits n (before.log.entries ++ e ∷ [])) (length-set before.log.left (who - 1) _) legal in
+    let legal-now : IsLegal before.limits (apps_of before) (before.log.entries ++ e ∷ []) = subst (λ (core : Core). IsLegalCore core) does.entry does.legal in
     let parts = legal-last before.limits [] (opening (apps_of before)) before.log.entries e legal-now in
     record {
       legal = parts.0;
       may = parts.1;
       entries = ap (λ (core : Core). core.log.entries) does.entry;
       limits = ap (λ (core : Core). core.limits) does.entry;
-      left = ap (λ (core : Core). core.log.left) does.entry;
+      left = left-does before after who call answer does;
       state = does.state;
     }
 
@@ -59,9 +57,9 @@ stands-called : (progress : Progress) (before after : Core) (who : ℕ) (call : 
 stands-called progress before after who call answer c apps other some stands =
     let app = progress.running.app in
     let first = caller-first (state_of before) who call c.may in
-    let left : allowance_of after.log.left app ≡ allowance_of before.log.left app =
+    let left : allowance_of (left_of after.log) app ≡ allowance_of (left_of before.log) app =
     ap (λ l. allowance_of l app) c.left
-    ∙ get_or-set_other before.log.left (who - 1) (app - 1) _ _ (λ same. differ who app other first same some) in
+    ∙ get_or-set_other (left_of before.log) (who - 1) (app - 1) _ _ (λ same. differ who app other first same some) in
     record {
       known = subst (λ n. app ≤ n) (sym apps) stands.known;
       standing = ap (λ s. standing_of s app) c.state

@@ -2,7 +2,7 @@
 use Rattle.std.proofs.Common.{◌≡◌, ℕ, zero, suc, ◌+◌, ◌-◌, ◌≤◌, Bool, true, false, cond, List, [], ◌∷◌, ◌++◌, length, map, drop, Option, Some, None, refl, ap, sym, ◌∙◌, subst, inl, inr, arith, append-nil}
 use Rattle.std.specs.Option.{is_some, option_to_list}
 use Rattle.std.specs.List.{range_with_len}
-use Rattle.std.proofs.lemmas.List.{get_or-set_same, length-set, length-append}
+use Rattle.std.proofs.lemmas.List.{get_or-set_same, length-append}
 use Rattle.std.proofs.lemmas.List.FromFn.{length-map-range_with_len}
 use Rattle.std.proofs.lemmas.List.Sums.{sum_by-cons}
 use Rattle.std.specs.List.{slice_get, All}
@@ -28,7 +28,8 @@ use Rattle.bus_words.specs.declared.journal.Allowance.{Allowance}
 use Rattle.bus_words.specs.declared.receipts.Receipt.{Receipt}
 use Rattle.bus_words.specs.Bus.{State, Standing, Active, Waiting, Ended, standing_of}
 use Rattle.bus_words.specs.Entries.{call_bytes}
-use Rattle.bus_words.specs.Log.{allowance_of, charged}
+use Rattle.bus_words.specs.Log.{allowances, allowance_of, charged, left_of}
+use Rattle.bus_words.proofs.Journals.{left_from-push, length-left_of}
 use Rattle.bus_words.specs.Machine.{may_call}
 use Rattle.sb_calls.specs.Core.{Core, Does, MayCall, apps_of, state_of, is_within}
 use Rattle.script_lines.specs.declared.line.Line.{Line}
@@ -70,16 +71,23 @@ left-own : (left : List Allowance) (app bytes : ℕ) → 1 ≤ app → app ≤ l
     allowance_of (charged left app bytes) app ≡ record { entries = (allowance_of left app).entries - 1; bytes = (allowance_of left app).bytes - bytes }
 left-own left app bytes first known = get_or-set_same left (app - 1) _ _ (omega arith)
 
+-- what all may still add after a call
+pub left-does : (before after : Core) (app : ℕ) (call : Call) (answer : BusAnswer) → Does before after app call answer →
+    left_of after.log ≡ charged (left_of before.log) app (call_bytes call)
+left-does before after app call answer does =
+    let e : Entry = record { app = app; call = call; answer = answer } in
+    ap (λ (core : Core). left_of core.log) does.entry ∙ left_from-push (allowances before.log.budgets) before.log.entries e
+
 -- what an application may still add after its own call
 pub own-left : (before after : Core) (app : ℕ) (call : Call) (answer : BusAnswer) → 1 ≤ app → app ≤ apps_of before → Does before after app call answer →
-    allowance_of after.log.left app
-    ≡ record { entries = (allowance_of before.log.left app).entries - 1; bytes = (allowance_of before.log.left app).bytes - call_bytes call }
+    allowance_of (left_of after.log) app
+    ≡ record { entries = (allowance_of (left_of before.log) app).entries - 1; bytes = (allowance_of (left_of before.log) app).bytes - call_bytes call }
 own-left before after app call answer first known does =
-    ap (λ (core : Core). allowance_of core.log.left app) does.entry ∙ left-own before.log.left app (call_bytes call) first known
+    ap (λ l. allowance_of l app) (left-does before after app call answer does)
+    ∙ left-own (left_of before.log) app (call_bytes call) first (omega (arith, known, length-left_of before.log))
 
 pub apps-does : (before after : Core) (app : ℕ) (call : Call) (answer : BusAnswer) → Does before after app call answer → apps_of after ≡ apps_of before
-apps-does before after app call answer does =
-    ap (λ (core : Core). length core.log.left) does.entry ∙ length-set before.log.left (app - 1) _
+apps-does before after app call answer does = ap apps_of does.entry
 
 active_lives : Active ≡ Ended → ⊥
 active_lives h = cc h
@@ -95,9 +103,9 @@ standing-going progress core stands goes =
     stands.standing ∙ ap (λ b. cond {A = Standing} b Ended (standing_for progress.waits_on)) goes
 
 entries-going : (progress : Progress) (core : Core) → Stands progress core → progress.ended ≡ false →
-    entries_due progress.running.lines + cond (is_some progress.waits_on) 1 0 ≤ (allowance_of core.log.left progress.running.app).entries
+    entries_due progress.running.lines + cond (is_some progress.waits_on) 1 0 ≤ (allowance_of (left_of core.log) progress.running.app).entries
 entries-going progress core stands goes =
-    subst (λ b. cond b 0 (entries_due progress.running.lines + cond (is_some progress.waits_on) 1 0) ≤ (allowance_of core.log.left progress.running.app).entries)
+    subst (λ b. cond b 0 (entries_due progress.running.lines + cond (is_some progress.waits_on) 1 0) ≤ (allowance_of (left_of core.log) progress.running.app).entries)
     goes stands.entries
 
 -- Looks. --
@@ -130,8 +138,8 @@ look-exact old before after pipe stands goes waits does told =
     let first = first-known (state_of before) app (Waiting pipe) standing (waiting_lives pipe) in
     let left = own-left before after app (calls.Look pipe) answer first stands.known does in
     let turned = turn-look limits (so_far before) old.running pipe standing in
-    let due : entries_due old.running.lines + 1 ≤ (allowance_of before.log.left app).entries =
-    subst (λ w. entries_due old.running.lines + cond (is_some w) 1 0 ≤ (allowance_of before.log.left app).entries) waits (entries-going old before stands goes) in
+    let due : entries_due old.running.lines + 1 ≤ (allowance_of (left_of before.log) app).entries =
+    subst (λ w. entries_due old.running.lines + cond (is_some w) 1 0 ≤ (allowance_of (left_of before.log) app).entries) waits (entries-going old before stands goes) in
     record {
       bus = so_far-does before after app (calls.Look pipe) does
           ∙ sym (looked-after limits (so_far before) app pipe answer told)
@@ -205,13 +213,13 @@ may-run progress caller line lines None stands own goes active next allowed = tt
 may-run progress caller line lines (Some call) stands own goes active next allowed =
     let app = progress.running.app in
     let core = caller.core in
-    let due = subst (λ ls. entries_due ls + cond (is_some progress.waits_on) 1 0 ≤ (allowance_of core.log.left app).entries) next (entries-going progress core stands goes) in
-    let bytes = subst (λ ls. bytes_due ls ≤ (allowance_of core.log.left app).bytes) next stands.bytes in
+    let due = subst (λ ls. entries_due ls + cond (is_some progress.waits_on) 1 0 ≤ (allowance_of (left_of core.log) app).entries) next (entries-going progress core stands goes) in
+    let bytes = subst (λ ls. bytes_due ls ≤ (allowance_of (left_of core.log) app).bytes) next stands.bytes in
     subst (λ a. MayCall core a call) (sym own) (record {
       known = stands.known;
       standing = ap (λ s. may_call s call) (standing-going progress core stands goes ∙ ap standing_for active) ∙ allowed.active;
       room = record {
-        known = stands.known;
+        known = omega (arith, stands.known, length-left_of core.log);
         one_entry = omega (arith, due);
         its_bytes = omega (arith, bytes, allowed.bytes, sum_by-cons line_bytes line lines);
       };
@@ -275,8 +283,8 @@ line-exact old before after line lines call stands goes active next calls allowe
     let first = first-known (state_of before) app Active standing active_lives in
     let left = own-left before after app call answer first stands.known does in
     let turned = turn-line limits (so_far before) old.running line lines (Some call) standing next calls in
-    let due = subst (λ ls. entries_due ls + cond (is_some old.waits_on) 1 0 ≤ (allowance_of before.log.left app).entries) next (entries-going old before stands goes) in
-    let bytes = subst (λ ls. bytes_due ls ≤ (allowance_of before.log.left app).bytes) next stands.bytes in
+    let due = subst (λ ls. entries_due ls + cond (is_some old.waits_on) 1 0 ≤ (allowance_of (left_of before.log) app).entries) next (entries-going old before stands goes) in
+    let bytes = subst (λ ls. bytes_due ls ≤ (allowance_of (left_of before.log) app).bytes) next stands.bytes in
     let few = waits-few old.running.registers line answer in
     let settled : SettlesLine limits before.log.entries (state_of before) app old.running.registers line (Some call) =
     subst (λ o. SettlesLine limits before.log.entries (state_of before) app old.running.registers line o) calls
@@ -316,8 +324,8 @@ takes-local old new core line lines stands goes active next none is =
     let limits = core.limits in
     let standing : standing_of (state_of core) app ≡ Active = standing-going old core stands goes ∙ ap standing_for active in
     let turned = turn-line limits (so_far core) old.running line lines None standing next none in
-    let due = subst (λ ls. entries_due ls + cond (is_some old.waits_on) 1 0 ≤ (allowance_of core.log.left app).entries) next (entries-going old core stands goes) in
-    let bytes = subst (λ ls. bytes_due ls ≤ (allowance_of core.log.left app).bytes) next stands.bytes in
+    let due = subst (λ ls. entries_due ls + cond (is_some old.waits_on) 1 0 ≤ (allowance_of (left_of core.log) app).entries) next (entries-going old core stands goes) in
+    let bytes = subst (λ ls. bytes_due ls ≤ (allowance_of (left_of core.log) app).bytes) next stands.bytes in
     subst (λ n. TakesTurn old n core core) (sym is) (record {
       bus = sym (ap (λ (t : SoFar × List Running). t.0) turned);
       goes_on = sym (ap (λ (t : SoFar × List Running). t.1) turned);

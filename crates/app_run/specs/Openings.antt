@@ -1,7 +1,6 @@
 -- The bus of a run before the first call.
 use Rattle.std.specs.Prelude.{List, [], map}
 use Rattle.fsw_base.specs.declared.config.Budget.{Budget}
-use Rattle.bus_words.specs.Log.{allowances}
 use Rattle.sb_calls.specs.Core.{Core}
 use Rattle.script_settings.specs.Accounts.{budget_of}
 use Rattle.app_script.specs.Script.{ScriptText}
@@ -12,4 +11,4 @@ budgets_for script = map (λ a. budget_of a.lines) script.apps
 
 -- the bus before the first call
 abbrev pub opened : ScriptText → Core
-opened script = record { limits = script.limits; log = record { entries = []; left = allowances (budgets_for script) } }
+opened script = record { limits = script.limits; log = record { budgets = budgets_for script; entries = [] } }

@@ -6,7 +6,7 @@ use Rattle.bus_words.specs.declared.history.Call.{Call}
 use Rattle.bus_words.specs.declared.history.Call.TheVariants.{Look}
 use Rattle.bus_words.specs.declared.receipts.Receipt.{Receipt}
 use Rattle.bus_words.specs.Bus.{Standing, Active, Waiting, Ended, standing_of}
-use Rattle.bus_words.specs.Log.{allowance_of}
+use Rattle.bus_words.specs.Log.{allowance_of, left_of}
 use Rattle.sb_calls.specs.Core.{Core, Does, apps_of, state_of}
 use Rattle.script_lines.specs.declared.line.Line.{Line}
 use Rattle.script_runs.specs.Trace.{call_of}
@@ -58,8 +58,8 @@ entries_to_come progress =
 pub record Stands (progress : Progress) (core : Core) : Type 0 where
   pub known : progress.running.app ≤ apps_of core
   pub standing : standing_of (state_of core) progress.running.app ≡ standing_in progress
-  pub entries : entries_to_come progress ≤ (allowance_of core.log.left progress.running.app).entries
-  pub bytes : bytes_due progress.running.lines ≤ (allowance_of core.log.left progress.running.app).bytes
+  pub entries : entries_to_come progress ≤ (allowance_of (left_of core.log) progress.running.app).entries
+  pub bytes : bytes_due progress.running.lines ≤ (allowance_of (left_of core.log) progress.running.app).bytes
 
 -- the application may take a turn by these calls: they are its own, and it has not ended
 pub record MayTurn (progress : Progress) (caller : Caller) : Type 0 where

@@ -1,6 +1,6 @@
 -- What a push does to the entries of a journal and to what its applications may still add.
 use Rattle.std.proofs.Common.{◌≡◌, ℕ, ◌+◌, ◌-◌, ◌<◌, ◌≤◌, List, [], ◌∷◌, ◌++◌, length, take, drop, All, refl, ap, ◌∙◌, arith, length-append}
-use Rattle.std.proofs.lemmas.List.{take-append-le, drop-append-le, drop_at, take_all, length-drop, length_push, length-set, map_push}
+use Rattle.std.proofs.lemmas.List.{take-append-le, drop-append-le, drop_at, take_all, length-drop, length-map, length_push, length-set, map_push}
 use Rattle.std.proofs.lemmas.List.Elements.{All-head, All-tail, All-push, All-weaker}
 use Rattle.std.proofs.lemmas.List.Sums.{sum_by-set}
 use Rattle.bus_words.specs.declared.history.Call.{Call}
@@ -12,7 +12,7 @@ use Rattle.bus_words.specs.declared.journal.Row.{Row}
 use Rattle.bus_words.specs.declared.journal.RowCall.{RowCall}
 use Rattle.bus_words.specs.declared.journal.RowCall.TheVariants as rows
 use Rattle.bus_words.specs.Entries.{call_bytes}
-use Rattle.bus_words.specs.Log.{HasRoom, allowance_of, charged, entries_left, bytes_left}
+use Rattle.bus_words.specs.Log.{Log, HasRoom, allowances, allowance_of, charged, entries_left, bytes_left, left_from, left_of}
 use Rattle.bus_words.specs.Inside.{IsLaidOut, IsStored, bytes_of, call_in, call_end, call_text, entry_in, entries_in}
 
 -- Charges. --
@@ -39,6 +39,28 @@ bytes_left-charged left app bytes room =
     let now : Allowance = record { entries = a.entries - 1; bytes = a.bytes - bytes } in
     let law = sum_by-set (λ (x : Allowance). x.bytes) left (app - 1) now (record { entries = 0; bytes = 0 }) (within left app bytes room) in
     omega (arith, law)
+
+-- a charge leaves as many applications
+pub length-charged : (left : List Allowance) (app bytes : ℕ) → length (charged left app bytes) ≡ length left
+length-charged left app bytes =
+    let a = allowance_of left app in
+    length-set left (app - 1) (record { entries = a.entries - 1; bytes = a.bytes - bytes })
+
+-- one more entry is one more charge
+pub left_from-push : (left : List Allowance) (es : List Entry) (e : Entry) →
+    left_from left (es ++ e ∷ []) ≡ charged (left_from left es) e.app (call_bytes e.call)
+left_from-push left [] e = refl
+left_from-push left (x ∷ es) e = left_from-push (charged left x.app (call_bytes x.call)) es e
+
+-- there is something left for as many applications as at first
+pub length-left_from : (left : List Allowance) (es : List Entry) → length (left_from left es) ≡ length left
+length-left_from left [] = refl
+length-left_from left (e ∷ es) =
+    length-left_from (charged left e.app (call_bytes e.call)) es ∙ length-charged left e.app (call_bytes e.call)
+
+-- as many as have a budget
+pub length-left_of : (log : Log) → length (left_of log) ≡ length log.budgets
+length-left_of log = length-left_from (allowances log.budgets) log.entries ∙ length-map log.budgets _
 
 -- Bytes added at the end. --
 

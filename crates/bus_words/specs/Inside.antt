@@ -8,7 +8,8 @@ use Rattle.bus_words.specs.declared.journal.Span.{Span}
 use Rattle.bus_words.specs.declared.journal.Row.{Row}
 use Rattle.bus_words.specs.declared.journal.RowCall.{RowCall}
 use Rattle.bus_words.specs.declared.journal.RowCall.TheVariants as rows
-use Rattle.bus_words.specs.Log.{entries_left, bytes_left}
+use Rattle.fsw_base.specs.declared.config.Budget.{Budget}
+use Rattle.bus_words.specs.Log.{allowances, entries_left, bytes_left, left_from}
 
 -- the bytes of a span
 abbrev pub bytes_of : List ℕ → Span → List ℕ
@@ -84,3 +85,8 @@ pub record IsLaidOut (rows : List Row) (bytes : List ℕ) (row_room byte_room : 
   pub rows_few : length rows + entries_left left < 2 ^ 32
   pub bytes_few : length bytes + bytes_left left < 2 ^ 32
   pub few : length left ≤ 16
+
+-- what the journal says is left is what is left of the budgets once its entries were made, for as many applications
+pub record IsLeft (budgets : List Budget) (entries : List Entry) (left : List Allowance) : Type 0 where
+  pub remains : left ≡ left_from (allowances budgets) entries
+  pub apps : length left ≡ length budgets

@@ -1,4 +1,4 @@
--- What a journal stands for: its entries, and what each application may still add.
+-- What a journal stands for: the budgets of its applications, and its entries. What each may still add follows.
 use Rattle.std.specs.Prelude.{ℕ, ◌-◌, ◌^◌, ◌<◌, ◌≤◌, List, [], ◌∷◌, ◌++◌, length, map, sum_by, slice_index_or, slice_set}
 use Rattle.fsw_base.specs.declared.config.Budget.{Budget}
 use Rattle.bus_words.specs.declared.history.Entry.{Entry}
@@ -13,10 +13,10 @@ pub record AreBudgets (budgets : List Budget) : Type 0 where
   pub bytes : sum_by (λ budget. budget.bytes) budgets < 2 ^ 32
   pub buffers : sum_by (λ budget. budget.buffers) budgets < 2 ^ 32
 
--- The entries in order, and what each application may still add.
+-- The budgets of the applications 1, 2, 3 and so on, which never change, and the entries in order.
 pub record Log : Type 0 where
+  pub budgets : List Budget
   pub entries : List Entry
-  pub left : List Allowance
 
 -- what applications with these budgets may add
 abbrev pub allowances : List Budget → List Allowance
@@ -37,9 +37,18 @@ abbrev pub charged : List Allowance → ℕ → ℕ → List Allowance
 charged left app bytes =
     slice_set left (app - 1) (record { entries = (allowance_of left app).entries - 1; bytes = (allowance_of left app).bytes - bytes })
 
+-- what is left of these allowances once these entries were made
+abbrev pub left_from : List Allowance → List Entry → List Allowance
+left_from left [] = left
+left_from left (e ∷ es) = left_from (charged left e.app (call_bytes e.call)) es
+
+-- what each application may still add: its budget's entries and bytes, less those of its entries
+abbrev pub left_of : Log → List Allowance
+left_of log = left_from (allowances log.budgets) log.entries
+
 -- the journal with one more entry
 abbrev pub with_entry : Log → Entry → Log
-with_entry log e = record { entries = log.entries ++ e ∷ []; left = charged log.left e.app (call_bytes e.call) }
+with_entry log e = record log { entries = log.entries ++ e ∷ [] }
 
 -- how many entries may still be added in all
 abbrev pub entries_left : List Allowance → ℕ

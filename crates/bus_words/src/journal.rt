@@ -1,6 +1,6 @@
 //! The journal of the bus: every call with its answer, in the order in which they took effect.
 ghost use Rattle.std.specs.Prelude.{◌≡◌, ◌+◌, ◌^◌, ◌<◌, ◌≤◌, List, [], ◌++◌, length, vec_len, vec_capacity, slice_get, IfOk, Some};
-ghost use Rattle.bus_words.specs.Log.{AreBudgets, HasRoom, Log, allowances, allowance_of, charged, with_entry, entries_left};
+ghost use Rattle.bus_words.specs.Log.{AreBudgets, HasRoom, Log, allowance_of, charged, with_entry, entries_left, left_of};
 ghost use Rattle.bus_words.specs.Entries.{call_of, entry_of, call_bytes};
 ghost use Rattle.bus_words.specs.Inside.{IsStored, bytes_of, call_in, call_end};
 
@@ -82,14 +82,16 @@ struct Row {
     answer: BusAnswer,
 }
 
-/// A list of entries with room for what each application's budget allows. All its memory is taken
-/// when it is made.
+/// A list of entries with room for what each application's budget allows. By the code, all its
+/// memory is taken when it is made.
 #[derive(Drop)]
 pub struct BusJournal {
     // The entries in order, whose bytes are spans of `bytes`.
     rows: Vec<Row>,
     // The bytes of all entries, one after another; none is ever changed.
     bytes: Vec<u8>,
+    // What each application might add at first.
+    budgets: Vec<Budget>,
     // What each application may still add; rows and bytes have room for all of it.
     left: Vec<Allowance>,
 }
@@ -97,15 +99,16 @@ pub struct BusJournal {
 impl Model for BusJournal {
     ghost use Rattle.std.specs.Prelude.{vec_capacity};
     ghost use Rattle.bus_words.specs.Log.{Log};
-    ghost use Rattle.bus_words.specs.Inside.{IsLaidOut, entries_in};
+    ghost use Rattle.bus_words.specs.Inside.{IsLaidOut, IsLeft, entries_in};
 
     ghost Value = { Log };
 
     ghost view = { λ j.
-        record { entries = entries_in j.bytes.items j.rows.items; left = j.left.items } };
+        record { budgets = j.budgets.items; entries = entries_in j.bytes.items j.rows.items } };
 
     ghost invariant = { λ j. IsLaidOut j.rows.items j.bytes.items (vec_capacity j.rows)
-        (vec_capacity j.bytes) j.left.items };
+        (vec_capacity j.bytes) j.left.items
+        × IsLeft j.budgets.items (entries_in j.bytes.items j.rows.items) j.left.items };
 }
 
 impl BusJournal {
@@ -116,12 +119,14 @@ impl BusJournal {
     pub fn new(alloc: Global, budgets: &[Budget]) -> Result<BusJournal, AllocError>
         requires { AreBudgets budgets.now }
         ensures { IfOk result
-            (λ journal. journal ≡ record { entries = []; left = allowances budgets.now }) }
+            (λ journal. journal ≡ record { budgets = budgets.now; entries = [] }) }
     {
+        let mut given = Vec::with_capacity(alloc, budgets.len())?;
         let mut left = Vec::with_capacity(alloc, budgets.len())?;
         let mut entries = 0;
         let mut bytes = 0;
         for budget in budgets {
+            given.push_reserved(*budget);
             left.push_reserved(Allowance {
                 entries: budget.entries,
                 bytes: budget.bytes,
@@ -132,6 +137,7 @@ impl BusJournal {
         Ok(BusJournal {
             rows: Vec::with_capacity(alloc, entries)?,
             bytes: Vec::with_capacity(alloc, bytes)?,
+            budgets: given,
             left,
         })
     }
@@ -139,23 +145,23 @@ impl BusJournal {
     /// How many entries there are.
     pub fn len(&self) -> u32
         ensures len { result ≡ length self.now.entries }
-        ensures few { length self.now.entries + entries_left self.now.left < 2 ^ 32 }
-        ensures applications { length self.now.left ≤ 16 }
+        ensures few { length self.now.entries + entries_left (left_of self.now) < 2 ^ 32 }
+        ensures applications { length self.now.budgets ≤ 16 }
     {
         self.rows.len() as u32
     }
 
     /// How many applications may have entries.
     pub fn apps(&self) -> u32
-        ensures { result ≡ length self.now.left }
+        ensures { result ≡ length self.now.budgets }
     {
-        self.left.len() as u32
+        self.budgets.len() as u32
     }
 
     /// What the application may still add.
     pub fn left(&self, app: AppNo) -> Allowance
-        requires { app ≤ length self.now.left }
-        ensures { result ≡ allowance_of self.now.left app }
+        requires { app ≤ length self.now.budgets }
+        ensures { result ≡ allowance_of (left_of self.now) app }
     {
         self.left[(app.get() - 1) as usize]
     }
@@ -176,7 +182,7 @@ impl BusJournal {
     /// Adds an entry at the end. Its application must have an entry left, and the bytes of its name
     /// or message.
     pub fn push(&mut self, entry: &BusEntry<'_>)
-        requires { HasRoom self.old.left entry.now.app (call_bytes (call_of entry.now.call)) }
+        requires { HasRoom (left_of self.old) entry.now.app (call_bytes (call_of entry.now.call)) }
         ensures { self.new ≡ with_entry self.old (entry_of entry.now) }
     {
         let start = self.bytes.len();

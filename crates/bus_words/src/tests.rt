@@ -1,7 +1,7 @@
 //! A journal and a list of receipts on their happy path.
 ghost use Rattle.std.specs.Prelude.{◌≡◌, ◌<◌, ◌≤◌, ◌↔◌, IsTrue, length};
 ghost use Rattle.bus_words.specs.Entries.{call_of, call_bytes};
-ghost use Rattle.bus_words.specs.Log.{HasRoom};
+ghost use Rattle.bus_words.specs.Log.{HasRoom, left_of};
 
 use crate::{
     Allowance, BusAnswer, BusCall, BusEntry, BusJournal, Head, PipeText, Receipt, ReceiptList,
@@ -101,7 +101,7 @@ fn keeps(
 // Whether the entry may be pushed.
 fn has_room(journal: &BusJournal, entry: &BusEntry<'_>) -> bool
     ensures { IsTrue result →
-        HasRoom journal.now.left entry.now.app (call_bytes (call_of entry.now.call)) }
+        HasRoom (left_of journal.now) entry.now.app (call_bytes (call_of entry.now.call)) }
 {
     if journal.apps() < entry.app.get() {
         return false;

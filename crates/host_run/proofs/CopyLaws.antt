@@ -3,7 +3,8 @@ use Rattle.std.proofs.Common.{◌≡◌, ℕ, zero, suc, ◌+◌, ◌<◌, ◌&&
 use Rattle.bus_words.specs.declared.history.Entry.{Entry}
 use Rattle.bus_words.specs.declared.journal.Allowance.{Allowance}
 use Rattle.bus_words.specs.Entries.{call_bytes}
-use Rattle.bus_words.specs.Log.{Log, charged, with_entry}
+use Rattle.bus_words.specs.Log.{Log, allowances, charged, left_of, with_entry}
+use Rattle.bus_words.proofs.Journals.{left_from-push}
 use Rattle.host_run.specs.Copies.{has_room, fits, CopiesEntry}
 
 -- what is left of a list from one of its items on
@@ -37,23 +38,24 @@ place_of (x ∷ xs) (suc i) h = let there : i < length xs = omega arith in place
 
 -- an entry that isn't within the budgets
 pub copy_stops : (old new : Log) (history : List Entry) (i : ℕ) (done : Bool) → i < length history → CopiesEntry old new history i done → done ≡ false →
-    fits old.left (drop i history) ≡ false
+    fits (left_of old) (drop i history) ≡ false
 copy_stops old new history i done there copies refused =
     let place = place_of history i there in
     let e : Entry = place.0 in
-    fits_step old.left history i e place.1
-    ∙ ap (λ b. b && fits (charged old.left e.app (call_bytes e.call)) (drop (i + 1) history)) (sym ((copies e place.1).0) ∙ refused)
+    fits_step (left_of old) history i e place.1
+    ∙ ap (λ b. b && fits (charged (left_of old) e.app (call_bytes e.call)) (drop (i + 1) history)) (sym ((copies e place.1).0) ∙ refused)
 
 -- an entry more
 pub copy_goes : (old new : Log) (history : List Entry) (i : ℕ) (done : Bool) → i < length history → CopiesEntry old new history i done → done ≡ true →
-    old.entries ≡ take i history → (new.entries ≡ take (i + 1) history) × (fits new.left (drop (i + 1) history) ≡ fits old.left (drop i history))
+    old.entries ≡ take i history → (new.entries ≡ take (i + 1) history) × (fits (left_of new) (drop (i + 1) history) ≡ fits (left_of old) (drop i history))
 copy_goes old new history i done there copies added so_far =
     let place = place_of history i there in
     let e : Entry = place.0 in
     let longer : new ≡ with_entry old e = (copies e place.1).1 added in
     let rest = drop (i + 1) history in (
       ap (λ (log : Log). log.entries) longer ∙ ap (λ (es : List Entry). es ++ e ∷ []) so_far ∙ sym (take_get history i e place.1),
-      ap (λ (log : Log). fits log.left rest) longer
-          ∙ sym (fits_step old.left history i e place.1
-          ∙ ap (λ b. b && fits (charged old.left e.app (call_bytes e.call)) rest) (sym ((copies e place.1).0) ∙ added)),
+      ap (λ (log : Log). fits (left_of log) rest) longer
+          ∙ ap (λ left. fits left rest) (left_from-push (allowances old.budgets) old.entries e)
+          ∙ sym (fits_step (left_of old) history i e place.1
+          ∙ ap (λ b. b && fits (charged (left_of old) e.app (call_bytes e.call)) rest) (sym ((copies e place.1).0) ∙ added)),
     )

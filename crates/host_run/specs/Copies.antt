@@ -4,14 +4,14 @@ use Rattle.fsw_base.specs.declared.config.Budget.{Budget}
 use Rattle.bus_words.specs.declared.history.Entry.{Entry}
 use Rattle.bus_words.specs.declared.journal.Allowance.{Allowance}
 use Rattle.bus_words.specs.Entries.{call_bytes}
-use Rattle.bus_words.specs.Log.{Log, allowances, allowance_of, charged, with_entry}
+use Rattle.bus_words.specs.Log.{Log, allowances, allowance_of, charged, left_of, with_entry}
 
--- Copies of the histories shown: whether they are all there, how many more fit, and what each application may have in one.
+-- Copies of the histories shown: whether they are all there, how many more fit, and each application's budget in one.
 pub record Copies : Type 0 where
   pub told : Bool
   pub copies : List (List Entry)
   pub room : ℕ
-  pub left : List Allowance
+  pub budgets : List Budget
 
 -- what was shown, where all of it was copied
 abbrev pub shown : Copies → Option (List (List Entry))
@@ -19,7 +19,7 @@ shown c = if c.told then Some c.copies else None
 
 -- before anything was shown
 abbrev pub no_copies : List Budget → ℕ → Copies
-no_copies budgets pairs = record { told = true; copies = []; room = pairs; left = allowances budgets }
+no_copies budgets pairs = record { told = true; copies = []; room = pairs; budgets = budgets }
 
 -- the application may add an entry of so many bytes
 abbrev pub has_room : List Allowance → ℕ → ℕ → Bool
@@ -34,11 +34,11 @@ fits left (e ∷ history) = has_room left e.app (call_bytes e.call) && fits (cha
 -- the history's entry at a place was added, where it is within its application's budget
 abbrev pub CopiesEntry : Log → Log → List Entry → ℕ → Bool → Type 0
 CopiesEntry old new history i done =
-    (e : Entry) → slice_get history i ≡ Some e → (done ≡ has_room old.left e.app (call_bytes e.call)) × (done ≡ true → new ≡ with_entry old e)
+    (e : Entry) → slice_get history i ≡ Some e → (done ≡ has_room (left_of old) e.app (call_bytes e.call)) × (done ≡ true → new ≡ with_entry old e)
 
 -- a history within the budgets is copied where there is room for one more; else nothing is told from now on
 abbrev pub with_copy : Copies → List Entry → Copies
 with_copy c history =
-    if nat_le 1 c.room && fits c.left history
+    if nat_le 1 c.room && fits (allowances c.budgets) history
     then record c { copies = c.copies ++ history ∷ []; room = c.room - 1 }
     else (record c { told = false; room = 0 })

@@ -1,12 +1,12 @@
 //! An audit in memory: copies of the journals that it is shown.
 ghost use Rattle.std.specs.Prelude.{◌≡◌, ℕ, ◌<◌, List, [], length, slice_get, All, IfOk, IsTrue, Some, vec_len};
-ghost use Rattle.bus_words.specs.Log.{AreBudgets, allowances};
+ghost use Rattle.bus_words.specs.Log.{AreBudgets, left_of};
 ghost use Rattle.bus_words.specs.Entries.{call_of, call_bytes};
 ghost use Rattle.host_run.specs.Audit.{IsShown};
 ghost use Rattle.host_run.specs.Copies.{shown, no_copies, has_room, fits, with_copy, CopiesEntry};
 
 use crate::audit::Audit;
-use bus_words::{Allowance, BusCall, BusEntry, BusJournal};
+use bus_words::{BusCall, BusEntry, BusJournal};
 use fsw_base::{AppNo, Budget};
 use sb_calls::BusCore;
 use std::alloc::{AllocError, Global};
@@ -25,7 +25,7 @@ pub struct MemAudit {
     // Empty journals, each with the whole budgets.
     spare: Vec<BusJournal>,
     // What each application may have in a copy.
-    left: Vec<Allowance>,
+    budgets: Vec<Budget>,
 }
 
 impl Model for MemAudit {
@@ -39,12 +39,13 @@ impl Model for MemAudit {
           told = a.told;
           copies = map (λ copy. copy.entries) a.copies.items;
           room = vec_len a.spare;
-          left = a.left.items;
+          budgets = a.budgets.items;
         } };
 
     ghost invariant = { λ a. record {
       tells : 0 < vec_len a.spare → a.told ≡ true;
-      empty : All (λ journal. journal ≡ record { entries = []; left = a.left.items }) a.spare.items;
+      empty : All (λ journal. journal ≡ record { budgets = a.budgets.items; entries = [] })
+          a.spare.items;
       fits : vec_len a.copies + vec_len a.spare ≤ vec_capacity a.copies;
       few : vec_len a.copies + vec_len a.spare < 2 ^ 32;
     } };
@@ -60,13 +61,13 @@ impl MemAudit {
         requires { AreBudgets budgets.now }
         ensures { IfOk result (λ audit. audit ≡ no_copies budgets.now pairs) }
     {
-        let left = allowances_of(alloc, budgets)?;
+        let given = budgets.iter().map(|budget| *budget).collect(alloc)?;
         let spare = empty_journals(alloc, budgets, pairs)?;
         Ok(MemAudit {
             told: true,
             copies: Vec::with_capacity(alloc, pairs as usize)?,
             spare,
-            left,
+            budgets: given,
         })
     }
 
@@ -119,19 +120,6 @@ impl Audit for MemAudit {
     }
 }
 
-// What the applications may have in one journal.
-fn allowances_of(alloc: Global, budgets: &[Budget]) -> Result<Vec<Allowance>, AllocError>
-    ensures { IfOk result (λ left. left.items ≡ allowances budgets.now) }
-{
-    budgets
-        .iter()
-        .map(|budget| Allowance {
-            entries: budget.entries,
-            bytes: budget.bytes,
-        })
-        .collect(alloc)
-}
-
 // So many journals without entries.
 fn empty_journals(
     alloc: Global,
@@ -142,7 +130,7 @@ fn empty_journals(
     ensures count { IfOk result (λ journals. vec_len journals ≡ count) }
     ensures empty { IfOk result
         (λ journals. All
-        (λ journal. journal ≡ record { entries = []; left = allowances budgets.now })
+        (λ journal. journal ≡ record { budgets = budgets.now; entries = [] })
         journals.items) }
 {
     let mut journals = Vec::with_capacity(alloc, count as usize)?;
@@ -155,7 +143,7 @@ fn empty_journals(
 // Puts the journal's entries into an empty one; false where one of them isn't within the budgets.
 fn copy_entries(target: &mut BusJournal, journal: &BusJournal) -> bool
     requires { target.old.entries ≡ [] }
-    ensures fits { result ≡ fits target.old.left journal.now.entries }
+    ensures fits { result ≡ fits (left_of target.old) journal.now.entries }
     ensures copied { IsTrue result → target.new.entries ≡ journal.now.entries }
 {
     for i in 0..journal.len() {
@@ -181,7 +169,7 @@ fn copy_entry(target: &mut BusJournal, journal: &BusJournal, i: u32) -> bool
 
 // Whether the application may add this call.
 fn has_room(journal: &BusJournal, app: AppNo, call: BusCall<'_>) -> bool
-    ensures { result ≡ has_room journal.now.left app (call_bytes (call_of call.entry)) }
+    ensures { result ≡ has_room (left_of journal.now) app (call_bytes (call_of call.entry)) }
 {
     if app.get() > journal.apps() {
         return false;

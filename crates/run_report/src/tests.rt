@@ -1,7 +1,7 @@
 //! Whole reports, and one that a sink cuts short.
 ghost use Rattle.std.specs.Prelude.{◌≡◌, IsTrue};
 ghost use Rattle.bus_words.specs.Entries.{call_of, call_bytes};
-ghost use Rattle.bus_words.specs.Log.{HasRoom};
+ghost use Rattle.bus_words.specs.Log.{HasRoom, left_of};
 
 use crate::write_journal;
 use bus_words::{
@@ -244,7 +244,7 @@ fn enter(journal: &mut BusJournal, entry: &BusEntry<'_>) {
 // Whether the entry may be pushed.
 fn has_room(journal: &BusJournal, entry: &BusEntry<'_>) -> bool
     ensures { IsTrue result →
-        HasRoom journal.now.left entry.now.app (call_bytes (call_of entry.now.call)) }
+        HasRoom (left_of journal.now) entry.now.app (call_bytes (call_of entry.now.call)) }
 {
     if journal.apps() < entry.app.get() {
         return false;

@@ -1,26 +1,18 @@
 -- What an application gets from a pipe is what the pipe alone gives.
-use Rattle.std.proofs.Common.{◌≡◌, ℕ, ◌-◌, true, eqb, Result, Ok, List, [], ◌∷◌, ◌++◌, length, sym, subst, arith}
+use Rattle.std.proofs.Common.{◌≡◌, ℕ, true, eqb, Result, Ok, [], ◌∷◌, ◌++◌, sym, subst, arith}
 use Rattle.std.proofs.lemmas.Bool.Decides.{nat_tests}
-use Rattle.std.proofs.lemmas.List.{length-set}
 use Rattle.fsw_base.specs.declared.statuses.SbStatus.{SbStatus}
 use Rattle.bus_words.specs.declared.calls.BusAnswer.TheVariants.{Got}
 use Rattle.bus_words.specs.declared.history.Call.{Call}
 use Rattle.bus_words.specs.declared.history.Call.TheVariants.{Receive, Pend, Look}
 use Rattle.bus_words.specs.declared.history.Entry.{Entry}
-use Rattle.bus_words.specs.declared.journal.Allowance.{Allowance}
 use Rattle.bus_words.specs.Alone.{gets_from}
-use Rattle.bus_words.specs.Entries.{call_bytes}
-use Rattle.bus_words.specs.Log.{charged, allowance_of}
 use Rattle.bus_words.specs.Machine.{IsLegal}
 use Rattle.bus_words.proofs.Isolation.{gives_newest, stands_alone}
 use Rattle.sb_core.specs.declared.pending.Pended.{Pended}
 use Rattle.sb_core.specs.declared.pending.Pended.TheVariants as waits
 use Rattle.sb_core.specs.Answers.{waited, got, pended}
 use Rattle.sb_calls.specs.Core.{Core, Does, Looks, GotAlone, StandAlone, IsLegalCore, apps_of}
-
-length-charged : (left : List Allowance) (app bytes : ℕ) → length (charged left app bytes) ≡ length left
-length-charged left app bytes =
-    length-set left (app - 1) (record { entries = (allowance_of left app).entries - 1; bytes = (allowance_of left app).bytes - bytes })
 
 itself : (n : ℕ) → eqb n n ≡ true
 itself n = grind (arith, nat_tests)
@@ -30,8 +22,7 @@ got_alone : (old new : Core) (app pipe : ℕ) (call : Call) (number : ℕ) → g
 got_alone old new app pipe call number gets does =
     let e : Entry = record { app = app; call = call; answer = Got number } in
     let P : Core → Type 0 = λ c. IsLegalCore c in
-    let Q : ℕ → Type 0 = λ n. IsLegal old.limits n (old.log.entries ++ e ∷ []) in
-    let legal = subst Q (length-charged old.log.left app (call_bytes call)) (subst P does.entry does.legal) in
+    let legal : IsLegal old.limits (apps_of old) (old.log.entries ++ e ∷ []) = subst P does.entry does.legal in
     let given = gives_newest old.limits (apps_of old) pipe old.log.entries e legal gets in
     (given.0, sym (cc (given.1.answer)), given.1)
 

@@ -61,7 +61,7 @@ module _ (a : Inside) (core : Plain) (app pipe : ℕ) (answer : Pended) (stands 
   pub still_stands : Stands (record a { core = core })
   still_stands = record {
     legal = let P : Limits → Type 0 = λ l. IsLegalCore (record { limits = l; log = a.journal }) in subst P (sym acts.limits) stands.legal;
-    whole = same_whole a.core core app pipe acts ∙ stands.whole ∙ ap (λ l. whole_after l (length a.journal.left) a.journal.entries) (sym acts.limits);
+    whole = same_whole a.core core app pipe acts ∙ stands.whole ∙ ap (λ l. whole_after l (length a.journal.budgets) a.journal.entries) (sym acts.limits);
     messages = omega (arith, acts.messages, stands.messages);
     few = stands.few;
     bytes = omega (arith, acts.spare, stands.bytes);
@@ -70,7 +70,7 @@ module _ (a : Inside) (core : Plain) (app pipe : ℕ) (answer : Pended) (stands 
   pub still_looks : (old : Core) → core_of a ≡ old → Looks old (core_of (record a { core = core })) app pipe answer
   still_looks old viewed =
       let answered = ap (λ (p : BusAnswer × Whole). p.0)
-      (sym (acts_after a.core.limits (length a.journal.left) a.journal.entries app (Look pipe) stands.legal)
+      (sym (acts_after a.core.limits (length a.journal.budgets) a.journal.entries app (Look pipe) stands.legal)
       ∙ ap (λ w. act a.core.limits w app (Look pipe)) (sym stands.whole) ∙ acts.made) in
       let P : Core → Type 0 = λ o. Looks o (core_of (record a { core = core })) app pipe waits.Pending in
       subst (λ x. Looks old (core_of (record a { core = core })) app pipe x) (sym (pending_is answer is))

@@ -1,18 +1,18 @@
 -- The one lemma of all calls: what the core's call and the push of its entry leave.
 use Rattle.std.proofs.Common.{◌≡◌, ℕ, ◌+◌, ◌-◌, ◌^◌, ◌<◌, ◌≤◌, List, [], ◌∷◌, ◌++◌, length, IsTrue, refl, ap, sym, ◌∙◌, subst, arith}
-use Rattle.std.proofs.lemmas.List.{length-set, length_push}
+use Rattle.std.proofs.lemmas.List.{length_push}
 use Rattle.fsw_base.specs.Limits.{Limits}
 use Rattle.bus_words.specs.declared.calls.BusAnswer.{BusAnswer}
 use Rattle.bus_words.specs.declared.history.Call.{Call}
 use Rattle.bus_words.specs.declared.history.Entry.{Entry}
 use Rattle.bus_words.specs.Bus.{State, standing_of}
 use Rattle.bus_words.specs.Entries.{call_bytes}
-use Rattle.bus_words.specs.Log.{Log, HasRoom, allowance_of, with_entry, charged, bytes_left, entries_left}
+use Rattle.bus_words.specs.Log.{Log, HasRoom, allowances, left_of, with_entry, bytes_left, entries_left}
 use Rattle.bus_words.specs.Machine.{IsLegal, makes_entry, may_call, state_after, step}
 use Rattle.bus_words.specs.Acts.{Whole, act, whole_from, whole_after, whole_of, opening_whole}
 use Rattle.bus_words.specs.Runs.{Follows}
 use Rattle.bus_words.proofs.Acts.{whole_after-legal, acts_after}
-use Rattle.bus_words.proofs.Journals.{entries_left-charged, bytes_left-charged}
+use Rattle.bus_words.proofs.Journals.{entries_left-charged, bytes_left-charged, left_from-push}
 use Rattle.bus_words.proofs.Replay.{goes_on}
 use Rattle.bus_words.proofs.Steps.{AreCounted-after, length-standings}
 use Rattle.sb_core.specs.Core.{Plain, MayAct, Acts, apps_in}
@@ -27,25 +27,25 @@ whole_from-push limits w (x ∷ es) e = whole_from-push limits ((act limits w x.
 -- the core's state is the history's bus
 pub bus_is : (a : Inside) → Stands a → a.core.whole.bus ≡ state_of (core_of a)
 bus_is a stands =
-    ap (λ (w : Whole). w.bus) (stands.whole ∙ whole_after-legal a.core.limits (length a.journal.left) a.journal.entries stands.legal)
+    ap (λ (w : Whole). w.bus) (stands.whole ∙ whole_after-legal a.core.limits (length a.journal.budgets) a.journal.entries stands.legal)
 
 pub bus_now : (a : Inside) (now : Core) → core_of a ≡ now → Stands a → a.core.whole.bus ≡ state_of now
 bus_now a now is stands = bus_is a stands ∙ ap state_of is
 
 -- which serves as many applications as the journal
-pub apps_are : (a : Inside) → Stands a → apps_in a.core ≡ length a.journal.left
+pub apps_are : (a : Inside) → Stands a → apps_in a.core ≡ length a.journal.budgets
 apps_are a stands =
-    ap (λ (s : State). length s.standings) (bus_is a stands) ∙ length-standings a.core.limits (length a.journal.left) a.journal.entries
+    ap (λ (s : State). length s.standings) (bus_is a stands) ∙ length-standings a.core.limits (length a.journal.budgets) a.journal.entries
 
 -- what the journal's call needs is what the core's call needs
 pub may_act : (a : Inside) (old : Core) (app : ℕ) (call : Call) → core_of a ≡ old → Stands a → MayCall old app call → MayAct a.core app call
 may_act a old app call is stands may_old =
     let Q : Core → Type 0 = λ o. MayCall o app call in
     let may : MayCall (core_of a) app call = subst Q (sym is) may_old in
-    let apps = length a.journal.left in
+    let apps = length a.journal.budgets in
     let s = state_of (core_of a) in
     let counted = AreCounted-after a.core.limits apps a.journal.entries in
-    let left = entries_left-charged a.journal.left app (call_bytes call) may.room in
+    let left = entries_left-charged (left_of a.journal) app (call_bytes call) may.room in
     let P : State → Type 0 = λ t. (app ≤ length t.standings) × IsTrue (may_call (standing_of t app) call) × (t.pipes_created + 1 < 2 ^ 32) × (t.subscriptions_made + 1 < 2 ^ 32) × (t.numbers_given < a.core.messages) in
     let all : P a.core.whole.bus = subst P (sym (bus_is a stands)) (
       omega (arith, may.known, length-standings a.core.limits apps a.journal.entries),
@@ -54,7 +54,7 @@ may_act a old app call is stands may_old =
       omega (arith, counted.subscriptions, left, stands.few),
       omega (arith, counted.numbers, left, stands.messages),
     ) in
-    let taken = bytes_left-charged a.journal.left app (call_bytes call) may.room in
+    let taken = bytes_left-charged (left_of a.journal) app (call_bytes call) may.room in
     record {
       known = all.0;
       standing = all.1;
@@ -66,7 +66,7 @@ may_act a old app call is stands may_old =
     }
 
 -- and the journal has room for its entry
-pub has_room : (a : Inside) (old : Core) (app : ℕ) (call : Call) → core_of a ≡ old → MayCall old app call → HasRoom a.journal.left app (call_bytes call)
+pub has_room : (a : Inside) (old : Core) (app : ℕ) (call : Call) → core_of a ≡ old → MayCall old app call → HasRoom (left_of a.journal) app (call_bytes call)
 has_room a old app call is may = let Q : Core → Type 0 = λ o. MayCall o app call in (subst Q (sym is) may).room
 
 module _ (a : Inside) (core : Plain) (journal : Log) (old : Core) (app : ℕ) (call : Call) (answer told : BusAnswer) (is : core_of a ≡ old) (stands : Stands a) (may_old : MayCall old app call)
@@ -81,17 +81,14 @@ module _ (a : Inside) (core : Plain) (journal : Log) (old : Core) (app : ℕ) (c
   after : Core
   after = record { limits = a.core.limits; log = with_entry a.journal (record { app = app; call = call; answer = answer }) }
 
-  made : act a.core.limits (whole_after a.core.limits (length a.journal.left) a.journal.entries) app call ≡ (answer, core.whole)
+  made : act a.core.limits (whole_after a.core.limits (length a.journal.budgets) a.journal.entries) app call ≡ (answer, core.whole)
   made = ap (λ w. act a.core.limits w app call) (sym stands.whole) ∙ acts.made
 
   answered : answer ≡ (step a.core.limits a.journal.entries (state_of (core_of a)) app call).0
-  answered = ap (λ (p : BusAnswer × Whole). p.0) (sym made ∙ acts_after a.core.limits (length a.journal.left) a.journal.entries app call stands.legal)
+  answered = ap (λ (p : BusAnswer × Whole). p.0) (sym made ∙ acts_after a.core.limits (length a.journal.budgets) a.journal.entries app call stands.legal)
 
-  follows : Follows a.core.limits (length a.journal.left) a.journal.entries (record { app = app; call = call; answer = answer })
-  follows = goes_on a.core.limits (length a.journal.left) a.journal.entries (record { app = app; call = call; answer = answer }) stands.legal may.standing answered makes
-
-  same_apps : length (charged a.journal.left app (call_bytes call)) ≡ length a.journal.left
-  same_apps = length-set a.journal.left (app - 1) (record { entries = (allowance_of a.journal.left app).entries - 1; bytes = (allowance_of a.journal.left app).bytes - call_bytes call })
+  follows : Follows a.core.limits (length a.journal.budgets) a.journal.entries (record { app = app; call = call; answer = answer })
+  follows = goes_on a.core.limits (length a.journal.budgets) a.journal.entries (record { app = app; call = call; answer = answer }) stands.legal may.standing answered makes
 
   same_core : record { limits = core.limits; log = journal } ≡ after
   unfolding after
@@ -99,14 +96,11 @@ module _ (a : Inside) (core : Plain) (journal : Log) (old : Core) (app : ℕ) (c
 
   legal_after : IsLegalCore after
   unfolding after
-  legal_after =
-      let P : ℕ → Type 0 = λ n. IsLegal a.core.limits n (a.journal.entries ++ record { app = app; call = call; answer = answer } ∷ []) in
-      subst P (sym same_apps) follows.legal
+  legal_after = follows.legal
 
   state_after_is : state_of after ≡ (step a.core.limits a.journal.entries (state_of (core_of a)) app call).1
   unfolding after
-  state_after_is =
-      ap (λ n. state_after a.core.limits n (a.journal.entries ++ record { app = app; call = call; answer = answer } ∷ [])) same_apps ∙ follows.state
+  state_after_is = follows.state
 
   pub does_over : Does old (record { limits = core.limits; log = journal }) app call answer
   unfolding after
@@ -119,22 +113,22 @@ module _ (a : Inside) (core : Plain) (journal : Log) (old : Core) (app : ℕ) (c
         legal = let L : Core → Type 0 = λ c. IsLegalCore c in subst L (sym same_core) legal_after;
       })
 
-  whole_is : core.whole ≡ whole_after core.limits (length journal.left) journal.entries
+  whole_is : core.whole ≡ whole_after core.limits (length journal.budgets) journal.entries
   whole_is =
       let e : Entry = record { app = app; call = call; answer = answer } in
       ap (λ (p : BusAnswer × Whole). p.1) (sym made)
-      ∙ sym (whole_from-push a.core.limits (opening_whole (length a.journal.left)) a.journal.entries e)
-      ∙ ap (λ n. whole_after a.core.limits n (a.journal.entries ++ e ∷ [])) (sym same_apps)
-      ∙ ap (λ (l : Log). whole_after a.core.limits (length l.left) l.entries) (sym entered)
-      ∙ ap (λ l. whole_after l (length journal.left) journal.entries) (sym acts.limits)
+      ∙ sym (whole_from-push a.core.limits (opening_whole (length a.journal.budgets)) a.journal.entries e)
+      ∙ ap (λ (l : Log). whole_after a.core.limits (length l.budgets) l.entries) (sym entered)
+      ∙ ap (λ l. whole_after l (length journal.budgets) journal.entries) (sym acts.limits)
 
   pub stands_over : Stands (record a { core = core; journal = journal })
   stands_over =
       let e : Entry = record { app = app; call = call; answer = answer } in
+      let pushed_left = left_from-push (allowances a.journal.budgets) a.journal.entries e in
       let entries : length journal.entries ≡ length a.journal.entries + 1 = ap (λ (l : Log). length l.entries) entered ∙ length_push a.journal.entries e in
-      let left : entries_left journal.left + 1 ≡ entries_left a.journal.left = ap (λ (l : Log). entries_left l.left + 1) entered ∙ entries_left-charged a.journal.left app (call_bytes call) may.room in
-      let taken : bytes_left journal.left + call_bytes call ≡ bytes_left a.journal.left =
-      ap (λ (l : Log). bytes_left l.left + call_bytes call) entered ∙ bytes_left-charged a.journal.left app (call_bytes call) may.room in
+      let left : entries_left (left_of journal) + 1 ≡ entries_left (left_of a.journal) = ap (λ (l : Log). entries_left (left_of l) + 1) entered ∙ ap (λ l. entries_left l + 1) pushed_left ∙ entries_left-charged (left_of a.journal) app (call_bytes call) may.room in
+      let taken : bytes_left (left_of journal) + call_bytes call ≡ bytes_left (left_of a.journal) =
+      ap (λ (l : Log). bytes_left (left_of l) + call_bytes call) entered ∙ ap (λ l. bytes_left l + call_bytes call) pushed_left ∙ bytes_left-charged (left_of a.journal) app (call_bytes call) may.room in
       record {
         legal = let L : Core → Type 0 = λ c. IsLegalCore c in subst L (sym same_core) legal_after;
         whole = whole_is;

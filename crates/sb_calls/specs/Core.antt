@@ -1,4 +1,4 @@
--- The bus core as its callers see it: its limits and its journal. What the bus is follows from them.
+-- The bus core as its callers see it: its limits and its journal, with the budgets. What the bus is follows from them.
 use Rattle.std.specs.Prelude.{◌≡◌, ℕ, ◌≤◌, length, IsTrue}
 use Rattle.fsw_base.specs.Limits.{Limits}
 use Rattle.bus_words.specs.declared.calls.BusAnswer.{BusAnswer}
@@ -8,7 +8,7 @@ use Rattle.bus_words.specs.declared.history.Call.TheVariants.{Look}
 use Rattle.bus_words.specs.Alone.{Received, Gives, receipts, solo_receipts, unmade, cut}
 use Rattle.bus_words.specs.Bus.{State, standing_of}
 use Rattle.bus_words.specs.Entries.{call_bytes}
-use Rattle.bus_words.specs.Log.{Log, HasRoom, with_entry}
+use Rattle.bus_words.specs.Log.{Log, HasRoom, left_of, with_entry}
 use Rattle.sb_core.specs.declared.pending.Pended.{Pended}
 use Rattle.sb_core.specs.declared.pending.Pended.TheVariants.{Pending}
 use Rattle.sb_core.specs.Answers.{waited}
@@ -21,7 +21,7 @@ pub record Core : Type 0 where
 
 -- how many applications the core serves
 abbrev pub apps_of : Core → ℕ
-apps_of core = length core.log.left
+apps_of core = length core.log.budgets
 
 -- the bus after the core's history
 abbrev pub state_of : Core → State
@@ -35,7 +35,7 @@ IsLegalCore core = IsLegal core.limits (apps_of core) core.log.entries
 pub record MayCall (core : Core) (app : ℕ) (call : Call) : Type 0 where
   pub known : app ≤ apps_of core
   pub standing : IsTrue (may_call (standing_of (state_of core) app) call)
-  pub room : HasRoom core.log.left app (call_bytes call)
+  pub room : HasRoom (left_of core.log) app (call_bytes call)
   pub within : IsTrue (is_within call)
 
 -- the call was answered as the bus answers it after the core's history, and its entry stands at the history's end

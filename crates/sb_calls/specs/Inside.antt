@@ -1,7 +1,7 @@
 -- What the core's fields stand for, and what is always true of them.
 use Rattle.std.specs.Prelude.{◌≡◌, ◌+◌, ◌^◌, ◌<◌, ◌≤◌, length}
 use Rattle.bus_words.specs.Acts.{whole_after}
-use Rattle.bus_words.specs.Log.{bytes_left, entries_left}
+use Rattle.bus_words.specs.Log.{bytes_left, entries_left, left_of}
 use Rattle.sb_calls.specs.declared.bus_core.BusCore.TheInside.{Inside}
 use Rattle.sb_calls.specs.Core.{Core, IsLegalCore}
 
@@ -13,7 +13,7 @@ core_of a = record { limits = a.core.limits; log = a.journal }
 -- messages, bytes and numbers are left for every entry that may come.
 pub record Stands (a : Inside) : Type 0 where
   pub legal : IsLegalCore (core_of a)
-  pub whole : a.core.whole ≡ whole_after a.core.limits (length a.journal.left) a.journal.entries
-  pub messages : length a.journal.entries + entries_left a.journal.left ≤ a.core.messages
-  pub few : length a.journal.entries + entries_left a.journal.left < 2 ^ 32
-  pub bytes : bytes_left a.journal.left ≤ a.core.spare
+  pub whole : a.core.whole ≡ whole_after a.core.limits (length a.journal.budgets) a.journal.entries
+  pub messages : length a.journal.entries + entries_left (left_of a.journal) ≤ a.core.messages
+  pub few : length a.journal.entries + entries_left (left_of a.journal) < 2 ^ 32
+  pub bytes : bytes_left (left_of a.journal) ≤ a.core.spare

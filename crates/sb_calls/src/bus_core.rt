@@ -1,7 +1,7 @@
 //! The core: what it keeps, how it opens, and what it tells.
 ghost use Rattle.std.specs.Prelude.{◌≡◌, ◌≤◌, [], length, IfOk};
 ghost use Rattle.fsw_base.specs.Limits.{limits_of};
-ghost use Rattle.bus_words.specs.Log.{AreBudgets, allowances, allowance_of};
+ghost use Rattle.bus_words.specs.Log.{AreBudgets, allowance_of, left_of};
 ghost use Rattle.bus_words.specs.Receipts.{receipt_in};
 ghost use Rattle.sb_calls.specs.Core.{IsLegalCore, StandAlone, apps_of, state_of};
 
@@ -46,7 +46,7 @@ impl BusCore {
             (λ core. core ≡
             record {
               limits = limits_of cfg.now;
-              log = record { entries = []; left = allowances budgets.now };
+              log = record { budgets = budgets.now; entries = [] };
             }) }
     {
         let entries = total_entries(budgets);
@@ -67,7 +67,7 @@ impl BusCore {
     /// How many entries the application may still add to the journal.
     pub fn entries_left(&self, app: AppNo) -> u32
         requires { app ≤ apps_of self.now }
-        ensures { result ≡ (allowance_of self.now.log.left app).entries }
+        ensures { result ≡ (allowance_of (left_of self.now.log) app).entries }
     {
         self.journal.left(app).entries
     }
@@ -75,7 +75,7 @@ impl BusCore {
     /// How many bytes of names and messages the application may still add to the journal.
     pub fn bytes_left(&self, app: AppNo) -> u32
         requires { app ≤ apps_of self.now }
-        ensures { result ≡ (allowance_of self.now.log.left app).bytes }
+        ensures { result ≡ (allowance_of (left_of self.now.log) app).bytes }
     {
         self.journal.left(app).bytes
     }

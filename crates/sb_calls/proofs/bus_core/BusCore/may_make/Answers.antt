@@ -13,7 +13,7 @@ is_open-lets-requires c =
 pub returns : goal.returns
 returns c =
     let a = c.self.inside in
-    let known : c.args.app ≤ length a.journal.left =
+    let known : c.args.app ≤ length a.journal.budgets =
     omega (arith, c.get.ensures.value, c.apps.ensures, c.if-get-apps.false, ap (λ (o : Core). apps_of o) c.self.view_is) in
     permitted a c.args.self.now c.args.app (call_of c.args.call.now) c.is_open-lets.result c.is_permitted.result c.left-left.result c.self.view_is c.self.invariant known
     c.is_open-lets.ensures c.left-left.ensures c.is_permitted.ensures
