@@ -31,6 +31,10 @@ abbrev pub fits : List Allowance → List Entry → Bool
 fits left [] = true
 fits left (e ∷ history) = has_room left e.app (call_bytes e.call) && fits (charged left e.app (call_bytes e.call)) history
 
+-- a history is within these budgets
+unfoldable pub is_within : List Budget → List Entry → Bool
+is_within budgets history = fits (allowances budgets) history
+
 -- the history's entry at a place was added, where it is within its application's budget
 abbrev pub CopiesEntry : Log → Log → List Entry → ℕ → Bool → Type 0
 CopiesEntry old new history i done =
@@ -39,6 +43,6 @@ CopiesEntry old new history i done =
 -- a history within the budgets is copied where there is room for one more; else nothing is told from now on
 abbrev pub with_copy : Copies → List Entry → Copies
 with_copy c history =
-    if nat_le 1 c.room && fits (allowances c.budgets) history
+    if nat_le 1 c.room && is_within c.budgets history
     then record c { copies = c.copies ++ history ∷ []; room = c.room - 1 }
     else (record c { told = false; room = 0 })

@@ -3,7 +3,7 @@ ghost use Rattle.std.specs.Prelude.{◌≡◌, ℕ, ◌<◌, List, [], length, s
 ghost use Rattle.bus_words.specs.Log.{AreBudgets, left_of};
 ghost use Rattle.bus_words.specs.Entries.{call_of, call_bytes};
 ghost use Rattle.host_run.specs.Audit.{IsShown};
-ghost use Rattle.host_run.specs.Copies.{shown, no_copies, has_room, fits, with_copy, CopiesEntry};
+ghost use Rattle.host_run.specs.Copies.{shown, no_copies, has_room, is_within, with_copy, CopiesEntry};
 
 use crate::audit::Audit;
 use bus_words::{BusCall, BusEntry, BusJournal};
@@ -143,7 +143,7 @@ fn empty_journals(
 // Puts the journal's entries into an empty one; false where one of them isn't within the budgets.
 fn copy_entries(target: &mut BusJournal, journal: &BusJournal) -> bool
     requires { target.old.entries ≡ [] }
-    ensures fits { result ≡ fits (left_of target.old) journal.now.entries }
+    ensures fits { result ≡ is_within target.old.budgets journal.now.entries }
     ensures copied { IsTrue result → target.new.entries ≡ journal.now.entries }
 {
     for i in 0..journal.len() {
