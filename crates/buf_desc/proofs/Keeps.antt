@@ -1,5 +1,5 @@
 -- What a desk keeps stays true where a block is drawn or comes back.
-use Rattle.std.proofs.Common.{◌≡◌, ◌≢◌, ℕ, ◌+◌, ◌-◌, ◌*◌, ◌<◌, ◌≤◌, ◌⊎◌, inl, inr, zero, suc, Bool, true, false, cond, leb, nat_lt, List, [], ◌∷◌, ◌++◌, length, get_or, set, sum_by, refl, ap, sym, subst, ◌∙◌, arith, Option, Some, None, Result, Ok, Err, IsOk, OnOk}
+use Rattle.std.proofs.Common.{◌≡◌, ◌≢◌, ℕ, ◌+◌, ◌-◌, ◌<◌, ◌≤◌, ◌⊎◌, inl, inr, Bool, true, false, cond, leb, nat_lt, List, [], ◌∷◌, ◌++◌, length, get_or, set, refl, ap, sym, subst, ◌∙◌, arith, Option, Some, None, Result, Ok, Err, IsOk, OnOk}
 use Rattle.std.proofs.lemmas.Bool.{cases_eq, cases_lt}
 use Rattle.std.proofs.lemmas.Bool.Decides.{nat_tests}
 use Rattle.std.proofs.lemmas.List.{get_or_push, get_or_past, get_or-set_same, get_or-set_other, get_or_append_left, get_or_default, length-set, length_push}
@@ -7,7 +7,7 @@ use Rattle.std.proofs.lemmas.List.Quantifiers.{position-Some}
 use Rattle.std.proofs.lemmas.List.Sums.{sum_by-set, sum_by_push}
 use Rattle.fsw_base.specs.Blocks.{class_of}
 use Rattle.fsw_base.specs.PoolAccounts.{overhead, counted}
-use Rattle.es_pool.specs.Pool.{PoolState, DrawsFor, DrawsIf, Draws, Reuses, Cuts, is_out, class_at, size_at, given_back, most_cut, rest_of, used_by, IsWhole}
+use Rattle.es_pool.specs.Pool.{PoolState, DrawsFor, DrawsIf, Draws, Reuses, Cuts, is_out, class_at, size_at, given_back, used_by, IsWhole}
 use Rattle.es_pool.specs.declared.blocks.CutBlock.{CutBlock}
 use Rattle.buf_desc.specs.Slots.{slot_at, sealed_at, is_free, is_sealed, is_live, free_size, sealed_in}
 use Rattle.buf_desc.specs.Block.{Unsent as UnsentBlock}

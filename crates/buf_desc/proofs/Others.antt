@@ -3,7 +3,7 @@ use Rattle.std.proofs.Common.{◌≡◌, ◌≢◌, ℕ, ◌+◌, ◌<◌, ◌�
 use Rattle.std.proofs.lemmas.Bool.{cases_eq, cases_lt}
 use Rattle.std.proofs.lemmas.Bool.Decides.{nat_tests}
 use Rattle.std.proofs.lemmas.Grind.{get_or-set_at}
-use Rattle.std.proofs.lemmas.List.{get_or_push, get_or_past, get_or-set_same, get_or-set_other, get_or_append_left, get_or_default, length_push, set_past}
+use Rattle.std.proofs.lemmas.List.{get_or_push, get_or_past, get_or-set_other, get_or_append_left, get_or_default, length_push, set_past}
 use Rattle.fsw_base.specs.Blocks.{class_of}
 use Rattle.es_pool.specs.Pool.{PoolState, DrawsIf, Draws, Reuses, Cuts, is_out, class_at, size_at, given_back}
 use Rattle.es_pool.specs.declared.blocks.CutBlock.{CutBlock}
@@ -11,7 +11,7 @@ use Rattle.buf_desc.specs.Block.{Unsent as UnsentBlock}
 use Rattle.buf_desc.specs.Slots.{slot_at, is_live, number_in, HaveOwnNumbers}
 use Rattle.buf_desc.specs.Desk.{Buffers, Takes, IsOf, placed}
 use Rattle.buf_desc.specs.declared.slot.Slot.{Slot}
-use Rattle.buf_desc.specs.declared.slot.Slot.TheVariants.{Free, Unsent, Sealed}
+use Rattle.buf_desc.specs.declared.slot.Slot.TheVariants.{Free, Unsent}
 
 is_same : (a b : ℕ) → a ≡ b → eqb a b ≡ true
 is_same a b e = grind (arith, nat_tests)

@@ -1,5 +1,5 @@
 -- What a desk and a bag keep of their own, and how memory is written over.
-use Rattle.std.specs.Prelude.{◌≡◌, ℕ, ◌<◌, ◌≤◌, Bool, true, false, List, length, slice_index_or}
+use Rattle.std.specs.Prelude.{◌≡◌, ℕ, ◌<◌, ◌≤◌, true, false, List, length, slice_index_or}
 use Rattle.std.specs.Borrow.{MutBor}
 use Rattle.es_pool.specs.Pool.{PoolState, is_out, size_at, most_cut, rest_of}
 use Rattle.buf_desc.specs.Slots.{slot_at}

@@ -1,4 +1,4 @@
-use Rattle.std.proofs.Common.{rules, ◌≡◌, ℕ}
+use Rattle.std.proofs.Common.{rules, ℕ}
 use Rattle.std.proofs.lemmas.List.Sorted.{answers_always}
 use Rattle.buf_desc.proofs.Ordered.{searched}
 use Rattle.buf_desc.proofs.held.view_place.Goals as goal

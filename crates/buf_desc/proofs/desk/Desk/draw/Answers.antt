@@ -1,12 +1,7 @@
-use Rattle.std.proofs.Common.{◌≡◌, ◌+◌, ◌-◌, ◌<◌, ◌≤◌, ◌++◌, ◌∷◌, [], length, set, ap, sym, subst, ◌∙◌, arith, refl, List, ℕ}
+use Rattle.std.proofs.Common.{◌-◌, ◌<◌, length, ap, ◌∙◌, arith, refl}
 use Rattle.std.specs.Vec.{vec_capacity}
-use Rattle.es_pool.specs.Pool.{PoolState}
 use Rattle.std.proofs.lemmas.List.{length-take-le}
 use Rattle.buf_desc.specs.Block.{Unsent as UnsentBlock}
-use Rattle.buf_desc.specs.Desk.{Buffers, Takes}
-use Rattle.buf_desc.specs.Inside.{IsKept}
-use Rattle.buf_desc.specs.declared.slot.Slot.{Slot}
-use Rattle.buf_desc.specs.declared.slot.Slot.TheVariants.{Unsent}
 use Rattle.buf_desc.proofs.Keeps.{reused, cut_off, taken_again, taken_new, kept_at, own_again, own_new}
 use Rattle.buf_desc.proofs.desk.Desk.draw.Goals as goal
 

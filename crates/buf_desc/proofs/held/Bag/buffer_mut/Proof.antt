@@ -1,18 +1,18 @@
 -- `buffer_mut` lends the open bytes of one block of a bag, where it is there. The borrow checker shows no write-back clause for an `Option` of a slice, so this proof walks the code by hand: the bag is lent again to look the block up, and then as a whole.
-use Rattle.std.proofs.Common.{◌≡◌, ℕ, ◌*◌, ◌^◌, ◌<◌, List, [], ◌∷◌, ◌++◌, length, refl, sym, ap, subst, ◌∙◌, lit<, w32, w64, w8, Bool, true, false, not, Some, None}
+use Rattle.std.proofs.Common.{◌≡◌, ℕ, ◌*◌, ◌^◌, List, [], ◌∷◌, length, refl, sym, ap, ◌∙◌, lit<, w32, Bool, true, false, not, Some, None}
 use Rattle.std.proofs.raw_atomic.Walks.{proved, leaves}
 use lib.Dec.{T}
-use base.Fml.{Lft, GName, Share, Fml, ftrue, fsep, flft, fobs, fbor, fres, fdead}
+use base.Fml.{Lft, GName, Share, Fml, ftrue, fsep, flft, fres, fdead}
 use base.Fraction.{full_share, left, right}
 use base.FractionLaws.{common}
-use base.Logic.{SProp, ent, sep, emp, wand, apply∗, id⊢}
+use base.Logic.{SProp, sep, emp, wand, apply∗, id⊢}
 use mir.Syntax.{named, a_type, dcons, dnil}
 use mir.MapTy.{inst_fn}
-use mir.Val.{Val, vptr, vint, vbool, of_list}
+use mir.Val.{Val, vptr, vint, of_list}
 use contract.BorrowLft.{◌⊑◌, ⊑_trans, meet_⊑_left, meet_⊑_right}
 use contract.Monad.{fact, fact_i}
 use contract.Running.{tables}
-use types.Kit.{‵, raw, ◌⊛◌, some, later, at_ret, ◌$◌, ◌∵◌, !, qed, by, move, keep, drop, split, split3, join, fsplit, fsplit3, fjoin, fjoin3, feq_i, feq_l, flt_i, flt_l, use0, use1, use2, use3, await, pick, rewrite, group, done}
+use types.Kit.{‵, raw, ◌⊛◌, some, later, at_ret, ◌$◌, ◌∵◌, !, qed, by, move, keep, drop, split, split3, join, fsplit, fsplit3, fjoin, fjoin3, feq_i, feq_l, flt_i, flt_l, use0, use1, use2, use3, await, pick, rewrite}
 use types.Match.{live}
 use types.Part.{agg}
 use types.Run.{stop, addr, lit, first, branches, skips, exec, returns, returns_within, no_more, and_then, enter}
