@@ -1,5 +1,5 @@
 //! The largest configuration.
-ghost use Rattle.std.specs.Prelude.{◌≡◌, ◌+◌, ◌*◌, ◌<◌, ◌≤◌, length};
+ghost use Rattle.std.specs.Prelude.{◌≡◌, ◌+◌, ◌*◌, ◌<◌, ◌≤◌, false, length, OnOk};
 ghost use Rattle.bus_words.specs.Bus.{route};
 ghost use Rattle.sb_calls.specs.Core.{state_of};
 
@@ -43,12 +43,14 @@ enum Filling {
 /// `Memory` where there is none for the bus; `Write` where the sink fails.
 pub fn print_largest<L: Ledger, K: Sink>(
     alloc: Global,
-    sink: &mut K,
+    sink: &mut SinkGuard<'_, K>,
     blank: Blank,
 ) -> Result<(), Fail>
     requires name { blank.name ≡ L.name }
     requires parts { blank.parts ≡ L.parts }
     requires some_part { 0 < blank.parts }
+    requires none_failed { sink.old.failed ≡ false }
+    ensures { OnOk result (sink.new.failed ≡ false) }
 {
     let mut steps = Steps::<L>::new(blank);
     let mut core = BusCore::new(alloc, &config_of(&LIMITS), budgets(16))?;
@@ -59,9 +61,12 @@ pub fn print_largest<L: Ledger, K: Sink>(
 // Fills this bus, and prints how many calls it took.
 fn print_filled<L: Ledger, K: Sink>(
     core: &mut BusCore,
-    sink: &mut K,
+    sink: &mut SinkGuard<'_, K>,
     steps: &mut Steps<L>,
-) -> Result<(), WriteFault> {
+) -> Result<(), WriteFault>
+    requires { sink.old.failed ≡ false }
+    ensures { OnOk result (sink.new.failed ≡ false) }
+{
     print_title("the largest configuration", sink)?;
     let pipes = fill(core, Filling::Pipes, 257, steps);
     print_figure(b"pipes ", pipes, sink)?;
@@ -145,11 +150,17 @@ fn pipes_reached<L: Ledger>(core: &mut BusCore, id: u16, steps: &mut Steps<L>) -
 }
 
 // Prints a figure as a line.
-fn print_figure<K: Sink>(name: &[u8], figure: u32, sink: &mut K) -> Result<(), WriteFault> {
-    let mut guard = SinkGuard::new(sink);
+fn print_figure<K: Sink>(
+    name: &[u8],
+    figure: u32,
+    sink: &mut SinkGuard<'_, K>,
+) -> Result<(), WriteFault>
+    requires { sink.old.failed ≡ false }
+    ensures { OnOk result (sink.new.failed ≡ false) }
+{
     let mut page = Page::new();
-    put(&mut guard, &mut page, name);
-    put_number(&mut guard, &mut page, figure);
-    put(&mut guard, &mut page, b"\n");
-    finish(&mut guard, &mut page)
+    put(sink, &mut page, name);
+    put_number(sink, &mut page, figure);
+    put(sink, &mut page, b"\n");
+    finish(sink, &mut page)
 }

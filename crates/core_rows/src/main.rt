@@ -21,11 +21,12 @@ use crate::fail::Fail;
 use crate::largest::print_largest;
 use crate::printing::print_example;
 use bucket_list::Blank;
-use fsw_base::StdSink;
+use fsw_base::{SinkGuard, StdSink};
 use std::marker::Brand;
 
 fn main(rt: HostRuntime) -> Result<(), Fail> {
-    let mut sink = StdSink::new(rt.stdout());
+    let mut output = StdSink::new(rt.stdout());
+    let mut sink = SinkGuard::new(&mut output);
     for example in &EXAMPLES {
         print_example::<Brand, StdSink>(rt.alloc(), example, &mut sink, Blank::new(1))?;
     }

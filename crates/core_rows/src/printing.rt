@@ -1,5 +1,5 @@
 //! Examples as text.
-ghost use Rattle.std.specs.Prelude.{◌≡◌, ◌<◌};
+ghost use Rattle.std.specs.Prelude.{◌≡◌, ◌<◌, false, OnOk};
 
 use crate::example::Example;
 use crate::fail::Fail;
@@ -21,12 +21,14 @@ use text_page::write_text;
 pub fn print_example<L: Ledger, K: Sink>(
     alloc: Global,
     example: &Example,
-    sink: &mut K,
+    sink: &mut SinkGuard<'_, K>,
     blank: Blank,
 ) -> Result<(), Fail>
     requires name { blank.name ≡ L.name }
     requires parts { blank.parts ≡ L.parts }
     requires some_part { 0 < blank.parts }
+    requires none_failed { sink.old.failed ≡ false }
+    ensures { OnOk result (sink.new.failed ≡ false) }
 {
     let mut steps = Steps::<L>::new(blank);
     let mut core = BusCore::new(alloc, &config_of(example.limits), budgets(example.apps))?;
@@ -38,9 +40,12 @@ fn print_played<L: Ledger, K: Sink>(
     alloc: Global,
     example: &Example,
     core: &mut BusCore,
-    sink: &mut K,
+    sink: &mut SinkGuard<'_, K>,
     steps: &mut Steps<L>,
-) -> Result<(), Fail> {
+) -> Result<(), Fail>
+    requires { sink.old.failed ≡ false }
+    ensures { OnOk result (sink.new.failed ≡ false) }
+{
     let mut buffer = vec![in alloc; 0u8; MOST_BYTES]?;
     let mut seen = Vec::with_capacity(alloc, example.steps.len())?;
     print_title(example.title, sink)?;
@@ -49,7 +54,7 @@ fn print_played<L: Ledger, K: Sink>(
         tell(outcome, &mut seen, sink)?;
     }
     let receipts = receipt_lists(alloc, example.apps, &seen)?;
-    write_journal(core.journal(), &receipts, &mut SinkGuard::new(sink))?;
+    write_journal(core.journal(), &receipts, sink)?;
     Ok(())
 }
 
@@ -57,22 +62,27 @@ fn print_played<L: Ledger, K: Sink>(
 ///
 /// # Errors
 /// The sink's fault, where it fails.
-pub fn print_title<K: Sink>(title: &str, sink: &mut K) -> Result<(), WriteFault> {
-    let mut guard = SinkGuard::new(sink);
-    write_text(&mut guard, title.as_bytes())?;
-    write_text(&mut guard, b"\n")
+pub fn print_title<K: Sink>(title: &str, sink: &mut SinkGuard<'_, K>) -> Result<(), WriteFault>
+    requires { sink.old.failed ≡ false }
+    ensures { OnOk result (sink.new.failed ≡ false) }
+{
+    write_text(sink, title.as_bytes())?;
+    write_text(sink, b"\n")
 }
 
 // Notes what a step left to tell, or writes that its application may not make the call.
 fn tell<K: Sink>(
     outcome: Outcome,
     seen: &mut Vec<(AppNo, Receipt)>,
-    sink: &mut K,
-) -> Result<(), Fail> {
+    sink: &mut SinkGuard<'_, K>,
+) -> Result<(), Fail>
+    requires { sink.old.failed ≡ false }
+    ensures { OnOk result (sink.new.failed ≡ false) }
+{
     match outcome {
         Outcome::Entry => Ok(()),
         Outcome::Seen(app, receipt) => Ok(note(seen, app, receipt)?),
-        Outcome::NotAllowed => Ok(write_text(&mut SinkGuard::new(sink), b"not allowed\n")?),
+        Outcome::NotAllowed => Ok(write_text(sink, b"not allowed\n")?),
     }
 }
 
