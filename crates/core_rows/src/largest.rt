@@ -54,8 +54,7 @@ pub fn print_largest<L: Ledger, K: Sink>(
 {
     let mut steps = Steps::<L>::new(blank);
     let mut core = BusCore::new(alloc, &config_of(&LIMITS), budgets(16))?;
-    print_filled(&mut core, sink, &mut steps)?;
-    Ok(())
+    print_filled(&mut core, sink, &mut steps)
 }
 
 // Fills this bus, and prints how many calls it took.
@@ -63,7 +62,7 @@ fn print_filled<L: Ledger, K: Sink>(
     core: &mut BusCore,
     sink: &mut SinkGuard<'_, K>,
     steps: &mut Steps<L>,
-) -> Result<(), WriteFault>
+) -> Result<(), Fail>
     requires { sink.old.failed ≡ false }
     ensures { OnOk result (sink.new.failed ≡ false) }
 {
