@@ -62,7 +62,7 @@ oldest_there rows number =
     by_row (Some row) = by_queue row.queue
 
 -- the item that was received last on a pipe
-last_there : (rows : List PipeRow) (number : ℕ) →
+pub last_there : (rows : List PipeRow) (number : ℕ) →
     option_map item_in (option_and_then (λ row. row.last) (pipe_row rows number)) ≡ option_and_then (λ (row : Row). row.last) (row_of (map row_in rows) number)
 last_there rows number =
     by_row (pipe_row rows number) ∙ ap (λ o. option_and_then (λ (row : Row). row.last) o) (sym (find-map (λ (row : Row). eqb row.number number) row_in rows))

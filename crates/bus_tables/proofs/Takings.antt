@@ -1,7 +1,7 @@
 -- The message that waits longest leaves a pipe's queue: what waits then is counted, and contracts see the row after a receive.
 use Rattle.std.proofs.Common.{◌≡◌, ℕ, ◌+◌, ◌-◌, ◌≤◌, Bool, true, false, cond, eqb, List, [], ◌∷◌, drop, map, Option, Some, None, count_by, slice_get, refl, ap, sym, ◌∙◌, subst, arith}
 use Rattle.std.specs.List.{All}
-use Rattle.std.specs.Option.{option_map, option_and_then}
+use Rattle.std.specs.Option.{IfSome, ForSome, option_map, option_and_then}
 use Rattle.std.proofs.lemmas.Bool.{eqb-true, eq-eqb, both_ways, and_from, false_from_ne_true}
 use Rattle.std.proofs.lemmas.List.Elements.{All-head, All-map, All-weaker, All-drop}
 use Rattle.std.proofs.lemmas.List.Sums.{sum_by-cons}
@@ -11,9 +11,10 @@ use Rattle.pipe_table.specs.Table.{Pipes, PipeRow, pipe_row, oldest_on, taken_ro
 use Rattle.subscriptions.specs.Subs.{Subscribed, Subscription, goes_by, live_at, one_fewer, with_change}
 use Rattle.routing.specs.Routing.{Routing}
 use Rattle.bus_tables.specs.declared.tables.BusTables.TheInside.{Inside}
-use Rattle.bus_tables.specs.Rows.{Row, with_row, after_take, first_item}
+use Rattle.bus_tables.specs.Rows.{Row, with_row, after_take, without_front, first_item}
 use Rattle.bus_tables.specs.Tables.{Tables}
-use Rattle.bus_tables.specs.Inside.{item_in, row_in, sub_in, tables_in, waiting_at, uncounted, still, frame, IsCounted, IsPlaced, IsOf, IsQueued, AreQueued, AreTied}
+use Rattle.bus_tables.specs.Inside.{item_in, row_in, sub_in, tables_in, waiting_at, uncounted, still, frame, fewer_by, IsCounted, IsPlaced, IsOf, IsQueued, AreQueued, AreTied}
+use Rattle.bus_tables.proofs.Makings.{rows_changed}
 use Rattle.bus_tables.proofs.Offers.{goes_by_parts}
 use Rattle.bus_tables.proofs.OffersLists.{all_both, found_is, found_passes}
 use Rattle.bus_tables.proofs.OffersRows.{changed, pipe_row-with_row, of_row_kept}
@@ -38,26 +39,24 @@ tables_after old pipes before subs routing rows framed same seen =
 pub tied_after : (old pipes : Pipes) (before subs : Subscribed) (routing : Routing) → AreTied old before routing → still subs ≡ still before → AreQueued pipes.live subs → AreTied pipes subs routing
 tied_after old pipes before subs routing tied same queued = record { queued = queued; routed = routed_still before subs routing same tied.routed; room = ap (λ (s : Subscribed). s.room) same ∙ tied.room }
 
--- the rows after a receive
-pub taken_rows : (number : ℕ) (rows : List PipeRow) → map row_in (table.with_row taken_row number rows) ≡ with_row after_take number (map row_in rows)
-taken_rows number [] = refl
-taken_rows number (row ∷ rows) =
-    ap (λ r. r ∷ map row_in (table.with_row taken_row number rows)) (by_test (eqb row.number number))
-    ∙ ap (λ l. cond {A = Row} (eqb row.number number) (after_take (row_in row)) (row_in row) ∷ l) (taken_rows number rows)
-  where
-    fewer : (queue : List Item) → map item_in (drop 1 queue) ≡ drop 1 (map item_in queue)
-    fewer [] = refl
-    fewer (item ∷ queue) = refl
+-- what is behind the first item, as contracts see it
+fewer : (queue : List Item) → map item_in (drop 1 queue) ≡ drop 1 (map item_in queue)
+fewer [] = refl
+fewer (item ∷ queue) = refl
 
+-- the row after a receive
+pub taken_row_seen : (row : PipeRow) → row_in (taken_row row) ≡ after_take (row_in row)
+taken_row_seen row =
+    ap (λ q. let r : Row = record (row_in row) { queue = q; last = option_map item_in (slice_get row.queue 0) } in r) (fewer row.queue)
+    ∙ ap (λ o. let r : Row = record (row_in row) { queue = drop 1 (map item_in row.queue); last = o } in r) (first row.queue)
+  where
     first : (queue : List Item) → option_map item_in (slice_get queue 0) ≡ first_item (map item_in queue)
     first [] = refl
     first (item ∷ queue) = refl
 
-    by_test : (b : Bool) → row_in (cond {A = PipeRow} b (taken_row row) row) ≡ cond {A = Row} b (after_take (row_in row)) (row_in row)
-    by_test true =
-        ap (λ q. let r : Row = record (row_in row) { queue = q; last = option_map item_in (slice_get row.queue 0) } in r) (fewer row.queue)
-        ∙ ap (λ o. let r : Row = record (row_in row) { queue = drop 1 (map item_in row.queue); last = o } in r) (first row.queue)
-    by_test false = refl
+-- the row without what waits longest
+pub front_row_seen : (row : PipeRow) → row_in (table.without_front row) ≡ without_front (row_in row)
+front_row_seen row = ap (λ q. let r : Row = record (row_in row) { queue = q } in r) (fewer row.queue)
 
 -- What waits then. --
 
@@ -95,32 +94,40 @@ of_found_kept w f number other rows same keeps =
     by_row None is = refl
     by_row (Some row) is = ap Some (by_test row is (eqb row.number number) refl)
 
-module _ (rows : List PipeRow) (subs : Subscribed) (number : ℕ) (queued : AreQueued rows subs) where
+-- a change of a row that takes the first item out of its queue, and leaves its number and place
+pub record TakesFront (f : PipeRow → PipeRow) : Type 0 where
+  pub number : (row : PipeRow) → (f row).number ≡ row.number
+  pub place : (row : PipeRow) → (f row).place ≡ row.place
+  pub queue : (row : PipeRow) → (f row).queue ≡ drop 1 row.queue
+
+module _ (f : PipeRow → PipeRow) (front : TakesFront f) (rows : List PipeRow) (subs : Subscribed) (number : ℕ) (queued : AreQueued rows subs) where
   -- what is left in the queues
-  items : (after : Subscribed) → still after ≡ still subs → All (λ r. All (IsQueued after r.number) r.queue) (table.with_row taken_row number rows)
+  items : (after : Subscribed) → still after ≡ still subs → All (λ r. All (IsQueued after r.number) r.queue) (table.with_row f number rows)
   items after same =
-      All-map (λ r. All (IsQueued after r.number) r.queue) (changed taken_row number) rows
-      (All-weaker (λ r. All (IsQueued subs r.number) r.queue) (λ r. All (IsQueued after (changed taken_row number r).number) (changed taken_row number r).queue)
+      All-map (λ r. All (IsQueued after r.number) r.queue) (changed f number) rows
+      (All-weaker (λ r. All (IsQueued subs r.number) r.queue) (λ r. All (IsQueued after (changed f number r).number) (changed f number r).queue)
       (λ r all. by_test r (All-weaker (IsQueued subs r.number) (IsQueued after r.number) (λ i is. queued_still subs after r.number i same is) r.queue all) (eqb r.number number)) rows queued.items)
     where
       by_test : (r : PipeRow) → All (IsQueued after r.number) r.queue → (b : Bool) →
-          All (IsQueued after (cond {A = PipeRow} b (taken_row r) r).number) (cond {A = PipeRow} b (taken_row r) r).queue
-      by_test r all true = All-drop (IsQueued after r.number) 1 r.queue all
+          All (IsQueued after (cond {A = PipeRow} b (f r) r).number) (cond {A = PipeRow} b (f r) r).queue
+      by_test r all true =
+          subst (λ n. All (IsQueued after n) (f r).queue) (sym (front.number r))
+          (subst (λ q. All (IsQueued after r.number) q) (sym (front.queue r)) (All-drop (IsQueued after r.number) 1 r.queue all))
       by_test r all false = all
 
   -- a pipe stays where it lies
-  stays_placed : (t : Subscription) → IsPlaced rows t → IsPlaced (table.with_row taken_row number rows) t
-  stays_placed t is = of_row_kept (λ (r : PipeRow). r.place) taken_row number t.pipe rows (λ r. refl) (λ r. refl) ∙ is
+  stays_placed : (t : Subscription) → IsPlaced rows t → IsPlaced (table.with_row f number rows) t
+  stays_placed t is = of_row_kept (λ (r : PipeRow). r.place) f number t.pipe rows front.number front.place ∙ is
 
   -- where none waits
-  pub none_taken : oldest_on rows number ≡ None → AreQueued (table.with_row taken_row number rows) subs
+  pub none_taken : oldest_on rows number ≡ None → AreQueued (table.with_row f number rows) subs
   none_taken none = record {
     counted =
-        All-weaker (IsCounted rows) (IsCounted (table.with_row taken_row number rows))
-        (λ t is. of_found_kept (λ r. waiting_at r t.number) taken_row number t.pipe rows (λ r. refl)
-        (λ row here. behind_none (λ i. eqb i.sub.number t.number) row.queue (ap (option_and_then (λ r. slice_get r.queue 0)) (sym here) ∙ none)) ∙ is)
+        All-weaker (IsCounted rows) (IsCounted (table.with_row f number rows))
+        (λ t is. of_found_kept (λ r. waiting_at r t.number) f number t.pipe rows front.number
+        (λ row here. ap (count_by (λ i. eqb i.sub.number t.number)) (front.queue row) ∙ behind_none (λ i. eqb i.sub.number t.number) row.queue (ap (option_and_then (λ r. slice_get r.queue 0)) (sym here) ∙ none)) ∙ is)
         subs.live queued.counted;
-    placed = All-weaker (IsPlaced rows) (IsPlaced (table.with_row taken_row number rows)) (λ t is. stays_placed t is) subs.live queued.placed;
+    placed = All-weaker (IsPlaced rows) (IsPlaced (table.with_row f number rows)) (λ t is. stays_placed t is) subs.live queued.placed;
     items = items subs refl;
   }
 
@@ -144,12 +151,13 @@ module _ (rows : List PipeRow) (subs : Subscribed) (number : ℕ) (queued : AreQ
         row_there.2
 
     -- its subscription's count
-    own_count : (t : Subscription) → IsCounted rows t → IsOf number item t → t.number ≡ item.sub.number → 1 + waiting_at (taken_row row) t.number ≡ t.waiting
+    own_count : (t : Subscription) → IsCounted rows t → IsOf number item t → t.number ≡ item.sub.number → 1 + waiting_at (f row) t.number ≡ t.waiting
     own_count t is own mine =
         let counted : ◌≡◌ {A = Option ℕ} (Some (waiting_at row t.number)) (Some t.waiting) =
         ap (option_map (λ r. waiting_at r t.number)) (sym row_there.1) ∙ ap (λ n. option_map (λ r. waiting_at r t.number) (pipe_row rows n)) (sym (own mine).1) ∙ is in
         let waits : waiting_at row t.number ≡ t.waiting = cc (counted) in
-        ap (λ b. cond {A = ℕ} b 1 0 + waiting_at (taken_row row) t.number) (sym (eq-eqb item.sub.number t.number (sym mine)))
+        ap (λ q. 1 + count_by (λ i. eqb i.sub.number t.number) q) (front.queue row)
+        ∙ ap (λ b. cond {A = ℕ} b 1 0 + count_by (λ i. eqb i.sub.number t.number) (drop 1 row.queue)) (sym (eq-eqb item.sub.number t.number (sym mine)))
         ∙ sym (behind_first (λ i. eqb i.sub.number t.number) row.queue item row_there.2)
         ∙ waits
 
@@ -163,17 +171,17 @@ module _ (rows : List PipeRow) (subs : Subscribed) (number : ℕ) (queued : AreQ
         )
 
     counted : (t : Subscription) → IsCounted rows t → IsOf number item t → (b : Bool) → goes_by item.sub t ≡ b →
-        IsCounted (table.with_row taken_row number rows) (cond {A = Subscription} b (one_fewer t) t)
+        IsCounted (table.with_row f number rows) (cond {A = Subscription} b (one_fewer t) t)
     counted t is own true here =
         let mine = (goes_by_parts item.sub t here).1 in
         let w : PipeRow → ℕ = λ r. waiting_at r t.number in
-        let left : waiting_at (taken_row row) t.number ≡ t.waiting - 1 = omega (arith, own_count t is own mine) in
-        ap (λ n. option_map w (pipe_row (table.with_row taken_row number rows) n)) (own mine).1
-        ∙ ap (option_map w) (pipe_row-with_row taken_row number number rows (λ r. refl) ∙ ap (option_map (changed taken_row number)) row_there.1)
-        ∙ ap (λ b. Some (w (cond {A = PipeRow} b (taken_row row) row))) (found_passes (λ r. eqb r.number number) rows row row_there.1)
+        let left : waiting_at (f row) t.number ≡ t.waiting - 1 = omega (arith, own_count t is own mine) in
+        ap (λ n. option_map w (pipe_row (table.with_row f number rows) n)) (own mine).1
+        ∙ ap (option_map w) (pipe_row-with_row f number number rows front.number ∙ ap (option_map (changed f number)) row_there.1)
+        ∙ ap (λ b. Some (w (cond {A = PipeRow} b (f row) row))) (found_passes (λ r. eqb r.number number) rows row row_there.1)
         ∙ ap Some left
     counted t is own false here =
-        of_found_kept (λ r. waiting_at r t.number) taken_row number t.pipe rows (λ r. refl) keeps ∙ is
+        of_found_kept (λ r. waiting_at r t.number) f number t.pipe rows front.number keeps ∙ is
       where
         apart : eqb item.sub.number t.number ≡ false
         apart = false_from_ne_true (eqb item.sub.number t.number) (λ equal.
@@ -181,52 +189,70 @@ module _ (rows : List PipeRow) (subs : Subscribed) (number : ℕ) (queued : AreQ
             both_ways (goes_by item.sub t) here
             (and_from (eqb t.slot item.sub.slot) (eqb t.number item.sub.number) (eq-eqb t.slot item.sub.slot (own mine).0) (eq-eqb t.number item.sub.number mine)))
 
-        keeps : (r : PipeRow) → pipe_row rows number ≡ Some r → waiting_at (taken_row r) t.number ≡ waiting_at r t.number
+        keeps : (r : PipeRow) → pipe_row rows number ≡ Some r → waiting_at (f r) t.number ≡ waiting_at r t.number
         keeps r there =
             let same : row ≡ r = cc (row_there.1, there) in
-            let more = behind_first (λ i. eqb i.sub.number t.number) row.queue item row_there.2 ∙ ap (λ b. cond {A = ℕ} b 1 0 + waiting_at (taken_row row) t.number) apart in
-            subst (λ q. waiting_at (taken_row q) t.number ≡ waiting_at q t.number) same (omega (arith, more))
+            let more = behind_first (λ i. eqb i.sub.number t.number) row.queue item row_there.2 ∙ ap (λ b. cond {A = ℕ} b 1 0 + count_by (λ i. eqb i.sub.number t.number) (drop 1 row.queue)) apart in
+            let behind = ap (count_by (λ i. eqb i.sub.number t.number)) (front.queue row) in
+            subst (λ q. waiting_at (f q) t.number ≡ waiting_at q t.number) same (omega (arith, more, behind))
 
-    changed_placed : (t : Subscription) → IsPlaced (table.with_row taken_row number rows) t → (b : Bool) → IsPlaced (table.with_row taken_row number rows) (cond {A = Subscription} b (one_fewer t) t)
+    changed_placed : (t : Subscription) → IsPlaced (table.with_row f number rows) t → (b : Bool) → IsPlaced (table.with_row f number rows) (cond {A = Subscription} b (one_fewer t) t)
     changed_placed t is true = is
     changed_placed t is false = is
 
-    pub one_taken : AreQueued (table.with_row taken_row number rows) (with_change subs item.sub one_fewer)
+    pub one_taken : AreQueued (table.with_row f number rows) (with_change subs item.sub one_fewer)
     one_taken = record {
       counted =
-          All-map (IsCounted (table.with_row taken_row number rows)) (λ t. cond {A = Subscription} (goes_by item.sub t) (one_fewer t) t) subs.live
-          (all_both (IsCounted rows) (IsOf number item) (λ t. IsCounted (table.with_row taken_row number rows) (cond {A = Subscription} (goes_by item.sub t) (one_fewer t) t))
+          All-map (IsCounted (table.with_row f number rows)) (λ t. cond {A = Subscription} (goes_by item.sub t) (one_fewer t) t) subs.live
+          (all_both (IsCounted rows) (IsOf number item) (λ t. IsCounted (table.with_row f number rows) (cond {A = Subscription} (goes_by item.sub t) (one_fewer t) t))
           (λ t is own. counted t is own (goes_by item.sub t) refl) subs.live queued.counted its.own);
       placed =
-          All-map (IsPlaced (table.with_row taken_row number rows)) (λ t. cond {A = Subscription} (goes_by item.sub t) (one_fewer t) t) subs.live
-          (All-weaker (IsPlaced rows) (λ t. IsPlaced (table.with_row taken_row number rows) (cond {A = Subscription} (goes_by item.sub t) (one_fewer t) t))
+          All-map (IsPlaced (table.with_row f number rows)) (λ t. cond {A = Subscription} (goes_by item.sub t) (one_fewer t) t) subs.live
+          (All-weaker (IsPlaced rows) (λ t. IsPlaced (table.with_row f number rows) (cond {A = Subscription} (goes_by item.sub t) (one_fewer t) t))
           (λ t is. changed_placed t (stays_placed t is) (goes_by item.sub t)) subs.live queued.placed);
       items = items (with_change subs item.sub one_fewer) (still-with_change subs item.sub one_fewer (λ t. refl));
     }
 
+  -- Whether one waits or not. --
+
+  -- the oldest message's subscription counts at least one
+  pub waits_if : (item : Option Item) → oldest_on rows number ≡ item → IfSome item (λ i. ForSome (live_at subs i.sub) (λ s. 1 ≤ s.waiting))
+  waits_if None is = tt
+  waits_if (Some item) is = one_waits item is
+
+  -- what waits is counted, once it counts one fewer
+  pub queued_if : (item : Option Item) → oldest_on rows number ≡ item → AreQueued (table.with_row f number rows) (fewer_by item subs)
+  queued_if None is = none_taken is
+  queued_if (Some item) is = one_taken item is
+
 -- The tables then. --
 
--- what stands behind the tables once the oldest message's subscription counts one fewer
-pub record Leaves (before after : Inside) (number : ℕ) : Type 0 where
-  pub pipes : after.pipes ≡ before.pipes
-  pub routes : after.routes ≡ before.routes
-  pub same : still after.subs ≡ still before.subs
-  pub queued : AreQueued (table.with_row taken_row number before.pipes.live) after.subs
+still_fewer : (subs : Subscribed) (item : Option Item) → still (fewer_by item subs) ≡ still subs
+still_fewer subs None = refl
+still_fewer subs (Some item) = still-with_change subs item.sub one_fewer (λ s. refl)
 
-module _ (before after : Inside) (number : ℕ) (pipes : Pipes) (leaves : Leaves before after number)
-    (takes : pipes ≡ record after.pipes { live = table.with_row taken_row number after.pipes.live }) where
-  is : pipes ≡ record before.pipes { live = table.with_row taken_row number before.pipes.live }
-  is = takes ∙ ap (λ (p : Pipes). let q : Pipes = record p { live = table.with_row taken_row number p.live } in q) leaves.pipes
+pub takes_front : TakesFront table.without_front
+takes_front = record { number = λ row. refl; place = λ row. refl; queue = λ row. refl }
 
-  pub taken_tied : AreTied before.pipes before.subs before.routes → AreTied pipes after.subs after.routes
-  taken_tied tied =
-      subst (λ r. AreTied pipes after.subs r) (sym leaves.routes)
-      (tied_after before.pipes pipes before.subs after.subs before.routes tied leaves.same
-      (subst (λ (p : Pipes). AreQueued p.live after.subs) (sym is) leaves.queued))
+pub takes_oldest : TakesFront taken_row
+takes_oldest = record { number = λ row. refl; place = λ row. refl; queue = λ row. refl }
 
-  pub taken_tables : (now : Tables) → tables_in before.pipes before.subs before.routes ≡ now → tables_in pipes after.subs after.routes ≡ record now { pipes = with_row after_take number now.pipes }
-  taken_tables now seen =
-      ap (tables_in pipes after.subs) leaves.routes
-      ∙ tables_after before.pipes pipes before.subs after.subs before.routes (with_row after_take number (map row_in before.pipes.live)) (ap frame is) leaves.same
-      (ap (λ (p : Pipes). map row_in p.live) is ∙ taken_rows number before.pipes.live)
-      ∙ ap (λ (t : Tables). let n : Tables = record t { pipes = with_row after_take number t.pipes } in n) seen
+module _ (f : PipeRow → PipeRow) (g : Row → Row) (front : TakesFront f) (seen : (row : PipeRow) → row_in (f row) ≡ g (row_in row))
+    (before : Inside) (number : ℕ) (pipes : Pipes) (subs : Subscribed) (item : Option Item)
+    (takes : pipes ≡ record before.pipes { live = table.with_row f number before.pipes.live })
+    (fewer : subs ≡ fewer_by item before.subs) where
+  same : still subs ≡ still before.subs
+  same = ap still fewer ∙ still_fewer before.subs item
+
+  pub front_tied : AreTied before.pipes before.subs before.routes → item ≡ oldest_on before.pipes.live number → AreTied pipes subs before.routes
+  front_tied tied oldest =
+      tied_after before.pipes pipes before.subs subs before.routes tied same
+      (subst (λ s. AreQueued pipes.live s) (sym fewer)
+      (subst (λ (p : Pipes). AreQueued p.live (fewer_by item before.subs)) (sym takes)
+      (queued_if f front before.pipes.live before.subs number tied.queued item (sym oldest))))
+
+  pub front_tables : (now : Tables) → tables_in before.pipes before.subs before.routes ≡ now → tables_in pipes subs before.routes ≡ record now { pipes = with_row g number now.pipes }
+  front_tables now viewed =
+      tables_after before.pipes pipes before.subs subs before.routes (with_row g number (map row_in before.pipes.live)) (ap frame takes) same
+      (ap (λ (p : Pipes). map row_in p.live) takes ∙ rows_changed f g seen number before.pipes.live)
+      ∙ ap (λ (t : Tables). let n : Tables = record t { pipes = with_row g number t.pipes } in n) viewed

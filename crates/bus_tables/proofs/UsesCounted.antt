@@ -1,14 +1,14 @@
 -- What a change of one pipe, and a delivery, do to the uses of a send.
 use Rattle.std.proofs.Common.{◌≡◌, ℕ, ◌+◌, ◌<◌, ◌≤◌, Bool, true, false, cond, eqb, List, [], ◌∷◌, ◌++◌, drop, count_by, sum_by, refl, sym, ap, subst, arith, Option, Some, None}
 use Rattle.std.specs.List.{find}
-use Rattle.std.specs.Option.{option_map_or}
+use Rattle.std.specs.Option.{option_map_or, option_and_then}
 use Rattle.std.proofs.lemmas.Bool.Decides.{nat_tests}
 use Rattle.std.proofs.lemmas.List.Sums.{sum_by-cons, sum_by_push}
 use Rattle.bus_words.specs.Bus.{Subscription}
 use Rattle.bus_tables.specs.declared.tables.ItemRow.{ItemRow}
-use Rattle.bus_tables.specs.Rows.{Row, with_row, takes, offered_row, row_takes, deliver_rows, reached_rows, after_take, first_item}
+use Rattle.bus_tables.specs.Rows.{Row, with_row, takes, offered_row, row_takes, deliver_rows, reached_rows, after_take, without_front, without_last, first_item, oldest_item, last_item}
 use Rattle.bus_tables.specs.Tables.{IsRising}
-use Rattle.bus_tables.specs.Uses.{last_use, uses_in, uses_of}
+use Rattle.bus_tables.specs.Uses.{item_use, uses_in, uses_of}
 
 abbrev is : ℕ → Row → Bool
 is p row = eqb row.number p
@@ -89,14 +89,31 @@ delivered_uses n sender number below (sub ∷ subs) rows r =
     at true x y z u v e h = omega (arith, e, h)
     at false x y z u v e h = omega (arith, e, h)
 
+-- the first item that waits, and those behind it
+moved : (n : ℕ) (q : List ItemRow) → count_by (λ i. eqb i.number n) (drop 1 q) + item_use n (first_item q) ≡ count_by (λ i. eqb i.number n) q
+moved n [] = refl
+moved n (i ∷ q) = omega (arith, sum_by-cons (λ (x : ItemRow). cond {A = ℕ} (eqb x.number n) 1 0) i q)
+
 -- Where an application takes the next message of a pipe, the one received last loses a use, and no other does.
-pub taken_uses : (n p below : ℕ) (rows : List Row) → IsRising below rows → uses_of n (with_row after_take p rows) + option_map_or (λ row. last_use n row.last) (find (is p) rows) 0 ≡ uses_of n rows
+pub taken_uses : (n p below : ℕ) (rows : List Row) → IsRising below rows → uses_of n (with_row after_take p rows) + option_map_or (λ row. item_use n row.last) (find (is p) rows) 0 ≡ uses_of n rows
 taken_uses n p below rows r = at (find (is p) rows) (with_row_sum (uses_in n) after_take p below rows r)
   where
-    moved : (q : List ItemRow) → count_by (λ i. eqb i.number n) (drop 1 q) + last_use n (first_item q) ≡ count_by (λ i. eqb i.number n) q
-    moved [] = refl
-    moved (i ∷ q) = omega (arith, sum_by-cons (λ (x : ItemRow). cond {A = ℕ} (eqb x.number n) 1 0) i q)
-
-    at : (o : Option Row) → uses_of n (with_row after_take p rows) + option_map_or (uses_in n) o 0 ≡ uses_of n rows + option_map_or (λ row. uses_in n (after_take row)) o 0 → uses_of n (with_row after_take p rows) + option_map_or (λ row. last_use n row.last) o 0 ≡ uses_of n rows
+    at : (o : Option Row) → uses_of n (with_row after_take p rows) + option_map_or (uses_in n) o 0 ≡ uses_of n rows + option_map_or (λ row. uses_in n (after_take row)) o 0 → uses_of n (with_row after_take p rows) + option_map_or (λ row. item_use n row.last) o 0 ≡ uses_of n rows
     at None e = omega (arith, e)
-    at (Some row) e = omega (arith, e, moved row.queue)
+    at (Some row) e = omega (arith, e, moved n row.queue)
+
+-- where the item that waits longest is taken out of a pipe, its send loses a use, and no other does
+pub front_uses : (n p below : ℕ) (rows : List Row) → IsRising below rows → uses_of n (with_row without_front p rows) + item_use n (oldest_item rows p) ≡ uses_of n rows
+front_uses n p below rows r = at (find (is p) rows) (with_row_sum (uses_in n) without_front p below rows r)
+  where
+    at : (o : Option Row) → uses_of n (with_row without_front p rows) + option_map_or (uses_in n) o 0 ≡ uses_of n rows + option_map_or (λ row. uses_in n (without_front row)) o 0 → uses_of n (with_row without_front p rows) + item_use n (option_and_then (λ row. first_item row.queue) o) ≡ uses_of n rows
+    at None e = omega (arith, e)
+    at (Some row) e = omega (arith, e, moved n row.queue)
+
+-- and so where the item received last is taken out
+pub last_uses : (n p below : ℕ) (rows : List Row) → IsRising below rows → uses_of n (with_row without_last p rows) + item_use n (last_item rows p) ≡ uses_of n rows
+last_uses n p below rows r = at (find (is p) rows) (with_row_sum (uses_in n) without_last p below rows r)
+  where
+    at : (o : Option Row) → uses_of n (with_row without_last p rows) + option_map_or (uses_in n) o 0 ≡ uses_of n rows + option_map_or (λ row. uses_in n (without_last row)) o 0 → uses_of n (with_row without_last p rows) + item_use n (option_and_then (λ row. row.last) o) ≡ uses_of n rows
+    at None e = omega (arith, e)
+    at (Some row) e = omega (arith, e)

@@ -2,7 +2,7 @@
 -- id are its subscriptions.
 use Rattle.std.specs.Prelude.{◌≡◌, ℕ, ◌*◌, ◌≤◌, ◌==◌, ◌&&◌, Bool, true, List, [], map, filter, find, count_by, Option, Some, is_some}
 use Rattle.std.specs.List.{All}
-use Rattle.std.specs.Option.{option_map}
+use Rattle.std.specs.Option.{option_map, option_map_or}
 use Rattle.bus_words.specs.Bus.{Subscription}
 use Rattle.pipe_queue.specs.declared.item.Item.{Item}
 use Rattle.pipe_table.specs.Table.{Pipes, PipeRow, pipe_row, place_of}
@@ -116,6 +116,10 @@ uncounted s = record s { waiting = 0 }
 -- the subscriptions but for how many of their messages wait
 abbrev pub still : subs.Subscribed → subs.Subscribed
 still subscribed = record subscribed { live = map uncounted subscribed.live }
+
+-- the subscriptions once one message fewer of the item's waits; as they are, where there is no item
+abbrev pub fewer_by : Option Item → subs.Subscribed → subs.Subscribed
+fewer_by item subscribed = option_map_or (λ i. subs.with_change subscribed i.sub subs.one_fewer) item subscribed
 
 -- the room and the number created, of a table of pipes
 abbrev pub frame : Pipes → Pipes

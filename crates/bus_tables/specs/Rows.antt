@@ -39,14 +39,25 @@ first_item (item ∷ items) = Some item
 abbrev pub oldest_item : List Row → ℕ → Option ItemRow
 oldest_item rows number = option_and_then (λ row. first_item row.queue) (find (λ row. row.number == number) rows)
 
--- the last item of the application's row of this number
+-- the item received last from the pipe of this number
+abbrev pub last_item : List Row → ℕ → Option ItemRow
+last_item rows number = option_and_then (λ row. row.last) (find (λ row. row.number == number) rows)
+
+-- the same, told to the pipe's owner alone
 abbrev pub last_row_item : List Row → ℕ → ℕ → Option ItemRow
-last_row_item rows app number =
-    if owns_row rows app number then option_and_then (λ row. row.last) (find (λ row. row.number == number) rows) else None
+last_row_item rows app number = if owns_row rows app number then last_item rows number else None
 
 -- the row after a receive
 abbrev pub after_take : Row → Row
 after_take row = record row { queue = drop 1 row.queue; last = first_item row.queue }
+
+-- the row without the item that waits longest
+abbrev pub without_front : Row → Row
+without_front row = record row { queue = drop 1 row.queue }
+
+-- the row without the item received last
+abbrev pub without_last : Row → Row
+without_last row = record row { last = None }
 
 -- the row with these option bits
 abbrev pub row_with_bits : ℕ → Row → Row

@@ -3,14 +3,14 @@ use Rattle.std.specs.Prelude.{ℕ, ◌+◌, ◌==◌, if◌then◌else◌, List,
 use Rattle.bus_tables.specs.declared.tables.ItemRow.{ItemRow}
 use Rattle.bus_tables.specs.Rows.{Row}
 
--- 1 where the item received last is of this send
-abbrev pub last_use : ℕ → Option ItemRow → ℕ
-last_use number None = 0
-last_use number (Some item) = if item.number == number then 1 else 0
+-- 1 where there is an item, and it is of this send
+abbrev pub item_use : ℕ → Option ItemRow → ℕ
+item_use number None = 0
+item_use number (Some item) = if item.number == number then 1 else 0
 
 -- how often a pipe names the send
 abbrev pub uses_in : ℕ → Row → ℕ
-uses_in number row = count_by (λ item. item.number == number) row.queue + last_use number row.last
+uses_in number row = count_by (λ item. item.number == number) row.queue + item_use number row.last
 
 -- how often the pipes name it
 abbrev pub uses_of : ℕ → List Row → ℕ

@@ -34,5 +34,5 @@ mod tables;
 mod tests;
 mod uses;
 
-pub use tables::{BusTables, ItemRow};
+pub use tables::{BusTables, ItemRow, LastItems};
 pub use uses::recall_uses;

@@ -1,12 +1,14 @@
 //! Small parts of the tables' calls.
-ghost use Rattle.std.specs.Prelude.{◌≡◌, ◌<◌, ◌≤◌, ◌++◌, ◌∷◌, [], length, None, Some};
-ghost use Rattle.std.specs.Option.{option_map};
+ghost use Rattle.std.specs.Prelude.{◌≡◌, ◌<◌, ◌≤◌, ◌++◌, ◌∷◌, [], length, None, Some, IfSome};
+ghost use Rattle.std.specs.Option.{option_map, ForSome};
+ghost use Rattle.subscriptions.specs.Subs.{live_at};
 ghost use Rattle.routing.specs.Routing.{Routing, route_of, fresh_route};
-ghost use Rattle.bus_tables.specs.Inside.{item_in};
+ghost use Rattle.bus_tables.specs.Inside.{item_in, fewer_by};
 
 use crate::tables::ItemRow;
 use pipe_queue::Item;
 use routing::Routes;
+use subscriptions::Subs;
 
 /// An item as the tables' user sees it.
 pub(crate) fn item_row(item: Option<Item>) -> Option<ItemRow>
@@ -17,6 +19,16 @@ pub(crate) fn item_row(item: Option<Item>) -> Option<ItemRow>
         number: item.number,
         subscription: item.sub.number,
     })
+}
+
+/// One message fewer of the item's subscription waits; no effect where there is no item.
+pub(crate) fn count_down(subs: &mut Subs, item: Option<Item>)
+    requires { IfSome item (λ i. ForSome (live_at subs.old i.sub) (λ s. 1 ≤ s.waiting)) }
+    ensures { subs.new ≡ fewer_by item subs.old }
+{
+    if let Some(item) = item {
+        subs.unqueued(item.sub);
+    }
 }
 
 /// The number of the id's route, which is made where the id has none.

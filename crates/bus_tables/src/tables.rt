@@ -6,12 +6,12 @@ ghost use Rattle.std.specs.Str.{bytes_eq};
 ghost use Rattle.fsw_base.specs.Limits.{limits_of};
 ghost use Rattle.fsw_base.specs.Starts.{start_of};
 ghost use Rattle.bus_words.specs.Bus.{route, is_subscribed};
-ghost use Rattle.bus_tables.specs.Rows.{row_of, owns_row, oldest_item, last_row_item, with_row, after_take, row_with_bits, new_row, deliver_rows, reached_rows, has_way, counted_in, counted_on, with_route};
+ghost use Rattle.bus_tables.specs.Rows.{row_of, owns_row, oldest_item, last_item, last_row_item, with_row, after_take, without_front, without_last, row_with_bits, new_row, deliver_rows, reached_rows, has_way, counted_in, counted_on, with_route};
 ghost use Rattle.bus_tables.specs.Tables.{opened, IsRising};
 
 use crate::delivery::along;
 use crate::ending::{end_of_pipe, end_subscription};
-use crate::making::{item_row, route_for};
+use crate::making::{count_down, item_row, route_for};
 use crate::pairs::first_of;
 use bucket_list::{Ledger, Steps};
 use bus_words::PipeText;
@@ -30,6 +30,15 @@ pub struct ItemRow {
     pub number: u32,
     /// The number of the subscription that queued it.
     pub subscription: u32,
+}
+
+/// The message that is a pipe's last one, before a receive and after it.
+#[derive(Clone, Copy, Debug, PartialEq, Eq)]
+pub struct LastItems {
+    /// The one that is let go.
+    pub before: Option<ItemRow>,
+    /// The one received, which waited longest.
+    pub after: Option<ItemRow>,
 }
 
 /// The pipes, subscriptions and routes of a bus. Contracts see each as a list, and the room that
@@ -243,14 +252,42 @@ impl BusTables {
     }
 
     /// Lets the last message of the live pipe of this number go, and takes the one that waits
-    /// longest, if any, in its place. The number is looked up by halves.
-    pub fn take(&mut self, number: u32)
-        ensures { self.new ≡ record self.old { pipes = with_row after_take number self.old.pipes } }
+    /// longest, if any, in its place. Answers both. By the code, the number is looked up by halves.
+    pub fn take(&mut self, number: u32) -> LastItems
+        ensures before { result.before ≡ last_item self.old.pipes number }
+        ensures oldest { result.after ≡ oldest_item self.old.pipes number }
+        ensures rows { self.new ≡
+            record self.old { pipes = with_row after_take number self.old.pipes } }
     {
-        if let Some(item) = self.pipes.oldest(number) {
-            self.subs.unqueued(item.sub);
+        let (before, after) = self.pipes.take(number);
+        count_down(&mut self.subs, after);
+        LastItems {
+            before: item_row(before),
+            after: item_row(after),
         }
-        self.pipes.take(number);
+    }
+
+    /// Takes what waits longest out of the live pipe of this number, for whoever empties it; None
+    /// if and only if nothing waits there. By the code, the number is looked up by halves.
+    pub fn take_front(&mut self, number: u32) -> Option<ItemRow>
+        ensures oldest { result ≡ oldest_item self.old.pipes number }
+        ensures rows { self.new ≡
+            record self.old { pipes = with_row without_front number self.old.pipes } }
+    {
+        let item = self.pipes.take_front(number);
+        count_down(&mut self.subs, item);
+        item_row(item)
+    }
+
+    /// Takes what was received last out of the live pipe of this number, for whoever empties it;
+    /// None if and only if there is no such message. By the code, the number is looked up by
+    /// halves.
+    pub fn take_last(&mut self, number: u32) -> Option<ItemRow>
+        ensures last { result ≡ last_item self.old.pipes number }
+        ensures rows { self.new ≡
+            record self.old { pipes = with_row without_last number self.old.pipes } }
+    {
+        item_row(self.pipes.take_last(number))
     }
 
     /// Subscribes a live pipe to an id, 1 to 0x1FFF, of which it has no subscription yet: up to

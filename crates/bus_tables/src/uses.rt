@@ -2,13 +2,14 @@
 ghost use Rattle.std.specs.Prelude.{◌≡◌, ℕ, ◌+◌, ◌==◌, if◌then◌else◌, List};
 ghost use Rattle.std.specs.Option.{option_map_or};
 ghost use Rattle.bus_words.specs.Bus.{Subscription};
-ghost use Rattle.bus_tables.specs.Rows.{Row, row_of, with_row, after_take, deliver_rows, reached_rows};
+ghost use Rattle.bus_tables.specs.Rows.{Row, row_of, with_row, after_take, without_front, without_last, oldest_item, last_item, deliver_rows, reached_rows};
 ghost use Rattle.bus_tables.specs.Tables.{IsRising};
-ghost use Rattle.bus_tables.specs.Uses.{last_use, uses_of};
+ghost use Rattle.bus_tables.specs.Uses.{item_use, uses_of};
 
 /// Counting the uses of a send: a delivery adds one for each pipe that it reached, to its own send
-/// alone; and where the next message of a pipe is taken, the send of the one received last loses
-/// one, and no other does. Does nothing.
+/// alone; where the next message of a pipe is taken, the send of the one received last loses one;
+/// and where the message that waits longest, or the one received last, is taken out of a pipe, its
+/// own send does. No other send's count changes. Does nothing.
 pub fn recall_uses()
     ensures delivered { (number sender sent : ℕ) (subs : List Subscription) (rows : List Row) →
         IsRising 0 rows →
@@ -16,5 +17,11 @@ pub fn recall_uses()
         uses_of number rows + (if sent == number then reached_rows sender sent subs rows else 0) }
     ensures taken { (number pipe : ℕ) (rows : List Row) → IsRising 0 rows →
         uses_of number (with_row after_take pipe rows) + option_map_or
-        (λ row. last_use number row.last) (row_of rows pipe) 0 ≡ uses_of number rows }
+        (λ row. item_use number row.last) (row_of rows pipe) 0 ≡ uses_of number rows }
+    ensures front { (number pipe : ℕ) (rows : List Row) → IsRising 0 rows →
+        uses_of number (with_row without_front pipe rows)
+        + item_use number (oldest_item rows pipe) ≡ uses_of number rows }
+    ensures last { (number pipe : ℕ) (rows : List Row) → IsRising 0 rows →
+        uses_of number (with_row without_last pipe rows)
+        + item_use number (last_item rows pipe) ≡ uses_of number rows }
 {}

@@ -76,9 +76,21 @@ with_item item row = if length row.queue == row.depth then row else (record row 
 abbrev pub taken_row : PipeRow → PipeRow
 taken_row row = record row { queue = drop 1 row.queue; last = slice_get row.queue 0 }
 
+-- the pipe without the message that waits longest
+abbrev pub without_front : PipeRow → PipeRow
+without_front row = record row { queue = drop 1 row.queue }
+
+-- the pipe without the one received last
+abbrev pub without_last : PipeRow → PipeRow
+without_last row = record row { last = None }
+
 -- the oldest message of the pipe of this number
 abbrev pub oldest_on : List PipeRow → ℕ → Option Item
 oldest_on rows number = option_and_then (λ row. slice_get row.queue 0) (pipe_row rows number)
+
+-- the message received last from the pipe of this number
+abbrev pub last_on : List PipeRow → ℕ → Option Item
+last_on rows number = option_and_then (λ row. row.last) (pipe_row rows number)
 
 -- the first pipe of this owner
 abbrev pub first_owned : List PipeRow → ℕ → Option PipeRow

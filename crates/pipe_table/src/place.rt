@@ -2,7 +2,7 @@
 ghost use Rattle.std.specs.Prelude.{◌≡◌, ◌==◌, ◌≤◌, ◌+◌, ◌<◌, ◌↔◌, [], length, slice_get, Some, None, IfOk, IsErr, IsSome, IsTrue, false, ◌%◌, ◌&&◌};
 ghost use Rattle.std.specs.Option.{option_map, option_map_or, option_and_then};
 ghost use Rattle.std.specs.Str.{bytes_eq};
-ghost use Rattle.pipe_table.specs.Table.{PipeRow, new_row, ignores_sender, with_bits, with_item, taken_row};
+ghost use Rattle.pipe_table.specs.Table.{PipeRow, new_row, ignores_sender, with_bits, with_item, taken_row, without_front, without_last};
 
 use crate::pipe_no::PipeNo;
 use bus_words::PipeText;
@@ -190,11 +190,35 @@ impl Place {
     }
 
     /// Lets the last message go, and takes the one that waits longest, if any, in its place.
-    pub(crate) fn take(&mut self)
-        ensures { self.new ≡ record self.old { pipe = option_map taken_row self.old.pipe } }
+    /// Answers both.
+    pub(crate) fn take(&mut self) -> (Option<Item>, Option<Item>)
+        ensures last { result.0 ≡ option_and_then (λ pipe. pipe.last) self.old.pipe }
+        ensures oldest { result.1 ≡
+            option_and_then (λ pipe. slice_get pipe.queue 0) self.old.pipe }
+        ensures after { self.new ≡
+            record self.old { pipe = option_map taken_row self.old.pipe } }
     {
         let oldest = self.queue.take_front();
-        let _ = self.queue.set_last(oldest);
+        let last = self.queue.set_last(oldest);
+        (last, oldest)
+    }
+
+    /// Takes out what waits longest.
+    pub(crate) fn take_front(&mut self) -> Option<Item>
+        ensures oldest { result ≡ option_and_then (λ pipe. slice_get pipe.queue 0) self.old.pipe }
+        ensures after { self.new ≡
+            record self.old { pipe = option_map without_front self.old.pipe } }
+    {
+        self.queue.take_front()
+    }
+
+    /// Takes out what was received last.
+    pub(crate) fn take_last(&mut self) -> Option<Item>
+        ensures last { result ≡ option_and_then (λ pipe. pipe.last) self.old.pipe }
+        ensures after { self.new ≡
+            record self.old { pipe = option_map without_last self.old.pipe } }
+    {
+        self.queue.set_last(None)
     }
 
     /// Queues the message on the pipe; Full exactly where as many wait as its depth.

@@ -1,8 +1,8 @@
 //! The table.
 ghost use Rattle.std.specs.Prelude.{◌≡◌, ℕ, ◌==◌, ◌+◌, ◌<◌, ◌≤◌, ◌^◌, ◌↔◌, ◌++◌, ◌∷◌, [], length, replicate, true, false, All, IfOk, IsErr, IsSome, IfSome, IsTrue, slice_index, slice_index_or, None, Some, vec_len, vec_capacity};
 ghost use Rattle.std.specs.List.{list_any, range_with_len};
-ghost use Rattle.std.specs.Option.{option_map, option_map_or, option_and_then, option_to_list};
-ghost use Rattle.pipe_table.specs.Table.{Pipes, pipe_row, place_of, is_live_row, owns_row, named_row, with_row, without_row, new_row, ignores_sender, with_bits, with_item, taken_row, oldest_on, first_owned, IsRising};
+ghost use Rattle.std.specs.Option.{option_map, option_map_or, option_to_list};
+ghost use Rattle.pipe_table.specs.Table.{Pipes, pipe_row, place_of, is_live_row, owns_row, named_row, with_row, without_row, new_row, ignores_sender, with_bits, with_item, taken_row, without_front, without_last, oldest_on, last_on, first_owned, IsRising};
 ghost use Rattle.pipe_table.specs.Inside.{pipe_in, live_in, place_under, AreRising, AreOrdered, AreFiled};
 
 use crate::pipe_no::PipeNo;
@@ -152,7 +152,7 @@ impl PipeTable {
 
     /// What was received last on the live pipe of this number.
     pub fn last(&self, number: u32) -> Option<Item>
-        ensures { result ≡ option_and_then (λ row. row.last) (pipe_row self.now.live number) }
+        ensures { result ≡ last_on self.now.live number }
     {
         match found(&self.places, &self.live, &self.at, number) {
             Some(place) => place.last(),
@@ -235,12 +235,40 @@ impl PipeTable {
     }
 
     /// Lets the last message of the live pipe of this number go, and takes the one that waits
-    /// longest, if any, in its place.
-    pub fn take(&mut self, number: u32)
-        ensures { self.new ≡ record self.old { live = with_row taken_row number self.old.live } }
+    /// longest, if any, in its place. Answers both: the one let go, and the one taken.
+    pub fn take(&mut self, number: u32) -> (Option<Item>, Option<Item>)
+        ensures last { result.0 ≡ last_on self.old.live number }
+        ensures oldest { result.1 ≡ oldest_on self.old.live number }
+        ensures after { self.new ≡
+            record self.old { live = with_row taken_row number self.old.live } }
     {
-        if let Some(at) = at_number(&self.live, &self.at, number) {
-            self.places[at as usize].take();
+        match at_number(&self.live, &self.at, number) {
+            Some(at) => self.places[at as usize].take(),
+            None => (None, None),
+        }
+    }
+
+    /// Takes what waits longest out of the live pipe of this number.
+    pub fn take_front(&mut self, number: u32) -> Option<Item>
+        ensures oldest { result ≡ oldest_on self.old.live number }
+        ensures after { self.new ≡
+            record self.old { live = with_row without_front number self.old.live } }
+    {
+        match at_number(&self.live, &self.at, number) {
+            Some(at) => self.places[at as usize].take_front(),
+            None => None,
+        }
+    }
+
+    /// Takes what was received last out of the live pipe of this number.
+    pub fn take_last(&mut self, number: u32) -> Option<Item>
+        ensures last { result ≡ last_on self.old.live number }
+        ensures after { self.new ≡
+            record self.old { live = with_row without_last number self.old.live } }
+    {
+        match at_number(&self.live, &self.at, number) {
+            Some(at) => self.places[at as usize].take_last(),
+            None => None,
         }
     }
 

@@ -155,9 +155,7 @@ impl SbCore {
         if !self.tables.owns(app, pipe) {
             return Err(SbStatus::BadArgument);
         }
-        let oldest = self.tables.oldest(pipe);
-        self.tables.take(pipe);
-        let Some(item) = oldest else {
+        let Some(item) = self.tables.take(pipe).after else {
             return Err(SbStatus::NoMessage);
         };
         Ok(item.number)

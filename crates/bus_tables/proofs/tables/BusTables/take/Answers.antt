@@ -1,43 +1,38 @@
-use Rattle.std.proofs.Common.{refl, ap, sym, ◌∙◌, subst}
-use Rattle.subscriptions.specs.Subs.{one_fewer}
-use Rattle.bus_tables.specs.Inside.{still, AreQueued}
-use Rattle.bus_tables.proofs.OffersSubs.{still-with_change}
-use Rattle.bus_tables.proofs.Takings.{Leaves, none_taken, one_waits, one_taken, taken_tied, taken_tables}
-use Rattle.pipe_table.specs.Table as table
+use Rattle.std.proofs.Common.{ap, sym, ◌∙◌}
+use Rattle.std.specs.Option.{option_map}
 use Rattle.pipe_table.specs.Table.{taken_row}
+use Rattle.bus_tables.specs.Rows.{after_take, last_item, oldest_item}
+use Rattle.bus_tables.specs.Tables.{Tables}
+use Rattle.bus_tables.specs.Inside.{item_in}
+use Rattle.bus_tables.proofs.Readers.{last_there, oldest_there}
+use Rattle.bus_tables.proofs.Takings.{takes_oldest, taken_row_seen, waits_if, front_tied, front_tables}
 use Rattle.bus_tables.proofs.tables.BusTables.take.Goals as goal
-use Rattle.bus_tables.proofs.tables.BusTables.take.Goals.{in-Some, in_default}
 
-pub unqueued-requires : goal.unqueued-requires
-unqueued-requires c =
-    one_waits c.self.inside.pipes.live c.self.inside.subs c.args.number c.self.invariant.queued c.in-Some.item (sym c.oldest.ensures ∙ c.in-Some.is)
-
--- the oldest message's subscription counts one fewer
-leaves : (c : goal.After-take) → Leaves c.self.inside c.match-oldest.self-inside c.args.number
-leaves c =
+pub count_down-requires : goal.count_down-requires
+count_down-requires c =
     let a = c.self.inside in
-    elim c.match-oldest.branch [
-      | in-Some w ↦
-          subst (λ b. Leaves a b c.args.number) (sym w.self-inside-is)
-          (record {
-            pipes = refl;
-            routes = refl;
-            same = ap still w.unqueued.ensures ∙ still-with_change a.subs w.in-Some.item.sub one_fewer (λ s. refl);
-            queued = subst (λ s. AreQueued (table.with_row taken_row c.args.number a.pipes.live) s) (sym w.unqueued.ensures)
-                (one_taken a.pipes.live a.subs c.args.number c.self.invariant.queued w.in-Some.item (sym c.oldest.ensures ∙ w.in-Some.is));
-          })
-      | in_default w ↦
-          subst (λ b. Leaves a b c.args.number) (sym w.self-inside-is)
-          (record {
-            pipes = refl;
-            routes = refl;
-            same = refl;
-            queued = none_taken a.pipes.live a.subs c.args.number c.self.invariant.queued (sym c.oldest.ensures ∙ w.in_default.is);
-          })
-    ]
+    waits_if taken_row takes_oldest a.pipes.live a.subs c.args.number c.self.invariant.queued c.take-before.result.1 (sym c.take-before.ensures.oldest)
 
 pub invariant_of-self : goal.invariant_of-self
-invariant_of-self c = taken_tied c.self.inside c.match-oldest.self-inside c.args.number c.take.new.self (leaves c) c.take.ensures c.self.invariant
+invariant_of-self c =
+    front_tied taken_row after_take takes_oldest taken_row_seen c.self.inside c.args.number c.take-before.new.self c.count_down.new.subs c.take-before.result.1 c.take-before.ensures.after c.count_down.ensures
+    c.self.invariant c.take-before.ensures.oldest
 
-pub returns : goal.returns
-returns c = taken_tables c.self.inside c.match-oldest.self-inside c.args.number c.take.new.self (leaves c) c.take.ensures c.args.self.now c.self.view_is
+pub returns-clause-before : goal.returns-clause-before
+returns-clause-before c =
+    c.item_row.ensures
+    ∙ ap (option_map item_in) c.take-before.ensures.last
+    ∙ last_there c.self.inside.pipes.live c.args.number
+    ∙ ap (λ (t : Tables). last_item t.pipes c.args.number) c.self.view_is
+
+pub returns-clause-oldest : goal.returns-clause-oldest
+returns-clause-oldest c =
+    c.item_row-2.ensures
+    ∙ ap (option_map item_in) c.take-before.ensures.oldest
+    ∙ oldest_there c.self.inside.pipes.live c.args.number
+    ∙ ap (λ (t : Tables). oldest_item t.pipes c.args.number) c.self.view_is
+
+pub returns-clause-rows : goal.returns-clause-rows
+returns-clause-rows c =
+    front_tables taken_row after_take takes_oldest taken_row_seen c.self.inside c.args.number c.take-before.new.self c.count_down.new.subs c.take-before.result.1 c.take-before.ensures.after c.count_down.ensures
+    c.args.self.now c.self.view_is
