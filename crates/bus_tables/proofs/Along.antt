@@ -12,6 +12,7 @@ use Rattle.subscriptions.specs.declared.words.SubNo.{SubNo}
 use Rattle.subscriptions.specs.Subs.{Subscribed, Subscription, number_of, goes_by, live_at, AreInOrder}
 use Rattle.routing.specs.Dests.{Dest, first_dest}
 use Rattle.routing.specs.Routing.{Route, Routing, route_from, route_of, dests_at}
+use Rattle.bus_tables.specs.declared.message.Message.{Message}
 use Rattle.bus_tables.specs.Rows.{with_row, offered_row, row_takes, deliver_rows, reached_rows}
 use Rattle.bus_tables.specs.Inside.{row_in, sub_in, uncounted, still, frame, of_id, AreQueued, AreRouted}
 use Rattle.bus_tables.proofs.OffersLists.{all_both, Rises, all_above}
@@ -102,17 +103,17 @@ stands_at k dests dest is = sym (take-append-drop k dests) ∙ ap (λ l. take k 
 
 -- So many destinations are done: what is left of them, with the pipes as they are, comes to what the whole does with the
 -- pipes as they were.
-pub record Walked (old : Pipes) (first : Subscribed) (routing : Routing) (id way sender number : ℕ) (k : ℕ) (at : Option Dest) (pipes : Pipes) (subs : Subscribed) (count : ℕ) : Type 0 where
+pub record Walked (old : Pipes) (first : Subscribed) (routing : Routing) (id way : ℕ) (message : Message) (k : ℕ) (at : Option Dest) (pipes : Pipes) (subs : Subscribed) (count : ℕ) : Type 0 where
   pub at_is : at ≡ first_dest (drop k (dests_at routing way))
   pub low : IfSome at (λ dest. dest.0 < routing.msgids * routing.dests)
-  pub rows : deliver_rows sender number (map sub_in (drop k (of_id id first))) (map row_in pipes.live) ≡ deliver_rows sender number (map sub_in (of_id id first)) (map row_in old.live)
-  pub reached : count + reached_rows sender number (map sub_in (drop k (of_id id first))) (map row_in pipes.live) ≡ reached_rows sender number (map sub_in (of_id id first)) (map row_in old.live)
+  pub rows : deliver_rows message (map sub_in (drop k (of_id id first))) (map row_in pipes.live) ≡ deliver_rows message (map sub_in (of_id id first)) (map row_in old.live)
+  pub reached : count + reached_rows message (map sub_in (drop k (of_id id first))) (map row_in pipes.live) ≡ reached_rows message (map sub_in (of_id id first)) (map row_in old.live)
   pub few : count ≤ k
   pub framed : frame pipes ≡ frame old
   pub same : still subs ≡ still first
   pub queued : AreQueued pipes.live subs
 
-module _ (old : Pipes) (first : Subscribed) (routing : Routing) (id way sender number : ℕ)
+module _ (old : Pipes) (first : Subscribed) (routing : Routing) (id way : ℕ) (message : Message)
     (order : AreInOrder first) (routed : AreRouted first routing) (is : route_of routing.routes id ≡ Some way) where
   tied : map (λ dest. dest.1) (dests_at routing way) ≡ map number_of (of_id id first)
   tied = routed.dests id way is
@@ -128,19 +129,19 @@ module _ (old : Pipes) (first : Subscribed) (routing : Routing) (id way sender n
 
   -- before the first
   pub walked_first : (at : Option Dest) → at ≡ first_dest (dests_at routing way) → IfSome at (λ dest. dest.0 < routing.msgids * routing.dests) → AreQueued old.live first →
-      Walked old first routing id way sender number 0 at old first 0
+      Walked old first routing id way message 0 at old first 0
   walked_first at at_is low queued = record {
     at_is = at_is;
     low = low;
     rows = refl;
-    reached = zero-add (reached_rows sender number (map sub_in (of_id id first)) (map row_in old.live));
+    reached = zero-add (reached_rows message (map sub_in (of_id id first)) (map row_in old.live));
     few = omega arith;
     framed = refl;
     same = refl;
     queued = queued;
   }
 
-  module _ (k node : ℕ) (sub : SubNo) (pipes : Pipes) (subs : Subscribed) (count : ℕ) (walked : Walked old first routing id way sender number k (Some (node, sub)) pipes subs count) where
+  module _ (k node : ℕ) (sub : SubNo) (pipes : Pipes) (subs : Subscribed) (count : ℕ) (walked : Walked old first routing id way message k (Some (node, sub)) pipes subs count) where
     left : drop k (dests_at routing way) ≡ (node, sub) ∷ drop (k + 1) (dests_at routing way)
     left = first_left k (dests_at routing way) (node, sub) walked.at_is
 
@@ -172,28 +173,28 @@ module _ (old : Pipes) (first : Subscribed) (routing : Routing) (id way sender n
 
     -- after one more
     pub walked_more : (at : Option Dest) (after : Pipes) (left_subs : Subscribed) (got : ℕ) →
-        ((s : Subscription) → live_at subs sub ≡ Some s → map row_in after.live ≡ with_row (offered_row sender number (sub_in s)) s.pipe (map row_in pipes.live)) →
-        ((s : Subscription) → live_at subs sub ≡ Some s → got ≡ row_takes sender (sub_in s) (map row_in pipes.live)) →
+        ((s : Subscription) → live_at subs sub ≡ Some s → map row_in after.live ≡ with_row (offered_row message (sub_in s)) s.pipe (map row_in pipes.live)) →
+        ((s : Subscription) → live_at subs sub ≡ Some s → got ≡ row_takes message (sub_in s) (map row_in pipes.live)) →
         got ≤ 1 → frame after ≡ frame pipes → still left_subs ≡ still subs → AreQueued after.live left_subs →
         at ≡ first_dest (drop (k + 1) (dests_at routing way)) → IfSome at (λ dest. dest.0 < routing.msgids * routing.dests) →
-        Walked old first routing id way sender number (k + 1) at after left_subs (count + got)
+        Walked old first routing id way message (k + 1) at after left_subs (count + got)
     walked_more at after left_subs got rows taken once framed same queued at_is low =
         let s = due.0 in
         let rest = map sub_in (drop (k + 1) (of_id id first)) in
         let here : map sub_in (drop k (of_id id first)) ≡ sub_in s ∷ rest = ap (map sub_in) due.1 in
-        let changed : map row_in after.live ≡ with_row (offered_row sender number (sub_in s)) s.pipe (map row_in pipes.live) =
-        rows now.0 now.1 ∙ ap (λ t. with_row (offered_row sender number t) t.pipe (map row_in pipes.live)) now.2 in
-        let one : got ≡ row_takes sender (sub_in s) (map row_in pipes.live) =
-        taken now.0 now.1 ∙ ap (λ t. row_takes sender t (map row_in pipes.live)) now.2 in
+        let changed : map row_in after.live ≡ with_row (offered_row message (sub_in s)) s.pipe (map row_in pipes.live) =
+        rows now.0 now.1 ∙ ap (λ t. with_row (offered_row message t) t.pipe (map row_in pipes.live)) now.2 in
+        let one : got ≡ row_takes message (sub_in s) (map row_in pipes.live) =
+        taken now.0 now.1 ∙ ap (λ t. row_takes message t (map row_in pipes.live)) now.2 in
         record {
           at_is = at_is;
           low = low;
-          rows = ap (deliver_rows sender number rest) changed ∙ ap (λ l. deliver_rows sender number l (map row_in pipes.live)) (sym here) ∙ walked.rows;
+          rows = ap (deliver_rows message rest) changed ∙ ap (λ l. deliver_rows message l (map row_in pipes.live)) (sym here) ∙ walked.rows;
           reached =
-              add_assoc count got (reached_rows sender number rest (map row_in after.live))
-              ∙ ap (λ n. count + (n + reached_rows sender number rest (map row_in after.live))) one
-              ∙ ap (λ r. count + (row_takes sender (sub_in s) (map row_in pipes.live) + reached_rows sender number rest r)) changed
-              ∙ ap (λ l. count + reached_rows sender number l (map row_in pipes.live)) (sym here)
+              add_assoc count got (reached_rows message rest (map row_in after.live))
+              ∙ ap (λ n. count + (n + reached_rows message rest (map row_in after.live))) one
+              ∙ ap (λ r. count + (row_takes message (sub_in s) (map row_in pipes.live) + reached_rows message rest r)) changed
+              ∙ ap (λ l. count + reached_rows message l (map row_in pipes.live)) (sym here)
               ∙ walked.reached;
           few = omega (arith, once, walked.few);
           framed = framed ∙ walked.framed;
@@ -202,7 +203,7 @@ module _ (old : Pipes) (first : Subscribed) (routing : Routing) (id way sender n
         }
 
   -- behind the last
-  module _ (k : ℕ) (at : Option Dest) (pipes : Pipes) (subs : Subscribed) (count : ℕ) (walked : Walked old first routing id way sender number k at pipes subs count) (none : drop k (dests_at routing way) ≡ []) where
+  module _ (k : ℕ) (at : Option Dest) (pipes : Pipes) (subs : Subscribed) (count : ℕ) (walked : Walked old first routing id way message k at pipes subs count) (none : drop k (dests_at routing way) ≡ []) where
     none_due : drop k (of_id id first) ≡ []
     none_due = by_left (drop k (of_id id first)) refl
         (sym (drop-map number_of k (of_id id first)) ∙ ap (drop k) (sym tied) ∙ drop-map (λ dest. dest.1) k (dests_at routing way) ∙ ap (map (λ dest. dest.1)) none)
@@ -211,17 +212,17 @@ module _ (old : Pipes) (first : Subscribed) (routing : Routing) (id way sender n
         by_left [] here empty = here
         by_left (s ∷ rest) here some = absurd (cc (some))
 
-    pub all_rows : map row_in pipes.live ≡ deliver_rows sender number (route (map sub_in first.live) id) (map row_in old.live)
+    pub all_rows : map row_in pipes.live ≡ deliver_rows message (route (map sub_in first.live) id) (map row_in old.live)
     all_rows =
-        ap (λ l. deliver_rows sender number (map sub_in l) (map row_in pipes.live)) (sym none_due)
+        ap (λ l. deliver_rows message (map sub_in l) (map row_in pipes.live)) (sym none_due)
         ∙ walked.rows
-        ∙ ap (λ l. deliver_rows sender number l (map row_in old.live)) (sym (route_seen first id))
+        ∙ ap (λ l. deliver_rows message l (map row_in old.live)) (sym (route_seen first id))
 
-    pub all_reached : count ≡ reached_rows sender number (route (map sub_in first.live) id) (map row_in old.live)
+    pub all_reached : count ≡ reached_rows message (route (map sub_in first.live) id) (map row_in old.live)
     all_reached =
-        let zero = ap (λ l. reached_rows sender number (map sub_in l) (map row_in pipes.live)) none_due in
+        let zero = ap (λ l. reached_rows message (map sub_in l) (map row_in pipes.live)) none_due in
         omega (arith, zero, walked.reached)
-        ∙ ap (λ l. reached_rows sender number l (map row_in old.live)) (sym (route_seen first id))
+        ∙ ap (λ l. reached_rows message l (map row_in old.live)) (sym (route_seen first id))
 
 -- nothing is left behind the last
 pub none_left : (k : ℕ) (dests : List Dest) → first_dest (drop k dests) ≡ None → drop k dests ≡ []

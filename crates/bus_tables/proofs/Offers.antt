@@ -17,7 +17,8 @@ use Rattle.subscriptions.specs.declared.words.SubRow.{SubRow}
 use Rattle.subscriptions.specs.declared.words.Verdict.{Verdict}
 use Rattle.subscriptions.specs.declared.words.Verdict.TheVariants.{Inside, OverLimit}
 use Rattle.subscriptions.specs.Subs.{Subscribed, Subscription, row_of, goes_by, live_at, verdict_of, verdict_at, one_more, with_change, AreInOrder}
-use Rattle.bus_tables.specs.Rows.{Row, with_row, takes, offered_row, row_takes}
+use Rattle.bus_tables.specs.declared.message.Message.{Message}
+use Rattle.bus_tables.specs.Rows.{Row, with_row, takes, item_of, offered_row, row_takes}
 use Rattle.bus_tables.specs.Inside.{item_in, row_in, sub_in, waiting_at, still, IsCounted, IsPlaced, IsOf, IsQueued, AreQueued}
 use Rattle.bus_tables.proofs.OffersLists.{all_both, found_is, found_passes}
 use Rattle.bus_tables.proofs.OffersRows.{changed, only_row, pipe_row-with_row, of_row_kept, row_of-rows, rows_changed, rows_kept, rows_unchanged}
@@ -66,33 +67,33 @@ pipe_here rows subs sub s rising queued live = by_row (pipe_row rows s.pipe) ref
       },
     )
 
-module _ (rows : List PipeRow) (s : Subscription) (row : PipeRow) (pipe : IsPipe rows s row) (sender number : ℕ) where
+module _ (rows : List PipeRow) (s : Subscription) (row : PipeRow) (pipe : IsPipe rows s row) (message : Message) where
   -- the tests of the pipe's verdict
-  pub takes_by : takes (row_in row) (sub_in s) sender ≡ (not (table.ignores_sender row sender) && not (leb s.limit s.waiting) && not (eqb (length row.queue) row.depth))
+  pub takes_by : takes (row_in row) (sub_in s) message.sender ≡ (not (table.ignores_sender row message.sender) && not (leb s.limit s.waiting) && not (eqb (length row.queue) row.depth))
   takes_by =
-      ap (λ n. not (table.ignores_sender row sender) && not (leb s.limit n) && not (eqb (length (map item_in row.queue)) row.depth)) (count_by-map (λ item. eqb item.subscription s.number) item_in row.queue ∙ pipe.waits)
-      ∙ ap (λ n. not (table.ignores_sender row sender) && not (leb s.limit s.waiting) && not (eqb n row.depth)) (length-map row.queue item_in)
+      ap (λ n. not (table.ignores_sender row message.sender) && not (leb s.limit n) && not (eqb (length (map item_in row.queue)) row.depth)) (count_by-map (λ item. eqb item.subscription s.number) item_in row.queue ∙ pipe.waits)
+      ∙ ap (λ n. not (table.ignores_sender row message.sender) && not (leb s.limit s.waiting) && not (eqb n row.depth)) (length-map row.queue item_in)
 
   -- each test by itself
-  pub ignored : table.ignores_sender row sender ≡ true → takes (row_in row) (sub_in s) sender ≡ false
+  pub ignored : table.ignores_sender row message.sender ≡ true → takes (row_in row) (sub_in s) message.sender ≡ false
   ignored is = takes_by ∙ ap (λ b. not b && not (leb s.limit s.waiting) && not (eqb (length row.queue) row.depth)) is
 
-  pub over_limit : leb s.limit s.waiting ≡ true → takes (row_in row) (sub_in s) sender ≡ false
-  over_limit is = takes_by ∙ ap (λ b. not (table.ignores_sender row sender) && not b && not (eqb (length row.queue) row.depth)) is ∙ none (not (table.ignores_sender row sender)) (not (eqb (length row.queue) row.depth))
+  pub over_limit : leb s.limit s.waiting ≡ true → takes (row_in row) (sub_in s) message.sender ≡ false
+  over_limit is = takes_by ∙ ap (λ b. not (table.ignores_sender row message.sender) && not b && not (eqb (length row.queue) row.depth)) is ∙ none (not (table.ignores_sender row message.sender)) (not (eqb (length row.queue) row.depth))
     where
       none : (a b : Bool) → (a && false && b) ≡ false
       none true b = refl
       none false b = refl
 
-  pub full : eqb (length row.queue) row.depth ≡ true → takes (row_in row) (sub_in s) sender ≡ false
-  full is = takes_by ∙ ap (λ b. not (table.ignores_sender row sender) && not (leb s.limit s.waiting) && not b) is ∙ none (not (table.ignores_sender row sender)) (not (leb s.limit s.waiting))
+  pub full : eqb (length row.queue) row.depth ≡ true → takes (row_in row) (sub_in s) message.sender ≡ false
+  full is = takes_by ∙ ap (λ b. not (table.ignores_sender row message.sender) && not (leb s.limit s.waiting) && not b) is ∙ none (not (table.ignores_sender row message.sender)) (not (leb s.limit s.waiting))
     where
       none : (a b : Bool) → (a && b && false) ≡ false
       none true true = refl
       none true false = refl
       none false b = refl
 
-  pub all_pass : table.ignores_sender row sender ≡ false → leb s.limit s.waiting ≡ false → eqb (length row.queue) row.depth ≡ false → takes (row_in row) (sub_in s) sender ≡ true
+  pub all_pass : table.ignores_sender row message.sender ≡ false → leb s.limit s.waiting ≡ false → eqb (length row.queue) row.depth ≡ false → takes (row_in row) (sub_in s) message.sender ≡ true
   all_pass heard below room =
       takes_by
       ∙ ap (λ b. not b && not (leb s.limit s.waiting) && not (eqb (length row.queue) row.depth)) heard
@@ -104,16 +105,16 @@ module _ (rows : List PipeRow) (s : Subscription) (row : PipeRow) (pipe : IsPipe
   of_pipe w d n is = ap (λ m. option_map_or w (pipe_row rows m) d) is ∙ ap (λ o. option_map_or w o d) pipe.here
 
   -- whether the message reaches the pipe
-  pub taken_by : row_takes sender (sub_in s) (map row_in rows) ≡ cond (takes (row_in row) (sub_in s) sender) 1 0
+  pub taken_by : row_takes message (sub_in s) (map row_in rows) ≡ cond (takes (row_in row) (sub_in s) message.sender) 1 0
   taken_by =
-      let F : Option Row → ℕ = λ o. option_map_or (λ r. cond {A = ℕ} (takes r (sub_in s) sender) 1 0) o 0 in
+      let F : Option Row → ℕ = λ o. option_map_or (λ r. cond {A = ℕ} (takes r (sub_in s) message.sender) 1 0) o 0 in
       ap F (row_of-rows rows s.pipe ∙ ap (option_map row_in) pipe.here)
 
   -- a pipe that doesn't take it stays
-  pub refused : takes (row_in row) (sub_in s) sender ≡ false → map row_in rows ≡ with_row (offered_row sender number (sub_in s)) s.pipe (map row_in rows)
+  pub refused : takes (row_in row) (sub_in s) message.sender ≡ false → map row_in rows ≡ with_row (offered_row message (sub_in s)) s.pipe (map row_in rows)
   refused none =
-      rows_unchanged (offered_row sender number (sub_in s)) s.pipe row rows pipe.number
-      (ap (λ b. cond {A = Row} b (record (row_in row) { queue = map item_in row.queue ++ record { number = number; subscription = s.number } ∷ [] }) (row_in row)) none)
+      rows_unchanged (offered_row message (sub_in s)) s.pipe row rows pipe.number
+      (ap (λ b. cond {A = Row} b (record (row_in row) { queue = map item_in row.queue ++ item_of message (sub_in s) ∷ [] }) (row_in row)) none)
       pipe.only
 
   -- a full pipe stays
@@ -123,15 +124,16 @@ module _ (rows : List PipeRow) (s : Subscription) (row : PipeRow) (pipe : IsPipe
       ∙ rows_kept (with_item item) s.pipe row rows pipe.number (ap (λ b. cond {A = PipeRow} b row (record row { queue = row.queue ++ item ∷ [] })) at_depth) pipe.only
 
   -- a pipe that takes it has it last
-  pub accepted : (item : Item) → item.number ≡ number → item.sub.number ≡ s.number → takes (row_in row) (sub_in s) sender ≡ true → eqb (length row.queue) row.depth ≡ false →
-      map row_in (table.with_row (with_item item) s.pipe rows) ≡ with_row (offered_row sender number (sub_in s)) s.pipe (map row_in rows)
-  accepted item numbered own all room =
-      rows_changed (with_item item) (offered_row sender number (sub_in s)) s.pipe row rows pipe.number
+  pub accepted : (item : Item) → item.number ≡ message.number → item.desc ≡ message.desc → item.sub.number ≡ s.number → takes (row_in row) (sub_in s) message.sender ≡ true → eqb (length row.queue) row.depth ≡ false →
+      map row_in (table.with_row (with_item item) s.pipe rows) ≡ with_row (offered_row message (sub_in s)) s.pipe (map row_in rows)
+  accepted item numbered described own all room =
+      rows_changed (with_item item) (offered_row message (sub_in s)) s.pipe row rows pipe.number
       (ap (λ b. row_in (cond {A = PipeRow} b row (record row { queue = row.queue ++ item ∷ [] }))) room
       ∙ ap (λ l. let r : Row = record (row_in row) { queue = l } in r) (map-append item_in row.queue (item ∷ [])
-      ∙ ap (λ n. map item_in row.queue ++ record { number = n; subscription = item.sub.number } ∷ []) numbered
-      ∙ ap (λ n. map item_in row.queue ++ record { number = number; subscription = n } ∷ []) own)
-      ∙ ap (λ b. cond {A = Row} b (record (row_in row) { queue = map item_in row.queue ++ record { number = number; subscription = s.number } ∷ [] }) (row_in row)) (sym all))
+      ∙ ap (λ n. map item_in row.queue ++ record { number = n; desc = item.desc; subscription = item.sub.number } ∷ []) numbered
+      ∙ ap (λ n. map item_in row.queue ++ record { number = message.number; desc = n; subscription = item.sub.number } ∷ []) described
+      ∙ ap (λ n. map item_in row.queue ++ record { number = message.number; desc = message.desc; subscription = n } ∷ []) own)
+      ∙ ap (λ b. cond {A = Row} b (record (row_in row) { queue = map item_in row.queue ++ item_of message (sub_in s) ∷ [] }) (row_in row)) (sym all))
       pipe.only
 
 -- What waits then. --

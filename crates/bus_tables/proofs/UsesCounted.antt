@@ -5,8 +5,9 @@ use Rattle.std.specs.Option.{option_map_or, option_and_then}
 use Rattle.std.proofs.lemmas.Bool.Decides.{nat_tests}
 use Rattle.std.proofs.lemmas.List.Sums.{sum_by-cons, sum_by_push}
 use Rattle.bus_words.specs.Bus.{Subscription}
+use Rattle.bus_tables.specs.declared.message.Message.{Message}
 use Rattle.bus_tables.specs.declared.tables.ItemRow.{ItemRow}
-use Rattle.bus_tables.specs.Rows.{Row, with_row, takes, offered_row, row_takes, deliver_rows, reached_rows, after_take, without_front, without_last, first_item, oldest_item, last_item}
+use Rattle.bus_tables.specs.Rows.{Row, with_row, takes, item_of, offered_row, row_takes, deliver_rows, reached_rows, after_take, without_front, without_last, first_item, oldest_item, last_item}
 use Rattle.bus_tables.specs.Tables.{IsRising}
 use Rattle.bus_tables.specs.Uses.{item_use, uses_in, uses_of}
 
@@ -50,38 +51,38 @@ rising_with f keeps p below (row ∷ rows) r =
     numbers false = refl
 
 -- one offer
-offered_uses : (n sender number : ℕ) (sub : Subscription) (row : Row) → uses_in n (offered_row sender number sub row) ≡ uses_in n row + cond (eqb number n) (cond {A = ℕ} (takes row sub sender) 1 0) 0
-offered_uses n sender number sub row = by_case (takes row sub sender) (eqb number n) refl
+offered_uses : (n : ℕ) (message : Message) (sub : Subscription) (row : Row) → uses_in n (offered_row message sub row) ≡ uses_in n row + cond (eqb message.number n) (cond {A = ℕ} (takes row sub message.sender) 1 0) 0
+offered_uses n message sub row = by_case (takes row sub message.sender) (eqb message.number n) refl
   where
-    by_case : (t b : Bool) → eqb number n ≡ b → uses_in n (cond t (record row { queue = row.queue ++ record { number = number; subscription = sub.number } ∷ [] }) row) ≡ uses_in n row + cond (eqb number n) (cond {A = ℕ} t 1 0) 0
-    by_case true b e = omega (arith, sum_by_push (λ (i : ItemRow). cond {A = ℕ} (eqb i.number n) 1 0) row.queue (record { number = number; subscription = sub.number }))
+    by_case : (t b : Bool) → eqb message.number n ≡ b → uses_in n (cond t (record row { queue = row.queue ++ item_of message sub ∷ [] }) row) ≡ uses_in n row + cond (eqb message.number n) (cond {A = ℕ} t 1 0) 0
+    by_case true b e = omega (arith, sum_by_push (λ (i : ItemRow). cond {A = ℕ} (eqb i.number n) 1 0) row.queue (item_of message sub))
     by_case false true e = omega (arith, ap (λ b. cond {A = ℕ} b 0 0) e)
     by_case false false e = omega (arith, ap (λ b. cond {A = ℕ} b 0 0) e)
 
-one_offer : (n sender number below : ℕ) (sub : Subscription) (rows : List Row) → IsRising below rows → uses_of n (with_row (offered_row sender number sub) sub.pipe rows) ≡ uses_of n rows + cond (eqb number n) (row_takes sender sub rows) 0
-one_offer n sender number below sub rows r = at (find (is sub.pipe) rows) (with_row_sum (uses_in n) (offered_row sender number sub) sub.pipe below rows r)
+one_offer : (n : ℕ) (message : Message) (below : ℕ) (sub : Subscription) (rows : List Row) → IsRising below rows → uses_of n (with_row (offered_row message sub) sub.pipe rows) ≡ uses_of n rows + cond (eqb message.number n) (row_takes message sub rows) 0
+one_offer n message below sub rows r = at (find (is sub.pipe) rows) (with_row_sum (uses_in n) (offered_row message sub) sub.pipe below rows r)
   where
     nothing : (b : Bool) → cond {A = ℕ} b 0 0 ≡ 0
     nothing true = refl
     nothing false = refl
 
-    at : (o : Option Row) → uses_of n (with_row (offered_row sender number sub) sub.pipe rows) + option_map_or (uses_in n) o 0 ≡ uses_of n rows + option_map_or (λ row. uses_in n (offered_row sender number sub row)) o 0 → uses_of n (with_row (offered_row sender number sub) sub.pipe rows) ≡ uses_of n rows + cond (eqb number n) (option_map_or (λ row. cond {A = ℕ} (takes row sub sender) 1 0) o 0) 0
-    at None e = omega (arith, e, nothing (eqb number n))
-    at (Some row) e = omega (arith, e, offered_uses n sender number sub row)
+    at : (o : Option Row) → uses_of n (with_row (offered_row message sub) sub.pipe rows) + option_map_or (uses_in n) o 0 ≡ uses_of n rows + option_map_or (λ row. uses_in n (offered_row message sub row)) o 0 → uses_of n (with_row (offered_row message sub) sub.pipe rows) ≡ uses_of n rows + cond (eqb message.number n) (option_map_or (λ row. cond {A = ℕ} (takes row sub message.sender) 1 0) o 0) 0
+    at None e = omega (arith, e, nothing (eqb message.number n))
+    at (Some row) e = omega (arith, e, offered_uses n message sub row)
 
 -- a delivery adds one use of its send for each pipe reached, and none of another
-pub delivered_uses : (n sender number below : ℕ) (subs : List Subscription) (rows : List Row) → IsRising below rows → uses_of n (deliver_rows sender number subs rows) ≡ uses_of n rows + cond (eqb number n) (reached_rows sender number subs rows) 0
-delivered_uses n sender number below [] rows r = at (eqb number n)
+pub delivered_uses : (n : ℕ) (message : Message) (below : ℕ) (subs : List Subscription) (rows : List Row) → IsRising below rows → uses_of n (deliver_rows message subs rows) ≡ uses_of n rows + cond (eqb message.number n) (reached_rows message subs rows) 0
+delivered_uses n message below [] rows r = at (eqb message.number n)
   where
     at : (b : Bool) → uses_of n rows ≡ uses_of n rows + cond b 0 0
     at true = omega arith
     at false = omega arith
-delivered_uses n sender number below (sub ∷ subs) rows r =
-    let next : List Row = with_row (offered_row sender number sub) sub.pipe rows in
-    let rises = rising_with (offered_row sender number sub) (λ row. keeps row (takes row sub sender)) sub.pipe below rows r in
-    at (eqb number n) (uses_of n rows) (uses_of n next) _ (row_takes sender sub rows) (reached_rows sender number subs next) (one_offer n sender number below sub rows r) (delivered_uses n sender number below subs next rises)
+delivered_uses n message below (sub ∷ subs) rows r =
+    let next : List Row = with_row (offered_row message sub) sub.pipe rows in
+    let rises = rising_with (offered_row message sub) (λ row. keeps row (takes row sub message.sender)) sub.pipe below rows r in
+    at (eqb message.number n) (uses_of n rows) (uses_of n next) _ (row_takes message sub rows) (reached_rows message subs next) (one_offer n message below sub rows r) (delivered_uses n message below subs next rises)
   where
-    keeps : (row : Row) (t : Bool) → (cond t (record row { queue = row.queue ++ record { number = number; subscription = sub.number } ∷ [] }) row).number ≡ row.number
+    keeps : (row : Row) (t : Bool) → (cond t (record row { queue = row.queue ++ item_of message sub ∷ [] }) row).number ≡ row.number
     keeps row true = refl
     keeps row false = refl
 

@@ -16,7 +16,7 @@ use Rattle.bus_tables.specs.Tables.{Tables}
 -- What the tables stand for. --
 
 abbrev pub item_in : Item → ItemRow
-item_in item = record { number = item.number; subscription = item.sub.number }
+item_in item = record { number = item.number; desc = item.desc; subscription = item.sub.number }
 
 abbrev pub row_in : PipeRow → Row
 row_in row = record {

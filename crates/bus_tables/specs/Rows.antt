@@ -3,6 +3,7 @@ use Rattle.std.specs.Prelude.{ℕ, ◌+◌, ◌%◌, ◌==◌, ◌&&◌, not, na
 use Rattle.std.specs.List.{list_any}
 use Rattle.std.specs.Option.{option_map_or, option_and_then}
 use Rattle.bus_words.specs.Bus.{Subscription}
+use Rattle.bus_tables.specs.declared.message.Message.{Message}
 use Rattle.bus_tables.specs.declared.tables.ItemRow.{ItemRow}
 
 -- Pipes. --
@@ -80,25 +81,28 @@ abbrev pub takes : Row → Subscription → ℕ → Bool
 takes row sub sender =
     not (ignores_sender row sender) && not (nat_le sub.limit (waiting_in row sub.number)) && not (length row.queue == row.depth)
 
+-- the item that a message is on the subscription's pipe
+abbrev pub item_of : Message → Subscription → ItemRow
+item_of message sub = record { number = message.number; desc = message.desc; subscription = sub.number }
+
 -- the row once it was offered a message for the subscription
-abbrev pub offered_row : ℕ → ℕ → Subscription → Row → Row
-offered_row sender number sub row =
-    if takes row sub sender then record row { queue = row.queue ++ record { number = number; subscription = sub.number } ∷ [] } else row
+abbrev pub offered_row : Message → Subscription → Row → Row
+offered_row message sub row = if takes row sub message.sender then record row { queue = row.queue ++ item_of message sub ∷ [] } else row
 
 -- 1 where the subscription's pipe takes the message
-abbrev pub row_takes : ℕ → Subscription → List Row → ℕ
-row_takes sender sub rows = option_map_or (λ row. if takes row sub sender then 1 else 0) (find (λ row. row.number == sub.pipe) rows) 0
+abbrev pub row_takes : Message → Subscription → List Row → ℕ
+row_takes message sub rows = option_map_or (λ row. if takes row sub message.sender then 1 else 0) (find (λ row. row.number == sub.pipe) rows) 0
 
 -- the rows once each subscription was offered the message, in order
-abbrev pub deliver_rows : ℕ → ℕ → List Subscription → List Row → List Row
-deliver_rows sender number [] rows = rows
-deliver_rows sender number (sub ∷ subs) rows = deliver_rows sender number subs (with_row (offered_row sender number sub) sub.pipe rows)
+abbrev pub deliver_rows : Message → List Subscription → List Row → List Row
+deliver_rows message [] rows = rows
+deliver_rows message (sub ∷ subs) rows = deliver_rows message subs (with_row (offered_row message sub) sub.pipe rows)
 
 -- how many of the subscriptions' pipes take the message, each as its turn comes
-abbrev pub reached_rows : ℕ → ℕ → List Subscription → List Row → ℕ
-reached_rows sender number [] rows = 0
-reached_rows sender number (sub ∷ subs) rows =
-    row_takes sender sub rows + reached_rows sender number subs (with_row (offered_row sender number sub) sub.pipe rows)
+abbrev pub reached_rows : Message → List Subscription → List Row → ℕ
+reached_rows message [] rows = 0
+reached_rows message (sub ∷ subs) rows =
+    row_takes message sub rows + reached_rows message subs (with_row (offered_row message sub) sub.pipe rows)
 
 -- Routes. --
 

@@ -6,33 +6,31 @@ ghost use Rattle.subscriptions.specs.Subs.{live_at};
 ghost use Rattle.bus_tables.specs.Rows.{with_row, offered_row, row_takes, deliver_rows, reached_rows};
 ghost use Rattle.bus_tables.specs.Inside.{AreQueued, AreRouted, row_in, sub_in, still, frame};
 
+use crate::message::Message;
 use bucket_list::{Ledger, Steps};
-use fsw_base::AppNo;
 use pipe_queue::Item;
 use pipe_table::{PipeNo, PipeTable};
 use routing::Routes;
 use subscriptions::{SubNo, Subs, Verdict};
 
-/// Offers the message of this send to the subscriptions of its id, in order, and tells how many
+/// Offers the message to the subscriptions of its id, in order, and tells how many
 /// pipes took it.
 pub(crate) fn along<L: Ledger>(
     pipes: &mut PipeTable,
     subs: &mut Subs,
     routes: &Routes,
     id: u16,
-    sender: AppNo,
-    number: u32,
+    message: &Message,
     steps: &mut Steps<L>,
 ) -> u32
-    requires number { 1 ≤ number }
     requires few { length subs.old.live < 2 ^ 32 }
     requires queued { AreQueued pipes.old.live subs.old }
     requires routed { AreRouted subs.old routes.now }
     ensures rows { map row_in pipes.new.live ≡
-        deliver_rows sender number (route (map sub_in subs.old.live) id)
+        deliver_rows message.now (route (map sub_in subs.old.live) id)
         (map row_in pipes.old.live) }
     ensures reached { result ≡
-        reached_rows sender number (route (map sub_in subs.old.live) id)
+        reached_rows message.now (route (map sub_in subs.old.live) id)
         (map row_in pipes.old.live) }
     ensures frame { frame pipes.new ≡ frame pipes.old }
     ensures subs { still subs.new ≡ still subs.old }
@@ -50,22 +48,21 @@ pub(crate) fn along<L: Ledger>(
         let Some((node, sub)) = at else {
             return reached;
         };
-        reached += offer(pipes, subs, sub, sender, number);
+        reached += offer(pipes, subs, sub, message);
         at = routes.next(node, steps);
     }
     reached
 }
 
 // Offers the message to a live subscription: 1 where its pipe takes it, else 0.
-fn offer(pipes: &mut PipeTable, subs: &mut Subs, sub: SubNo, sender: AppNo, number: u32) -> u32
+fn offer(pipes: &mut PipeTable, subs: &mut Subs, sub: SubNo, message: &Message) -> u32
     requires live { IsSome (live_at subs.old sub) }
-    requires number { 1 ≤ number }
     requires queued { AreQueued pipes.old.live subs.old }
     ensures rows { ForSome (live_at subs.old sub)
         (λ s. map row_in pipes.new.live ≡
-        with_row (offered_row sender number (sub_in s)) s.pipe (map row_in pipes.old.live)) }
+        with_row (offered_row message.now (sub_in s)) s.pipe (map row_in pipes.old.live)) }
     ensures taken { ForSome (live_at subs.old sub)
-        (λ s. result ≡ row_takes sender (sub_in s) (map row_in pipes.old.live)) }
+        (λ s. result ≡ row_takes message.now (sub_in s) (map row_in pipes.old.live)) }
     ensures once { result ≤ 1 }
     ensures frame { frame pipes.new ≡ frame pipes.old }
     ensures subs { still subs.new ≡ still subs.old }
@@ -80,13 +77,12 @@ fn offer(pipes: &mut PipeTable, subs: &mut Subs, sub: SubNo, sender: AppNo, numb
         number: row.pipe,
         place: row.place,
     };
-    if pipes.ignores(pipe, sender) || subs.admit(sub) == Verdict::OverLimit {
+    if pipes.ignores(pipe, message.sender) || subs.admit(sub) == Verdict::OverLimit {
         return 0;
     }
     let item = Item {
-        // The place of its send among the accepted ones.
-        desc: number - 1,
-        number,
+        desc: message.desc,
+        number: message.number,
         sub,
     };
     if pipes.try_put(pipe, item).is_err() {

@@ -11,15 +11,16 @@
 //! fn first_waiting<L: Ledger>(
 //!     tables: &mut BusTables,
 //!     name: &PipeText,
-//!     app: AppNo,
+//!     message: &Message,
 //!     steps: &mut Steps<L>,
 //! ) -> Option<ItemRow>
 //!     requires { tables.old ≡ opened usual_limits }
-//!     ensures { result ≡ Some (record { number = 1; subscription = 1 }) }
+//!     ensures { result ≡
+//!         Some (record { number = message.now.number; desc = message.now.desc; subscription = 1 }) }
 //! {
-//!     let pipe = tables.create_pipe(name, app, 4);
+//!     let pipe = tables.create_pipe(name, message.sender, 4);
 //!     tables.subscribe(0x0801, pipe, 4, Scope::Global, steps);
-//!     tables.deliver(0x0801, app, 1, steps);
+//!     tables.deliver(0x0801, message, steps);
 //!     tables.oldest(pipe)
 //! }
 //! ```
@@ -28,11 +29,13 @@
 mod delivery;
 mod ending;
 mod making;
+mod message;
 mod pairs;
 mod tables;
 #[cfg(test)]
 mod tests;
 mod uses;
 
+pub use message::Message;
 pub use tables::{BusTables, ItemRow, LastItems};
 pub use uses::recall_uses;

@@ -17,6 +17,7 @@ pub(crate) fn item_row(item: Option<Item>) -> Option<ItemRow>
     let item = item?;
     Some(ItemRow {
         number: item.number,
+        desc: item.desc,
         subscription: item.sub.number,
     })
 }

@@ -12,6 +12,7 @@ ghost use Rattle.bus_tables.specs.Tables.{opened, IsRising};
 use crate::delivery::along;
 use crate::ending::{end_of_pipe, end_subscription};
 use crate::making::{count_down, item_row, route_for};
+use crate::message::Message;
 use crate::pairs::first_of;
 use bucket_list::{Ledger, Steps};
 use bus_words::PipeText;
@@ -22,12 +23,13 @@ use std::alloc::{AllocError, Global};
 use std::marker::Model;
 use subscriptions::Subs;
 
-/// A message that waits on a pipe or was received last: the number of its send, and the number of
-/// the subscription that queued it.
+/// A message that waits on a pipe or was received last.
 #[derive(Clone, Copy, Debug, PartialEq, Eq)]
 pub struct ItemRow {
     /// The number of its send.
     pub number: u32,
+    /// The descriptor of its buffer.
+    pub desc: u32,
     /// The number of the subscription that queued it.
     pub subscription: u32,
 }
@@ -363,27 +365,20 @@ impl BusTables {
         self.routes.next_count(route)
     }
 
-    /// Offers the message of this send, numbered from 1, to the subscriptions of its id, in order,
-    /// and tells how many pipes took it. A pipe takes it where it doesn't ignore the sender, fewer
+    /// Offers the message to the subscriptions of its id, in order, and tells how many pipes took
+    /// it. A pipe takes it where it doesn't ignore the sender, fewer
     /// messages of the subscription wait than its limit says, and fewer in all than its depth. Goes
     /// along the id's subscriptions alone: at most 2 steps for each, and 2 more.
-    pub fn deliver<L: Ledger>(
-        &mut self,
-        id: u16,
-        sender: AppNo,
-        number: u32,
-        steps: &mut Steps<L>,
-    ) -> u32
-        requires number { 1 ≤ number }
+    pub fn deliver<L: Ledger>(&mut self, id: u16, message: &Message, steps: &mut Steps<L>) -> u32
         requires few { length self.old.subscriptions < 2 ^ 32 }
         ensures after { self.new ≡
             record
             self.old {
-              pipes = deliver_rows sender number (route self.old.subscriptions id)
+              pipes = deliver_rows message.now (route self.old.subscriptions id)
                   self.old.pipes;
             } }
         ensures reached { result ≡
-            reached_rows sender number (route self.old.subscriptions id) self.old.pipes }
+            reached_rows message.now (route self.old.subscriptions id) self.old.pipes }
         ensures cost { steps.new ≤ steps.old + 2 * length (route self.old.subscriptions id) + 2 }
     {
         along(
@@ -391,8 +386,7 @@ impl BusTables {
             &mut self.subs,
             &self.routes,
             id,
-            sender,
-            number,
+            message,
             steps,
         )
     }

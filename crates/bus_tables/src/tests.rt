@@ -3,6 +3,7 @@ ghost use Rattle.std.specs.Prelude.{◌≡◌, ◌<◌, Some};
 ghost use Rattle.fsw_base.specs.Limits.{usual_limits};
 ghost use Rattle.bus_tables.specs.Tables.{opened};
 
+use crate::message::Message;
 use crate::tables::{BusTables, ItemRow};
 use bucket_list::{Blank, Ledger, Steps};
 use bus_words::PipeText;
@@ -15,16 +16,26 @@ use std::test::Fail;
 fn first_waiting<L: Ledger>(
     tables: &mut BusTables,
     name: &PipeText,
-    app: AppNo,
+    message: &Message,
     steps: &mut Steps<L>,
 ) -> Option<ItemRow>
     requires { tables.old ≡ opened usual_limits }
-    ensures { result ≡ Some (record { number = 1; subscription = 1 }) }
+    ensures { result ≡
+        Some (record { number = message.now.number; desc = message.now.desc; subscription = 1 }) }
 {
-    let pipe = tables.create_pipe(name, app, 4);
+    let pipe = tables.create_pipe(name, message.sender, 4);
     tables.subscribe(0x0801, pipe, 4, Scope::Global, steps);
-    tables.deliver(0x0801, app, 1, steps);
+    tables.deliver(0x0801, message, steps);
     tables.oldest(pipe)
+}
+
+// What an application sends: each message has a buffer of its own.
+fn message(sender: AppNo, number: u32) -> Message {
+    Message {
+        sender,
+        number,
+        desc: number,
+    }
 }
 
 /// The same with a count of its own.
@@ -40,7 +51,7 @@ fn first_counted<L: Ledger>(
     requires tables { tables.old ≡ opened usual_limits }
 {
     let mut steps = Steps::<L>::new(blank);
-    first_waiting(tables, name, app, &mut steps)
+    first_waiting(tables, name, &message(app, 1), &mut steps)
 }
 
 #[test]
@@ -51,6 +62,7 @@ fn the_first_message_waits(rt: HostRuntime) -> Result<(), Fail> {
     let first = first_counted::<Brand>(&mut tables, &name, app, Blank::new(1));
     let item = ItemRow {
         number: 1,
+        desc: 1,
         subscription: 1,
     };
     assert_eq!(rt; first, Some(item));
@@ -78,11 +90,12 @@ fn come_and_go<L: Ledger, R: Abort>(
     tables.subscribe(0x0801, first, 1, Scope::Global, &mut steps);
     tables.subscribe(0x0801, second, 1, Scope::Global, &mut steps);
     assert_eq!(rt; tables.next_count(0x0801), 1);
-    assert_eq!(rt; tables.deliver(0x0801, app, 7, &mut steps), 2);
+    assert_eq!(rt; tables.deliver(0x0801, &message(app, 7), &mut steps), 2);
     tables.take(first);
-    assert_eq!(rt; tables.deliver(0x0801, app, 8, &mut steps), 1);
+    assert_eq!(rt; tables.deliver(0x0801, &message(app, 8), &mut steps), 1);
     let item = ItemRow {
         number: 7,
+        desc: 7,
         subscription: 1,
     };
     assert_eq!(rt; tables.last(app, first), Some(item));

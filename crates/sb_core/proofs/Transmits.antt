@@ -20,8 +20,9 @@ use Rattle.bus_words.specs.declared.history.Call.TheVariants.{Transmit}
 use Rattle.bus_words.specs.Bus.{Item, State, Pipe, Subscription, Sending, route, deliver, reached}
 use Rattle.bus_words.specs.Machine.{Reads, transmit_cause, sent_along, stamped, refused_if}
 use Rattle.bus_words.specs.Acts.{NextCount, next_in, nexts_after, moved_on, completed, reads_in}
+use Rattle.bus_tables.specs.declared.message.Message.{Message}
 use Rattle.bus_tables.specs.declared.tables.ItemRow.{ItemRow}
-use Rattle.bus_tables.specs.Rows.{Row, RouteRow, takes, with_row, offered_row, deliver_rows, reached_rows, ids_of, has_way, counted_in, counted_on}
+use Rattle.bus_tables.specs.Rows.{Row, RouteRow, takes, with_row, item_of, offered_row, deliver_rows, reached_rows, ids_of, has_way, counted_in, counted_on}
 use Rattle.bus_tables.specs.Tables.{Tables}
 use Rattle.sb_core.specs.declared.plain.SbCore.TheInside.{Inside}
 use Rattle.sb_core.specs.Core.{Plain, Acts}
@@ -217,22 +218,22 @@ IsRow-more sends row is = record {
     last_more None one = tt
     last_more (Some item) one = item_more item one
 
-IsRow-offered : (sends sender number : ℕ) (sub : Subscription) → 1 ≤ number → number ≤ sends → (row : Row) → IsRow sends row → IsRow sends (offered_row sender number sub row)
-IsRow-offered sends sender number sub first last row is = by_test (takes row sub sender)
+IsRow-offered : (sends : ℕ) (message : Message) (sub : Subscription) → 1 ≤ message.number → message.number ≤ sends → (row : Row) → IsRow sends row → IsRow sends (offered_row message sub row)
+IsRow-offered sends message sub first last row is = by_test (takes row sub message.sender)
   where
-    by_test : (b : Bool) → IsRow sends (cond {A = Row} b (record row { queue = row.queue ++ record { number = number; subscription = sub.number } ∷ [] }) row)
+    by_test : (b : Bool) → IsRow sends (cond {A = Row} b (record row { queue = row.queue ++ item_of message sub ∷ [] }) row)
     by_test true = record {
-      queue = All-push (IsItem sends) row.queue (record { number = number; subscription = sub.number }) is.queue (record { first = first; last = last });
+      queue = All-push (IsItem sends) row.queue (item_of message sub) is.queue (record { first = first; last = last });
       last = is.last;
     }
     by_test false = is
 
-rows_delivered : (sends sender number : ℕ) → 1 ≤ number → number ≤ sends → (subs : List Subscription) (rows : List Row) → All (IsRow sends) rows →
-    All (IsRow sends) (deliver_rows sender number subs rows)
-rows_delivered sends sender number first last [] rows all = all
-rows_delivered sends sender number first last (sub ∷ subs) rows all =
-    rows_delivered sends sender number first last subs (with_row (offered_row sender number sub) sub.pipe rows)
-    (rows_kept sends (offered_row sender number sub) (IsRow-offered sends sender number sub first last) sub.pipe rows all)
+rows_delivered : (sends : ℕ) (message : Message) → 1 ≤ message.number → message.number ≤ sends → (subs : List Subscription) (rows : List Row) → All (IsRow sends) rows →
+    All (IsRow sends) (deliver_rows message subs rows)
+rows_delivered sends message first last [] rows all = all
+rows_delivered sends message first last (sub ∷ subs) rows all =
+    rows_delivered sends message first last subs (with_row (offered_row message sub) sub.pipe rows)
+    (rows_kept sends (offered_row message sub) (IsRow-offered sends message sub first last) sub.pipe rows all)
 
 -- a send along a subscription
 along : (subs : List Subscription) (first : Subscription) (more : List Subscription) (sending : Sending) (s : State) → subs ≡ first ∷ more →
@@ -267,9 +268,13 @@ nobody_acts a old app bytes inc viewed why nobody =
     still true = refl
     still false = refl
 
+-- what the tables are told of a send: its descriptor is its place among the accepted ones
+abbrev pub sent_by : ℕ → ℕ → Message
+sent_by app number = record { sender = app; number = number; desc = number - 1 }
+
 -- the tables once a send of this number, which moves the id's count or not, was offered to the id's subscriptions
 abbrev pub with_send : Tables → ℕ → ℕ → ℕ → Bool → Tables
-with_send t id app number inc = record t { pipes = deliver_rows app number (route t.subscriptions id) t.pipes; routes = counted_up t.routes id inc }
+with_send t id app number inc = record t { pipes = deliver_rows (sent_by app number) (route t.subscriptions id) t.pipes; routes = counted_up t.routes id inc }
 
 module _ (a : Inside) (next : Tables) (sends : Sends) (row : Kept) (old : Plain) (app : ℕ) (bytes : List ℕ) (inc : Bool) (number arrived : ℕ)
     (first : Subscription) (more : List Subscription) (someone : route a.tables.subscriptions (message_id bytes) ≡ first ∷ more)
@@ -282,13 +287,13 @@ module _ (a : Inside) (next : Tables) (sends : Sends) (row : Kept) (old : Plain)
   sent_keeps keeps short places room =
       let id = message_id bytes in
       let subs = route a.tables.subscriptions id in
-      let N : ℕ → Type 0 = λ n. All (IsRow n) (deliver_rows app number subs a.tables.pipes) in
+      let N : ℕ → Type 0 = λ n. All (IsRow n) (deliver_rows (sent_by app number) subs a.tables.pipes) in
       let P : Tables → Type 0 = λ t. Keeps (record a { tables = t; sends = sends }) in
       subst P (sym is)
       (record {
         room = keeps.room;
         rows = subst N (sym longer)
-            (rows_delivered (length a.sends.kept + 1) app number (omega (arith, numbered)) (omega (arith, numbered)) subs a.tables.pipes
+            (rows_delivered (length a.sends.kept + 1) (sent_by app number) (omega (arith, numbered)) (omega (arith, numbered)) subs a.tables.pipes
             (All-weaker (IsRow (length a.sends.kept)) (IsRow (length a.sends.kept + 1)) (IsRow-more (length a.sends.kept)) a.tables.pipes keeps.rows));
         messages = subst (All IsKept) (sym sent) (All-push IsKept a.sends.kept row keeps.messages short);
         ways =
@@ -303,7 +308,7 @@ module _ (a : Inside) (next : Tables) (sends : Sends) (row : Kept) (old : Plain)
 
   pub sent_acts : Keeps a → plain_of a ≡ old → transmit_cause (limits_of a.config) (means a).bus bytes ≡ None →
       row ≡ record { asked = length bytes; message = stamped (reads_of a.tables) bytes inc } →
-      arrived ≡ reached_rows app number (route a.tables.subscriptions (message_id bytes)) a.tables.pipes →
+      arrived ≡ reached_rows (sent_by app number) (route a.tables.subscriptions (message_id bytes)) a.tables.pipes →
       sends.places ≡ a.sends.places → a.sends.spare ≤ sends.spare + length bytes →
       Acts old (plain_of (record a { tables = next; sends = sends })) app (Transmit bytes inc) (Sent number arrived)
   sent_acts keeps viewed why row_is arrives places spare =
@@ -316,14 +321,14 @@ module _ (a : Inside) (next : Tables) (sends : Sends) (row : Kept) (old : Plain)
       let all : All (IsRow (length a.sends.kept)) a.tables.pipes = keeps.rows in
       let still = pipes_stay a.sends.kept row a.tables.pipes all in
       let as_sent : IsSending (a.sends.kept ++ row ∷ []) sending = sending_is row_is in
-      let pipes_after : map (pipe_in sends.kept) (deliver_rows app number subs a.tables.pipes) ≡ deliver sending subs s.pipes =
-      ap (λ k. map (pipe_in k) (deliver_rows app number subs a.tables.pipes)) sent
-      ∙ ap (λ n. map (pipe_in (a.sends.kept ++ row ∷ [])) (deliver_rows app n subs a.tables.pipes)) numbered
-      ∙ deliver-rows (a.sends.kept ++ row ∷ []) sending as_sent subs a.tables.pipes
+      let pipes_after : map (pipe_in sends.kept) (deliver_rows (sent_by app number) subs a.tables.pipes) ≡ deliver sending subs s.pipes =
+      ap (λ k. map (pipe_in k) (deliver_rows (sent_by app number) subs a.tables.pipes)) sent
+      ∙ ap (λ n. map (pipe_in (a.sends.kept ++ row ∷ [])) (deliver_rows (sent_by app n) subs a.tables.pipes)) numbered
+      ∙ deliver-rows (a.sends.kept ++ row ∷ []) sending as_sent (given - 1) subs a.tables.pipes
       ∙ ap (deliver sending subs) still in
       let arrived_is : arrived ≡ reached sending subs s.pipes =
-      arrives ∙ ap (λ n. reached_rows app n subs a.tables.pipes) numbered
-      ∙ reached-rows (a.sends.kept ++ row ∷ []) sending as_sent subs a.tables.pipes
+      arrives ∙ ap (λ n. reached_rows (sent_by app n) subs a.tables.pipes) numbered
+      ∙ reached-rows (a.sends.kept ++ row ∷ []) sending as_sent (given - 1) subs a.tables.pipes
       ∙ ap (reached sending subs) still in
       acts_from a (record a { tables = next; sends = sends }) old app (Transmit bytes inc) (Sent number arrived) viewed refl places spare
       (act_by (limits_of a.config) w app (Transmit bytes inc) None why
@@ -342,7 +347,7 @@ module _ (a : Inside) (next : Tables) (sends : Sends) (row : Kept) (old : Plain)
           let none : Kept = record { asked = 0; message = [] } in
           let at_last : kept_at (a.sends.kept ++ row ∷ []) (length a.sends.kept + 1) ≡ row = get_or_push a.sends.kept row none (length a.sends.kept + 1 - 1) (omega arith) in
           record {
-            item = λ sub.
+            item = λ desc sub.
                 ap (λ (k : Kept). record { number = length a.sends.kept + 1; asked = k.asked; subscription = sub.number; message = k.message }) (at_last ∙ row_is);
           }
 

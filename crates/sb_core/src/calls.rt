@@ -12,6 +12,7 @@ use crate::activities::Activity;
 use crate::messages::keep;
 use crate::plain::SbCore;
 use bucket_list::{Ledger, Steps};
+use bus_tables::Message;
 use bus_words::PipeText;
 use ccsds_msg::id_of;
 use fsw_base::{AppNo, SbStatus, Scope};
@@ -138,7 +139,13 @@ impl SbCore {
         }
         keep(&mut self.tables, &mut self.sends, bytes, inc);
         let number = self.sends.len() as u32;
-        let reached = self.tables.deliver(id, app, number, steps);
+        let message = Message {
+            sender: app,
+            number,
+            // The place of its send among the accepted ones.
+            desc: number - 1,
+        };
+        let reached = self.tables.deliver(id, &message, steps);
         Ok(Sent { number, reached })
     }
 

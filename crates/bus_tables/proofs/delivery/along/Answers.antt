@@ -11,12 +11,12 @@ use Rattle.bus_tables.proofs.delivery.along.Goals as goal
 pub returns-in_default-clause-rows : goal.returns-in_default-clause-rows
 returns-in_default-clause-rows g c =
     let a = c.args in
-    ap (λ l. deliver_rows a.sender a.number l (map row_in a.pipes.now.live)) (sym (no_route a.subs.now a.routes.now a.id c.requires.routed (sym c.route_of.ensures ∙ c.in_default.is)))
+    ap (λ l. deliver_rows a.message.now l (map row_in a.pipes.now.live)) (sym (no_route a.subs.now a.routes.now a.id c.requires.routed (sym c.route_of.ensures ∙ c.in_default.is)))
 
 pub returns-in_default-clause-reached : goal.returns-in_default-clause-reached
 returns-in_default-clause-reached g c =
     let a = c.args in
-    ap (λ l. reached_rows a.sender a.number l (map row_in a.pipes.now.live)) (sym (no_route a.subs.now a.routes.now a.id c.requires.routed (sym c.route_of.ensures ∙ c.in_default.is)))
+    ap (λ l. reached_rows a.message.now l (map row_in a.pipes.now.live)) (sym (no_route a.subs.now a.routes.now a.id c.requires.routed (sym c.route_of.ensures ∙ c.in_default.is)))
 
 -- Along its route. --
 
@@ -31,9 +31,9 @@ offer-reached-requires-clause-live g c =
     let a = c.args in
     let l = c.loop in
     let at = c.in-Some-at in
-    is_live a.pipes.now a.subs.now a.routes.now a.id c.in-Some.route a.sender a.number c.recall_order.ensures c.requires.routed (sym c.route_of.ensures ∙ c.in-Some.is)
+    is_live a.pipes.now a.subs.now a.routes.now a.id c.in-Some.route a.message.now c.recall_order.ensures c.requires.routed (sym c.route_of.ensures ∙ c.in-Some.is)
     l.counter at.node at.sub l.pipes l.subs l.reached
-    (subst (λ o. Walked a.pipes.now a.subs.now a.routes.now a.id c.in-Some.route a.sender a.number l.counter o l.pipes l.subs l.reached) at.is l.invariant.walked)
+    (subst (λ o. Walked a.pipes.now a.subs.now a.routes.now a.id c.in-Some.route a.message.now l.counter o l.pipes l.subs l.reached) at.is l.invariant.walked)
 
 pub loop-preserved : goal.loop-preserved
 loop-preserved g c =
@@ -44,13 +44,13 @@ loop-preserved g c =
     let n = c.next-at in
     let dests = dests_at a.routes.now c.in-Some.route in
     let is : route_of a.routes.now.routes a.id ≡ Some c.in-Some.route = sym c.route_of.ensures ∙ c.in-Some.is in
-    let w : Walked a.pipes.now a.subs.now a.routes.now a.id c.in-Some.route a.sender a.number l.counter (Some (at.node, at.sub)) l.pipes l.subs l.reached =
-    subst (λ o. Walked a.pipes.now a.subs.now a.routes.now a.id c.in-Some.route a.sender a.number l.counter o l.pipes l.subs l.reached) at.is l.invariant.walked in
+    let w : Walked a.pipes.now a.subs.now a.routes.now a.id c.in-Some.route a.message.now l.counter (Some (at.node, at.sub)) l.pipes l.subs l.reached =
+    subst (λ o. Walked a.pipes.now a.subs.now a.routes.now a.id c.in-Some.route a.message.now l.counter o l.pipes l.subs l.reached) at.is l.invariant.walked in
     let behind = n.ensures.behind c.in-Some.route (take l.counter dests) (drop (l.counter + 1) dests) at.sub
-    (stands a.pipes.now a.subs.now a.routes.now a.id c.in-Some.route a.sender a.number c.recall_order.ensures c.requires.routed is l.counter at.node at.sub l.pipes l.subs l.reached w) in
+    (stands a.pipes.now a.subs.now a.routes.now a.id c.in-Some.route a.message.now c.recall_order.ensures c.requires.routed is l.counter at.node at.sub l.pipes l.subs l.reached w) in
     record {
       walked =
-          walked_more a.pipes.now a.subs.now a.routes.now a.id c.in-Some.route a.sender a.number c.recall_order.ensures c.requires.routed is l.counter at.node at.sub l.pipes l.subs l.reached w
+          walked_more a.pipes.now a.subs.now a.routes.now a.id c.in-Some.route a.message.now c.recall_order.ensures c.requires.routed is l.counter at.node at.sub l.pipes l.subs l.reached w
           n.result o.new.pipes o.new.subs o.result o.ensures.rows o.ensures.taken o.ensures.once o.ensures.frame o.ensures.subs o.ensures.queued behind n.ensures.exists;
       cost = omega (arith, n.ensures.cost, l.invariant.cost);
     }
@@ -60,7 +60,7 @@ pub returns-in_default-at-clause-rows : goal.returns-in_default-at-clause-rows
 returns-in_default-at-clause-rows g c =
     let a = c.args in
     let l = c.loop in
-    all_rows a.pipes.now a.subs.now a.routes.now a.id c.in-Some.route a.sender a.number c.recall_order.ensures c.requires.routed (sym c.route_of.ensures ∙ c.in-Some.is)
+    all_rows a.pipes.now a.subs.now a.routes.now a.id c.in-Some.route a.message.now c.recall_order.ensures c.requires.routed (sym c.route_of.ensures ∙ c.in-Some.is)
     l.counter l.at l.pipes l.subs l.reached l.invariant.walked
     (none_left l.counter (dests_at a.routes.now c.in-Some.route) (sym l.invariant.walked.at_is ∙ c.in_default-at.is))
 
@@ -68,7 +68,7 @@ pub returns-in_default-at-clause-reached : goal.returns-in_default-at-clause-rea
 returns-in_default-at-clause-reached g c =
     let a = c.args in
     let l = c.loop in
-    all_reached a.pipes.now a.subs.now a.routes.now a.id c.in-Some.route a.sender a.number c.recall_order.ensures c.requires.routed (sym c.route_of.ensures ∙ c.in-Some.is)
+    all_reached a.pipes.now a.subs.now a.routes.now a.id c.in-Some.route a.message.now c.recall_order.ensures c.requires.routed (sym c.route_of.ensures ∙ c.in-Some.is)
     l.counter l.at l.pipes l.subs l.reached l.invariant.walked
     (none_left l.counter (dests_at a.routes.now c.in-Some.route) (sym l.invariant.walked.at_is ∙ c.in_default-at.is))
 
@@ -79,7 +79,7 @@ returns-in_default-at-clause-cost g c =
       arith,
       c.loop.invariant.cost,
       c.dests_of-end.ensures,
-      as_many a.pipes.now a.subs.now a.routes.now a.id c.in-Some.route a.sender a.number c.recall_order.ensures c.requires.routed (sym c.route_of.ensures ∙ c.in-Some.is),
+      as_many a.pipes.now a.subs.now a.routes.now a.id c.in-Some.route a.message.now c.recall_order.ensures c.requires.routed (sym c.route_of.ensures ∙ c.in-Some.is),
     )
 
 -- and so behind the last
@@ -87,7 +87,7 @@ pub returns-clause-rows : goal.returns-clause-rows
 returns-clause-rows g c =
     let a = c.args in
     let l = c.loop in
-    all_rows a.pipes.now a.subs.now a.routes.now a.id c.in-Some.route a.sender a.number c.recall_order.ensures c.requires.routed (sym c.route_of.ensures ∙ c.in-Some.is)
+    all_rows a.pipes.now a.subs.now a.routes.now a.id c.in-Some.route a.message.now c.recall_order.ensures c.requires.routed (sym c.route_of.ensures ∙ c.in-Some.is)
     l.counter l.at l.pipes l.subs l.reached l.invariant.walked
     (drop_all l.counter (dests_at a.routes.now c.in-Some.route) (omega arith))
 
@@ -95,7 +95,7 @@ pub returns-clause-reached : goal.returns-clause-reached
 returns-clause-reached g c =
     let a = c.args in
     let l = c.loop in
-    all_reached a.pipes.now a.subs.now a.routes.now a.id c.in-Some.route a.sender a.number c.recall_order.ensures c.requires.routed (sym c.route_of.ensures ∙ c.in-Some.is)
+    all_reached a.pipes.now a.subs.now a.routes.now a.id c.in-Some.route a.message.now c.recall_order.ensures c.requires.routed (sym c.route_of.ensures ∙ c.in-Some.is)
     l.counter l.at l.pipes l.subs l.reached l.invariant.walked
     (drop_all l.counter (dests_at a.routes.now c.in-Some.route) (omega arith))
 
@@ -106,5 +106,5 @@ returns-clause-cost g c =
       arith,
       c.loop.invariant.cost,
       c.dests_of-end.ensures,
-      as_many a.pipes.now a.subs.now a.routes.now a.id c.in-Some.route a.sender a.number c.recall_order.ensures c.requires.routed (sym c.route_of.ensures ∙ c.in-Some.is),
+      as_many a.pipes.now a.subs.now a.routes.now a.id c.in-Some.route a.message.now c.recall_order.ensures c.requires.routed (sym c.route_of.ensures ∙ c.in-Some.is),
     )

@@ -4,6 +4,6 @@ use Rattle.bus_tables.proofs.delivery.along.Given as goal
 
 abbrev pub invariant-loop : goal.invariant-loop
 invariant-loop g l = record {
-  walked : Walked l.fn.pipes l.fn.subs l.routes l.id l.route l.sender l.number l.counter l.at l.pipes l.subs l.reached;
+  walked : Walked l.fn.pipes l.fn.subs l.routes l.id l.route l.message l.counter l.at l.pipes l.subs l.reached;
   cost : l.steps ≤ l.fn.steps + 2 + 2 * l.counter;
 }

@@ -15,27 +15,27 @@ use Rattle.bus_tables.proofs.delivery.offer.Goals.{then-ignores-via-then-ignores
 
 -- a pipe that ignores the sender, or a subscription over its limit, takes nothing
 turned_away : (c : goal.Joined-then-ignores) (x : Subscription) (live : live_at c.args.subs.now c.args.sub ≡ Some x) (row : PipeRow) → IsPipe c.args.pipes.now.live x row →
-    takes (row_in row) (sub_in x) c.args.sender ≡ false
+    takes (row_in row) (sub_in x) c.args.message.now.sender ≡ false
 turned_away c x live row pipe =
     let number = pipe_is c.args.subs.now c.args.sub x c.at-row.result c.at-row.ensures live in
     elim c.then-ignores.branch [
       | then-ignores-via-then-ignores w ↦
-          ignored c.args.pipes.now.live x row pipe c.args.sender c.args.number
-          (sym (of_pipe c.args.pipes.now.live x row pipe c.args.sender c.args.number (λ r. ignores_sender r c.args.sender) false c.at-row.result.pipe number) ∙ sym c.ignores.ensures ∙ w.if-ignores.true)
+          ignored c.args.pipes.now.live x row pipe c.args.message.now
+          (sym (of_pipe c.args.pipes.now.live x row pipe c.args.message.now (λ r. ignores_sender r c.args.message.now.sender) false c.at-row.result.pipe number) ∙ sym c.ignores.ensures ∙ w.if-ignores.true)
       | then-ignores-via-else-ignores+then-eq w ↦
-          over_limit c.args.pipes.now.live x row pipe c.args.sender c.args.number
+          over_limit c.args.pipes.now.live x row pipe c.args.message.now
           (sym (over_is c.args.subs.now c.args.sub x w.admit.result w.admit.ensures live) ∙ sym w.eq.ensures ∙ w.if-eq.true)
     ]
 
 pub returns-then-ignores-clause-rows : goal.returns-then-ignores-clause-rows
 returns-then-ignores-clause-rows c = λ x live.
     let found = pipe_here c.args.pipes.now.live c.args.subs.now c.args.sub x c.recall_order.ensures c.requires.queued live in
-    refused c.args.pipes.now.live x found.0 found.1 c.args.sender c.args.number (turned_away c x live found.0 found.1)
+    refused c.args.pipes.now.live x found.0 found.1 c.args.message.now (turned_away c x live found.0 found.1)
 
 pub returns-then-ignores-clause-taken : goal.returns-then-ignores-clause-taken
 returns-then-ignores-clause-taken c = λ x live.
     let found = pipe_here c.args.pipes.now.live c.args.subs.now c.args.sub x c.recall_order.ensures c.requires.queued live in
-    sym (taken_by c.args.pipes.now.live x found.0 found.1 c.args.sender c.args.number ∙ ap (λ b. cond {A = ℕ} b 1 0) (turned_away c x live found.0 found.1))
+    sym (taken_by c.args.pipes.now.live x found.0 found.1 c.args.message.now ∙ ap (λ b. cond {A = ℕ} b 1 0) (turned_away c x live found.0 found.1))
 
 pub ignores-requires : goal.ignores-requires
 ignores-requires c =
@@ -52,27 +52,27 @@ try_put-requires c =
 -- as many wait as its depth
 at_depth : (c : goal.Then-is_err) (x : Subscription) (live : live_at c.args.subs.now c.args.sub ≡ Some x) (row : PipeRow) → IsPipe c.args.pipes.now.live x row → eqb (length row.queue) row.depth ≡ true
 at_depth c x live row pipe =
-    sym (of_pipe c.args.pipes.now.live x row pipe c.args.sender c.args.number (λ r. eqb (length r.queue) r.depth) false c.at-row.result.pipe (pipe_is c.args.subs.now c.args.sub x c.at-row.result c.at-row.ensures live))
+    sym (of_pipe c.args.pipes.now.live x row pipe c.args.message.now (λ r. eqb (length r.queue) r.depth) false c.at-row.result.pipe (pipe_is c.args.subs.now c.args.sub x c.at-row.result c.at-row.ensures live))
     ∙ c.try_put.ensures.full.0 (sym c.is_err.ensures.value ∙ c.if-is_err.true)
 
 -- the pipes stay
 stays : (c : goal.Then-is_err) (x : Subscription) (live : live_at c.args.subs.now c.args.sub ≡ Some x) (row : PipeRow) → IsPipe c.args.pipes.now.live x row → c.try_put.new.self.live ≡ c.args.pipes.now.live
 stays c x live row pipe =
     ap (λ (p : Pipes). p.live) c.try_put.ensures.after
-    ∙ full_stays c.args.pipes.now.live x row pipe c.args.sender c.args.number (record { desc = c.args.number - 1; number = c.args.number; sub = c.args.sub }) c.at-row.result.pipe
+    ∙ full_stays c.args.pipes.now.live x row pipe c.args.message.now (record { desc = c.args.message.now.desc; number = c.args.message.now.number; sub = c.args.sub }) c.at-row.result.pipe
     (pipe_is c.args.subs.now c.args.sub x c.at-row.result c.at-row.ensures live) (at_depth c x live row pipe)
 
 pub returns-then-is_err-clause-rows : goal.returns-then-is_err-clause-rows
 returns-then-is_err-clause-rows c = λ x live.
     let found = pipe_here c.args.pipes.now.live c.args.subs.now c.args.sub x c.recall_order.ensures c.requires.queued live in
     ap (map row_in) (stays c x live found.0 found.1)
-    ∙ refused c.args.pipes.now.live x found.0 found.1 c.args.sender c.args.number (full c.args.pipes.now.live x found.0 found.1 c.args.sender c.args.number (at_depth c x live found.0 found.1))
+    ∙ refused c.args.pipes.now.live x found.0 found.1 c.args.message.now (full c.args.pipes.now.live x found.0 found.1 c.args.message.now (at_depth c x live found.0 found.1))
 
 pub returns-then-is_err-clause-taken : goal.returns-then-is_err-clause-taken
 returns-then-is_err-clause-taken c = λ x live.
     let found = pipe_here c.args.pipes.now.live c.args.subs.now c.args.sub x c.recall_order.ensures c.requires.queued live in
-    sym (taken_by c.args.pipes.now.live x found.0 found.1 c.args.sender c.args.number
-    ∙ ap (λ b. cond {A = ℕ} b 1 0) (full c.args.pipes.now.live x found.0 found.1 c.args.sender c.args.number (at_depth c x live found.0 found.1)))
+    sym (taken_by c.args.pipes.now.live x found.0 found.1 c.args.message.now
+    ∙ ap (λ b. cond {A = ℕ} b 1 0) (full c.args.pipes.now.live x found.0 found.1 c.args.message.now (at_depth c x live found.0 found.1)))
 
 pub returns-then-is_err-clause-queued : goal.returns-then-is_err-clause-queued
 returns-then-is_err-clause-queued c =
@@ -85,16 +85,16 @@ returns-then-is_err-clause-queued c =
 -- there is room
 room : (c : goal.After-queued) (x : Subscription) (live : live_at c.args.subs.now c.args.sub ≡ Some x) (row : PipeRow) → IsPipe c.args.pipes.now.live x row → eqb (length row.queue) row.depth ≡ false
 room c x live row pipe =
-    let said = of_pipe c.args.pipes.now.live x row pipe c.args.sender c.args.number (λ r. eqb (length r.queue) r.depth) false c.at-row.result.pipe
+    let said = of_pipe c.args.pipes.now.live x row pipe c.args.message.now (λ r. eqb (length r.queue) r.depth) false c.at-row.result.pipe
     (pipe_is c.args.subs.now c.args.sub x c.at-row.result c.at-row.ensures live) in
     false_from_ne_true (eqb (length row.queue) row.depth)
     (λ at. both_ways (is_err c.try_put.result) (sym c.is_err.ensures.value ∙ c.if-is_err.false) (c.try_put.ensures.full.1 (said ∙ at)))
 
 -- the pipe takes it
-takes_it : (c : goal.After-queued) (x : Subscription) (live : live_at c.args.subs.now c.args.sub ≡ Some x) (row : PipeRow) → IsPipe c.args.pipes.now.live x row → takes (row_in row) (sub_in x) c.args.sender ≡ true
+takes_it : (c : goal.After-queued) (x : Subscription) (live : live_at c.args.subs.now c.args.sub ≡ Some x) (row : PipeRow) → IsPipe c.args.pipes.now.live x row → takes (row_in row) (sub_in x) c.args.message.now.sender ≡ true
 takes_it c x live row pipe =
-    all_pass c.args.pipes.now.live x row pipe c.args.sender c.args.number
-    (sym (of_pipe c.args.pipes.now.live x row pipe c.args.sender c.args.number (λ r. ignores_sender r c.args.sender) false c.at-row.result.pipe (pipe_is c.args.subs.now c.args.sub x c.at-row.result c.at-row.ensures live))
+    all_pass c.args.pipes.now.live x row pipe c.args.message.now
+    (sym (of_pipe c.args.pipes.now.live x row pipe c.args.message.now (λ r. ignores_sender r c.args.message.now.sender) false c.at-row.result.pipe (pipe_is c.args.subs.now c.args.sub x c.at-row.result c.at-row.ensures live))
     ∙ sym c.ignores.ensures ∙ c.if-ignores.false)
     (sym (over_is c.args.subs.now c.args.sub x c.admit.result c.admit.ensures live) ∙ sym c.eq.ensures ∙ c.if-eq.false)
     (room c x live row pipe)
@@ -102,15 +102,15 @@ takes_it c x live row pipe =
 pub returns-clause-rows : goal.returns-clause-rows
 returns-clause-rows c = λ x live.
     let found = pipe_here c.args.pipes.now.live c.args.subs.now c.args.sub x c.recall_order.ensures c.requires.queued live in
-    let item : Item = record { desc = c.args.number - 1; number = c.args.number; sub = c.args.sub } in
+    let item : Item = record { desc = c.args.message.now.desc; number = c.args.message.now.number; sub = c.args.sub } in
     ap (λ (p : Pipes). map row_in p.live) c.try_put.ensures.after
     ∙ ap (λ n. map row_in (table.with_row (with_item item) n c.args.pipes.now.live)) (pipe_is c.args.subs.now c.args.sub x c.at-row.result c.at-row.ensures live)
-    ∙ accepted c.args.pipes.now.live x found.0 found.1 c.args.sender c.args.number item refl (own_number c.args.subs.now c.args.sub x live) (takes_it c x live found.0 found.1) (room c x live found.0 found.1)
+    ∙ accepted c.args.pipes.now.live x found.0 found.1 c.args.message.now item refl refl (own_number c.args.subs.now c.args.sub x live) (takes_it c x live found.0 found.1) (room c x live found.0 found.1)
 
 pub returns-clause-taken : goal.returns-clause-taken
 returns-clause-taken c = λ x live.
     let found = pipe_here c.args.pipes.now.live c.args.subs.now c.args.sub x c.recall_order.ensures c.requires.queued live in
-    sym (taken_by c.args.pipes.now.live x found.0 found.1 c.args.sender c.args.number ∙ ap (λ b. cond {A = ℕ} b 1 0) (takes_it c x live found.0 found.1))
+    sym (taken_by c.args.pipes.now.live x found.0 found.1 c.args.message.now ∙ ap (λ b. cond {A = ℕ} b 1 0) (takes_it c x live found.0 found.1))
 
 pub returns-clause-subs : goal.returns-clause-subs
 returns-clause-subs c = ap still c.queued.ensures ∙ still-with_change c.args.subs.now c.args.sub one_more (λ s. refl)
@@ -119,7 +119,7 @@ pub returns-clause-queued : goal.returns-clause-queued
 returns-clause-queued c =
     let it = some_there (live_at c.args.subs.now c.args.sub) c.requires.live in
     let found = pipe_here c.args.pipes.now.live c.args.subs.now c.args.sub it.0 c.recall_order.ensures c.requires.queued it.1 in
-    let item : Item = record { desc = c.args.number - 1; number = c.args.number; sub = c.args.sub } in
+    let item : Item = record { desc = c.args.message.now.desc; number = c.args.message.now.number; sub = c.args.sub } in
     let rows : c.try_put.new.self.live ≡ table.with_row (with_item item) it.0.pipe c.args.pipes.now.live =
     ap (λ (p : Pipes). p.live) c.try_put.ensures.after
     ∙ ap (λ n. table.with_row (with_item item) n c.args.pipes.now.live) (pipe_is c.args.subs.now c.args.sub it.0 c.at-row.result c.at-row.ensures it.1) in

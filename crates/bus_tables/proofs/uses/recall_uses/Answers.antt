@@ -2,7 +2,7 @@ use Rattle.bus_tables.proofs.UsesCounted.{delivered_uses, taken_uses, front_uses
 use Rattle.bus_tables.proofs.uses.recall_uses.Goals as goal
 
 pub returns-clause-delivered : goal.returns-clause-delivered
-returns-clause-delivered c = λ number sender sent subs rows rising. delivered_uses number sender sent 0 subs rows rising
+returns-clause-delivered c = λ number message subs rows rising. delivered_uses number message 0 subs rows rising
 
 pub returns-clause-taken : goal.returns-clause-taken
 returns-clause-taken c = λ number pipe rows rising. taken_uses number pipe 0 rows rising

@@ -16,6 +16,6 @@ returns-clause-after g c =
     let a = c.self.inside in
     let e = c.along.ensures in
     tables_after a.pipes c.along.new.pipes a.subs c.along.new.subs a.routes
-    (deliver_rows c.args.sender c.args.number (route (map sub_in a.subs.live) c.args.id) (map row_in a.pipes.live))
+    (deliver_rows c.args.message.now (route (map sub_in a.subs.live) c.args.id) (map row_in a.pipes.live))
     e.frame e.subs e.rows
-    ∙ ap (λ (t : Tables). let n : Tables = record t { pipes = deliver_rows c.args.sender c.args.number (route t.subscriptions c.args.id) t.pipes } in n) c.self.view_is
+    ∙ ap (λ (t : Tables). let n : Tables = record t { pipes = deliver_rows c.args.message.now (route t.subscriptions c.args.id) t.pipes } in n) c.self.view_is

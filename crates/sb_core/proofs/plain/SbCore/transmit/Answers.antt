@@ -10,7 +10,7 @@ use Rattle.sb_core.specs.Core.{Plain}
 use Rattle.sb_core.specs.Inside.{means}
 use Rattle.sb_core.specs.Rows.{Kept, reads_of, counted_up}
 use Rattle.sb_core.proofs.Refusals.{at_fields}
-use Rattle.sb_core.proofs.Transmits.{at_most, long_enough, way_of, some_of, length-stamped, nobody_acts, sent_keeps, sent_acts}
+use Rattle.sb_core.proofs.Transmits.{at_most, long_enough, way_of, some_of, length-stamped, nobody_acts, sent_by, sent_keeps, sent_acts}
 use Rattle.sb_core.proofs.plain.SbCore.transmit.Goals as goal
 
 pub id_of-id-requires : goal.id_of-id-requires
@@ -67,7 +67,7 @@ invariant_of-self g c =
     let row : Kept = record { asked = length bytes; message = stamped (reads_of a.tables) bytes c.args.inc } in
     let number = c.len-number.result in
     let numbered : number ≡ length a.sends.kept + 1 = c.len-number.ensures ∙ ap length c.keep.ensures.kept ∙ length_push a.sends.kept row in
-    let offer : Tables → ℕ → Tables = λ t n. record t { pipes = deliver_rows c.args.app number (route t.subscriptions n) t.pipes } in
+    let offer : Tables → ℕ → Tables = λ t n. record t { pipes = deliver_rows (sent_by c.args.app number) (route t.subscriptions n) t.pipes } in
     let counts : Tables = record a.tables { routes = counted_up a.tables.routes (message_id bytes) c.args.inc } in
     let is = c.deliver-reached.ensures.after ∙ ap (λ t. offer t c.id_of-id.result) c.keep.ensures.after ∙ ap (offer counts) c.id_of-id.ensures in
     let P : Plain → Type 0 = λ o. o.whole.bus.numbers_given < o.messages in
@@ -86,12 +86,12 @@ returns-clause-does g c =
     let row : Kept = record { asked = length bytes; message = stamped (reads_of a.tables) bytes c.args.inc } in
     let number = c.len-number.result in
     let numbered : number ≡ length a.sends.kept + 1 = c.len-number.ensures ∙ ap length c.keep.ensures.kept ∙ length_push a.sends.kept row in
-    let offer : Tables → ℕ → Tables = λ t n. record t { pipes = deliver_rows c.args.app number (route t.subscriptions n) t.pipes } in
+    let offer : Tables → ℕ → Tables = λ t n. record t { pipes = deliver_rows (sent_by c.args.app number) (route t.subscriptions n) t.pipes } in
     let counts : Tables = record a.tables { routes = counted_up a.tables.routes (message_id bytes) c.args.inc } in
     let is = c.deliver-reached.ensures.after ∙ ap (λ t. offer t c.id_of-id.result) c.keep.ensures.after ∙ ap (offer counts) c.id_of-id.ensures in
     let arrives =
     c.deliver-reached.ensures.reached
-    ∙ ap (λ (t : Tables). reached_rows c.args.app number (route t.subscriptions c.id_of-id.result) t.pipes) c.keep.ensures.after
-    ∙ ap (λ n. reached_rows c.args.app number (route a.tables.subscriptions n) a.tables.pipes) c.id_of-id.ensures in
+    ∙ ap (λ (t : Tables). reached_rows (sent_by c.args.app number) (route t.subscriptions c.id_of-id.result) t.pipes) c.keep.ensures.after
+    ∙ ap (λ n. reached_rows (sent_by c.args.app number) (route a.tables.subscriptions n) a.tables.pipes) c.id_of-id.ensures in
     sent_acts a c.deliver-reached.new.self c.keep.new.sends row c.args.self.now c.args.app bytes c.args.inc number c.deliver-reached.result
     someone.first someone.more someone.is numbered c.keep.ensures.kept is c.self.invariant c.self.view_is why refl arrives c.keep.ensures.places c.keep.ensures.spare
