@@ -16,7 +16,8 @@
 //! ) -> Option<ItemRow>
 //!     requires { tables.old ≡ opened usual_limits }
 //!     ensures { result ≡
-//!         Some (record { number = message.now.number; desc = message.now.desc; subscription = 1 }) }
+//!         Some
+//!         (record { number = message.now.number; desc = message.now.desc; subscription = 1 }) }
 //! {
 //!     let pipe = tables.create_pipe(name, message.sender, 4);
 //!     tables.subscribe(0x0801, pipe, 4, Scope::Global, steps);

@@ -12,10 +12,12 @@ ghost use Rattle.bus_tables.specs.Uses.{item_use, uses_of};
 /// and where the message that waits longest, or the one received last, is taken out of a pipe, its
 /// own send does. No other send's count changes. Does nothing.
 pub fn recall_uses()
-    ensures delivered { (number : ℕ) (message : Message) (subs : List Subscription) (rows : List Row) →
+    ensures delivered { (number : ℕ) (message : Message) (subs : List Subscription)
+        (rows : List Row) →
         IsRising 0 rows →
         uses_of number (deliver_rows message subs rows) ≡
-        uses_of number rows + (if message.number == number then reached_rows message subs rows else 0) }
+        uses_of number rows +
+        (if message.number == number then reached_rows message subs rows else 0) }
     ensures taken { (number pipe : ℕ) (rows : List Row) → IsRising 0 rows →
         uses_of number (with_row after_take pipe rows) + option_map_or
         (λ row. item_use number row.last) (row_of rows pipe) 0 ≡ uses_of number rows }
