@@ -1,11 +1,12 @@
 -- A message on its way along the destinations of its id: what was done of them, and what is left to do.
-use Rattle.std.proofs.Common.{◌≡◌, ℕ, ◌+◌, ◌*◌, ◌<◌, ◌≤◌, Bool, true, false, cond, eqb, List, [], ◌∷◌, ◌++◌, length, take, drop, map, filter, find, Option, Some, None, is_some, refl, ap, sym, ◌∙◌, subst, arith, add_assoc, zero-add, take-append-drop}
+use Rattle.std.proofs.Common.{◌≡◌, ℕ, ◌+◌, ◌*◌, ◌<◌, ◌≤◌, Bool, true, false, cond, eqb, List, [], ◌∷◌, ◌++◌, length, take, drop, map, filter, find, Option, Some, None, is_some, refl, ap, sym, ◌∙◌, subst, arith, add_assoc, append_assoc, length-append, zero-add, take-append-drop}
 use Rattle.std.specs.List.{All}
-use Rattle.std.specs.Option.{IfSome, option_map}
+use Rattle.std.specs.Option.{IfSome, option_map, option_map_or, option_and_then}
 use Rattle.std.proofs.lemmas.Bool.{eq-eqb, ne_eqb, and_from, and_right}
-use Rattle.std.proofs.lemmas.List.{length-map, drop-map, drop-drop}
+use Rattle.std.proofs.lemmas.List.{length-map, drop-map, drop-drop, append-nil}
 use Rattle.std.proofs.lemmas.List.Elements.{All-nil, All-cons, All-head, All-tail, All-drop, All-filter}
 use Rattle.fsw_base.proofs.Lists.{filter-map, find-map}
+use Rattle.bus_words.specs.Bus as bus
 use Rattle.bus_words.specs.Bus.{route}
 use Rattle.pipe_table.specs.Table.{Pipes}
 use Rattle.subscriptions.specs.declared.words.SubNo.{SubNo}
@@ -13,7 +14,10 @@ use Rattle.subscriptions.specs.Subs.{Subscribed, Subscription, number_of, goes_b
 use Rattle.routing.specs.Dests.{Dest, first_dest}
 use Rattle.routing.specs.Routing.{Route, Routing, route_from, route_of, dests_at}
 use Rattle.bus_tables.specs.declared.message.Message.{Message}
-use Rattle.bus_tables.specs.Rows.{with_row, offered_row, row_takes, deliver_rows, reached_rows}
+use Rattle.bus_tables.specs.Missed.{Missed}
+use Rattle.bus_tables.specs.declared.misses.Miss.{Miss}
+use Rattle.bus_tables.specs.declared.misses.MissCause.{MissCause}
+use Rattle.bus_tables.specs.Rows.{Row, with_row, offered_row, row_takes, deliver_rows, reached_rows, miss_cause, row_misses, missed_rows}
 use Rattle.bus_tables.specs.Inside.{row_in, sub_in, uncounted, still, frame, of_id, AreQueued, AreRouted}
 use Rattle.bus_tables.proofs.OffersLists.{all_both, Rises, all_above}
 use Rattle.bus_tables.proofs.OffersSubs.{subs_rise, live_still}
@@ -113,6 +117,25 @@ pub record Walked (old : Pipes) (first : Subscribed) (routing : Routing) (id way
   pub same : still subs ≡ still first
   pub queued : AreQueued pipes.live subs
 
+-- So many destinations are done: the pipes told so far, and those that what is left will tell, are those that the whole tells.
+pub record Told (old : Pipes) (first : Subscribed) (id : ℕ) (message : Message) (start : Missed) (k : ℕ) (pipes : Pipes) (misses : Missed) : Type 0 where
+  pub told : misses.items ++ missed_rows message (map sub_in (drop k (of_id id first))) (map row_in pipes.live) ≡ missed_rows message (map sub_in (of_id id first)) (map row_in old.live)
+  pub short : length misses.items ≤ k
+  pub room : misses.room ≡ start.room
+
+-- of one pipe at most one thing is told
+pub one_told : (message : Message) (sub : bus.Subscription) (rows : List Row) → length (row_misses message sub rows) ≤ 1
+one_told message sub rows = by_cause (option_and_then (λ row. miss_cause row sub message.sender) (find (λ row. eqb row.number sub.pipe) rows))
+  where
+    by_cause : (o : Option MissCause) → length (option_map_or {U = List Miss} (λ cause. record { pipe = sub.pipe; cause = cause } ∷ []) o []) ≤ 1
+    by_cause None = omega arith
+    by_cause (Some cause) = omega arith
+
+-- before the first
+pub told_first : (old : Pipes) (first : Subscribed) (id : ℕ) (message : Message) (start misses : Missed) → misses ≡ record start { items = [] } → Told old first id message start 0 old misses
+told_first old first id message start misses is =
+    subst (λ m. Told old first id message start 0 old m) (sym is) (record { told = refl; short = omega arith; room = refl })
+
 module _ (old : Pipes) (first : Subscribed) (routing : Routing) (id way : ℕ) (message : Message)
     (order : AreInOrder first) (routed : AreRouted first routing) (is : route_of routing.routes id ≡ Some way) where
   tied : map (λ dest. dest.1) (dests_at routing way) ≡ map number_of (of_id id first)
@@ -202,6 +225,31 @@ module _ (old : Pipes) (first : Subscribed) (routing : Routing) (id way : ℕ) (
           queued = queued;
         }
 
+    -- what is told after one more
+    pub told_more : (start misses after_misses : Missed) (after : Pipes) → Told old first id message start k pipes misses →
+        ((s : Subscription) → live_at subs sub ≡ Some s → after_misses ≡ record misses { items = misses.items ++ row_misses message (sub_in s) (map row_in pipes.live) }) →
+        ((s : Subscription) → live_at subs sub ≡ Some s → map row_in after.live ≡ with_row (offered_row message (sub_in s)) s.pipe (map row_in pipes.live)) →
+        Told old first id message start (k + 1) after after_misses
+    told_more start misses after_misses after told missed rows =
+        let s = due.0 in
+        let rest = map sub_in (drop (k + 1) (of_id id first)) in
+        let here : map sub_in (drop k (of_id id first)) ≡ sub_in s ∷ rest = ap (map sub_in) due.1 in
+        let changed : map row_in after.live ≡ with_row (offered_row message (sub_in s)) s.pipe (map row_in pipes.live) =
+        rows now.0 now.1 ∙ ap (λ t. with_row (offered_row message t) t.pipe (map row_in pipes.live)) now.2 in
+        let one : List Miss = row_misses message (sub_in s) (map row_in pipes.live) in
+        let is : after_misses ≡ record misses { items = misses.items ++ one } =
+        missed now.0 now.1 ∙ ap (λ t. let m : Missed = record misses { items = misses.items ++ row_misses message t (map row_in pipes.live) } in m) now.2 in
+        subst (λ m. Told old first id message start (k + 1) after m) (sym is)
+        (record {
+          told =
+              append_assoc misses.items one (missed_rows message rest (map row_in after.live))
+              ∙ ap (λ r. misses.items ++ (one ++ missed_rows message rest r)) changed
+              ∙ ap (λ l. misses.items ++ missed_rows message l (map row_in pipes.live)) (sym here)
+              ∙ told.told;
+          short = omega (arith, length-append misses.items one, one_told message (sub_in s) (map row_in pipes.live), told.short);
+          room = told.room;
+        })
+
   -- behind the last
   module _ (k : ℕ) (at : Option Dest) (pipes : Pipes) (subs : Subscribed) (count : ℕ) (walked : Walked old first routing id way message k at pipes subs count) (none : drop k (dests_at routing way) ≡ []) where
     none_due : drop k (of_id id first) ≡ []
@@ -223,6 +271,15 @@ module _ (old : Pipes) (first : Subscribed) (routing : Routing) (id way : ℕ) (
         let zero = ap (λ l. reached_rows message (map sub_in l) (map row_in pipes.live)) none_due in
         omega (arith, zero, walked.reached)
         ∙ ap (λ l. reached_rows message l (map row_in old.live)) (sym (route_seen first id))
+
+    pub all_told : (start misses : Missed) → Told old first id message start k pipes misses → misses ≡ record start { items = missed_rows message (route (map sub_in first.live) id) (map row_in old.live) }
+    all_told start misses told =
+        ap (λ l. let m : Missed = record { items = l; room = misses.room } in m)
+        (sym (append-nil misses.items)
+        ∙ ap (λ l. misses.items ++ missed_rows message (map sub_in l) (map row_in pipes.live)) (sym none_due)
+        ∙ told.told
+        ∙ ap (λ l. missed_rows message l (map row_in old.live)) (sym (route_seen first id)))
+        ∙ ap (λ n. let m : Missed = record { items = missed_rows message (route (map sub_in first.live) id) (map row_in old.live); room = n } in m) told.room
 
 -- nothing is left behind the last
 pub none_left : (k : ℕ) (dests : List Dest) → first_dest (drop k dests) ≡ None → drop k dests ≡ []

@@ -1,7 +1,7 @@
 -- A message that is offered to one subscription: what its pipe makes of it, and what waits then.
 use Rattle.std.proofs.Common.{◌≡◌, ℕ, ◌+◌, ◌≤◌, Bool, true, false, not, ◌&&◌, cond, eqb, leb, List, [], ◌∷◌, ◌++◌, length, Option, Some, None, map, refl, ap, sym, ◌∙◌, subst, arith}
 use Rattle.std.specs.List.{All}
-use Rattle.std.specs.Option.{option_map, option_map_or}
+use Rattle.std.specs.Option.{option_map, option_map_or, option_and_then}
 use Rattle.std.proofs.lemmas.Bool.{eqb-true, eq-eqb, and_parts, both_ways, false_from_ne_true}
 use Rattle.std.proofs.lemmas.List.{length-map, map-append}
 use Rattle.std.proofs.lemmas.List.Elements.{All-map, All-weaker, All-push}
@@ -18,7 +18,10 @@ use Rattle.subscriptions.specs.declared.words.Verdict.{Verdict}
 use Rattle.subscriptions.specs.declared.words.Verdict.TheVariants.{Inside, OverLimit}
 use Rattle.subscriptions.specs.Subs.{Subscribed, Subscription, row_of, goes_by, live_at, verdict_of, verdict_at, one_more, with_change, AreInOrder}
 use Rattle.bus_tables.specs.declared.message.Message.{Message}
-use Rattle.bus_tables.specs.Rows.{Row, with_row, takes, item_of, offered_row, row_takes}
+use Rattle.bus_tables.specs.declared.misses.Miss.{Miss}
+use Rattle.bus_tables.specs.declared.misses.MissCause.{MissCause}
+use Rattle.bus_tables.specs.declared.misses.MissCause.TheVariants as misses
+use Rattle.bus_tables.specs.Rows.{Row, with_row, takes, item_of, offered_row, row_takes, miss_cause, row_misses}
 use Rattle.bus_tables.specs.Inside.{item_in, row_in, sub_in, waiting_at, still, IsCounted, IsPlaced, IsOf, IsQueued, AreQueued}
 use Rattle.bus_tables.proofs.OffersLists.{all_both, found_is, found_passes}
 use Rattle.bus_tables.proofs.OffersRows.{changed, only_row, pipe_row-with_row, of_row_kept, row_of-rows, rows_changed, rows_kept, rows_unchanged}
@@ -44,6 +47,12 @@ place-with_item item row = by_test (eqb (length row.queue) row.depth)
     by_test : (b : Bool) → (cond {A = PipeRow} b row (record row { queue = row.queue ++ item ∷ [] })).place ≡ row.place
     by_test true = refl
     by_test false = refl
+
+-- what is told of a pipe, by whether it ignores the sender, the subscription is at its limit, and it is full
+abbrev pub told_if : ℕ → Bool → Bool → Bool → List Miss
+told_if pipe skips over full =
+    option_map_or (λ cause. record { pipe = pipe; cause = cause } ∷ [])
+    (cond {A = Option MissCause} skips None (cond {A = Option MissCause} over (Some misses.OverLimit) (cond {A = Option MissCause} full (Some misses.Full) None))) []
 
 -- a live subscription's pipe, on which as many of its messages wait as it counts
 pub record IsPipe (rows : List PipeRow) (s : Subscription) (row : PipeRow) : Type 0 where
@@ -109,6 +118,33 @@ module _ (rows : List PipeRow) (s : Subscription) (row : PipeRow) (pipe : IsPipe
   taken_by =
       let F : Option Row → ℕ = λ o. option_map_or (λ r. cond {A = ℕ} (takes r (sub_in s) message.sender) 1 0) o 0 in
       ap F (row_of-rows rows s.pipe ∙ ap (option_map row_in) pipe.here)
+
+  -- what is told of the pipe
+  pub misses_by : row_misses message (sub_in s) (map row_in rows) ≡ told_if s.pipe (table.ignores_sender row message.sender) (leb s.limit s.waiting) (eqb (length row.queue) row.depth)
+  misses_by =
+      let F : Option Row → List Miss = λ o. option_map_or (λ cause. record { pipe = s.pipe; cause = cause } ∷ []) (option_and_then (λ r. miss_cause r (sub_in s) message.sender) o) [] in
+      ap F (row_of-rows rows s.pipe ∙ ap (option_map row_in) pipe.here)
+      ∙ ap (λ n. told_if s.pipe (table.ignores_sender row message.sender) (leb s.limit n) (eqb (length (map item_in row.queue)) row.depth)) (count_by-map (λ item. eqb item.subscription s.number) item_in row.queue ∙ pipe.waits)
+      ∙ ap (λ n. told_if s.pipe (table.ignores_sender row message.sender) (leb s.limit s.waiting) (eqb n row.depth)) (length-map row.queue item_in)
+
+  -- nothing where it ignores the sender
+  pub none_ignored : table.ignores_sender row message.sender ≡ true → row_misses message (sub_in s) (map row_in rows) ≡ []
+  none_ignored is = misses_by ∙ ap (λ b. told_if s.pipe b (leb s.limit s.waiting) (eqb (length row.queue) row.depth)) is
+
+  -- the limit before the depth
+  pub told_over : table.ignores_sender row message.sender ≡ false → leb s.limit s.waiting ≡ true → row_misses message (sub_in s) (map row_in rows) ≡ record { pipe = s.pipe; cause = misses.OverLimit } ∷ []
+  told_over heard is =
+      misses_by
+      ∙ ap (λ b. told_if s.pipe b (leb s.limit s.waiting) (eqb (length row.queue) row.depth)) heard
+      ∙ ap (λ b. told_if s.pipe false b (eqb (length row.queue) row.depth)) is
+
+  -- the depth, or nothing
+  pub told_full : (b : Bool) → table.ignores_sender row message.sender ≡ false → leb s.limit s.waiting ≡ false → eqb (length row.queue) row.depth ≡ b → row_misses message (sub_in s) (map row_in rows) ≡ told_if s.pipe false false b
+  told_full b heard below is =
+      misses_by
+      ∙ ap (λ b. told_if s.pipe b (leb s.limit s.waiting) (eqb (length row.queue) row.depth)) heard
+      ∙ ap (λ b. told_if s.pipe false b (eqb (length row.queue) row.depth)) below
+      ∙ ap (λ b. told_if s.pipe false false b) is
 
   -- a pipe that doesn't take it stays
   pub refused : takes (row_in row) (sub_in s) message.sender ≡ false → map row_in rows ≡ with_row (offered_row message (sub_in s)) s.pipe (map row_in rows)

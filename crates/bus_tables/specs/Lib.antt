@@ -1,3 +1,4 @@
+pub mod Missed
 pub mod Rows
 pub mod Tables
 pub mod Inside

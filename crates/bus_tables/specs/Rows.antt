@@ -5,6 +5,9 @@ use Rattle.std.specs.Option.{option_map_or, option_and_then}
 use Rattle.bus_words.specs.Bus.{Subscription}
 use Rattle.bus_tables.specs.declared.message.Message.{Message}
 use Rattle.bus_tables.specs.declared.tables.ItemRow.{ItemRow}
+use Rattle.bus_tables.specs.declared.misses.Miss.{Miss}
+use Rattle.bus_tables.specs.declared.misses.MissCause.{MissCause}
+use Rattle.bus_tables.specs.declared.misses.MissCause.TheVariants.{OverLimit, Full}
 
 -- Pipes. --
 
@@ -103,6 +106,28 @@ abbrev pub reached_rows : Message → List Subscription → List Row → ℕ
 reached_rows message [] rows = 0
 reached_rows message (sub ∷ subs) rows =
     row_takes message sub rows + reached_rows message subs (with_row (offered_row message sub) sub.pipe rows)
+
+-- Misses. --
+
+-- why the pipe misses a message of this sender for the subscription; none where it takes it or ignores the sender
+abbrev pub miss_cause : Row → Subscription → ℕ → Option MissCause
+miss_cause row sub sender =
+    if ignores_sender row sender then None
+    else if nat_le sub.limit (waiting_in row sub.number) then Some OverLimit
+    else if length row.queue == row.depth then Some Full
+    else None
+
+-- the subscription's pipe and why it misses the message, where it does
+abbrev pub row_misses : Message → Subscription → List Row → List Miss
+row_misses message sub rows =
+    option_map_or (λ cause. record { pipe = sub.pipe; cause = cause } ∷ [])
+    (option_and_then (λ row. miss_cause row sub message.sender) (find (λ row. row.number == sub.pipe) rows)) []
+
+-- the pipes that miss the message, in the order of the subscriptions, each as its turn comes
+abbrev pub missed_rows : Message → List Subscription → List Row → List Miss
+missed_rows message [] rows = []
+missed_rows message (sub ∷ subs) rows =
+    row_misses message sub rows ++ missed_rows message subs (with_row (offered_row message sub) sub.pipe rows)
 
 -- Routes. --
 

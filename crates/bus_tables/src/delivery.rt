@@ -1,12 +1,13 @@
 //! A message on its way to the pipes.
-ghost use Rattle.std.specs.Prelude.{◌≡◌, ◌+◌, ◌*◌, ◌<◌, ◌≤◌, ◌^◌, length, map, IsSome};
+ghost use Rattle.std.specs.Prelude.{◌≡◌, ◌+◌, ◌*◌, ◌<◌, ◌≤◌, ◌^◌, ◌++◌, length, map, IsSome};
 ghost use Rattle.std.specs.Option.{ForSome};
 ghost use Rattle.bus_words.specs.Bus.{route};
 ghost use Rattle.subscriptions.specs.Subs.{live_at};
-ghost use Rattle.bus_tables.specs.Rows.{with_row, offered_row, row_takes, deliver_rows, reached_rows};
+ghost use Rattle.bus_tables.specs.Rows.{with_row, offered_row, row_takes, deliver_rows, reached_rows, row_misses, missed_rows};
 ghost use Rattle.bus_tables.specs.Inside.{AreQueued, AreRouted, row_in, sub_in, still, frame};
 
 use crate::message::Message;
+use crate::misses::{MissCause, Misses};
 use bucket_list::{Ledger, Steps};
 use pipe_queue::Item;
 use pipe_table::{PipeNo, PipeTable};
@@ -21,8 +22,10 @@ pub(crate) fn along<L: Ledger>(
     routes: &Routes,
     id: u16,
     message: &Message,
+    misses: &mut Misses,
     steps: &mut Steps<L>,
 ) -> u32
+    requires room { routes.now.dests ≤ misses.old.room }
     requires few { length subs.old.live < 2 ^ 32 }
     requires queued { AreQueued pipes.old.live subs.old }
     requires routed { AreRouted subs.old routes.now }
@@ -32,13 +35,22 @@ pub(crate) fn along<L: Ledger>(
     ensures reached { result ≡
         reached_rows message.now (route (map sub_in subs.old.live) id)
         (map row_in pipes.old.live) }
+    ensures missed { misses.new ≡
+        record
+        misses.old {
+          items = missed_rows message.now (route (map sub_in subs.old.live) id)
+              (map row_in pipes.old.live);
+        } }
     ensures frame { frame pipes.new ≡ frame pipes.old }
     ensures subs { still subs.new ≡ still subs.old }
     ensures queued { AreQueued pipes.new.live subs.new }
     ensures cost { steps.new ≤ steps.old + 2 * length (route (map sub_in subs.old.live) id) + 2 }
 {
-    // Does nothing; the proof learns of it that no two subscriptions have one number.
+    misses.clear();
+    // Do nothing; the proof learns of them that no two subscriptions have one number, and that no
+    // route has more destinations than may be.
     subs.recall_order();
+    routes.recall_routes();
     let Some(route) = routes.route_of(id) else {
         return 0;
     };
@@ -48,21 +60,34 @@ pub(crate) fn along<L: Ledger>(
         let Some((node, sub)) = at else {
             return reached;
         };
-        reached += offer(pipes, subs, sub, message);
+        reached += offer(pipes, subs, sub, message, misses);
         at = routes.next(node, steps);
     }
     reached
 }
 
-// Offers the message to a live subscription: 1 where its pipe takes it, else 0.
-fn offer(pipes: &mut PipeTable, subs: &mut Subs, sub: SubNo, message: &Message) -> u32
+// Offers the message to a live subscription: 1 where its pipe takes it, else 0. Adds the pipe to
+// those that miss it, where it does.
+fn offer(
+    pipes: &mut PipeTable,
+    subs: &mut Subs,
+    sub: SubNo,
+    message: &Message,
+    misses: &mut Misses,
+) -> u32
     requires live { IsSome (live_at subs.old sub) }
+    requires room { length misses.old.items < misses.old.room }
     requires queued { AreQueued pipes.old.live subs.old }
     ensures rows { ForSome (live_at subs.old sub)
         (λ s. map row_in pipes.new.live ≡
         with_row (offered_row message.now (sub_in s)) s.pipe (map row_in pipes.old.live)) }
     ensures taken { ForSome (live_at subs.old sub)
         (λ s. result ≡ row_takes message.now (sub_in s) (map row_in pipes.old.live)) }
+    ensures missed { ForSome (live_at subs.old sub)
+        (λ s. misses.new ≡
+        record misses.old {
+          items = misses.old.items ++ row_misses message.now (sub_in s) (map row_in pipes.old.live);
+        }) }
     ensures once { result ≤ 1 }
     ensures frame { frame pipes.new ≡ frame pipes.old }
     ensures subs { still subs.new ≡ still subs.old }
@@ -77,7 +102,11 @@ fn offer(pipes: &mut PipeTable, subs: &mut Subs, sub: SubNo, message: &Message) 
         number: row.pipe,
         place: row.place,
     };
-    if pipes.ignores(pipe, message.sender) || subs.admit(sub) == Verdict::OverLimit {
+    if pipes.ignores(pipe, message.sender) {
+        return 0;
+    }
+    if subs.admit(sub) == Verdict::OverLimit {
+        misses.push(row.pipe, MissCause::OverLimit);
         return 0;
     }
     let item = Item {
@@ -86,6 +115,7 @@ fn offer(pipes: &mut PipeTable, subs: &mut Subs, sub: SubNo, message: &Message) 
         sub,
     };
     if pipes.try_put(pipe, item).is_err() {
+        misses.push(row.pipe, MissCause::Full);
         return 0;
     }
     subs.queued(sub);

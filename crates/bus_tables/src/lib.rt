@@ -12,16 +12,18 @@
 //!     tables: &mut BusTables,
 //!     name: &PipeText,
 //!     message: &Message,
+//!     misses: &mut Misses,
 //!     steps: &mut Steps<L>,
 //! ) -> Option<ItemRow>
-//!     requires { tables.old ≡ opened usual_limits }
+//!     requires tables { tables.old ≡ opened usual_limits }
+//!     requires room { usual_limits.dests ≤ misses.old.room }
 //!     ensures { result ≡
 //!         Some
 //!         (record { number = message.now.number; desc = message.now.desc; subscription = 1 }) }
 //! {
 //!     let pipe = tables.create_pipe(name, message.sender, 4);
 //!     tables.subscribe(0x0801, pipe, 4, Scope::Global, steps);
-//!     tables.deliver(0x0801, message, steps);
+//!     tables.deliver(0x0801, message, misses, steps);
 //!     tables.oldest(pipe)
 //! }
 //! ```
@@ -31,6 +33,7 @@ mod delivery;
 mod ending;
 mod making;
 mod message;
+mod misses;
 mod pairs;
 mod tables;
 #[cfg(test)]
@@ -38,5 +41,6 @@ mod tests;
 mod uses;
 
 pub use message::Message;
+pub use misses::{Miss, MissCause, Misses};
 pub use tables::{BusTables, ItemRow, LastItems};
 pub use uses::recall_uses;

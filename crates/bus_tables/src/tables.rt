@@ -6,13 +6,14 @@ ghost use Rattle.std.specs.Str.{bytes_eq};
 ghost use Rattle.fsw_base.specs.Limits.{limits_of};
 ghost use Rattle.fsw_base.specs.Starts.{start_of};
 ghost use Rattle.bus_words.specs.Bus.{route, is_subscribed};
-ghost use Rattle.bus_tables.specs.Rows.{row_of, owns_row, oldest_item, last_item, last_row_item, with_row, after_take, without_front, without_last, row_with_bits, new_row, deliver_rows, reached_rows, has_way, counted_in, counted_on, with_route};
+ghost use Rattle.bus_tables.specs.Rows.{row_of, owns_row, oldest_item, last_item, last_row_item, with_row, after_take, without_front, without_last, row_with_bits, new_row, deliver_rows, reached_rows, missed_rows, has_way, counted_in, counted_on, with_route};
 ghost use Rattle.bus_tables.specs.Tables.{opened, IsRising};
 
 use crate::delivery::along;
 use crate::ending::{end_of_pipe, end_subscription};
 use crate::making::{count_down, item_row, route_for};
 use crate::message::Message;
+use crate::misses::Misses;
 use crate::pairs::first_of;
 use bucket_list::{Ledger, Steps};
 use bus_words::PipeText;
@@ -365,11 +366,19 @@ impl BusTables {
         self.routes.next_count(route)
     }
 
-    /// Offers the message to the subscriptions of its id, in order, and tells how many pipes took
-    /// it. A pipe takes it where it doesn't ignore the sender, fewer
-    /// messages of the subscription wait than its limit says, and fewer in all than its depth. Goes
-    /// along the id's subscriptions alone: at most 2 steps for each, and 2 more.
-    pub fn deliver<L: Ledger>(&mut self, id: u16, message: &Message, steps: &mut Steps<L>) -> u32
+    /// Offers the message to the subscriptions of its id, in order. Answers how many pipes took it,
+    /// and leaves in `misses` those that missed it, with the cause of each. A pipe takes it where
+    /// it doesn't ignore the sender, fewer messages of the subscription wait than its limit says,
+    /// and fewer in all than its depth. Goes along the id's subscriptions alone: at most 2 steps
+    /// for each, and 2 more.
+    pub fn deliver<L: Ledger>(
+        &mut self,
+        id: u16,
+        message: &Message,
+        misses: &mut Misses,
+        steps: &mut Steps<L>,
+    ) -> u32
+        requires room { self.old.room.dests ≤ misses.old.room }
         requires few { length self.old.subscriptions < 2 ^ 32 }
         ensures after { self.new ≡
             record
@@ -379,6 +388,11 @@ impl BusTables {
             } }
         ensures reached { result ≡
             reached_rows message.now (route self.old.subscriptions id) self.old.pipes }
+        ensures missed { misses.new ≡
+            record
+            misses.old {
+              items = missed_rows message.now (route self.old.subscriptions id) self.old.pipes;
+            } }
         ensures cost { steps.new ≤ steps.old + 2 * length (route self.old.subscriptions id) + 2 }
     {
         along(
@@ -387,6 +401,7 @@ impl BusTables {
             &self.routes,
             id,
             message,
+            misses,
             steps,
         )
     }

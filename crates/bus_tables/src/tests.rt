@@ -1,9 +1,10 @@
 //! The caller that the crate's head shows, a run of it, and a run of the other calls.
-ghost use Rattle.std.specs.Prelude.{◌≡◌, ◌<◌, Some};
+ghost use Rattle.std.specs.Prelude.{◌≡◌, ◌<◌, ◌≤◌, Some};
 ghost use Rattle.fsw_base.specs.Limits.{usual_limits};
 ghost use Rattle.bus_tables.specs.Tables.{opened};
 
 use crate::message::Message;
+use crate::misses::{Miss, MissCause, Misses};
 use crate::tables::{BusTables, ItemRow};
 use bucket_list::{Blank, Ledger, Steps};
 use bus_words::PipeText;
@@ -17,15 +18,17 @@ fn first_waiting<L: Ledger>(
     tables: &mut BusTables,
     name: &PipeText,
     message: &Message,
+    misses: &mut Misses,
     steps: &mut Steps<L>,
 ) -> Option<ItemRow>
-    requires { tables.old ≡ opened usual_limits }
+    requires tables { tables.old ≡ opened usual_limits }
+    requires room { usual_limits.dests ≤ misses.old.room }
     ensures { result ≡
         Some (record { number = message.now.number; desc = message.now.desc; subscription = 1 }) }
 {
     let pipe = tables.create_pipe(name, message.sender, 4);
     tables.subscribe(0x0801, pipe, 4, Scope::Global, steps);
-    tables.deliver(0x0801, message, steps);
+    tables.deliver(0x0801, message, misses, steps);
     tables.oldest(pipe)
 }
 
@@ -43,15 +46,17 @@ fn first_counted<L: Ledger>(
     tables: &mut BusTables,
     name: &PipeText,
     app: AppNo,
+    misses: &mut Misses,
     blank: Blank,
 ) -> Option<ItemRow>
     requires name { blank.name ≡ L.name }
     requires parts { blank.parts ≡ L.parts }
     requires some_part { 0 < blank.parts }
     requires tables { tables.old ≡ opened usual_limits }
+    requires room { usual_limits.dests ≤ misses.old.room }
 {
     let mut steps = Steps::<L>::new(blank);
-    first_waiting(tables, name, &message(app, 1), &mut steps)
+    first_waiting(tables, name, &message(app, 1), misses, &mut steps)
 }
 
 #[test]
@@ -59,7 +64,8 @@ fn the_first_message_waits(rt: HostRuntime) -> Result<(), Fail> {
     let mut tables = BusTables::new(rt.alloc(), &Config::usual())?;
     let app = AppNo::try_new(1).ok_or("an application's number")?;
     let name = PipeText::try_new(b"TLM").ok_or("a name")?;
-    let first = first_counted::<Brand>(&mut tables, &name, app, Blank::new(1));
+    let mut misses = Misses::new(rt.alloc(), Config::usual().dests)?;
+    let first = first_counted::<Brand>(&mut tables, &name, app, &mut misses, Blank::new(1));
     let item = ItemRow {
         number: 1,
         desc: 1,
@@ -70,19 +76,21 @@ fn the_first_message_waits(rt: HostRuntime) -> Result<(), Fail> {
     Ok(())
 }
 
-/// Two pipes take a message of an id, and one receives it; then its subscription ends, the other
-/// pipe is deleted, and the application released.
+/// Two pipes take a message of an id, and one receives it; the other misses the next one. Then the
+/// first one's subscription ends, the other pipe is deleted, and the application released.
 fn come_and_go<L: Ledger, R: Abort>(
     rt: &R,
     tables: &mut BusTables,
     name: &PipeText,
     app: AppNo,
+    misses: &mut Misses,
     blank: Blank,
 )
     requires name { blank.name ≡ L.name }
     requires parts { blank.parts ≡ L.parts }
     requires some_part { 0 < blank.parts }
     requires tables { tables.old ≡ opened usual_limits }
+    requires room { usual_limits.dests ≤ misses.old.room }
 {
     let mut steps = Steps::<L>::new(blank);
     let first = tables.create_pipe(name, app, 4);
@@ -90,9 +98,20 @@ fn come_and_go<L: Ledger, R: Abort>(
     tables.subscribe(0x0801, first, 1, Scope::Global, &mut steps);
     tables.subscribe(0x0801, second, 1, Scope::Global, &mut steps);
     assert_eq!(rt; tables.next_count(0x0801), 1);
-    assert_eq!(rt; tables.deliver(0x0801, &message(app, 7), &mut steps), 2);
+    assert_eq!(rt;
+        tables.deliver(0x0801, &message(app, 7), misses, &mut steps),
+        2
+    );
     tables.take(first);
-    assert_eq!(rt; tables.deliver(0x0801, &message(app, 8), &mut steps), 1);
+    assert_eq!(rt;
+        tables.deliver(0x0801, &message(app, 8), misses, &mut steps),
+        1
+    );
+    let miss = Miss {
+        pipe: second,
+        cause: MissCause::OverLimit,
+    };
+    assert_eq!(rt; misses.as_slice().first().copied(), Some(miss));
     let item = ItemRow {
         number: 7,
         desc: 7,
@@ -113,7 +132,8 @@ fn pipes_and_subscriptions_come_and_go(rt: HostRuntime) -> Result<(), Fail> {
     let mut tables = BusTables::new(rt.alloc(), &Config::usual())?;
     let app = AppNo::try_new(1).ok_or("an application's number")?;
     let name = PipeText::try_new(b"TLM").ok_or("a name")?;
-    come_and_go::<Brand, HostRuntime>(&rt, &mut tables, &name, app, Blank::new(1));
+    let mut misses = Misses::new(rt.alloc(), Config::usual().dests)?;
+    come_and_go::<Brand, HostRuntime>(&rt, &mut tables, &name, app, &mut misses, Blank::new(1));
     assert!(rt; tables.has_route(0x0801));
     assert_eq!(rt; tables.routes_len(), 1);
     Ok(())

@@ -244,6 +244,7 @@ module _ (a : Inside) (old : Plain) (app id pipe limit : ℕ) (scope : Scope) (v
           rows = keeps.rows;
           messages = keeps.messages;
           ways = ways_kept a.tables.routes (with_route a.tables.routes id) id a.tables.subscriptions (a.tables.subscriptions ++ sub ∷ []) sub refl refl refl keeps.ways;
+          misses = keeps.misses;
           once = once_with_route a.tables.routes id keeps.once;
           subscriptions_live = omega (arith, more, keeps.subscriptions_live);
           subscriptions_made = left;

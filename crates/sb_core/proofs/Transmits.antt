@@ -20,6 +20,7 @@ use Rattle.bus_words.specs.declared.history.Call.TheVariants.{Transmit}
 use Rattle.bus_words.specs.Bus.{Item, State, Pipe, Subscription, Sending, route, deliver, reached}
 use Rattle.bus_words.specs.Machine.{Reads, transmit_cause, sent_along, stamped, refused_if}
 use Rattle.bus_words.specs.Acts.{NextCount, next_in, nexts_after, moved_on, completed, reads_in}
+use Rattle.bus_tables.specs.Missed.{Missed}
 use Rattle.bus_tables.specs.declared.message.Message.{Message}
 use Rattle.bus_tables.specs.declared.tables.ItemRow.{ItemRow}
 use Rattle.bus_tables.specs.Rows.{Row, RouteRow, takes, with_row, item_of, offered_row, deliver_rows, reached_rows, ids_of, has_way, counted_in, counted_on}
@@ -276,19 +277,19 @@ sent_by app number = record { sender = app; number = number; desc = number - 1 }
 abbrev pub with_send : Tables → ℕ → ℕ → ℕ → Bool → Tables
 with_send t id app number inc = record t { pipes = deliver_rows (sent_by app number) (route t.subscriptions id) t.pipes; routes = counted_up t.routes id inc }
 
-module _ (a : Inside) (next : Tables) (sends : Sends) (row : Kept) (old : Plain) (app : ℕ) (bytes : List ℕ) (inc : Bool) (number arrived : ℕ)
+module _ (a : Inside) (next : Tables) (sends : Sends) (misses : Missed) (row : Kept) (old : Plain) (app : ℕ) (bytes : List ℕ) (inc : Bool) (number arrived : ℕ)
     (first : Subscription) (more : List Subscription) (someone : route a.tables.subscriptions (message_id bytes) ≡ first ∷ more)
     (numbered : number ≡ length a.sends.kept + 1) (sent : sends.kept ≡ a.sends.kept ++ row ∷ [])
     (is : next ≡ with_send a.tables (message_id bytes) app number inc) where
   longer : length sends.kept ≡ length a.sends.kept + 1
   longer = ap length sent ∙ length_push a.sends.kept row
 
-  pub sent_keeps : Keeps a → IsKept row → sends.places ≡ a.sends.places → length a.sends.kept < a.sends.places → Keeps (record a { tables = next; sends = sends })
-  sent_keeps keeps short places room =
+  pub sent_keeps : Keeps a → IsKept row → sends.places ≡ a.sends.places → misses.room ≡ a.misses.room → length a.sends.kept < a.sends.places → Keeps (record a { tables = next; sends = sends; misses = misses })
+  sent_keeps keeps short places roomy room =
       let id = message_id bytes in
       let subs = route a.tables.subscriptions id in
       let N : ℕ → Type 0 = λ n. All (IsRow n) (deliver_rows (sent_by app number) subs a.tables.pipes) in
-      let P : Tables → Type 0 = λ t. Keeps (record a { tables = t; sends = sends }) in
+      let P : Tables → Type 0 = λ t. Keeps (record a { tables = t; sends = sends; misses = misses }) in
       subst P (sym is)
       (record {
         room = keeps.room;
@@ -299,6 +300,7 @@ module _ (a : Inside) (next : Tables) (sends : Sends) (row : Kept) (old : Plain)
         ways =
             All-weaker (λ sub. has_way a.tables.routes sub.id ≡ true) (λ sub. has_way (counted_up a.tables.routes id inc) sub.id ≡ true)
             (λ sub one. has_route-counted_up a.tables.routes id sub.id inc ∙ one) a.tables.subscriptions keeps.ways;
+        misses = roomy ∙ keeps.misses;
         once = once_by_ids a.tables.routes (counted_up a.tables.routes id inc) (ids_of-counted_up a.tables.routes id inc) keeps.once;
         subscriptions_live = keeps.subscriptions_live;
         subscriptions_made = keeps.subscriptions_made;
@@ -310,7 +312,7 @@ module _ (a : Inside) (next : Tables) (sends : Sends) (row : Kept) (old : Plain)
       row ≡ record { asked = length bytes; message = stamped (reads_of a.tables) bytes inc } →
       arrived ≡ reached_rows (sent_by app number) (route a.tables.subscriptions (message_id bytes)) a.tables.pipes →
       sends.places ≡ a.sends.places → a.sends.spare ≤ sends.spare + length bytes →
-      Acts old (plain_of (record a { tables = next; sends = sends })) app (Transmit bytes inc) (Sent number arrived)
+      Acts old (plain_of (record a { tables = next; sends = sends; misses = misses })) app (Transmit bytes inc) (Sent number arrived)
   sent_acts keeps viewed why row_is arrives places spare =
       let w = means a in
       let s = w.bus in
@@ -330,13 +332,13 @@ module _ (a : Inside) (next : Tables) (sends : Sends) (row : Kept) (old : Plain)
       arrives ∙ ap (λ n. reached_rows (sent_by app n) subs a.tables.pipes) numbered
       ∙ reached-rows (a.sends.kept ++ row ∷ []) sending as_sent (given - 1) subs a.tables.pipes
       ∙ ap (reached sending subs) still in
-      acts_from a (record a { tables = next; sends = sends }) old app (Transmit bytes inc) (Sent number arrived) viewed refl places spare
+      acts_from a (record a { tables = next; sends = sends; misses = misses }) old app (Transmit bytes inc) (Sent number arrived) viewed refl places spare
       (act_by (limits_of a.config) w app (Transmit bytes inc) None why
       ∙ ap (completed (limits_of a.config) w (Transmit bytes inc)) (along subs first more sending s someone)
       ∙ ap (λ (ns : List NextCount). (Sent given (reached sending subs s.pipes), record { bus = record s { pipes = deliver sending subs s.pipes; numbers_given = given }; nexts = ns })) (moved keeps.once inc)
-      ∙ sym (ap (λ n. (Sent n arrived, means (record a { tables = next; sends = sends }))) numbered
-      ∙ ap (λ n. (Sent given n, means (record a { tables = next; sends = sends }))) arrived_is
-      ∙ ap (λ t. (Sent given (reached sending subs s.pipes), means (record a { tables = t; sends = sends }))) is
+      ∙ sym (ap (λ n. (Sent n arrived, means (record a { tables = next; sends = sends; misses = misses }))) numbered
+      ∙ ap (λ n. (Sent given n, means (record a { tables = next; sends = sends; misses = misses }))) arrived_is
+      ∙ ap (λ t. (Sent given (reached sending subs s.pipes), means (record a { tables = t; sends = sends; misses = misses }))) is
       ∙ ap (λ (ps : List Pipe). (Sent given (reached sending subs s.pipes), record { bus = record s { pipes = ps; routed = ids_of (counted_up a.tables.routes id inc); numbers_given = length sends.kept }; nexts = map (next_of a.tables.room.starts) (counted_up a.tables.routes id inc) })) pipes_after
       ∙ ap (λ (l : List ℕ). (Sent given (reached sending subs s.pipes), record { bus = record s { pipes = deliver sending subs s.pipes; routed = l; numbers_given = length sends.kept }; nexts = map (next_of a.tables.room.starts) (counted_up a.tables.routes id inc) })) (ids_of-counted_up a.tables.routes id inc)
       ∙ ap (λ n. (Sent given (reached sending subs s.pipes), record { bus = record s { pipes = deliver sending subs s.pipes; numbers_given = n }; nexts = map (next_of a.tables.room.starts) (counted_up a.tables.routes id inc) })) longer))

@@ -40,6 +40,8 @@ pub record Keeps (a : Inside) : Type 0 where
   pub ways : All (λ sub. has_way a.tables.routes sub.id ≡ true) a.tables.subscriptions
   -- each id has one route at most
   pub once : AreOnce a.tables.routes
+  -- there is room for all that may miss a message
+  pub misses : a.misses.room ≡ (limits_of a.config).dests
   -- numbers
   pub subscriptions_live : length a.tables.subscriptions ≤ a.tables.subscriptions_made
   pub subscriptions_made : a.tables.subscriptions_made < 2 ^ 32

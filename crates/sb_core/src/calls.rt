@@ -145,7 +145,7 @@ impl SbCore {
             // The place of its send among the accepted ones.
             desc: number - 1,
         };
-        let reached = self.tables.deliver(id, &message, steps);
+        let reached = self.tables.deliver(id, &message, &mut self.misses, steps);
         Ok(Sent { number, reached })
     }
 

@@ -5,7 +5,7 @@ ghost use Rattle.bus_words.specs.Acts.{opening_whole};
 
 use crate::activities::{Activity, all_active};
 use crate::messages::Messages;
-use bus_tables::BusTables;
+use bus_tables::{BusTables, Misses};
 use fsw_base::Config;
 use std::alloc::{AllocError, Global};
 use std::marker::Model;
@@ -23,6 +23,9 @@ pub struct SbCore {
     pub(crate) tables: BusTables,
     // The accepted sends that a subscription waited for, by number, from 1.
     pub(crate) sends: Messages,
+    // The pipes that missed the message sent last; room for as many as an id may have
+    // destinations.
+    pub(crate) misses: Misses,
 }
 
 impl Model for SbCore {
@@ -65,6 +68,7 @@ impl SbCore {
             activities: all_active(alloc, apps)?,
             tables: BusTables::new(alloc, cfg)?,
             sends: Messages::new(alloc, messages, bytes)?,
+            misses: Misses::new(alloc, cfg.dests)?,
         })
     }
 }

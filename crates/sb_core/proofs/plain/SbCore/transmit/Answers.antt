@@ -4,8 +4,9 @@ use Rattle.fsw_base.specs.Limits.{limits_of}
 use Rattle.ccsds_msg.specs.Message.{message_id}
 use Rattle.bus_words.specs.Bus.{route}
 use Rattle.bus_words.specs.Machine.{transmit_cause, stamped}
+use Rattle.bus_tables.specs.Missed.{Missed}
 use Rattle.bus_tables.specs.Rows.{deliver_rows, reached_rows}
-use Rattle.bus_tables.specs.Tables.{Tables}
+use Rattle.bus_tables.specs.Tables.{Tables, Room}
 use Rattle.sb_core.specs.Core.{Plain}
 use Rattle.sb_core.specs.Inside.{means}
 use Rattle.sb_core.specs.Rows.{Kept, reads_of, counted_up}
@@ -56,6 +57,11 @@ keep-requires-clause-room g c =
     let P : Plain → Type 0 = λ o. length c.args.bytes.now ≤ o.spare in
     subst P (sym c.self.view_is) c.requires.may.bytes
 
+pub deliver-reached-requires-clause-room : goal.deliver-reached-requires-clause-room
+deliver-reached-requires-clause-room g c =
+    let keeps = c.self.invariant in
+    omega (arith, ap (λ (t : Tables). t.room.dests) c.keep.ensures.after, ap (λ (r : Room). r.dests) keeps.room, keeps.misses)
+
 pub invariant_of-self : goal.invariant_of-self
 invariant_of-self g c =
     let a = c.self.inside in
@@ -72,9 +78,9 @@ invariant_of-self g c =
     let is = c.deliver-reached.ensures.after ∙ ap (λ t. offer t c.id_of-id.result) c.keep.ensures.after ∙ ap (offer counts) c.id_of-id.ensures in
     let P : Plain → Type 0 = λ o. o.whole.bus.numbers_given < o.messages in
     let same = length-stamped (reads_of a.tables) bytes c.args.inc long in
-    sent_keeps a c.deliver-reached.new.self c.keep.new.sends row c.args.self.now c.args.app bytes c.args.inc number c.deliver-reached.result
+    sent_keeps a c.deliver-reached.new.self c.keep.new.sends c.deliver-reached.new.misses row c.args.self.now c.args.app bytes c.args.inc number c.deliver-reached.result
     someone.first someone.more someone.is numbered c.keep.ensures.kept is c.self.invariant (record { least = omega (arith, same, long); most = omega (arith, same, at_most (length bytes) 65542 c.requires.may.within) })
-    c.keep.ensures.places (subst P (sym c.self.view_is) c.requires.may.sends)
+    c.keep.ensures.places (ap (λ (m : Missed). m.room) c.deliver-reached.ensures.missed) (subst P (sym c.self.view_is) c.requires.may.sends)
 
 pub returns-clause-does : goal.returns-clause-does
 returns-clause-does g c =
@@ -93,5 +99,5 @@ returns-clause-does g c =
     c.deliver-reached.ensures.reached
     ∙ ap (λ (t : Tables). reached_rows (sent_by c.args.app number) (route t.subscriptions c.id_of-id.result) t.pipes) c.keep.ensures.after
     ∙ ap (λ n. reached_rows (sent_by c.args.app number) (route a.tables.subscriptions n) a.tables.pipes) c.id_of-id.ensures in
-    sent_acts a c.deliver-reached.new.self c.keep.new.sends row c.args.self.now c.args.app bytes c.args.inc number c.deliver-reached.result
+    sent_acts a c.deliver-reached.new.self c.keep.new.sends c.deliver-reached.new.misses row c.args.self.now c.args.app bytes c.args.inc number c.deliver-reached.result
     someone.first someone.more someone.is numbered c.keep.ensures.kept is c.self.invariant c.self.view_is why refl arrives c.keep.ensures.places c.keep.ensures.spare
