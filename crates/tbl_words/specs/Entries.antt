@@ -1,0 +1,42 @@
+-- Entries as whole lists: what a borrowing entry stands for.
+use Rattle.std.specs.Prelude.{ℕ, length}
+use Rattle.tbl_words.specs.declared.calls.TblCall.{TblCall}
+use Rattle.tbl_words.specs.declared.calls.TblCall.TheVariants as borrowed
+use Rattle.tbl_words.specs.declared.calls.TblEntry.{TblEntry}
+use Rattle.tbl_words.specs.declared.history.Call.{Call}
+use Rattle.tbl_words.specs.declared.history.Call.TheVariants.{Register, Share, Unregister, Stage, Validate, Update, Abort, Load, GetAddress, ReleaseAddress, Status, End}
+use Rattle.tbl_words.specs.declared.history.Entry.{Entry}
+
+-- the call with its bytes
+abbrev pub call_of : TblCall → Call
+call_of (borrowed.Register name size option rules) = Register name.now size option rules
+call_of (borrowed.Share name) = Share name.now
+call_of (borrowed.Unregister handle) = Unregister handle
+call_of (borrowed.Stage handle offset bytes) = Stage handle offset bytes.now
+call_of (borrowed.Validate handle) = Validate handle
+call_of (borrowed.Update handle) = Update handle
+call_of (borrowed.Abort handle) = Abort handle
+call_of (borrowed.Load handle offset bytes) = Load handle offset bytes.now
+call_of (borrowed.GetAddress handle) = GetAddress handle
+call_of (borrowed.ReleaseAddress handle) = ReleaseAddress handle
+call_of (borrowed.Status handle) = Status handle
+call_of borrowed.End = End
+
+-- the entry with its bytes
+abbrev pub entry_of : TblEntry → Entry
+entry_of e = record { app = e.app; call = call_of e.call; answer = e.answer }
+
+-- the bytes of a call: its name, or what it loads
+abbrev pub call_bytes : Call → ℕ
+call_bytes (Register name size option rules) = length name
+call_bytes (Share name) = length name
+call_bytes (Unregister handle) = 0
+call_bytes (Stage handle offset bytes) = length bytes
+call_bytes (Validate handle) = 0
+call_bytes (Update handle) = 0
+call_bytes (Abort handle) = 0
+call_bytes (Load handle offset bytes) = length bytes
+call_bytes (GetAddress handle) = 0
+call_bytes (ReleaseAddress handle) = 0
+call_bytes (Status handle) = 0
+call_bytes End = 0

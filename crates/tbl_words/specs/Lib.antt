@@ -1,0 +1,16 @@
+pub mod Accounts
+pub mod Bounds
+pub mod Entries
+pub mod Examples
+pub mod Holds
+pub mod Inside
+pub mod Leaves
+pub mod Log
+pub mod Machine
+pub mod Receipts
+pub mod Rules
+pub mod Runs
+pub mod Statuses
+pub mod Tables
+pub mod Ties
+pub mod Uses

@@ -1,0 +1,160 @@
+//! The calls of Table Services, their answers, and both together as an entry of the journal.
+
+use crate::rules::RuleList;
+use crate::statuses::TblStatus;
+use fsw_base::AppNo;
+
+/// A call of Table Services by one application, with its bytes borrowed (cFE Table Services).
+#[derive(Debug, Drop)]
+pub enum TblCall<'a> {
+    /// Registers a table (`CFE_TBL_Register`).
+    Register {
+        /// Its name.
+        name: &'a [u8],
+        /// Its bytes.
+        size: u32,
+        /// 0 single buffered, 1 double buffered, 2 single buffered and dump only.
+        option: u32,
+        /// What its validation asks.
+        rules: RuleList,
+    },
+    /// Asks for a handle of the registered table of this name (`CFE_TBL_Share`).
+    Share {
+        /// The name looked for.
+        name: &'a [u8],
+    },
+    /// Gives a handle back; where it is the owner's, the table is no longer registered
+    /// (`CFE_TBL_Unregister`).
+    Unregister {
+        /// The handle's number.
+        handle: u32,
+    },
+    /// Stages bytes that are to become part of the table's value.
+    Stage {
+        /// The handle's number.
+        handle: u32,
+        /// The place of the first of them in the table.
+        offset: u32,
+        /// The bytes.
+        bytes: &'a [u8],
+    },
+    /// Tries the staged value by the table's rules (`CFE_TBL_Validate`).
+    Validate {
+        /// The handle's number.
+        handle: u32,
+    },
+    /// Makes the staged value the table's (`CFE_TBL_Update`).
+    Update {
+        /// The handle's number.
+        handle: u32,
+    },
+    /// Drops the staged value.
+    Abort {
+        /// The handle's number.
+        handle: u32,
+    },
+    /// Stages bytes, validates the value and makes it the table's, all in one (`CFE_TBL_Load`).
+    Load {
+        /// The handle's number.
+        handle: u32,
+        /// The place of the first of them in the table.
+        offset: u32,
+        /// The bytes.
+        bytes: &'a [u8],
+    },
+    /// Takes hold of the table's present version (`CFE_TBL_GetAddress`).
+    GetAddress {
+        /// The handle's number.
+        handle: u32,
+    },
+    /// Lets go of the version that the handle holds (`CFE_TBL_ReleaseAddress`).
+    ReleaseAddress {
+        /// The handle's number.
+        handle: u32,
+    },
+    /// Asks for the table's figures (`CFE_TBL_GetStatus`).
+    Status {
+        /// The handle's number.
+        handle: u32,
+    },
+    /// The application's last call: all its handles are given back.
+    End,
+}
+
+/// What an application is told with the address of a table.
+#[derive(Clone, Copy, Debug, PartialEq, Eq)]
+pub enum Told {
+    /// No update came since the handle's last address.
+    Same,
+    /// An update came since the handle's last address, or the handle is new (cFE
+    /// `CFE_TBL_INFO_UPDATED`).
+    Updated,
+    /// The table was never loaded and is all zeros (cFE `CFE_TBL_ERR_NEVER_LOADED`).
+    NeverLoaded,
+}
+
+/// The address of a table's present version, as it is answered: the bytes are where the
+/// application keeps what it holds.
+#[derive(Clone, Copy, Debug, PartialEq, Eq)]
+pub struct Address {
+    /// Whether they changed.
+    pub told: Told,
+    /// The version, which is the number of updates that the table had.
+    pub version: u32,
+}
+
+/// The handle that a registration is answered.
+#[derive(Clone, Copy, Debug, PartialEq, Eq)]
+pub enum Registered {
+    /// The owner's handle of a new table.
+    New(u32),
+    /// The owner's handle of the table that the application had registered before with this name
+    /// and size (cFE `CFE_TBL_WARN_DUPLICATE`).
+    Duplicate(u32),
+}
+
+/// The figures of a table.
+#[derive(Clone, Copy, Debug, PartialEq, Eq)]
+pub struct TblState {
+    /// How often it was updated.
+    pub version: u32,
+    /// Whether it was ever updated.
+    pub loaded: bool,
+    /// 0 where nothing is staged, 1 where something is, 2 where it was validated.
+    pub staged: u32,
+    /// How many handles, of whichever applications, hold a version of it.
+    pub holds: u32,
+}
+
+/// What a call of Table Services was answered.
+#[derive(Clone, Copy, Debug, PartialEq, Eq)]
+pub enum TblAnswer {
+    /// Done, with nothing to tell.
+    Done,
+    /// The number of a new handle.
+    Number(u32),
+    /// The owner's handle of the table that was registered before.
+    Duplicate(u32),
+    /// The address of the table's present version.
+    Address {
+        /// Whether the bytes changed.
+        told: Told,
+        /// The version.
+        version: u32,
+    },
+    /// The figures of the table.
+    State(TblState),
+    /// Refused.
+    Refused(TblStatus),
+}
+
+/// One call with its answer.
+#[derive(Debug, Drop)]
+pub struct TblEntry<'a> {
+    /// Who called.
+    pub app: AppNo,
+    /// The call.
+    pub call: TblCall<'a>,
+    /// What it was answered.
+    pub answer: TblAnswer,
+}
