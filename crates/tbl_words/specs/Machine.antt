@@ -31,19 +31,23 @@ with_range value offset bytes = take offset value ++ bytes ++ drop (offset + len
 abbrev pub refused_if : Bool → TblStatus → Option TblStatus → Option TblStatus
 refused_if test status others = if test then Some status else others
 
--- a name that is free: as many tables have a handle as there may be, as many handles are live, or the pool can't give the blocks
+-- a new table is refused where as many tables have a handle as there may be, as many handles are live, or the pool can't give
+-- its blocks
 abbrev pub new_table_cause : Limits → State → ℕ → ℕ → Option TblStatus
 new_table_cause limits s size option =
     refused_if (nat_le limits.tables (length s.tables)) ErrRegistryFull
     (refused_if (nat_le limits.handles (length s.handles)) ErrHandlesFull
     (refused_if (not (fits (account_of limits s) size (blocks_for option))) ErrMemBlockSize None))
 
--- a registered table has the name: it is another application's, or the caller's own with another size; a duplicate is no refusal
+-- a name that a registered table has is refused where that table is another application's, or the caller's own with another size;
+-- else it is a duplicate, and no refusal
 abbrev pub duplicate_cause : ℕ → ℕ → Table → Option TblStatus
 duplicate_cause app size t =
     refused_if (not (t.owner == app)) ErrDuplicateNotOwned
     (refused_if (not (t.size == size)) ErrDuplicateDiffSize None)
 
+-- a registration: the name has 1 to 15 bytes, the size is from 1 to the largest there may be, the option is one of three, and the
+-- rules fit the size; then by whether a registered table has the name
 abbrev pub register_cause : Limits → State → ℕ → List ℕ → ℕ → ℕ → List Rule → Option TblStatus
 register_cause limits s app name size option rules =
     refused_if (length name == 0 || nat_lt 15 (length name)) ErrInvalidName
@@ -51,18 +55,19 @@ register_cause limits s app name size option rules =
     (refused_if (nat_lt 2 option || has_misfit size rules) ErrInvalidOptions
     (option_map_or (duplicate_cause app size) (table_named s.tables name) (new_table_cause limits s size option))))
 
+-- a share: a registered table has the name, and there may be one handle more
 abbrev pub share_cause : Limits → State → List ℕ → Option TblStatus
 share_cause limits s name =
     refused_if (not (is_some (table_named s.tables name))) ErrInvalidName
     (refused_if (nat_le limits.handles (length s.handles)) ErrHandlesFull None)
 
--- the handle isn't live, or is another application's
+-- the handle isn't live, or is another application's; then the others
 abbrev pub access_cause : State → ℕ → ℕ → Option TblStatus → Option TblStatus
 access_cause s app handle others =
     refused_if (not (is_live s.handles handle)) ErrInvalidHandle
     (refused_if (not (owns s.handles app handle)) ErrNoAccess others)
 
--- so, or its table is unregistered; then what its table says
+-- so, or the handle's table is unregistered; then what its table says
 abbrev pub table_cause : State → ℕ → ℕ → (Table → Option TblStatus) → Option TblStatus
 table_cause s app handle others =
     access_cause s app handle
@@ -72,7 +77,9 @@ table_cause s app handle others =
 abbrev pub is_partial : Table → ℕ → List ℕ → Bool
 is_partial t offset bytes = not (offset == 0 && length bytes == t.size)
 
--- a load can't be staged; then what a load that can be says
+-- a load: the table is dump only; the bytes go past its end; it was never loaded and they aren't all of it; a load is staged
+-- already; it is double buffered and a version other than the present one is held, which lies where the load would; it is single
+-- buffered and all four working buffers are taken; then the others
 abbrev pub stage_cause : State → ℕ → List ℕ → Option TblStatus → Table → Option TblStatus
 stage_cause s offset bytes others t =
     refused_if (t.option == 2) ErrDumpOnly
@@ -94,14 +101,17 @@ staged_cause status others t = option_map_or others t.staged (Some status)
 abbrev pub is_locked : State → Table → Bool
 is_locked s t = not (is_double t) && is_held s.handles t.number
 
+-- a validation: something is staged, and meets the rules
 abbrev pub validate_cause : Table → Option TblStatus
 validate_cause t = staged_cause NoLoad (λ staged. rules_cause t.rules staged.value None) t
 
+-- an update: something is staged, was validated, and wouldn't be written over a single buffer that is held
 abbrev pub update_cause : State → Table → Option TblStatus
 update_cause s t =
     staged_cause InfoNoUpdatePending
     (λ staged. refused_if (not staged.validated) NotValidated (refused_if (is_locked s t) InfoTableLocked None)) t
 
+-- an abort: something is staged
 abbrev pub abort_cause : Table → Option TblStatus
 abort_cause t = staged_cause NoLoad (λ staged. None) t
 

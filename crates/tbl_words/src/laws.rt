@@ -11,7 +11,7 @@ ghost use Rattle.tbl_words.specs.Accounts.{RegistrationsDraw, LeavingReturns};
 ghost use Rattle.tbl_words.specs.Bounds.{HandlesGoByEntries, VersionsGoByEntries};
 ghost use Rattle.tbl_words.specs.Ties.{HandlesHaveTables, OwnersRegister};
 ghost use Rattle.tbl_words.specs.Holds.{HoldsStay, AddressesHold};
-ghost use Rattle.tbl_words.specs.Examples.{answers_to, double_buffered_calls, double_buffered_answers, single_buffered_calls, single_buffered_answers};
+ghost use Rattle.tbl_words.specs.Examples.{answers_to, by_one, double_buffered_calls, double_buffered_answers, single_buffered_calls, single_buffered_answers, shared_calls, shared_answers};
 
 /// A legal history is a run: its calls, made in order from where Table Services open, give the same
 /// answers and the same tables again. And it goes on by any call of an application that hasn't
@@ -28,10 +28,12 @@ pub fn histories_are_runs()
         Follows limits apps history e }
 {}
 
-/// Worked examples: what the machine answers to the calls of one application.
+/// Worked examples: what the machine answers to calls on a double-buffered table, on a
+/// single-buffered one, and on one that two applications share.
 pub fn worked_examples()
-    ensures double_buffered { answers_to double_buffered_calls ≡ double_buffered_answers }
-    ensures single_buffered { answers_to single_buffered_calls ≡ single_buffered_answers }
+    ensures double { answers_to 1 (by_one double_buffered_calls) ≡ double_buffered_answers }
+    ensures single { answers_to 1 (by_one single_buffered_calls) ≡ single_buffered_answers }
+    ensures shared { answers_to 2 shared_calls ≡ shared_answers }
 {}
 
 /// What is held never changes: a handle holds what it held, copied when its address was given,
