@@ -5,13 +5,14 @@ use Rattle.std.specs.List.{list_any}
 use Rattle.std.specs.Option.{option_map_or, option_and_then, is_some}
 use Rattle.fsw_base.specs.Limits.{Limits}
 use Rattle.tbl_words.specs.declared.statuses.TblStatus.{TblStatus}
+use Rattle.tbl_words.specs.declared.statuses.TblStatus.TheVariants.{ErrInvalidHandle, ErrNoAccess, ErrUnregistered}
 use Rattle.tbl_words.specs.declared.calls.TblAnswer.{TblAnswer}
 use Rattle.tbl_words.specs.declared.calls.TblAnswer.TheVariants as answers
 use Rattle.tbl_words.specs.declared.history.Call.{Call}
 use Rattle.tbl_words.specs.declared.history.Call.TheVariants.{Register, Share, Unregister, Stage, Validate, Update, Abort, Load, GetAddress, ReleaseAddress, Status, End}
-use Rattle.tbl_words.specs.Tables.{Table, Staged, Handle, Hold, State, handle_at, table_at, table_of, table_named, with_handle, with_table, with_mark, all_marked}
-use Rattle.tbl_words.specs.Machine.{cause, accept, outcome, with_new_handle, with_new_table, with_hold, without_hold, with_staged, with_validated, with_table_of, with_update, with_range}
-use Rattle.tbl_words.specs.Holds.{hold_of, moves_hold, HoldsStay, AddressesHold}
+use Rattle.tbl_words.specs.Tables.{Table, Staged, Handle, Hold, State, owns, is_live, handle_at, table_at, table_of, table_named, with_handle, with_table, with_mark, all_marked}
+use Rattle.tbl_words.specs.Machine.{cause, accept, outcome, step, access_cause, refused_if, with_new_handle, with_new_table, with_hold, without_hold, with_staged, with_validated, with_table_of, with_update, with_range}
+use Rattle.tbl_words.specs.Holds.{hold_of, HoldsStay, AddressesHold}
 
 -- Handles behind changes. --
 
@@ -114,8 +115,16 @@ hold_of-tables s handle number change = by_table (table_of s handle)
     by_table None = refl
     by_table (Some t) = refl
 
--- an accepted call keeps what a handle holds that it doesn't move
-hold_of-accept : (limits : Limits) (s : State) (app : ℕ) (call : Call) (number : ℕ) → moves_hold s.handles app call number ≡ false →
+-- whether a call names a handle that it may move, or ends the application whose handle it is
+abbrev names : List Handle → ℕ → Call → ℕ → Bool
+names handles app (Unregister handle) number = handle == number
+names handles app (GetAddress handle) number = handle == number
+names handles app (ReleaseAddress handle) number = handle == number
+names handles app End number = owns handles app number
+names handles app call number = false
+
+-- an accepted call keeps what a handle holds that it doesn't name
+hold_of-accept : (limits : Limits) (s : State) (app : ℕ) (call : Call) (number : ℕ) → names s.handles app call number ≡ false →
     hold_of ((accept limits s app call).1).handles number ≡ hold_of s.handles number
 hold_of-accept limits s app (Register name size option rules) number still = by_name (table_named s.tables name)
   where
@@ -158,13 +167,61 @@ hold_of-accept limits s app (ReleaseAddress handle) number still = hold_of-with_
 hold_of-accept limits s app (Status handle) number still = refl
 hold_of-accept limits s app End number still = hold_of-left (λ h. h.app == app) s.handles number still
 
--- a step keeps what a handle holds, unless the call moves it
-pub holds_stay : HoldsStay
-holds_stay limits s app call number still = by_cause (cause limits s app call)
+-- a step keeps what a handle holds that the call doesn't name
+hold_of-step : (limits : Limits) (s : State) (app : ℕ) (call : Call) (number : ℕ) → names s.handles app call number ≡ false →
+    hold_of ((step limits s app call).1).handles number ≡ hold_of s.handles number
+hold_of-step limits s app call number still = by_cause (cause limits s app call)
   where
     by_cause : (why : Option TblStatus) → hold_of ((outcome limits s app call why).1).handles number ≡ hold_of s.handles number
     by_cause None = hold_of-accept limits s app call number still
     by_cause (Some status) = refl
+
+-- a call on a handle of another application is refused
+hold_of-refused : (limits : Limits) (s : State) (app : ℕ) (call : Call) (handle number : ℕ) (others : Option TblStatus) → owns s.handles app handle ≡ false →
+    hold_of ((outcome limits s app call (access_cause s app handle others)).1).handles number ≡ hold_of s.handles number
+hold_of-refused limits s app call handle number others foreign = by_tests (is_live s.handles handle) (owns s.handles app handle) foreign
+  where
+    by_tests : (live owned : Bool) → owned ≡ false →
+        hold_of ((outcome limits s app call (refused_if (not live) ErrInvalidHandle (refused_if (not owned) ErrNoAccess others))).1).handles number ≡ hold_of s.handles number
+    by_tests false owned is = refl
+    by_tests true true is = absurd (true≢false is)
+    by_tests true false is = refl
+
+-- a call that names a handle, of this number or of another
+hold_of-named : (limits : Limits) (s : State) (app : ℕ) (call : Call) (handle number : ℕ) (others : Option TblStatus) →
+    ((handle == number) ≡ false → hold_of ((outcome limits s app call (access_cause s app handle others)).1).handles number ≡ hold_of s.handles number) →
+    (handle == number && owns s.handles app number) ≡ false →
+    hold_of ((outcome limits s app call (access_cause s app handle others)).1).handles number ≡ hold_of s.handles number
+hold_of-named limits s app call handle number others apart still = by_number (handle == number) refl still
+  where
+    by_number : (b : Bool) → (handle == number) ≡ b → (b && owns s.handles app number) ≡ false →
+        hold_of ((outcome limits s app call (access_cause s app handle others)).1).handles number ≡ hold_of s.handles number
+    by_number true same foreign = hold_of-refused limits s app call handle number others (ap (owns s.handles app) (eqb-true handle number same) ∙ foreign)
+    by_number false other is = apart other
+
+-- a step keeps what a handle holds, unless the call moves it
+pub holds_stay : HoldsStay
+holds_stay limits s app (Register name size option rules) number still = hold_of-step limits s app (Register name size option rules) number still
+holds_stay limits s app (Share name) number still = hold_of-step limits s app (Share name) number still
+holds_stay limits s app (Unregister handle) number still =
+    hold_of-named limits s app (Unregister handle) handle number
+    None
+    (hold_of-step limits s app (Unregister handle) number) still
+holds_stay limits s app (Stage handle offset bytes) number still = hold_of-step limits s app (Stage handle offset bytes) number still
+holds_stay limits s app (Validate handle) number still = hold_of-step limits s app (Validate handle) number still
+holds_stay limits s app (Update handle) number still = hold_of-step limits s app (Update handle) number still
+holds_stay limits s app (Abort handle) number still = hold_of-step limits s app (Abort handle) number still
+holds_stay limits s app (Load handle offset bytes) number still = hold_of-step limits s app (Load handle offset bytes) number still
+holds_stay limits s app (GetAddress handle) number still =
+    hold_of-named limits s app (GetAddress handle) handle number
+    (option_map_or (λ t. refused_if (not t.registered) ErrUnregistered None) (table_of s handle) None)
+    (hold_of-step limits s app (GetAddress handle) number) still
+holds_stay limits s app (ReleaseAddress handle) number still =
+    hold_of-named limits s app (ReleaseAddress handle) handle number
+    None
+    (hold_of-step limits s app (ReleaseAddress handle) number) still
+holds_stay limits s app (Status handle) number still = hold_of-step limits s app (Status handle) number still
+holds_stay limits s app End number still = hold_of-step limits s app End number still
 
 -- a handle whose table is there is live
 live : (s : State) (handle : ℕ) (t : Table) → table_of s handle ≡ Some t → is_some (handle_at s.handles handle) ≡ true

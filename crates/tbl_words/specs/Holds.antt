@@ -1,5 +1,5 @@
 -- What applications hold. A hold is a copy, so that no load, update or other application's call changes it.
-use Rattle.std.specs.Prelude.{◌≡◌, ℕ, ◌==◌, Bool, false, List, Option, Some, None}
+use Rattle.std.specs.Prelude.{◌≡◌, ℕ, ◌==◌, ◌&&◌, Bool, false, List, Option, Some, None}
 use Rattle.std.specs.Option.{option_and_then}
 use Rattle.fsw_base.specs.Limits.{Limits}
 use Rattle.tbl_words.specs.declared.history.Call.{Call}
@@ -11,12 +11,12 @@ use Rattle.tbl_words.specs.Machine.{cause, step}
 abbrev pub hold_of : List Handle → ℕ → Option Hold
 hold_of handles number = option_and_then (λ h. h.hold) (handle_at handles number)
 
--- whether a call is one by which an application moves what a handle holds: its address or its release, or that it is unregistered,
--- by itself or with all that are the application's
+-- whether a call is one by which an application moves what a handle of its own holds: its address or its release, or that it is
+-- unregistered, by itself or with all that are the application's
 abbrev pub moves_hold : List Handle → ℕ → Call → ℕ → Bool
-moves_hold handles app (Unregister handle) number = handle == number
-moves_hold handles app (GetAddress handle) number = handle == number
-moves_hold handles app (ReleaseAddress handle) number = handle == number
+moves_hold handles app (Unregister handle) number = handle == number && owns handles app number
+moves_hold handles app (GetAddress handle) number = handle == number && owns handles app number
+moves_hold handles app (ReleaseAddress handle) number = handle == number && owns handles app number
 moves_hold handles app End number = owns handles app number
 moves_hold handles app call number = false
 
