@@ -1,12 +1,12 @@
 -- An account's blocks out are the grants that are out, whatever the calls.
-use Rattle.std.proofs.Common.{◌≡◌, ℕ, ◌+◌, ◌-◌, ◌<◌, ◌≤◌, ◌||◌, ◌⊎◌, inl, inr, suc, Bool, true, false, not, cond, eqb, Option, Some, None, List, [], ◌∷◌, length, get_or, set, refl, ap, sym, subst, ◌∙◌, arith}
+use Rattle.std.proofs.Common.{◌≡◌, ℕ, ◌+◌, ◌-◌, ◌<◌, ◌≤◌, ◌||◌, ◌⊎◌, inl, inr, suc, Bool, true, false, not, cond, eqb, leb, Option, Some, None, List, [], ◌∷◌, length, get_or, set, refl, ap, sym, subst, ◌∙◌, arith}
 use Rattle.std.specs.List.{find, All, AllPairs}
 use Rattle.std.specs.Option.{option_map_or}
 use Rattle.std.proofs.lemmas.Bool.{false≢true, cases_eq}
 use Rattle.std.proofs.lemmas.List.{length-set, length-replicate, get_or-replicate, get_or-set_same, get_or-set_other}
 use Rattle.std.proofs.lemmas.List.Elements.{All-push, All-filter}
 use Rattle.std.proofs.lemmas.List.Kept.{AllPairs-filter}
-use Rattle.std.proofs.lemmas.List.Quantifiers.{all_pairs_push}
+use Rattle.std.proofs.lemmas.List.Quantifiers.{all_pairs_push, position-Some}
 use Rattle.std.proofs.lemmas.List.Sums.{sum_by-cons, sum_by_push}
 use Rattle.fsw_base.specs.Blocks.{class_of}
 use Rattle.fsw_base.specs.PoolAccounts.{Account, has_room_for, after_return, after_refusal}
@@ -66,17 +66,19 @@ counted_new sizes bytes = record {
   classes_all = length-replicate {A = ℕ} (length sizes) 0;
   rising = λ i j d lt h. absurd (omega (arith, h));
   given_all = λ k d h. absurd (omega (arith, h));
+  classes = λ k d h. absurd (omega (arith, h));
   counts = λ c h. get_or-replicate {A = ℕ} (length sizes) c 0 0 h;
 }
 
 -- a request
-counted_grant : (p : PoolGrants) (app class : ℕ) → IsCounted p → IsCounted (with_grant p app class)
-counted_grant p app class k =
+counted_grant : (p : PoolGrants) (app class : ℕ) → class < length p.account.sizes → IsCounted p → IsCounted (with_grant p app class)
+counted_grant p app class there k =
     let grant : Grant = record { number = p.given + 1; app = app; class = class } in
     record {
       classes_all = length-set p.account.out class (get_or p.account.out class 0 + 1) ∙ k.classes_all;
-      rising = all_pairs_push (λ earlier later. earlier.number < later.number) p.out grant k.rising (λ i d h. omega (arith, k.given_all i d h));
-      given_all = All-push (λ (g : Grant). g.number ≤ p.given + 1) p.out grant (λ i d h. omega (arith, k.given_all i d h)) (omega arith);
+      rising = all_pairs_push (λ earlier later. earlier.number < later.number) p.out grant k.rising (λ i d h. omega (arith, (k.given_all i d h).1));
+      given_all = All-push (λ (g : Grant). (1 ≤ g.number) × (g.number ≤ p.given + 1)) p.out grant (λ i d h. ((k.given_all i d h).0, omega (arith, (k.given_all i d h).1))) (omega arith, omega arith);
+      classes = All-push (λ (g : Grant). g.class < length p.account.sizes) p.out grant k.classes there;
       counts = λ c h. omega (
         arith,
         k.counts c h,
@@ -86,15 +88,15 @@ counted_grant p app class k =
     }
 
 pub counted_get : (p : PoolGrants) (app size : ℕ) → IsCounted p → IsCounted (after_get p app size)
-counted_get p app size k = by_class (class_of size p.account.sizes)
+counted_get p app size k = by_class (class_of size p.account.sizes) refl
   where
-    by_room : (class : ℕ) (b : Bool) → IsCounted (cond b (with_grant p app class) p)
-    by_room class true = counted_grant p app class k
-    by_room class false = k
+    by_room : (class : ℕ) (b : Bool) → class < length p.account.sizes → IsCounted (cond b (with_grant p app class) p)
+    by_room class true there = counted_grant p app class there k
+    by_room class false there = k
 
-    by_class : (o : Option ℕ) → IsCounted (after_get_if p app o)
-    by_class None = k
-    by_class (Some class) = by_room class (has_room_for p.account class 1)
+    by_class : (o : Option ℕ) → class_of size p.account.sizes ≡ o → IsCounted (after_get_if p app o)
+    by_class None is = k
+    by_class (Some class) is = by_room class (has_room_for p.account class 1) (position-Some (leb size) p.account.sizes class 0 is).0
 
 -- a return
 rises_tail : (x : Grant) (out : List Grant) → AllPairs (λ (earlier later : Grant). earlier.number < later.number) (x ∷ out) → AllPairs (λ (earlier later : Grant). earlier.number < later.number) out
@@ -130,12 +132,13 @@ counted_put p n k = by_out (is_among p.out n) refl
     came there = record {
       classes_all = length-set p.account.out (class_under p.out n) (get_or p.account.out (class_under p.out n) 0 - 1) ∙ k.classes_all;
       rising = AllPairs-filter (λ earlier later. earlier.number < later.number) (λ (grant : Grant). not (eqb grant.number n)) p.out k.rising;
-      given_all = All-filter (λ (grant : Grant). not (eqb grant.number n)) (λ grant. grant.number ≤ p.given) p.out k.given_all;
+      given_all = All-filter (λ (grant : Grant). not (eqb grant.number n)) (λ grant. (1 ≤ grant.number) × (grant.number ≤ p.given)) p.out k.given_all;
+      classes = All-filter (λ (grant : Grant). not (eqb grant.number n)) (λ grant. grant.class < length p.account.sizes) p.out k.classes;
       counts = λ c h. fewer_at p.account.out (class_under p.out n) c (out_of c (without n p.out)) (omega (arith, h, k.classes_all)) (k.counts c h ∙ left_of p.out n c k.rising there);
     }
 
     counted_one : IsCounted (record p { account = after_refusal p.account })
-    counted_one = record { classes_all = k.classes_all; rising = k.rising; given_all = k.given_all; counts = k.counts }
+    counted_one = record { classes_all = k.classes_all; rising = k.rising; given_all = k.given_all; classes = k.classes; counts = k.counts }
 
     by_out : (b : Bool) → is_among p.out n ≡ b → IsCounted (cond b (record { account = after_return p.account (class_under p.out n); given = p.given; out = without n p.out }) (record p { account = after_refusal p.account }))
     by_out true there = came there
@@ -168,7 +171,9 @@ counted_end app p k =
     record {
       classes_all = same.0 ∙ (k.classes_all ∙ ap length (sym same.1));
       rising = AllPairs-filter (λ earlier later. earlier.number < later.number) (λ (grant : Grant). not (eqb grant.app app)) p.out k.rising;
-      given_all = All-filter (λ (grant : Grant). not (eqb grant.app app)) (λ grant. grant.number ≤ p.given) p.out k.given_all;
+      given_all = All-filter (λ (grant : Grant). not (eqb grant.app app)) (λ grant. (1 ≤ grant.number) × (grant.number ≤ p.given)) p.out k.given_all;
+      classes = All-filter (λ (grant : Grant). not (eqb grant.app app)) (λ grant. grant.class < length (account_without app p.account p.out).sizes) p.out
+          (subst (λ (sizes : List ℕ). All (λ (grant : Grant). grant.class < length sizes) p.out) (sym same.1) k.classes);
       counts = λ c h.
           let within : c < length p.account.out = omega (arith, h, k.classes_all, ap length same.1) in
           let counts : get_or (account_without app p.account p.out).out c 0 ≡ out_of c (of_others app p.out) + 0 = ends_counted app p.account p.out (λ i. 0) (λ i hi. omega (arith, k.counts i (omega (arith, hi, k.classes_all)))) c within in

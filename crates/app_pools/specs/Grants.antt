@@ -111,12 +111,13 @@ figures_of pool = record {
 abbrev pub out_of : ℕ → List Grant → ℕ
 out_of class out = count_by (λ grant. grant.class == class) out
 
--- the grants that are out stand in order of number, each was given, and there are as many of each class as the account says
--- that blocks of it are out
+-- the grants that are out stand in order of number, each was given and is of a class that there is, and there are as many of each
+-- class as the account says that blocks of it are out
 pub record IsCounted (pool : PoolGrants) : Type 0 where
   pub classes_all : length pool.account.out ≡ length pool.account.sizes
   pub rising : AllPairs (λ earlier later. earlier.number < later.number) pool.out
-  pub given_all : All (λ grant. grant.number ≤ pool.given) pool.out
+  pub given_all : All (λ grant. (1 ≤ grant.number) × (grant.number ≤ pool.given)) pool.out
+  pub classes : All (λ grant. grant.class < length pool.account.sizes) pool.out
   pub counts : (class : ℕ) → class < length pool.account.sizes → slice_index pool.account.out class ≡ out_of class pool.out
 
 -- the most bytes that a pool may have, the block sizes of every pool, and the pools, numbered from 1 in order of creation

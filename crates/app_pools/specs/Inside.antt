@@ -4,7 +4,7 @@ use Rattle.std.specs.List.{range_with_len, AllPairs}
 use Rattle.fsw_base.specs.PoolAccounts.{Account}
 use Rattle.es_pool.specs.Account.{IsAccountOf}
 use Rattle.es_pool.specs.Pool.{PoolState, made_in, out_in, out_among, is_out, class_at, most_cut}
-use Rattle.app_pools.specs.Grants.{Grant, PoolGrants, Pools, new_pool, is_pool, account_without, held_by}
+use Rattle.app_pools.specs.Grants.{Grant, PoolGrants, Pools, new_pool, is_pool, account_without, held_by, IsCounted}
 use Rattle.app_pools.specs.declared.pool.Lent.{Lent}
 
 -- the account of a pool
@@ -71,11 +71,12 @@ pub record AreKept (pool : PoolState) (given : ℕ) (lent : List Lent) (room : �
 abbrev pub pools_in : ℕ → List ℕ → ℕ → List PoolGrants → Pools
 pools_in most sizes made places = record { most = most; sizes = sizes; pools = take made places }
 
--- there is room for eight pools, and all that weren't created are as at opening
+-- there is room for eight pools, all that weren't created are as at opening, and of each the grants that are out are counted
 pub record AreOpened (most : ℕ) (sizes : List ℕ) (made : ℕ) (places : List PoolGrants) : Type 0 where
   pub eight : length places ≡ 8
   pub within : made ≤ 8
   pub unused : (i : ℕ) → made ≤ i → i < 8 → slice_index_or places i (new_pool [] 0) ≡ new_pool sizes most
+  pub counted : All IsCounted places
 
 -- where the pool of a number stands
 pub record IsPlace (s : Pools) (pool place : ℕ) : Type 0 where

@@ -1,8 +1,8 @@
 //! The pools of all applications.
-ghost use Rattle.std.specs.Prelude.{◌≡◌, ◌+◌, ◌-◌, ◌*◌, ◌<◌, ◌≤◌, ◌^◌, ◌++◌, false, [], length, map, take, drop, replicate, slice_index, sum_by, IsTrue, IfOk, IfSome, Ok, None};
+ghost use Rattle.std.specs.Prelude.{◌≡◌, ◌+◌, ◌-◌, ◌*◌, ◌<◌, ◌≤◌, ◌^◌, ◌++◌, false, [], length, map, take, drop, replicate, slice_index, sum_by, All, IsTrue, IfOk, IfSome, Ok, None};
 ghost use Rattle.es_pool.specs.Account.{IsAccountOf};
 ghost use Rattle.fsw_base.specs.PoolAccounts.{overhead};
-ghost use Rattle.app_pools.specs.Grants.{new_pool, is_pool, pool_in, with_pool, has_numbers, refuses_pool, create_answer, after_create, answer_in, get_answer, after_get, put_answer, after_put, figures_of, after_end, held_by, all_after_end, held_in};
+ghost use Rattle.app_pools.specs.Grants.{new_pool, is_pool, pool_in, with_pool, has_numbers, refuses_pool, create_answer, after_create, answer_in, get_answer, after_get, put_answer, after_put, figures_of, after_end, held_by, all_after_end, held_in, IsCounted};
 ghost use Rattle.app_pools.specs.Inside.{IsPlace};
 
 use crate::pool::AppPool;
@@ -176,6 +176,14 @@ impl AppPools {
         ensures { IsAccountOf result.now (pool_in self.now pool).account }
     {
         self.places[pool as usize - 1].pool()
+    }
+
+    /// In every pool the grants that are out stand in order of number, each was given, and they are
+    /// as many of each block size as the account says that blocks of it are out. Does nothing.
+    pub fn recall_counted(&self)
+        ensures { All IsCounted self.now.pools }
+    {
+        let _ = &self.places;
     }
 
     // Whether a creation is refused.

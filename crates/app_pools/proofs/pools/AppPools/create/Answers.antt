@@ -26,7 +26,10 @@ overflow_add-self c =
 pub invariant_of-self : goal.invariant_of-self
 invariant_of-self c =
     let a = c.self.inside in
-    opened_more a.most a.made a.sizes a.places.items c.self.invariant c.args.self.now c.self.view_is c.args.bytes (sym c.refuses.ensures ∙ c.if-refuses.false) c.open.new.self
+    let allowed = sym c.refuses.ensures ∙ c.if-refuses.false in
+    let old = c.index_mut.ensures.value ∙ fresh a.most a.made a.sizes a.places.items c.self.invariant c.args.self.now c.self.view_is c.args.bytes allowed _ in
+    let new = c.open.ensures ∙ ap (λ (p : PoolGrants). record p { account = record p.account { bytes = c.args.bytes } }) old in
+    opened_more a.most a.made a.sizes a.places.items c.self.invariant c.args.self.now c.self.view_is c.args.bytes allowed c.open.new.self new
 
 pub returns-clause-answer : goal.returns-clause-answer
 returns-clause-answer c =

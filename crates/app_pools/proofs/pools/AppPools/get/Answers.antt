@@ -1,6 +1,6 @@
 use Rattle.std.proofs.Common.{◌^◌, ◌-◌, ◌<◌, refl, sym, ap, subst, ◌∙◌, arith}
 use Rattle.app_pools.specs.Grants.{PoolGrants, pool_in, with_pool, get_answer, after_get}
-use Rattle.app_pools.proofs.Places.{inside, reads, changes, opened_set, numbers_there, answer_there, answer_nowhere, unchanged_nowhere}
+use Rattle.app_pools.proofs.Places.{inside, reads, changes, opened_get, numbers_there, answer_there, answer_nowhere, unchanged_nowhere}
 use Rattle.app_pools.proofs.pools.AppPools.get.Goals as goal
 
 pub index_mut-requires : goal.index_mut-requires
@@ -17,7 +17,10 @@ get-requires g c =
 pub invariant_of-self : goal.invariant_of-self
 invariant_of-self g c =
     let a = c.self.inside in
-    opened_set a.most a.made a.sizes a.places.items c.self.invariant c.args.self.now c.self.view_is c.args.pool c.in-Some.place c.in-Some.ensures.some c.get.new.self
+    let s = c.args.self.now in
+    let there = c.index_mut.ensures.value ∙ reads a.most a.made a.sizes a.places.items c.self.invariant s c.self.view_is c.args.pool c.in-Some.place c.in-Some.ensures.some _ in
+    opened_get a.most a.made a.sizes a.places.items c.self.invariant s c.self.view_is c.args.pool c.in-Some.place c.in-Some.ensures.some c.get.new.self c.args.app c.args.size
+    (c.get.ensures.after ∙ ap (λ p. after_get p c.args.app c.args.size) there)
 
 pub returns-in-Some-clause-answer : goal.returns-in-Some-clause-answer
 returns-in-Some-clause-answer g c =

@@ -1,6 +1,6 @@
 use Rattle.std.proofs.Common.{refl, ap, ◌∙◌, arith}
 use Rattle.app_pools.specs.Grants.{pool_in, with_pool, put_answer, after_put}
-use Rattle.app_pools.proofs.Places.{inside, reads, changes, opened_set, answer_there, answer_nowhere, unchanged_nowhere}
+use Rattle.app_pools.proofs.Places.{inside, reads, changes, opened_put, answer_there, answer_nowhere, unchanged_nowhere}
 use Rattle.app_pools.proofs.pools.AppPools.put.Goals as goal
 
 pub index_mut-requires : goal.index_mut-requires
@@ -11,7 +11,10 @@ index_mut-requires g c =
 pub invariant_of-self : goal.invariant_of-self
 invariant_of-self g c =
     let a = c.self.inside in
-    opened_set a.most a.made a.sizes a.places.items c.self.invariant c.args.self.now c.self.view_is c.args.pool c.in-Some.place c.in-Some.ensures.some c.put.new.self
+    let s = c.args.self.now in
+    let there = c.index_mut.ensures.value ∙ reads a.most a.made a.sizes a.places.items c.self.invariant s c.self.view_is c.args.pool c.in-Some.place c.in-Some.ensures.some _ in
+    opened_put a.most a.made a.sizes a.places.items c.self.invariant s c.self.view_is c.args.pool c.in-Some.place c.in-Some.ensures.some c.put.new.self c.args.grant
+    (c.put.ensures.after ∙ ap (λ p. after_put p c.args.grant) there)
 
 pub returns-in-Some-clause-answer : goal.returns-in-Some-clause-answer
 returns-in-Some-clause-answer g c =
