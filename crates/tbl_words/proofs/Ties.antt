@@ -45,7 +45,7 @@ any-kept {X} test keeps (x ∷ xs) some = by_head (test x) (keeps x) refl some (
     by_head false true is all rest = rest (sym (ap (λ b. b || list_any test (filter keeps xs)) is) ∙ all)
     by_head false false is all rest = rest all
 
-map-id : {X : Type 0} (xs : List X) → map (λ x. x) xs ≡ xs
+pub map-id : {X : Type 0} (xs : List X) → map (λ x. x) xs ≡ xs
 map-id [] = refl
 map-id (x ∷ xs) = ap (λ ys. x ∷ ys) (map-id xs)
 
@@ -275,7 +275,7 @@ tied-without_handles s gone tied =
 
 -- Steps. --
 
-validated-number : (t : Table) → (with_validated t).number ≡ t.number
+pub validated-number : (t : Table) → (with_validated t).number ≡ t.number
 validated-number t = by_staged t.staged
   where
     by_staged : (staged : Option Staged) → (option_map_or (λ x. with_staged x.value true t) staged t).number ≡ t.number

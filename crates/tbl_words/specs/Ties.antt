@@ -1,8 +1,9 @@
--- What ties handles to tables after every history.
-use Rattle.std.specs.Prelude.{◌≡◌, ℕ, true, List, Some, is_some}
+-- What ties handles to tables after every history, and how handles are numbered.
+use Rattle.std.specs.Prelude.{◌≡◌, ℕ, ◌<◌, ◌≤◌, All, true, List, Some, is_some}
+use Rattle.std.specs.List.{AllPairs}
 use Rattle.fsw_base.specs.Limits.{Limits}
 use Rattle.tbl_words.specs.declared.history.Entry.{Entry}
-use Rattle.tbl_words.specs.Tables.{Table, Handle, handle_at, is_live, table_at}
+use Rattle.tbl_words.specs.Tables.{Table, Handle, handle_at, is_live, has_handle, table_at}
 use Rattle.tbl_words.specs.Machine.{state_after}
 
 -- the table of a live handle is there
@@ -18,3 +19,21 @@ OwnersRegister =
     (limits : Limits) (apps : ℕ) (history : List Entry) (number : ℕ) (t : Table) →
     table_at (state_after limits apps history).tables number ≡ Some t →
     t.registered ≡ is_live (state_after limits apps history).handles t.number
+
+-- each table has a handle
+abbrev pub TablesHaveHandles : Type 0
+TablesHaveHandles =
+    (limits : Limits) (apps : ℕ) (history : List Entry) →
+    All (λ t. has_handle (state_after limits apps history).handles t.number ≡ true) (state_after limits apps history).tables
+
+-- the live handles stand in order of number, so no two have one number
+abbrev pub HandlesRise : Type 0
+HandlesRise =
+    (limits : Limits) (apps : ℕ) (history : List Entry) →
+    AllPairs (λ earlier later. earlier.number < later.number) (state_after limits apps history).handles
+
+-- and no number is above the count of the handles that were made
+abbrev pub HandlesWereMade : Type 0
+HandlesWereMade =
+    (limits : Limits) (apps : ℕ) (history : List Entry) →
+    All (λ h. h.number ≤ (state_after limits apps history).handles_made) (state_after limits apps history).handles

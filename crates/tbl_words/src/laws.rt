@@ -9,7 +9,7 @@ ghost use Rattle.tbl_words.specs.Leaves.{LeavesAddUp};
 ghost use Rattle.tbl_words.specs.Uses.{PeaksGoOn, PeaksAreGreatest};
 ghost use Rattle.tbl_words.specs.Accounts.{RegistrationsDraw, LeavingReturns};
 ghost use Rattle.tbl_words.specs.Bounds.{HandlesGoByEntries, VersionsGoByEntries};
-ghost use Rattle.tbl_words.specs.Ties.{HandlesHaveTables, OwnersRegister};
+ghost use Rattle.tbl_words.specs.Ties.{HandlesHaveTables, TablesHaveHandles, OwnersRegister, HandlesRise, HandlesWereMade};
 ghost use Rattle.tbl_words.specs.Holds.{HoldsStay, AddressesHold};
 ghost use Rattle.tbl_words.specs.Examples.{answers_to, by_one, double_buffered_calls, double_buffered_answers, single_buffered_calls, single_buffered_answers, shared_calls, shared_answers};
 
@@ -71,9 +71,17 @@ pub fn numbers_go_by_entries()
     ensures versions { VersionsGoByEntries }
 {}
 
-/// What ties handles to tables: the table of a live handle is there, and a table is registered if
-/// and only if its owner's handle is live.
+/// What ties handles to tables: the table of a live handle is there, each table has a handle, and a
+/// table is registered if and only if its owner's handle is live.
 pub fn handles_have_tables()
     ensures there { HandlesHaveTables }
+    ensures kept { TablesHaveHandles }
     ensures owners { OwnersRegister }
+{}
+
+/// The live handles stand in order of number, and none of their numbers is above the count of the
+/// handles that were made.
+pub fn handles_are_numbered()
+    ensures rise { HandlesRise }
+    ensures made { HandlesWereMade }
 {}

@@ -25,8 +25,8 @@ pub use calls::{Address, Registered, TblAnswer, TblCall, TblEntry, TblState, Tol
 pub use history::{Call, Entry};
 pub use journal::{Allowance, TblJournal};
 pub use laws::{
-    blocks_go_by_tables, handles_have_tables, held_tables_stay, histories_are_runs, leaves_add_up,
-    numbers_go_by_entries, peaks_are_greatest, worked_examples,
+    blocks_go_by_tables, handles_are_numbered, handles_have_tables, held_tables_stay,
+    histories_are_runs, leaves_add_up, numbers_go_by_entries, peaks_are_greatest, worked_examples,
 };
 pub use receipts::{HEAD_BYTES, TableReceipt};
 pub use rules::{MAX_RULES, Rule, RuleList};

@@ -1,0 +1,5 @@
+use Rattle.tbl_words.proofs.Orders.{handles_rise, handles_were_made}
+use Rattle.tbl_words.proofs.laws.handles_are_numbered.Goals as goal
+
+pub returns : goal.returns
+returns c = record { rise = handles_rise; made = handles_were_made }
