@@ -4,8 +4,9 @@ ghost use Rattle.app_pools.specs.Grants.{PoolGrants, IsCounted, new_pool, is_poo
 ghost use Rattle.app_pools.specs.History.{ToldPools, is_told, told_in, with_told, told_create_answer, told_create, told_get_answer, told_get, told_put_answer, told_put, told_end, all_told_end, present_pool, present};
 
 /// What is kept of the pools, of each its account, how many grants were given and those that are
-/// out, says all that their calls ask: where a history tells every grant that was ever given, each
-/// call answers the same and leaves the same by what is kept of it. Does nothing.
+/// out, says all that their calls ask: where a history tells every grant that was ever given,
+/// creations, requests, returns and ends answer and leave the same by what is kept of it. Does
+/// nothing.
 pub fn recall_grants_present()
     ensures pool { (s : ToldPools) (pool : ℕ) → (is_pool (present s) pool ≡ is_told s pool) ×
         (pool_in (present s) pool ≡ present_pool (told_in s pool)) }

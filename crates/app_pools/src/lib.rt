@@ -3,10 +3,10 @@
 //! of an application at its end.
 //!
 //! Each call answers and leaves exactly what the definitions of `Grants.antt` say, which keep
-//! nothing of a grant that came back; a law says that they are enough. No call but `new` takes
-//! memory, and a call takes at most 8 steps, an end 8 for each grant that it takes back. A grant is
-//! found by halves; a return moves those given after it up by one place, and an end goes through
-//! the grants that are out in each pool.
+//! nothing of a grant that came back; a law says that they are enough. A call takes at most 8
+//! steps, an end 8 for each grant that it takes back. Read off the code, and promised by no clause:
+//! no call but `new` takes memory; a grant is found by halves; a return moves the grants given
+//! after it up by one place, and an end goes through those that are out in each pool.
 //!
 //! ```
 //! /// Takes a grant of the first pool and gives it back.

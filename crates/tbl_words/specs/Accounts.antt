@@ -1,4 +1,4 @@
--- What calls do to the account of the tables' pool.
+-- What tables that come and leave do to the account of their pool.
 use Rattle.std.specs.Prelude.{◌≡◌, ℕ, zero, suc, List, ◌∷◌, ◌++◌, Some, IsTrue}
 use Rattle.fsw_base.specs.Blocks.{are_block_sizes, class_of}
 use Rattle.fsw_base.specs.Limits.{Limits}

@@ -18,8 +18,8 @@ answers_to apps calls = map (λ e. e.answer) (run_from usual_limits [] (opening 
 abbrev pub by_one : List Call → List (ℕ × Call)
 by_one calls = map (λ call. (1, call)) calls
 
--- A double-buffered table of four bytes. While its version 1 is held, version 2 can be loaded, and then nothing can be staged
--- until the handle holds the present version.
+-- A double-buffered table of four bytes. While its version 1 is held, version 2 can be loaded; then nothing can be staged as long
+-- as version 1 is held.
 abbrev pub double_buffered_calls : List Call
 double_buffered_calls =
     Register (68 ∷ []) 4 1 [] ∷
@@ -95,7 +95,7 @@ single_buffered_answers =
     []
 
 -- A table of two bytes that application 1 registers and application 2 shares. Once its owner has given it back the other can look
--- at what it holds and let go of it, and no more; and the name is free.
+-- at what it holds, let go of it and give its own handle back, and no more; and the name is free.
 abbrev pub shared_calls : List (ℕ × Call)
 shared_calls =
     (1, Register (84 ∷ []) 2 0 []) ∷

@@ -72,7 +72,7 @@ pub enum TblCall<'a> {
         /// The handle's number.
         handle: u32,
     },
-    /// Asks for the table's figures (`CFE_TBL_GetStatus`).
+    /// Asks for the table's figures, and not for pending actions (`CFE_TBL_GetStatus`).
     Status {
         /// The handle's number.
         handle: u32,

@@ -57,8 +57,8 @@ pub fn peaks_are_greatest()
     ensures greatest { PeaksAreGreatest }
 {}
 
-/// What calls do to the account of the tables' pool: a new table draws its blocks, of the smallest
-/// size that is large enough, and a table that leaves gives them back.
+/// What tables that come and leave do to the account of their pool: a new table draws its blocks,
+/// of the smallest size that is large enough, and a table that leaves gives them back.
 pub fn blocks_go_by_tables()
     ensures draws { RegistrationsDraw }
     ensures returns { LeavingReturns }
