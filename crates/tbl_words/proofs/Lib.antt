@@ -3,6 +3,7 @@ pub mod Bounds
 pub mod Holds
 pub mod Journals
 pub mod Leaves
+pub mod Numbers
 pub mod Orders
 pub mod Peaks
 pub mod Replay

@@ -1,10 +1,12 @@
 -- What ties handles to tables after every history, and how handles are numbered.
-use Rattle.std.specs.Prelude.{◌≡◌, ℕ, ◌<◌, ◌≤◌, All, true, List, Some, is_some}
+use Rattle.std.specs.Prelude.{◌≡◌, ℕ, ◌+◌, ◌<◌, ◌≤◌, All, true, List, Some, is_some}
 use Rattle.std.specs.List.{AllPairs}
 use Rattle.fsw_base.specs.Limits.{Limits}
+use Rattle.tbl_words.specs.declared.calls.TblAnswer.TheVariants.{Number}
+use Rattle.tbl_words.specs.declared.history.Call.{Call}
 use Rattle.tbl_words.specs.declared.history.Entry.{Entry}
-use Rattle.tbl_words.specs.Tables.{Table, Handle, handle_at, is_live, has_handle, table_at}
-use Rattle.tbl_words.specs.Machine.{state_after}
+use Rattle.tbl_words.specs.Tables.{Table, Handle, State, handle_at, is_live, has_handle, table_at}
+use Rattle.tbl_words.specs.Machine.{step, state_after}
 
 -- the table of a live handle is there
 abbrev pub HandlesHaveTables : Type 0
@@ -37,3 +39,15 @@ abbrev pub HandlesWereMade : Type 0
 HandlesWereMade =
     (limits : Limits) (apps : ℕ) (history : List Entry) →
     All (λ h. h.number ≤ (state_after limits apps history).handles_made) (state_after limits apps history).handles
+
+-- a number that is answered for a new handle is one more than were made before, and is counted
+abbrev pub NumbersAreNew : Type 0
+NumbersAreNew =
+    (limits : Limits) (s : State) (app : ℕ) (call : Call) (number : ℕ) →
+    (step limits s app call).0 ≡ Number number →
+    (number ≡ s.handles_made + 1) × (((step limits s app call).1).handles_made ≡ number)
+
+-- and the count never falls, so no number is given twice
+abbrev pub CountsNeverFall : Type 0
+CountsNeverFall =
+    (limits : Limits) (s : State) (app : ℕ) (call : Call) → s.handles_made ≤ ((step limits s app call).1).handles_made

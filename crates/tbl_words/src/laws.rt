@@ -9,7 +9,7 @@ ghost use Rattle.tbl_words.specs.Leaves.{LeavesAddUp};
 ghost use Rattle.tbl_words.specs.Uses.{PeaksGoOn, PeaksAreGreatest};
 ghost use Rattle.tbl_words.specs.Accounts.{RegistrationsDraw, LeavingReturns};
 ghost use Rattle.tbl_words.specs.Bounds.{HandlesGoByEntries, VersionsGoByEntries};
-ghost use Rattle.tbl_words.specs.Ties.{HandlesHaveTables, TablesHaveHandles, OwnersRegister, HandlesRise, HandlesWereMade};
+ghost use Rattle.tbl_words.specs.Ties.{HandlesHaveTables, TablesHaveHandles, OwnersRegister, HandlesRise, HandlesWereMade, NumbersAreNew, CountsNeverFall};
 ghost use Rattle.tbl_words.specs.Holds.{HoldsStay, AddressesHold};
 ghost use Rattle.tbl_words.specs.Examples.{answers_to, by_one, double_buffered_calls, double_buffered_answers, single_buffered_calls, single_buffered_answers, shared_calls, shared_answers};
 
@@ -79,9 +79,12 @@ pub fn handles_have_tables()
     ensures owners { OwnersRegister }
 {}
 
-/// The live handles stand in order of number, and none of their numbers is above the count of the
-/// handles that were made.
+/// Handles are numbered 1, 2, 3 and so on, and no number is given twice: the live ones stand in
+/// order of number, none of their numbers is above the count of the handles that were made, a new
+/// handle's is one more than that count and is counted, and the count never falls.
 pub fn handles_are_numbered()
     ensures rise { HandlesRise }
     ensures made { HandlesWereMade }
+    ensures new { NumbersAreNew }
+    ensures counted { CountsNeverFall }
 {}
