@@ -1,4 +1,5 @@
 pub mod Settling
+pub mod OthersLaws
 pub mod TurnLaws
 pub mod ToldLaws
 pub mod RoundLaws

@@ -1,39 +1,28 @@
 -- One application's turn among all of a rotation.
-use Rattle.std.proofs.Common.{◌≡◌, ℕ, zero, suc, ◌+◌, ◌-◌, ◌<◌, ◌≤◌, Bool, true, false, cond, ne_eqb, IsTrue, List, [], ◌∷◌, ◌++◌, length, take, drop, slice_set, get_or, refl, ap, sym, ◌∙◌, subst, append_assoc, append-nil, inl, inr, arith}
+use Rattle.std.proofs.Common.{◌≡◌, ℕ, zero, suc, ◌+◌, ◌-◌, ◌<◌, ◌≤◌, Bool, true, false, cond, ne_eqb, List, [], ◌∷◌, ◌++◌, length, take, drop, slice_set, get_or, refl, ap, sym, ◌∙◌, subst, append_assoc, append-nil, inl, inr, arith}
 use Rattle.std.specs.List.{All}
-use Rattle.std.proofs.lemmas.List.{length-set, get_or-set_other, drop_more, drop-set-lt, take_more_set, take_all, drop_all}
+use Rattle.std.proofs.lemmas.List.{length-set, drop_more, drop-set-lt, take_more_set, take_all, drop_all}
 use Rattle.std.proofs.lemmas.List.Elements.{All-nil, All-cons, All-head, All-tail, All-get_or}
 use Rattle.fsw_base.specs.Limits.{Limits}
 use Rattle.bus_words.specs.declared.calls.BusAnswer.{BusAnswer}
 use Rattle.bus_words.specs.declared.history.Call.{Call}
 use Rattle.bus_words.specs.declared.history.Entry.{Entry}
 use Rattle.bus_words.specs.Bus.{standing_of, opening}
-use Rattle.bus_words.specs.Entries.{call_bytes}
-use Rattle.bus_words.specs.Log.{allowance_of, charged, left_of}
-use Rattle.bus_words.specs.Machine.{IsLegal, step, may_call}
+use Rattle.bus_words.specs.Machine.{IsLegal, step}
 use Rattle.sb_calls.specs.Core.{Core, Does, IsLegalCore, apps_of, state_of}
 use Rattle.script_runs.specs.Rotation.{Running, SoFar, turn, rotated}
 use Rattle.app_script.specs.Script.{ScriptText}
 use Rattle.script_runs.specs.Told.{receipts_told, seen_from}
 use Rattle.script_runs.proofs.LastMessages.{legal-last, receipt-other}
-use Rattle.script_runs.proofs.LegalSteps.{caller-first, standing-step}
+use Rattle.script_runs.proofs.LegalSteps.{standing-step}
 use Rattle.app_run.specs.Rounds.{all_going, AreNumbered, AllStand, AllTold, AreTurned, HasTold, Rotates, MovesOn, StepsIf, to_come, told_on}
-use Rattle.app_run.specs.Lines.{bytes_due}
 use Rattle.app_run.specs.Runners.{Progress, going}
-use Rattle.app_run.specs.Turns.{so_far, Stands, TakesTurn, Moved, tells, entries_to_come}
+use Rattle.app_run.specs.Turns.{so_far, Stands, TakesTurn, Moved, tells}
 use Rattle.app_run.proofs.ToldLaws.{TellsOn, GoesOn, tells-turn, seen-other, told_on-same}
+use Rattle.app_run.proofs.OthersLaws.{Called, stands-called}
 use Rattle.app_run.proofs.TurnLaws.{apps-does, left-does}
 
 -- Another application's call. --
-
--- what a call of an application says of the bus before it
-record Called (before after : Core) (who : ℕ) (call : Call) (answer : BusAnswer) : Type 0 where
-  legal : IsLegal before.limits (apps_of before) before.log.entries
-  may : IsTrue (may_call (standing_of (state_of before) who) call)
-  entries : after.log.entries ≡ before.log.entries ++ record { app = who; call = call; answer = answer } ∷ []
-  limits : after.limits ≡ before.limits
-  left : left_of after.log ≡ charged (left_of before.log) who (call_bytes call)
-  state : state_of after ≡ (step before.limits before.log.entries (state_of before) who call).1
 
 called : (before after : Core) (who : ℕ) (call : Call) (answer : BusAnswer) → Does before after who call answer → Called before after who call answer
 called before after who call answer does =
@@ -47,26 +36,6 @@ called before after who call answer does =
       limits = ap (λ (core : Core). core.limits) does.entry;
       left = left-does before after who call answer does;
       state = does.state;
-    }
-
-differ : (a b : ℕ) → (a ≡ b → ⊥) → 1 ≤ a → b - 1 ≡ a - 1 → 1 ≤ b → ⊥
-differ a b other first same some = other (omega (arith, first, same, some))
-
-stands-called : (progress : Progress) (before after : Core) (who : ℕ) (call : Call) (answer : BusAnswer) → Called before after who call answer →
-    apps_of after ≡ apps_of before → (who ≡ progress.running.app → ⊥) → 1 ≤ progress.running.app → Stands progress before → Stands progress after
-stands-called progress before after who call answer c apps other some stands =
-    let app = progress.running.app in
-    let first = caller-first (state_of before) who call c.may in
-    let left : allowance_of (left_of after.log) app ≡ allowance_of (left_of before.log) app =
-    ap (λ l. allowance_of l app) c.left
-    ∙ get_or-set_other (left_of before.log) (who - 1) (app - 1) _ _ (λ same. differ who app other first same some) in
-    record {
-      known = subst (λ n. app ≤ n) (sym apps) stands.known;
-      standing = ap (λ s. standing_of s app) c.state
-          ∙ standing-step before.limits before.log.entries (state_of before) who app call c.may (ne_eqb app who (λ same. other (sym same)))
-          ∙ stands.standing;
-      entries = subst (λ a. entries_to_come progress ≤ a.entries) (sym left) stands.entries;
-      bytes = subst (λ a. bytes_due progress.running.lines ≤ a.bytes) (sym left) stands.bytes;
     }
 
 -- what is to come of an application, once another one's entry came

@@ -11,16 +11,17 @@ use Rattle.std.proofs.lemmas.List.Elements.{All-get_or}
 use Rattle.bus_words.specs.Receipts.{receipt_in}
 use Rattle.bus_words.specs.Bus.{waited_on}
 use Rattle.sb_core.specs.declared.pending.Pended.TheVariants as waits
-use Rattle.app_run.specs.Callers.{AnswersLook, pipe_waited_on}
+use Rattle.app_run.specs.Callers.{Answers, AnswersLook, Meets, SameBus, pipe_waited_on}
 use Rattle.app_run.specs.Lines.{IsRun, most_receipts}
 use Rattle.app_run.specs.Received.{got_of}
-use Rattle.app_run.specs.Turns.{MayTurn}
+use Rattle.app_run.specs.Turns.{MayTurn, TakesTurnBy}
+use Rattle.app_run.proofs.OthersLaws.{stands-met}
 use Rattle.std.proofs.lemmas.Bool.{le-leb}
 use Rattle.ccsds_msg.specs.Message.{header_bytes}
 use Rattle.ccsds_msg.proofs.MessageLemmas.{length-header_bytes}
 use Rattle.fsw_base.specs.Limits.{Limits}
 use Rattle.bus_words.specs.declared.calls.BusAnswer.{BusAnswer}
-use Rattle.bus_words.specs.declared.calls.BusAnswer.TheVariants.{Pending, Got, TimeOut}
+use Rattle.bus_words.specs.declared.calls.BusAnswer.TheVariants.{Done, Pending, Got, TimeOut}
 use Rattle.bus_words.specs.declared.history.Call.{Call}
 use Rattle.bus_words.specs.declared.history.Call.TheVariants as calls
 use Rattle.bus_words.specs.declared.history.Entry.{Entry}
@@ -44,7 +45,7 @@ use Rattle.app_run.specs.Callers.{Caller}
 use Rattle.app_run.specs.Lines.{MayRun, pipe_waited_for, line_bytes, entries_due, bytes_due}
 use Rattle.app_run.specs.Runners.{Progress, standing_for}
 use Rattle.app_run.specs.Turns.{so_far, Stands, TakesTurn, tells, tells_in, line_tells, active_tells}
-use Rattle.app_run.proofs.Settling.{SettlesLine, is_pending, settles-line, settles-look}
+use Rattle.app_run.proofs.Settling.{SettlesLine, is_pending, settles-line, settles-look, standing-set}
 
 -- The bus after a call. --
 
@@ -94,6 +95,10 @@ active_lives h = cc h
 
 waiting_lives : (pipe : ℕ) → Waiting pipe ≡ Ended → ⊥
 waiting_lives pipe h = cc h
+
+going_lives : (waits_on : Option ℕ) → standing_for waits_on ≡ Ended → ⊥
+going_lives None h = cc h
+going_lives (Some pipe) h = cc h
 
 -- Standings as progress has them. --
 
@@ -342,15 +347,18 @@ takes-local old new core line lines stands goes active next none is =
 
 -- What the code did, as the progress has it. --
 
--- the look's call is the application's, on the pipe that it waits on
-looks-own : (old : Progress) (before : Caller) (after : Core) (pipe : ℕ) (answer : BusAnswer) → MayTurn old before → old.waits_on ≡ Some pipe →
-    Does before.core after before.app (calls.Look (pipe_waited_on before)) answer → Does before.core after old.running.app (calls.Look pipe) answer
-looks-own old before after pipe answer may waits does =
-    let pipe-is : pipe_waited_on before ≡ pipe =
+-- the pipe that the calls' application waits on
+pipe-own : (old : Progress) (before : Caller) (pipe : ℕ) → MayTurn old before → old.waits_on ≡ Some pipe → pipe_waited_on before ≡ pipe
+pipe-own old before pipe may waits =
     ap (λ app. waited_on (standing_of (state_of before.core) app)) may.own
-    ∙ ap waited_on (standing-going old before.core may.stands may.goes_on ∙ ap standing_for waits) in
-    subst (λ app. Does before.core after app (calls.Look pipe) answer) may.own
-    (subst (λ p. Does before.core after before.app (calls.Look p) answer) pipe-is does)
+    ∙ ap waited_on (standing-going old before.core may.stands may.goes_on ∙ ap standing_for waits)
+
+-- the look's call is the application's, on the pipe that it waits on
+looks-own : (old : Progress) (before : Caller) (now after : Core) (pipe : ℕ) (answer : BusAnswer) → MayTurn old before → old.waits_on ≡ Some pipe →
+    Does now after before.app (calls.Look (pipe_waited_on before)) answer → Does now after old.running.app (calls.Look pipe) answer
+looks-own old before now after pipe answer may waits does =
+    subst (λ app. Does now after app (calls.Look pipe) answer) may.own
+    (subst (λ p. Does now after before.app (calls.Look p) answer) (pipe-own old before pipe may waits) does)
 
 progress-looked : (p old : Progress) (r told : List Receipt) → p ≡ old → old.ended ≡ false → r ≡ told →
     record { running = p.running; waits_on = None; ended = p.ended; receipts = r } ≡ looked_on old told
@@ -379,28 +387,120 @@ progress-local p old lines r told is goes active same =
     ∙ ap (λ w. the_progress (record { app = old.running.app; lines = lines; registers = old.running.registers }) w false r) active
     ∙ ap (λ x. behind_local old lines x) same
 
+-- the bus that the calls meet knows the application as the one last seen did
+met : (old : Progress) (before : Caller) (now : Core) → MayTurn old before → Meets before now → Stands old now
+met old before now may meets =
+    stands-met old before now meets may.own
+    (first-known (state_of before.core) old.running.app (standing_for old.waits_on) (standing-going old before.core may.stands may.goes_on) (going_lives old.waits_on)) may.stands
+
 -- a look that found a message
 pub looked-got : (p old : Progress) (before mid after : Caller) (pipe n : ℕ) (r : List Receipt) → p ≡ old → MayTurn old before → old.waits_on ≡ Some pipe →
     AnswersLook before mid (pipe_waited_on before) (waits.Got n) → after ≡ mid →
     r ≡ p.receipts ++ option_to_list (receipt_in (state_of mid.core) mid.app pipe) →
-    TakesTurn old (record { running = p.running; waits_on = None; ended = p.ended; receipts = r }) before.core after.core
+    TakesTurnBy old (record { running = p.running; waits_on = None; ended = p.ended; receipts = r }) before after
 looked-got p old before mid after pipe n r is may waits answered same got =
-    subst (λ caller. TakesTurn old (record { running = p.running; waits_on = None; ended = p.ended; receipts = r }) before.core caller.core) (sym same)
-    (takes-look old (record { running = p.running; waits_on = None; ended = p.ended; receipts = r }) before.core mid.core pipe (Got n) may.stands may.goes_on waits
-    (looks-own old before mid.core pipe (Got n) may waits answered.does) refl
-    (progress-looked p old r _ is may.goes_on
-    (got
-    ∙ ap (λ (q : Progress). q.receipts ++ option_to_list (receipt_in (state_of mid.core) mid.app pipe)) is
-    ∙ ap (λ app. old.receipts ++ option_to_list (receipt_in (state_of mid.core) app pipe)) (answered.same_app ∙ may.own))))
+    let new : Progress = record { running = p.running; waits_on = None; ended = p.ended; receipts = r } in
+    record {
+      now = answered.now;
+      meets = answered.meets;
+      turn = subst (λ caller. TakesTurn old new answered.now caller.core) (sym same)
+          (takes-look old new answered.now mid.core pipe (Got n) (met old before answered.now may answered.meets) may.goes_on waits
+          (looks-own old before answered.now mid.core pipe (Got n) may waits answered.does) refl
+          (progress-looked p old r _ is may.goes_on
+          (got
+          ∙ ap (λ (q : Progress). q.receipts ++ option_to_list (receipt_in (state_of mid.core) mid.app pipe)) is
+          ∙ ap (λ app. old.receipts ++ option_to_list (receipt_in (state_of mid.core) app pipe)) (answered.same.app ∙ may.own))));
+    }
 
 -- a look to which no message can come any more
 pub looked-time_out : (p old : Progress) (before after : Caller) (pipe : ℕ) → p ≡ old → MayTurn old before → old.waits_on ≡ Some pipe →
     AnswersLook before after (pipe_waited_on before) waits.TimeOut →
-    TakesTurn old (record { running = p.running; waits_on = None; ended = p.ended; receipts = p.receipts }) before.core after.core
+    TakesTurnBy old (record { running = p.running; waits_on = None; ended = p.ended; receipts = p.receipts }) before after
 looked-time_out p old before after pipe is may waits answered =
-    takes-look old (record { running = p.running; waits_on = None; ended = p.ended; receipts = p.receipts }) before.core after.core pipe TimeOut may.stands may.goes_on waits
-    (looks-own old before after.core pipe TimeOut may waits answered.does) refl
-    (progress-looked p old p.receipts _ is may.goes_on (ap (λ (q : Progress). q.receipts) is ∙ sym (append-nil old.receipts)))
+    let new : Progress = record { running = p.running; waits_on = None; ended = p.ended; receipts = p.receipts } in
+    record {
+      now = answered.now;
+      meets = answered.meets;
+      turn = takes-look old new answered.now after.core pipe TimeOut (met old before answered.now may answered.meets) may.goes_on waits
+          (looks-own old before answered.now after.core pipe TimeOut may waits answered.does) refl
+          (progress-looked p old p.receipts _ is may.goes_on (ap (λ (q : Progress). q.receipts) is ∙ sym (append-nil old.receipts)));
+    }
+
+-- a look that finds the application still waiting
+takes-pending : (old : Progress) (now : Core) (pipe : ℕ) → Stands old now → old.ended ≡ false → old.waits_on ≡ Some pipe →
+    answer_to now.limits (so_far now) old.running.app (calls.Look pipe) ≡ Pending → TakesTurn old old now now
+takes-pending old now pipe stands goes waits pending =
+    let app = old.running.app in
+    let limits = now.limits in
+    let standing : standing_of (state_of now) app ≡ Waiting pipe = standing-going old now stands goes ∙ ap standing_for waits in
+    let turned = turn-look limits (so_far now) old.running pipe standing in
+    record {
+      bus = sym (ap (λ a. after_look limits (so_far now) app pipe a) pending) ∙ sym (ap (λ (t : SoFar × List Running). t.0) turned);
+      goes_on = ap (λ b. cond {A = List Running} b [] (old.running ∷ [])) goes ∙ sym (ap (λ (t : SoFar × List Running). t.1) turned);
+      receipts = sym (append-nil old.receipts)
+          ∙ sym (ap (λ a. old.receipts ++ got_in app (after_look limits (so_far now) app pipe a).state (calls.Look pipe) a) pending)
+          ∙ sym (ap (λ s. old.receipts ++ tells_in limits (so_far now) old.running s) standing);
+      same_app = refl;
+      stands = stands;
+      moved = inl refl;
+    }
+
+pub looked-pending : (old : Progress) (before after : Caller) (pipe : ℕ) → MayTurn old before → old.waits_on ≡ Some pipe →
+    AnswersLook before after (pipe_waited_on before) waits.Pending → TakesTurnBy old old before after
+looked-pending old before after pipe may waits answered =
+    let now = answered.now in
+    record {
+      now = now;
+      meets = answered.meets;
+      turn = subst (λ core. TakesTurn old old now core) (sym answered.does.0)
+          (takes-pending old now pipe (met old before now may answered.meets) may.goes_on waits
+          (sym (ap (λ app. answer_to now.limits (so_far now) app (calls.Look pipe)) may.own)
+          ∙ sym (ap (λ w. answer_to now.limits (so_far now) before.app (calls.Look w)) (pipe-own old before pipe may waits))
+          ∙ answered.does.1));
+    }
+
+-- The end. --
+
+-- the progress once the application has ended
+abbrev ended_on : Progress → Progress
+ended_on old = record { running = old.running; waits_on = old.waits_on; ended = true; receipts = old.receipts }
+
+end-exact : (old : Progress) (before after : Core) → Stands old before → old.ended ≡ false → old.waits_on ≡ None → old.running.lines ≡ [] →
+    Does before after old.running.app calls.End (answer_to before.limits (so_far before) old.running.app calls.End) → TakesTurn old (ended_on old) before after
+end-exact old before after stands goes active through does =
+    let app = old.running.app in
+    let limits = before.limits in
+    let standing : standing_of (state_of before) app ≡ Active = standing-going old before stands goes ∙ ap standing_for active in
+    let turned : turn limits (so_far before) old.running ≡ active_turn limits (so_far before) old.running [] =
+    ap (λ s. turn_in limits (so_far before) old.running s) standing ∙ ap (λ ls. active_turn limits (so_far before) old.running ls) through in
+    record {
+      bus = so_far-does before after app calls.End does ∙ sym (ap (λ (t : SoFar × List Running). t.0) turned);
+      goes_on = sym (ap (λ (t : SoFar × List Running). t.1) turned);
+      receipts = sym (append-nil old.receipts)
+          ∙ sym (ap (λ t. old.receipts ++ t) (ap (λ s. tells_in limits (so_far before) old.running s) standing ∙ ap (λ ls. active_tells limits (so_far before) old.running ls) through));
+      same_app = refl;
+      stands = record {
+        known = subst (λ n. app ≤ n) (sym (apps-does before after app calls.End (answer_to limits (so_far before) app calls.End) does)) stands.known;
+        standing = ap (λ s. standing_of s app) does.state
+            ∙ standing-set (state_of before) (state_of before) app Active Ended refl standing active_lives;
+        entries = omega arith;
+        bytes = subst (λ ls. bytes_due ls ≤ (allowance_of (left_of after.log) app).bytes) (sym through) (omega arith);
+      };
+      moved = inr (calls.End, answer_to limits (so_far before) app calls.End, does);
+    }
+
+-- the application's last call
+pub ran-end : (p old : Progress) (before after : Caller) → p ≡ old → MayTurn old before → old.waits_on ≡ None → old.running.lines ≡ [] →
+    Answers before after calls.End Done → TakesTurnBy old (record { running = p.running; waits_on = p.waits_on; ended = true; receipts = p.receipts }) before after
+ran-end p old before after is may active through answered =
+    let now = answered.now in
+    record {
+      now = now;
+      meets = answered.meets;
+      turn = subst (λ q. TakesTurn old (ended_on q) now after.core) (sym is)
+          (end-exact old now after.core (met old before now may answered.meets) may.goes_on active through
+          (subst (λ app. Does now after.core app calls.End Done) may.own answered.does));
+    }
 
 -- the next line
 pub drop-next : {X : Type 0} (xs : List X) (i : ℕ) (x : X) → slice_get xs i ≡ Some x → drop i xs ≡ x ∷ drop (suc i) xs
@@ -418,39 +518,54 @@ pub ran-line : (p old : Progress) (before mid after : Caller) (line : Line) (lin
     call_of p.running.registers line ≡ o → IsRun before mid o (Some answer) → after ≡ mid →
     r ≡ p.receipts ++ got_of mid o answer → registers ≡ registers_after p.running.registers line answer →
     waits_on ≡ pipe_waited_for p.running.registers line answer →
-    TakesTurn old (record { running = record { app = p.running.app; lines = lines; registers = registers }; waits_on = waits_on; ended = p.ended; receipts = r }) before.core after.core
+    TakesTurnBy old (record { running = record { app = p.running.app; lines = lines; registers = registers }; waits_on = waits_on; ended = p.ended; receipts = r }) before after
 ran-line p old before mid after line lines answer registers waits_on r None is may active next range calls run same got noted waiting = absurd run
 ran-line p old before mid after line lines answer registers waits_on r (Some call) is may active next range calls run same got noted waiting =
     let new : Progress = record { running = record { app = p.running.app; lines = lines; registers = registers }; waits_on = waits_on; ended = p.ended; receipts = r } in
     let calls-old : call_of old.running.registers line ≡ Some call = subst (λ (q : Progress). call_of q.running.registers line ≡ Some call) is calls in
     let next-old : old.running.lines ≡ line ∷ lines = subst (λ (q : Progress). q.running.lines ≡ line ∷ lines) is next in
-    let does : Does before.core mid.core old.running.app call answer = subst (λ app. Does before.core mid.core app call answer) may.own run.does in
+    let does : Does run.now mid.core old.running.app call answer = subst (λ app. Does run.now mid.core app call answer) may.own run.does in
     let allowed : Allowed line call = subst (λ o. AllowedLine line o) calls-old (allowed-line old.running.registers line range) in
-    subst (λ caller. TakesTurn old new before.core caller.core) (sym same)
-    (takes-line old new before.core mid.core line lines call answer may.stands may.goes_on active next-old calls-old allowed does
-    (progress-behind p old line lines answer registers waits_on r (old.receipts ++ got_in old.running.app (state_of mid.core) call answer) is may.goes_on noted waiting
-    (got
-    ∙ ap (λ (q : Progress). q.receipts ++ got_in mid.app (state_of mid.core) call answer) is
-    ∙ ap (λ app. old.receipts ++ got_in app (state_of mid.core) call answer) (run.same_app ∙ may.own))))
+    record {
+      now = run.now;
+      meets = run.meets;
+      turn = subst (λ caller. TakesTurn old new run.now caller.core) (sym same)
+          (takes-line old new run.now mid.core line lines call answer (met old before run.now may run.meets) may.goes_on active next-old calls-old allowed does
+          (progress-behind p old line lines answer registers waits_on r (old.receipts ++ got_in old.running.app (state_of mid.core) call answer) is may.goes_on noted waiting
+          (got
+          ∙ ap (λ (q : Progress). q.receipts ++ got_in mid.app (state_of mid.core) call answer) is
+          ∙ ap (λ app. old.receipts ++ got_in app (state_of mid.core) call answer) (run.same.app ∙ may.own))));
+    }
 
 -- a line that no service sees
 pub ran-local : (p old : Progress) (before mid after : Caller) (line : Line) (lines : List Line) (r : List Receipt) (o : Option Call) →
     p ≡ old → MayTurn old before → old.waits_on ≡ None → p.running.lines ≡ line ∷ lines →
     call_of p.running.registers line ≡ o → IsRun before mid o None → after ≡ mid →
     r ≡ p.receipts ++ shown mid.app (state_of mid.core) p.running.registers line →
-    TakesTurn old (record { running = record { app = p.running.app; lines = lines; registers = p.running.registers }; waits_on = p.waits_on; ended = p.ended; receipts = r }) before.core after.core
+    TakesTurnBy old (record { running = record { app = p.running.app; lines = lines; registers = p.running.registers }; waits_on = p.waits_on; ended = p.ended; receipts = r }) before after
 ran-local p old before mid after line lines r (Some call) is may active next calls run same told = absurd run
 ran-local p old before mid after line lines r None is may active next calls run same told =
     let new : Progress = record { running = record { app = p.running.app; lines = lines; registers = p.running.registers }; waits_on = p.waits_on; ended = p.ended; receipts = r } in
     let calls-old : call_of old.running.registers line ≡ None = subst (λ (q : Progress). call_of q.running.registers line ≡ None) is calls in
     let next-old : old.running.lines ≡ line ∷ lines = subst (λ (q : Progress). q.running.lines ≡ line ∷ lines) is next in
-    subst (λ caller. TakesTurn old new before.core caller.core) (sym (same ∙ run))
-    (takes-local old new before.core line lines may.stands may.goes_on active next-old calls-old
-    (progress-local p old lines r (old.receipts ++ shown old.running.app (state_of before.core) old.running.registers line) is may.goes_on active
-    (told
-    ∙ ap (λ (caller : Caller). p.receipts ++ shown caller.app (state_of caller.core) p.running.registers line) run
-    ∙ ap (λ (q : Progress). q.receipts ++ shown before.app (state_of before.core) q.running.registers line) is
-    ∙ ap (λ app. old.receipts ++ shown app (state_of before.core) old.running.registers line) may.own)))
+    record {
+      now = before.core;
+      meets = inl refl;
+      turn = subst (λ caller. TakesTurn old new before.core caller.core) (sym (same ∙ run))
+          (takes-local old new before.core line lines may.stands may.goes_on active next-old calls-old
+          (progress-local p old lines r (old.receipts ++ shown old.running.app (state_of before.core) old.running.registers line) is may.goes_on active
+          (told
+          ∙ ap (λ (caller : Caller). p.receipts ++ shown caller.app (state_of caller.core) p.running.registers line) run
+          ∙ ap (λ (q : Progress). q.receipts ++ shown before.app (state_of before.core) q.running.registers line) is
+          ∙ ap (λ app. old.receipts ++ shown app (state_of before.core) old.running.registers line) may.own)));
+    }
+
+-- a line's call leaves the application and its bus the same
+pub run-same : (before mid after : Caller) (o : Option Call) (answer : Option BusAnswer) → IsRun before mid o answer → after ≡ mid → SameBus before after
+run-same before mid after None None run same = subst (λ caller. SameBus before caller) (sym (same ∙ run)) (record { app = refl; bus = refl; alone = refl })
+run-same before mid after None (Some answer) run same = absurd run
+run-same before mid after (Some call) None run same = absurd run
+run-same before mid after (Some call) (Some answer) run same = subst (λ caller. SameBus before caller) (sym same) run.same
 
 -- a line that waits got nothing yet
 pub waits-or-got : (pipes : List ℕ) (line : Line) (answer : BusAnswer) → cond (is_some (pipe_waited_for pipes line answer)) 1 0 + most_receipts answer ≤ 1

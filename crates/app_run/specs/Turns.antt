@@ -14,7 +14,7 @@ use Rattle.script_runs.specs.Rotation.{Running, SoFar, after_call, after_look, a
 use Rattle.script_runs.specs.Told.{got_in, shown}
 use Rattle.app_run.specs.declared.runner.Turned.{Turned}
 use Rattle.app_run.specs.declared.runner.Turned.TheVariants as turned
-use Rattle.app_run.specs.Callers.{Caller}
+use Rattle.app_run.specs.Callers.{Caller, Meets, SameBus}
 use Rattle.app_run.specs.Lines.{entries_due, bytes_due}
 use Rattle.app_run.specs.Runners.{Progress, standing_in, going}
 
@@ -84,9 +84,14 @@ pub record TakesTurn (old new : Progress) (before after : Core) : Type 0 where
 abbrev pub turned_of : Progress → Turned
 turned_of progress = if progress.ended then turned.Ended else if is_some progress.waits_on then turned.Waits else turned.Went
 
+-- The application took one turn by these calls, at the bus that they met.
+pub record TakesTurnBy (old new : Progress) (before after : Caller) : Type 0 where
+  pub now : Core
+  pub meets : Meets before now
+  pub turn : TakesTurn old new now after.core
+
 -- The application took one turn by these calls, and that is how it stands.
 pub record Turns (old new : Progress) (before after : Caller) (now : Turned) : Type 0 where
-  pub turn : TakesTurn old new before.core after.core
+  pub turn : TakesTurnBy old new before after
   pub told : now ≡ turned_of new
-  pub same_app : after.app ≡ before.app
-  pub same_bus : after.name ≡ before.name
+  pub same : SameBus before after

@@ -12,10 +12,11 @@ use sb_calls::{Pended, Sent};
 /// The calls of the software bus that one application makes.
 ///
 /// Each call has the condition, the answer and the refusals of the core's call of the same name
-/// (`bus_end` those of its `end`). No other application calls between two calls of one value. By
-/// the code, no call takes memory.
+/// (`bus_end` those of its `end`), on the bus as it is then: as the calls before left it or, where
+/// they aren't alone with it, with what other applications did meanwhile. By the code, no call
+/// takes memory.
 pub trait Calls {
-    /// The application and the bus that it calls.
+    /// The application, the bus as its calls saw it last, and whether they are alone with it.
     ghost caller: { Self → Caller };
 
     /// Makes a pipe that holds up to `depth` messages, and answers its number.

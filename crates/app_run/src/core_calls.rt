@@ -1,5 +1,5 @@
 //! The calls of one application straight on a core.
-ghost use Rattle.std.specs.Prelude.{◌≡◌};
+ghost use Rattle.std.specs.Prelude.{◌≡◌, true};
 
 use crate::calls::Calls;
 use bucket_list::{Ledger, Steps};
@@ -29,7 +29,8 @@ impl<'c, L: Ledger> CoreCalls<'c, L> {
 }
 
 impl<L: Ledger> Calls for CoreCalls<'_, L> {
-    ghost caller = { λ s. record { app = s.app; core = s.core.now; name = s.core.ghost_name } };
+    ghost caller = { λ s.
+        record { app = s.app; core = s.core.now; name = s.core.ghost_name; alone = true } };
 
     fn create_pipe(&mut self, depth: u32, name: &[u8]) -> Result<u32, SbStatus> {
         self.core.create_pipe(self.app, depth, name)

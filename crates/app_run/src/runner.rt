@@ -66,7 +66,7 @@ impl<'s> Model for Runner<'s> {
 }
 
 impl<'s> Runner<'s> {
-    ghost use Rattle.app_run.specs.Turns.{MayTurn, TakesTurn, Turns, turned_of};
+    ghost use Rattle.app_run.specs.Turns.{MayTurn, TakesTurnBy, Turns, turned_of};
     ghost use Rattle.app_run.specs.Callers.{SameBus};
 
     /// The application before its first line: its registers are 0, and it has no receipt. By
@@ -134,8 +134,7 @@ impl<'s> Runner<'s> {
     fn look<C: Calls>(&mut self, calls: &mut C, pipe: u32)
         requires may { MayTurn self.old (C.caller calls.old) }
         requires waits { self.old.waits_on ≡ Some pipe }
-        ensures turn { TakesTurn self.old self.new (C.caller calls.old).core
-            (C.caller calls.new).core }
+        ensures turn { TakesTurnBy self.old self.new (C.caller calls.old) (C.caller calls.new) }
         ensures same { SameBus (C.caller calls.old) (C.caller calls.new) }
     {
         match calls.look() {
@@ -153,8 +152,7 @@ impl<'s> Runner<'s> {
         requires may { MayTurn self.old (C.caller calls.old) }
         requires active { self.old.waits_on ≡ None }
         requires left { 1 ≤ length self.old.running.lines }
-        ensures turn { TakesTurn self.old self.new (C.caller calls.old).core
-            (C.caller calls.new).core }
+        ensures turn { TakesTurnBy self.old self.new (C.caller calls.old) (C.caller calls.new) }
         ensures same { SameBus (C.caller calls.old) (C.caller calls.new) }
     {
         let line = self.script.line(self.app, self.next);
@@ -174,8 +172,7 @@ impl<'s> Runner<'s> {
         requires may { MayTurn self.old (C.caller calls.old) }
         requires active { self.old.waits_on ≡ None }
         requires through { self.old.running.lines ≡ [] }
-        ensures turn { TakesTurn self.old self.new (C.caller calls.old).core
-            (C.caller calls.new).core }
+        ensures turn { TakesTurnBy self.old self.new (C.caller calls.old) (C.caller calls.new) }
         ensures same { SameBus (C.caller calls.old) (C.caller calls.new) }
     {
         calls.bus_end();

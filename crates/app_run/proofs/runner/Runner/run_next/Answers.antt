@@ -1,4 +1,4 @@
-use Rattle.std.proofs.Common.{◌≡◌, suc, ◌+◌, ◌-◌, ◌≤◌, ◌∷◌, None, All, add-one, refl, ap, sym, ◌∙◌, subst, arith, drop, length}
+use Rattle.std.proofs.Common.{◌≡◌, suc, ◌+◌, ◌-◌, ◌≤◌, ◌∷◌, Some, None, All, add-one, refl, ap, sym, ◌∙◌, subst, arith, drop, length}
 use Rattle.std.proofs.lemmas.Option.{slice_get_within}
 use Rattle.app_script.specs.Ranges.{IsLineInRange}
 use Rattle.app_run.specs.Lines.{message_size}
@@ -7,7 +7,7 @@ use Rattle.app_run.specs.Inside.{receipts_to_come}
 use Rattle.app_script.specs.Script.{app_at}
 use Rattle.script_runs.specs.Trace.{call_of}
 use Rattle.app_run.specs.Inside.{progress_in}
-use Rattle.app_run.proofs.TurnLaws.{allowed-line, may-run, drop-next, get_at, ran-line, ran-local, waits-or-got}
+use Rattle.app_run.proofs.TurnLaws.{allowed-line, may-run, drop-next, get_at, ran-line, ran-local, run-same, waits-or-got}
 use Rattle.app_run.proofs.runner.Runner.run_next.Goals as goal
 
 pub overflow_add-self : goal.overflow_add-self
@@ -72,3 +72,15 @@ returns-in-None-clause-turn g c =
     ran-local (progress_in a) c.args.self.now (caller c.args.calls.now) (caller c.run_line.new.calls) (caller c.show.new.calls) line (drop (a.next + 1) all)
     c.show.new.receipts.receipts (call_of a.registers line)
     c.self.view_is c.requires.may c.requires.active next refl c.in-None.ensures.call c.show.ensures.same c.show.ensures.receipts
+
+pub returns-in-Some-clause-same : goal.returns-in-Some-clause-same
+returns-in-Some-clause-same g c =
+    let caller = g.C.Calls.caller in
+    run-same (caller c.args.calls.now) (caller c.run_line.new.calls) (caller c.receive.new.calls) (call_of c.self.inside.registers c.line-line.result.now) (Some c.in-Some.answer)
+    c.in-Some.ensures.call c.receive.ensures.same
+
+pub returns-in-None-clause-same : goal.returns-in-None-clause-same
+returns-in-None-clause-same g c =
+    let caller = g.C.Calls.caller in
+    run-same (caller c.args.calls.now) (caller c.run_line.new.calls) (caller c.show.new.calls) (call_of c.self.inside.registers c.line-line.result.now) None
+    c.in-None.ensures.call c.show.ensures.same
