@@ -4,9 +4,9 @@ mod OffersLists
 mod OffersRows
 mod OffersSubs
 mod Takings
-mod Endings
-mod EndingsLists
-mod Releases
+pub mod Endings
+pub mod EndingsLists
+pub mod Removals
 mod Ties
 mod Counting
 mod Makings

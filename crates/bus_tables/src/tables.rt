@@ -1,5 +1,5 @@
 //! The tables.
-ghost use Rattle.std.specs.Prelude.{◌≡◌, ℕ, ◌==◌, ◌&&◌, ◌+◌, ◌*◌, ◌%◌, ◌<◌, ◌≤◌, ◌^◌, ◌++◌, ◌∷◌, [], not, length, map, filter, find, count_by, true, false, IfOk, IsTrue};
+ghost use Rattle.std.specs.Prelude.{◌≡◌, ℕ, ◌==◌, ◌&&◌, ◌+◌, ◌*◌, ◌%◌, ◌<◌, ◌≤◌, ◌^◌, ◌++◌, ◌∷◌, [], not, length, map, filter, find, count_by, true, false, None, IfOk, IsTrue};
 ghost use Rattle.std.specs.List.{list_any};
 ghost use Rattle.std.specs.Option.{option_map};
 ghost use Rattle.std.specs.Str.{bytes_eq};
@@ -209,10 +209,12 @@ impl BusTables {
         self.pipes.create(name, owner, depth).number
     }
 
-    /// Ends the live pipe of this number, with its subscriptions and what waits on it; no effect
-    /// where none is live. By the code, looks at as many subscriptions as ever were live at once,
-    /// for each that ends and once more.
+    /// Ends the live pipe of this number, from which every message was taken out, with its
+    /// subscriptions; no effect where none is live. By the code, looks at as many subscriptions as
+    /// ever were live at once, for each that ends and once more.
     pub fn delete_pipe<L: Ledger>(&mut self, number: u32, steps: &mut Steps<L>)
+        requires waits { oldest_item self.old.pipes number ≡ None }
+        requires last { last_item self.old.pipes number ≡ None }
         ensures { self.new ≡ record self.old {
           pipes = filter (λ row. not (row.number == number)) self.old.pipes;
           subscriptions = filter (λ sub. not (sub.pipe == number)) self.old.subscriptions;
@@ -229,21 +231,6 @@ impl BusTables {
             option_map (λ row. row.number) (find (λ row. row.owner == app) self.now.pipes) }
     {
         self.pipes.first_of(app)
-    }
-
-    /// Ends the application's pipes, with their subscriptions and what waits on them.
-    pub fn release<L: Ledger>(&mut self, app: AppNo, steps: &mut Steps<L>)
-        ensures { self.new ≡ record self.old {
-          pipes = filter (λ row. not (row.owner == app)) self.old.pipes;
-          subscriptions = filter (λ sub. not (owns_row self.old.pipes app sub.pipe))
-              self.old.subscriptions;
-        } }
-    {
-        while let Some(number) = self.first_of(app) {
-            // Does nothing; the proof learns of it that no other pipe has this number.
-            self.recall_order();
-            self.delete_pipe(number, steps);
-        }
     }
 
     /// Sets the option bits of the live pipe of this number, looked up by halves.

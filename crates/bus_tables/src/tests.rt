@@ -76,8 +76,27 @@ fn the_first_message_waits(rt: HostRuntime) -> Result<(), Fail> {
     Ok(())
 }
 
+/// Deletes the application's pipe where no message is left in it.
+fn delete_if_empty<L: Ledger>(
+    tables: &mut BusTables,
+    app: AppNo,
+    number: u32,
+    steps: &mut Steps<L>,
+) {
+    if !tables.owns(app, number) {
+        return;
+    }
+    if let Some(_) = tables.oldest(number) {
+        return;
+    }
+    if let Some(_) = tables.last(app, number) {
+        return;
+    }
+    tables.delete_pipe(number, steps);
+}
+
 /// Two pipes take a message of an id, and one receives it; the other misses the next one. Then the
-/// first one's subscription ends, the other pipe is deleted, and the application released.
+/// first one's subscription ends, and both pipes are emptied and deleted.
 fn come_and_go<L: Ledger, R: Abort>(
     rt: &R,
     tables: &mut BusTables,
@@ -121,9 +140,11 @@ fn come_and_go<L: Ledger, R: Abort>(
     tables.unsubscribe(0x0801, first, &mut steps);
     assert!(rt; !tables.is_subscribed(0x0801, first, &mut steps));
     assert_eq!(rt; tables.dests_of(0x0801), 1);
-    tables.delete_pipe(second, &mut steps);
+    tables.take_front(second);
+    delete_if_empty(tables, app, second, &mut steps);
     assert_eq!(rt; tables.dests_of(0x0801), 0);
-    tables.release(app, &mut steps);
+    tables.take_last(first);
+    delete_if_empty(tables, app, first, &mut steps);
     assert_eq!(rt; tables.pipes_len(), 0);
 }
 

@@ -3,6 +3,7 @@ pub mod Asks
 pub mod Refusals
 pub mod Changes
 pub mod Deletes
+pub mod Emptied
 pub mod Ends
 pub mod Laid
 pub mod Looks
@@ -11,6 +12,7 @@ pub mod Opened
 pub mod Options
 pub mod Receipts
 pub mod Receives
+pub mod Releases
 pub mod Subscribes
 pub mod Transmits
 pub mod Unsubscribes

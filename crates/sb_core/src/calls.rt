@@ -10,6 +10,7 @@ ghost use Rattle.sb_core.specs.Answers.{created, done, sent, got};
 
 use crate::activities::Activity;
 use crate::messages::keep;
+use crate::pipe_ends::release;
 use crate::plain::SbCore;
 use bucket_list::{Ledger, Steps};
 use bus_tables::Message;
@@ -174,6 +175,6 @@ impl SbCore {
         ensures { Acts self.old self.new app End Done }
     {
         self.activities[(app.get() - 1) as usize] = Activity::Ended;
-        self.tables.release(app, steps);
+        release(&mut self.tables, app, steps);
     }
 }

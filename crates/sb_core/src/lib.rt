@@ -27,6 +27,7 @@ mod messages;
 mod pending;
 mod permits;
 mod pipe_calls;
+mod pipe_ends;
 mod plain;
 
 pub use calls::Sent;

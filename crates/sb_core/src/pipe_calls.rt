@@ -4,6 +4,7 @@ ghost use Rattle.bus_words.specs.declared.history.Call.TheVariants.{Delete, SetO
 ghost use Rattle.sb_core.specs.Core.{MayAct, Acts};
 ghost use Rattle.sb_core.specs.Answers.{done, found, bits_told, named};
 
+use crate::pipe_ends::end_pipe;
 use crate::plain::SbCore;
 use bucket_list::{Ledger, Steps};
 use bus_words::PipeText;
@@ -27,7 +28,7 @@ impl SbCore {
         if let Some(status) = self.unowned_cause(app, pipe) {
             return Err(status);
         }
-        self.tables.delete_pipe(pipe, steps);
+        end_pipe(&mut self.tables, pipe, steps);
         Ok(())
     }
 

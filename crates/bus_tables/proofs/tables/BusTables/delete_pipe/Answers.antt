@@ -6,7 +6,7 @@ use Rattle.routing.specs.Routing.{Routing}
 use Rattle.subscriptions.specs.Subs.{Subscribed}
 use Rattle.bus_tables.specs.Inside.{AreQueued, row_in, sub_in}
 use Rattle.bus_tables.proofs.Ties.{seen_left}
-use Rattle.bus_tables.proofs.Releases.{queued_removed}
+use Rattle.bus_tables.proofs.Removals.{queued_removed}
 use Rattle.bus_tables.proofs.tables.BusTables.delete_pipe.Goals as goal
 
 pub invariant_of-self : goal.invariant_of-self

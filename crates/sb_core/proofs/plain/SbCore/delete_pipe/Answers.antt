@@ -5,10 +5,10 @@ use Rattle.sb_core.proofs.Deletes.{deleted_keeps, deleted_acts}
 use Rattle.sb_core.proofs.plain.SbCore.delete_pipe.Goals as goal
 
 pub invariant_of-self : goal.invariant_of-self
-invariant_of-self g c = deleted_keeps c.self.inside c.delete_pipe.new.self c.args.self.now c.args.app c.args.pipe c.delete_pipe.ensures c.self.invariant
+invariant_of-self g c = deleted_keeps c.self.inside c.end_pipe.new.tables c.args.self.now c.args.app c.args.pipe c.end_pipe.ensures c.self.invariant
 
 pub returns : goal.returns
 returns g c =
     let a = c.self.inside in
     let why = at_fields a c.args.self.now c.self.view_is (λ limits s. unowned_cause s c.args.app c.args.pipe) None (sym c.unowned_cause.ensures ∙ c.in_default.is) in
-    deleted_acts a c.delete_pipe.new.self c.args.self.now c.args.app c.args.pipe c.delete_pipe.ensures c.self.view_is why
+    deleted_acts a c.end_pipe.new.tables c.args.self.now c.args.app c.args.pipe c.end_pipe.ensures c.self.view_is why

@@ -1,4 +1,4 @@
--- Pipes that end, with their subscriptions and what waits on them.
+-- An application's pipes that end, with their subscriptions and messages.
 use Rattle.std.proofs.Common.{◌≡◌, ℕ, ◌<◌, Bool, true, false, not, cond, ◌&&◌, eqb, List, [], ◌∷◌, length, get_or, filter, find, Option, Some, None, refl, ap, sym, subst, ◌∙◌, arith}
 use Rattle.std.specs.List.{All}
 use Rattle.std.specs.Option.{option_map}
@@ -6,49 +6,11 @@ use Rattle.std.proofs.lemmas.Bool.{eqb-true, eq-eqb}
 use Rattle.std.proofs.lemmas.List.Elements.{All-nil, All-cons, All-weaker, All-filter, filter_passes}
 use Rattle.std.proofs.lemmas.Map.Views.{any-filter_same}
 use Rattle.bus_words.specs.Bus as bus
-use Rattle.pipe_table.specs.Table.{PipeRow, without_row}
-use Rattle.subscriptions.specs.Subs as subs
 use Rattle.bus_tables.specs.Rows.{Row, owns_row}
 use Rattle.bus_tables.specs.Tables.{Tables, IsRising}
-use Rattle.bus_tables.specs.Inside.{AreQueued, IsCounted, IsPlaced, IsQueued, waiting_at}
-use Rattle.bus_tables.proofs.EndingsLists.{found_all, found_any, found_passes, filter_whole, filter_shorter, filter_within, find_within, none_any, not_found}
+use Rattle.bus_tables.proofs.EndingsLists.{found_all, found_any, found_passes, filter_whole, filter_shorter, filter_within, none_any, not_found}
 use Rattle.bus_tables.proofs.Endings.{and_left}
-use Rattle.bus_tables.proofs.Ties.{queued_left}
-
--- One pipe. --
-
--- the number of another pipe
-other_number : (m p n : ℕ) → not (eqb p n) ≡ true → eqb m p ≡ true → not (eqb m n) ≡ true
-other_number m p n apart same = subst (λ k. not (eqb k n) ≡ true) (sym (eqb-true m p same)) apart
-
--- what waits stays counted where a pipe leaves with its subscriptions
-pub queued_removed : (rows : List PipeRow) (subscribed : subs.Subscribed) (number : ℕ) → AreQueued rows subscribed →
-    AreQueued (without_row number rows) (record subscribed { live = filter (λ s. not (eqb s.pipe number)) subscribed.live })
-queued_removed rows subscribed number queued = record {
-  counted = λ k d within. recount (get_or left.live k d) (filter_passes (λ s. not (eqb s.pipe number)) subscribed.live k d within) (few.counted k d within);
-  placed = λ k d within. replaced (get_or left.live k d) (filter_passes (λ s. not (eqb s.pipe number)) subscribed.live k d within) (few.placed k d within);
-  items = All-filter (λ row. not (eqb row.number number)) (λ row. All (IsQueued left row.number) row.queue) rows few.items;
-}
-  where
-    left : subs.Subscribed
-    left = record subscribed { live = filter (λ s. not (eqb s.pipe number)) subscribed.live }
-
-    few : AreQueued rows left
-    few = queued_left rows subscribed (λ s. not (eqb s.pipe number)) queued
-
-    recount : (s : subs.Subscription) → not (eqb s.pipe number) ≡ true → IsCounted rows s → IsCounted (without_row number rows) s
-    recount s apart counted =
-        ap (option_map (λ row. waiting_at row s.number))
-        (find_within (λ row. eqb row.number s.pipe) (λ row. not (eqb row.number number)) (λ row same. other_number row.number s.pipe number apart same) rows)
-        ∙ counted
-
-    replaced : (s : subs.Subscription) → not (eqb s.pipe number) ≡ true → IsPlaced rows s → IsPlaced (without_row number rows) s
-    replaced s apart placed =
-        ap (option_map (λ (row : PipeRow). row.place))
-        (find_within (λ row. eqb row.number s.pipe) (λ row. not (eqb row.number number)) (λ row same. other_number row.number s.pipe number apart same) rows)
-        ∙ placed
-
--- An application's pipes. --
+use Rattle.bus_tables.proofs.Removals.{other_number}
 
 -- rising numbers are all above the first bound
 rising_above : (below : ℕ) (rows : List Row) → IsRising below rows → All (λ row. below < row.number) rows
