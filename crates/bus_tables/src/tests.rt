@@ -143,6 +143,7 @@ fn come_and_go<L: Ledger, R: Abort>(
     tables.take_front(second);
     delete_if_empty(tables, app, second, &mut steps);
     assert_eq!(rt; tables.dests_of(0x0801), 0);
+    tables.take_front(first);
     tables.take_last(first);
     delete_if_empty(tables, app, first, &mut steps);
     assert_eq!(rt; tables.pipes_len(), 0);

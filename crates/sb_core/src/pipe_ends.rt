@@ -6,8 +6,8 @@ use bucket_list::{Ledger, Steps};
 use bus_tables::BusTables;
 use fsw_base::AppNo;
 
-/// Takes each message out of the live pipe of this number, those that wait and the one received
-/// last.
+// Takes each message out of the live pipe of this number, those that wait and the one received
+// last.
 fn empty_pipe(tables: &mut BusTables, number: u32)
     ensures waits { oldest_item tables.new.pipes number ≡ None }
     ensures last { last_item tables.new.pipes number ≡ None }
