@@ -20,8 +20,14 @@ def kit_of_readme():
     return f"{found[1]} logic {found[2]}" if found else None
 
 
+def logic_of(kit):
+    """What decides whether a proof holds, of a kit's line: the hash of its logic."""
+    found = re.search(r"logic ([0-9a-f]{16})", kit or "")
+    return found[1] if found else None
+
+
 def stop_without_kit():
-    """Ends the run where there is no rt, and warns where it is another kit's."""
+    """Ends the run where there is no rt, and warns where its kit has another logic."""
     wanted = kit_of_readme() or "the kit that README names"
     quiet = dict(stdin=subprocess.DEVNULL, capture_output=True, text=True)
     try:
@@ -29,5 +35,5 @@ def stop_without_kit():
     except OSError:
         tell(f"rt isn't on the PATH: install the Rattle kit, {wanted}, and put its rt there")
         sys.exit(1)
-    if kit_of_readme() and found != wanted:
+    if kit_of_readme() and logic_of(found) != logic_of(wanted):
         tell(f"rt is of {found or 'an unknown kit'}: where this fails, take {wanted}")
