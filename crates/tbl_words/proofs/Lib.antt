@@ -1,7 +1,6 @@
 pub mod Accounts
 pub mod Bounds
 pub mod Holds
-pub mod Journals
 pub mod Leaves
 pub mod Numbers
 pub mod Orders

@@ -1,5 +1,5 @@
 -- Entries as whole lists: what a borrowing entry stands for.
-use Rattle.std.specs.Prelude.{ℕ, length}
+use Rattle.std.specs.Prelude.{ℕ, List, [], length}
 use Rattle.tbl_words.specs.declared.calls.TblCall.{TblCall}
 use Rattle.tbl_words.specs.declared.calls.TblCall.TheVariants as borrowed
 use Rattle.tbl_words.specs.declared.calls.TblEntry.{TblEntry}
@@ -26,17 +26,21 @@ call_of borrowed.End = End
 abbrev pub entry_of : TblEntry → Entry
 entry_of e = record { app = e.app; call = call_of e.call; answer = e.answer }
 
--- the bytes of a call: its name, or what it loads
+-- the bytes that a call brings: its name, or what it loads
+abbrev pub call_text : Call → List ℕ
+call_text (Register name size option rules) = name
+call_text (Share name) = name
+call_text (Unregister handle) = []
+call_text (Stage handle offset bytes) = bytes
+call_text (Validate handle) = []
+call_text (Update handle) = []
+call_text (Abort handle) = []
+call_text (Load handle offset bytes) = bytes
+call_text (GetAddress handle) = []
+call_text (ReleaseAddress handle) = []
+call_text (Status handle) = []
+call_text End = []
+
+-- how many they are
 abbrev pub call_bytes : Call → ℕ
-call_bytes (Register name size option rules) = length name
-call_bytes (Share name) = length name
-call_bytes (Unregister handle) = 0
-call_bytes (Stage handle offset bytes) = length bytes
-call_bytes (Validate handle) = 0
-call_bytes (Update handle) = 0
-call_bytes (Abort handle) = 0
-call_bytes (Load handle offset bytes) = length bytes
-call_bytes (GetAddress handle) = 0
-call_bytes (ReleaseAddress handle) = 0
-call_bytes (Status handle) = 0
-call_bytes End = 0
+call_bytes call = length (call_text call)

@@ -1,50 +1,32 @@
 //! The journal of the tables: every call with its answer, in the order in which they took effect.
-ghost use Rattle.std.specs.Prelude.{◌≡◌, ◌+◌, ◌^◌, ◌<◌, ◌≤◌, List, [], ◌++◌, length, vec_len, vec_capacity, slice_get, IfOk, Some};
-ghost use Rattle.tbl_words.specs.Log.{AreBudgets, HasRoom, Log, allowances, allowance_of, charged, with_entry, entries_left};
-ghost use Rattle.tbl_words.specs.Entries.{call_of, entry_of, call_bytes};
-ghost use Rattle.tbl_words.specs.Inside.{IsStored, bytes_of, call_in, call_end};
+ghost use Rattle.std.specs.Prelude.{◌≡◌, ◌+◌, ◌^◌, ◌<◌, ◌≤◌, [], length, slice_get, IfOk, Some};
+ghost use Rattle.journal_store.specs.Budgets.{AreBudgets, HasRoom, allowance_of, entries_left};
+ghost use Rattle.tbl_words.specs.Log.{Log, with_entry, left_of};
+ghost use Rattle.tbl_words.specs.Entries.{call_of, entry_of, call_text, call_bytes};
+ghost use Rattle.tbl_words.specs.Inside.{call_in};
 
 use crate::calls::{TblAnswer, TblCall, TblEntry};
 use crate::rules::RuleList;
-use fsw_base::{AppNo, Budget, extend_reserved};
+use fsw_base::{AppNo, Budget};
+use journal_store::{Allowance, JournalStore};
 use std::alloc::{AllocError, Global};
 use std::marker::Model;
 
-/// What an application may still add to a journal.
-#[derive(Clone, Copy, Debug, PartialEq, Eq)]
-pub struct Allowance {
-    /// Entries.
-    pub entries: u32,
-    /// Bytes of names and of loads.
-    pub bytes: u32,
-}
-
-// A place in the journal's bytes.
-#[derive(Clone, Copy, Debug)]
-struct Span {
-    start: u32,
-    len: u32,
-}
-
-// A call whose bytes lie in the journal.
+// A call but for its bytes.
 #[derive(Debug, Drop)]
 enum RowCall {
     Register {
-        name: Span,
         size: u32,
         option: u32,
         rules: RuleList,
     },
-    Share {
-        name: Span,
-    },
+    Share,
     Unregister {
         handle: u32,
     },
     Stage {
         handle: u32,
         offset: u32,
-        bytes: Span,
     },
     Validate {
         handle: u32,
@@ -58,7 +40,6 @@ enum RowCall {
     Load {
         handle: u32,
         offset: u32,
-        bytes: Span,
     },
     GetAddress {
         handle: u32,
@@ -72,38 +53,31 @@ enum RowCall {
     End,
 }
 
-// An entry whose bytes lie in the journal.
+// An entry but for its application and its bytes.
 #[derive(Debug, Drop)]
 struct Row {
-    app: AppNo,
     call: RowCall,
     answer: TblAnswer,
 }
 
-/// A list of entries with room for what each application's budget allows. All its memory is taken
-/// when it is made.
+/// A list of entries with room for what each application's budget allows. By the code, all its
+/// memory is taken when it is made.
 #[derive(Drop)]
 pub struct TblJournal {
-    // The entries in order, whose bytes are spans of `bytes`.
-    rows: Vec<Row>,
-    // The bytes of all entries, one after another; none is ever changed.
-    bytes: Vec<u8>,
-    // What each application may still add; rows and bytes have room for all of it.
-    left: Vec<Allowance>,
+    // A row for each entry, in order.
+    store: JournalStore<Row>,
 }
 
 impl Model for TblJournal {
-    ghost use Rattle.std.specs.Prelude.{vec_capacity};
     ghost use Rattle.tbl_words.specs.Log.{Log};
-    ghost use Rattle.tbl_words.specs.Inside.{IsLaidOut, entries_in};
+    ghost use Rattle.tbl_words.specs.Inside.{entries_in, AreWhole};
 
     ghost Value = { Log };
 
     ghost view = { λ j.
-        record { entries = entries_in j.bytes.items j.rows.items; left = j.left.items } };
+        record { budgets = j.store.budgets; entries = entries_in j.store.rows } };
 
-    ghost invariant = { λ j. IsLaidOut j.rows.items j.bytes.items (vec_capacity j.rows)
-        (vec_capacity j.bytes) j.left.items };
+    ghost invariant = { λ j. AreWhole j.store.rows };
 }
 
 impl TblJournal {
@@ -114,48 +88,35 @@ impl TblJournal {
     pub fn new(alloc: Global, budgets: &[Budget]) -> Result<TblJournal, AllocError>
         requires { AreBudgets budgets.now }
         ensures { IfOk result
-            (λ journal. journal ≡ record { entries = []; left = allowances budgets.now }) }
+            (λ journal. journal ≡ record { budgets = budgets.now; entries = [] }) }
     {
-        let mut left = Vec::with_capacity(alloc, budgets.len())?;
-        let mut entries = 0;
-        let mut bytes = 0;
-        for budget in budgets {
-            left.push_reserved(Allowance {
-                entries: budget.entries,
-                bytes: budget.bytes,
-            });
-            entries += budget.entries as usize;
-            bytes += budget.bytes as usize;
-        }
         Ok(TblJournal {
-            rows: Vec::with_capacity(alloc, entries)?,
-            bytes: Vec::with_capacity(alloc, bytes)?,
-            left,
+            store: JournalStore::new(alloc, budgets)?,
         })
     }
 
     /// How many entries there are.
     pub fn len(&self) -> u32
         ensures len { result ≡ length self.now.entries }
-        ensures few { length self.now.entries + entries_left self.now.left < 2 ^ 32 }
-        ensures applications { length self.now.left ≤ 16 }
+        ensures few { length self.now.entries + entries_left (left_of self.now) < 2 ^ 32 }
+        ensures applications { length self.now.budgets ≤ 16 }
     {
-        self.rows.len() as u32
+        self.store.len()
     }
 
     /// How many applications may have entries.
     pub fn apps(&self) -> u32
-        ensures { result ≡ length self.now.left }
+        ensures { result ≡ length self.now.budgets }
     {
-        self.left.len() as u32
+        self.store.apps()
     }
 
     /// What the application may still add.
     pub fn left(&self, app: AppNo) -> Allowance
-        requires { app ≤ length self.now.left }
-        ensures { result ≡ allowance_of self.now.left app }
+        requires { app ≤ length self.now.budgets }
+        ensures { result ≡ allowance_of (left_of self.now) app }
     {
-        self.left[(app.get() - 1) as usize]
+        self.store.left(app)
     }
 
     /// The entry at a place; places count from 0.
@@ -163,10 +124,10 @@ impl TblJournal {
         requires { i < length self.now.entries }
         ensures { slice_get self.now.entries i ≡ Some (entry_of result) }
     {
-        let row = &self.rows[i as usize];
+        let row = self.store.row(i);
         TblEntry {
-            app: row.app,
-            call: call_at(&self.bytes, &row.call),
+            app: self.store.app(i),
+            call: call_with(&row.call, self.store.text(i)),
             answer: row.answer,
         }
     }
@@ -174,62 +135,46 @@ impl TblJournal {
     /// Adds an entry at the end. Its application must have an entry left, and the bytes of its name
     /// or of what it loads.
     pub fn push(&mut self, entry: &TblEntry<'_>)
-        requires { HasRoom self.old.left entry.now.app (call_bytes (call_of entry.now.call)) }
+        requires { HasRoom (left_of self.old) entry.now.app (call_bytes (call_of entry.now.call)) }
         ensures { self.new ≡ with_entry self.old (entry_of entry.now) }
     {
-        let start = self.bytes.len();
-        let call = put_call(&mut self.bytes, &entry.call);
-        let len = self.bytes.len() - start;
-        charge(&mut self.left, entry.app, len as u32);
-        self.rows.push_reserved(Row {
-            app: entry.app,
-            call,
+        let row = Row {
+            call: row_of(&entry.call),
             answer: entry.answer,
-        });
+        };
+        self.store.push(entry.app, row, text_of(&entry.call));
     }
 }
 
-// The call with its bytes borrowed.
-fn call_at<'a>(bytes: &'a [u8], call: &RowCall) -> TblCall<'a>
-    requires { call_end call.now ≤ length bytes.now }
-    ensures { call_of result ≡ call_in bytes.entry.now call.now }
+// The call of a row with these bytes.
+fn call_with<'a>(call: &RowCall, text: &'a [u8]) -> TblCall<'a>
+    ensures { call_of result ≡ call_in call.now text.entry.now }
 {
     match call {
         RowCall::Register {
-            name,
             size,
             option,
             rules,
         } => TblCall::Register {
-            name: bytes_at(bytes, *name),
+            name: text,
             size: *size,
             option: *option,
             rules: rules.again(),
         },
-        RowCall::Share { name } => TblCall::Share {
-            name: bytes_at(bytes, *name),
-        },
+        RowCall::Share => TblCall::Share { name: text },
         RowCall::Unregister { handle } => TblCall::Unregister { handle: *handle },
-        RowCall::Stage {
-            handle,
-            offset,
-            bytes: value,
-        } => TblCall::Stage {
+        RowCall::Stage { handle, offset } => TblCall::Stage {
             handle: *handle,
             offset: *offset,
-            bytes: bytes_at(bytes, *value),
+            bytes: text,
         },
         RowCall::Validate { handle } => TblCall::Validate { handle: *handle },
         RowCall::Update { handle } => TblCall::Update { handle: *handle },
         RowCall::Abort { handle } => TblCall::Abort { handle: *handle },
-        RowCall::Load {
-            handle,
-            offset,
-            bytes: value,
-        } => TblCall::Load {
+        RowCall::Load { handle, offset } => TblCall::Load {
             handle: *handle,
             offset: *offset,
-            bytes: bytes_at(bytes, *value),
+            bytes: text,
         },
         RowCall::GetAddress { handle } => TblCall::GetAddress { handle: *handle },
         RowCall::ReleaseAddress { handle } => TblCall::ReleaseAddress { handle: *handle },
@@ -238,57 +183,33 @@ fn call_at<'a>(bytes: &'a [u8], call: &RowCall) -> TblCall<'a>
     }
 }
 
-// The bytes of a span.
-fn bytes_at(bytes: &[u8], span: Span) -> &[u8]
-    requires { span.start + span.len ≤ length bytes.now }
-    ensures { result.now ≡ bytes_of bytes.now span }
-{
-    &bytes[span.start as usize..span.start as usize + span.len as usize]
-}
-
-// Puts the call's bytes behind those that are there, which have room for them.
-fn put_call(bytes: &mut Vec<u8>, call: &TblCall<'_>) -> RowCall
-    requires room { vec_len bytes.old + call_bytes (call_of call.now) ≤ vec_capacity bytes.old }
-    requires few { vec_len bytes.old + call_bytes (call_of call.now) < 2 ^ 32 }
-    ensures stored { IsStored bytes.old.items bytes.new.items (call_of call.now) result }
-    ensures capacity { vec_capacity bytes.new ≡ vec_capacity bytes.old }
+// The call but for its bytes.
+fn row_of(call: &TblCall<'_>) -> RowCall
+    ensures { call_in result (call_text (call_of call.now)) ≡ call_of call.now }
 {
     match call {
         TblCall::Register {
-            name,
             size,
             option,
             rules,
+            ..
         } => RowCall::Register {
-            name: put(bytes, name),
             size: *size,
             option: *option,
             rules: rules.again(),
         },
-        TblCall::Share { name } => RowCall::Share {
-            name: put(bytes, name),
-        },
+        TblCall::Share { .. } => RowCall::Share,
         TblCall::Unregister { handle } => RowCall::Unregister { handle: *handle },
-        TblCall::Stage {
-            handle,
-            offset,
-            bytes: value,
-        } => RowCall::Stage {
+        TblCall::Stage { handle, offset, .. } => RowCall::Stage {
             handle: *handle,
             offset: *offset,
-            bytes: put(bytes, value),
         },
         TblCall::Validate { handle } => RowCall::Validate { handle: *handle },
         TblCall::Update { handle } => RowCall::Update { handle: *handle },
         TblCall::Abort { handle } => RowCall::Abort { handle: *handle },
-        TblCall::Load {
-            handle,
-            offset,
-            bytes: value,
-        } => RowCall::Load {
+        TblCall::Load { handle, offset, .. } => RowCall::Load {
             handle: *handle,
             offset: *offset,
-            bytes: put(bytes, value),
         },
         TblCall::GetAddress { handle } => RowCall::GetAddress { handle: *handle },
         TblCall::ReleaseAddress { handle } => RowCall::ReleaseAddress { handle: *handle },
@@ -297,28 +218,13 @@ fn put_call(bytes: &mut Vec<u8>, call: &TblCall<'_>) -> RowCall
     }
 }
 
-// Puts the text behind the bytes that are there, which have room for it.
-fn put(bytes: &mut Vec<u8>, text: &[u8]) -> Span
-    requires room { vec_len bytes.old + length text.now ≤ vec_capacity bytes.old }
-    requires few { vec_len bytes.old + length text.now < 2 ^ 32 }
-    ensures items { bytes.new.items ≡ bytes.old.items ++ text.now }
-    ensures capacity { vec_capacity bytes.new ≡ vec_capacity bytes.old }
-    ensures span { result ≡ record { start = vec_len bytes.old; len = length text.now } }
+// The bytes of a call; none where it has none.
+fn text_of<'a>(call: &TblCall<'a>) -> &'a [u8]
+    ensures { result.now ≡ call_text (call_of call.now) }
 {
-    let start = bytes.len() as u32;
-    extend_reserved(bytes, text);
-    Span {
-        start,
-        len: text.len() as u32,
+    match call {
+        TblCall::Register { name, .. } | TblCall::Share { name } => name,
+        TblCall::Stage { bytes, .. } | TblCall::Load { bytes, .. } => bytes,
+        _ => &[],
     }
-}
-
-// Takes one entry of so many bytes from what the application may add.
-fn charge(left: &mut Vec<Allowance>, app: AppNo, bytes: u32)
-    requires { HasRoom left.old.items app bytes }
-    ensures { left.new.items ≡ charged left.old.items app bytes }
-{
-    let allowance = &mut left[(app.get() - 1) as usize];
-    allowance.entries -= 1;
-    allowance.bytes -= bytes;
 }

@@ -23,7 +23,8 @@ mod uses;
 
 pub use calls::{Address, Registered, TblAnswer, TblCall, TblEntry, TblState, Told};
 pub use history::{Call, Entry};
-pub use journal::{Allowance, TblJournal};
+pub use journal::TblJournal;
+pub use journal_store::Allowance;
 pub use laws::{
     blocks_go_by_tables, handles_are_numbered, handles_have_tables, held_tables_stay,
     histories_are_runs, leaves_add_up, numbers_go_by_entries, peaks_are_greatest, worked_examples,

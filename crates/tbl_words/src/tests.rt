@@ -1,7 +1,8 @@
 //! A journal, a list of rules and a receipt on their happy path.
 ghost use Rattle.std.specs.Prelude.{◌≡◌, ◌<◌, ◌≤◌, ◌↔◌, IsTrue, length};
 ghost use Rattle.tbl_words.specs.Entries.{call_of, call_bytes};
-ghost use Rattle.tbl_words.specs.Log.{HasRoom};
+ghost use Rattle.journal_store.specs.Budgets.{HasRoom};
+ghost use Rattle.tbl_words.specs.Log.{left_of};
 
 use crate::{
     Allowance, Rule, RuleList, TableReceipt, TblAnswer, TblCall, TblEntry, TblJournal, TblState,
@@ -105,7 +106,7 @@ fn keeps(
 // Whether the entry may be pushed.
 fn has_room(journal: &TblJournal, entry: &TblEntry<'_>) -> bool
     ensures { IsTrue result →
-        HasRoom journal.now.left entry.now.app (call_bytes (call_of entry.now.call)) }
+        HasRoom (left_of journal.now) entry.now.app (call_bytes (call_of entry.now.call)) }
 {
     if journal.apps() < entry.app.get() {
         return false;
