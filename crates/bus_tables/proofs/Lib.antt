@@ -8,6 +8,7 @@ pub mod Endings
 pub mod EndingsLists
 pub mod Removals
 mod Ties
+mod Told
 mod Counting
 mod Makings
 mod MakingsRouted

@@ -1,5 +1,5 @@
 -- A message that is offered to one subscription: what its pipe makes of it, and what waits then.
-use Rattle.std.proofs.Common.{◌≡◌, ℕ, ◌+◌, ◌≤◌, Bool, true, false, not, ◌&&◌, cond, eqb, leb, List, [], ◌∷◌, ◌++◌, length, Option, Some, None, map, refl, ap, sym, ◌∙◌, subst, arith}
+use Rattle.std.proofs.Common.{◌≡◌, ℕ, ◌+◌, ◌≤◌, Bool, true, false, not, ◌&&◌, ◌||◌, cond, eqb, leb, List, [], ◌∷◌, ◌++◌, length, Option, Some, None, map, refl, ap, sym, ◌∙◌, subst, arith}
 use Rattle.std.specs.List.{All}
 use Rattle.std.specs.Option.{option_map, option_map_or, option_and_then}
 use Rattle.std.proofs.lemmas.Bool.{eqb-true, eq-eqb, and_parts, both_ways, false_from_ne_true}
@@ -9,22 +9,23 @@ use Rattle.std.proofs.lemmas.List.Sums.{sum_by_push}
 use Rattle.fsw_base.proofs.Lists.{count_by-map}
 use Rattle.pipe_queue.specs.declared.item.Item.{Item}
 use Rattle.pipe_table.specs.Table as table
-use Rattle.pipe_table.specs.Table.{PipeRow, pipe_row, place_of, with_item}
+use Rattle.pipe_table.specs.Table.{PipeRow, pipe_row, place_of, offered_to, with_offer, with_item}
 use Rattle.subscriptions.specs.declared.words.SubNo.{SubNo}
 use denote.Enum.Bare.{sameb}
 use Rattle.subscriptions.specs.contracts.words.Verdict.{the_type}
 use Rattle.subscriptions.specs.declared.words.SubRow.{SubRow}
 use Rattle.subscriptions.specs.declared.words.Verdict.{Verdict}
 use Rattle.subscriptions.specs.declared.words.Verdict.TheVariants.{Inside, OverLimit}
-use Rattle.subscriptions.specs.Subs.{Subscribed, Subscription, row_of, goes_by, live_at, verdict_of, verdict_at, one_more, with_change, AreInOrder}
+use Rattle.subscriptions.specs.Subs.{Subscribed, Subscription, row_of, goes_by, live_at, verdict_of, one_more, with_change, AreInOrder}
 use Rattle.bus_tables.specs.declared.message.Message.{Message}
 use Rattle.bus_tables.specs.declared.misses.Miss.{Miss}
-use Rattle.bus_tables.specs.declared.misses.MissCause.{MissCause}
-use Rattle.bus_tables.specs.declared.misses.MissCause.TheVariants as misses
+use Rattle.pipe_table.specs.declared.offered.OfferVerdict.{OfferVerdict}
+use Rattle.pipe_table.specs.declared.offered.OfferVerdict.TheVariants as offers
 use Rattle.bus_tables.specs.Rows.{Row, with_row, takes, item_of, offered_row, row_takes, miss_cause, row_misses}
 use Rattle.bus_tables.specs.Inside.{item_in, row_in, sub_in, waiting_at, still, IsCounted, IsPlaced, IsOf, IsQueued, AreQueued}
 use Rattle.bus_tables.proofs.OffersLists.{all_both, found_is, found_passes}
-use Rattle.bus_tables.proofs.OffersRows.{changed, only_row, pipe_row-with_row, of_row_kept, row_of-rows, rows_changed, rows_kept, rows_unchanged}
+use Rattle.bus_tables.proofs.OffersRows.{changed, only_row, pipe_row-with_row, of_row_kept, row_of-rows, rows_changed, rows_kept, rows_alike}
+use Rattle.bus_tables.proofs.Told.{told_by, told_if, all_pass, one_if, none_if, same_if}
 use Rattle.bus_tables.proofs.OffersSubs.{only_sub, still-with_change, all_still, queued_still}
 
 -- a subscription has the slot and number that it goes by
@@ -47,12 +48,6 @@ place-with_item item row = by_test (eqb (length row.queue) row.depth)
     by_test : (b : Bool) → (cond {A = PipeRow} b row (record row { queue = row.queue ++ item ∷ [] })).place ≡ row.place
     by_test true = refl
     by_test false = refl
-
--- what is told of a pipe, by whether it ignores the sender, the subscription is at its limit, and it is full
-abbrev pub told_if : ℕ → Bool → Bool → Bool → List Miss
-told_if pipe skips over full =
-    option_map_or (λ cause. record { pipe = pipe; cause = cause } ∷ [])
-    (cond {A = Option MissCause} skips None (cond {A = Option MissCause} over (Some misses.OverLimit) (cond {A = Option MissCause} full (Some misses.Full) None))) []
 
 -- a live subscription's pipe, on which as many of its messages wait as it counts
 pub record IsPipe (rows : List PipeRow) (s : Subscription) (row : PipeRow) : Type 0 where
@@ -83,36 +78,6 @@ module _ (rows : List PipeRow) (s : Subscription) (row : PipeRow) (pipe : IsPipe
       ap (λ n. not (table.ignores_sender row message.sender) && not (leb s.limit n) && not (eqb (length (map item_in row.queue)) row.depth)) (count_by-map (λ item. eqb item.subscription s.number) item_in row.queue ∙ pipe.waits)
       ∙ ap (λ n. not (table.ignores_sender row message.sender) && not (leb s.limit s.waiting) && not (eqb n row.depth)) (length-map row.queue item_in)
 
-  -- each test by itself
-  pub ignored : table.ignores_sender row message.sender ≡ true → takes (row_in row) (sub_in s) message.sender ≡ false
-  ignored is = takes_by ∙ ap (λ b. not b && not (leb s.limit s.waiting) && not (eqb (length row.queue) row.depth)) is
-
-  pub over_limit : leb s.limit s.waiting ≡ true → takes (row_in row) (sub_in s) message.sender ≡ false
-  over_limit is = takes_by ∙ ap (λ b. not (table.ignores_sender row message.sender) && not b && not (eqb (length row.queue) row.depth)) is ∙ none (not (table.ignores_sender row message.sender)) (not (eqb (length row.queue) row.depth))
-    where
-      none : (a b : Bool) → (a && false && b) ≡ false
-      none true b = refl
-      none false b = refl
-
-  pub full : eqb (length row.queue) row.depth ≡ true → takes (row_in row) (sub_in s) message.sender ≡ false
-  full is = takes_by ∙ ap (λ b. not (table.ignores_sender row message.sender) && not (leb s.limit s.waiting) && not b) is ∙ none (not (table.ignores_sender row message.sender)) (not (leb s.limit s.waiting))
-    where
-      none : (a b : Bool) → (a && b && false) ≡ false
-      none true true = refl
-      none true false = refl
-      none false b = refl
-
-  pub all_pass : table.ignores_sender row message.sender ≡ false → leb s.limit s.waiting ≡ false → eqb (length row.queue) row.depth ≡ false → takes (row_in row) (sub_in s) message.sender ≡ true
-  all_pass heard below room =
-      takes_by
-      ∙ ap (λ b. not b && not (leb s.limit s.waiting) && not (eqb (length row.queue) row.depth)) heard
-      ∙ ap (λ b. not b && not (eqb (length row.queue) row.depth)) below
-      ∙ ap not room
-
-  -- what a call tells of the subscription's pipe
-  pub of_pipe : {X : Type 0} (w : PipeRow → X) (d : X) (n : ℕ) → n ≡ s.pipe → option_map_or w (pipe_row rows n) d ≡ w row
-  of_pipe w d n is = ap (λ m. option_map_or w (pipe_row rows m) d) is ∙ ap (λ o. option_map_or w o d) pipe.here
-
   -- whether the message reaches the pipe
   pub taken_by : row_takes message (sub_in s) (map row_in rows) ≡ cond (takes (row_in row) (sub_in s) message.sender) 1 0
   taken_by =
@@ -127,50 +92,57 @@ module _ (rows : List PipeRow) (s : Subscription) (row : PipeRow) (pipe : IsPipe
       ∙ ap (λ n. told_if s.pipe (table.ignores_sender row message.sender) (leb s.limit n) (eqb (length (map item_in row.queue)) row.depth)) (count_by-map (λ item. eqb item.subscription s.number) item_in row.queue ∙ pipe.waits)
       ∙ ap (λ n. told_if s.pipe (table.ignores_sender row message.sender) (leb s.limit s.waiting) (eqb n row.depth)) (length-map row.queue item_in)
 
-  -- nothing where it ignores the sender
-  pub none_ignored : table.ignores_sender row message.sender ≡ true → row_misses message (sub_in s) (map row_in rows) ≡ []
-  none_ignored is = misses_by ∙ ap (λ b. told_if s.pipe b (leb s.limit s.waiting) (eqb (length row.queue) row.depth)) is
+  -- what the pipe tells of it
+  pub told_is : (n : ℕ) (over : Bool) (told : OfferVerdict) → n ≡ s.pipe → over ≡ leb s.limit s.waiting → option_map (offered_to message.sender over) (pipe_row rows n) ≡ Some told →
+      told_by (table.ignores_sender row message.sender) (leb s.limit s.waiting) (eqb (length row.queue) row.depth) ≡ told
+  told_is n over told at limit tells =
+      let same : ◌≡◌ {A = Option OfferVerdict} (Some (offered_to message.sender over row)) (Some told) = ap (option_map (offered_to message.sender over)) (sym (ap (pipe_row rows) at ∙ pipe.here)) ∙ tells in
+      let plain : offered_to message.sender over row ≡ told = cc (same) in
+      ap (λ b. told_by (table.ignores_sender row message.sender) b (eqb (length row.queue) row.depth)) (sym limit) ∙ plain
 
-  -- the limit before the depth
-  pub told_over : table.ignores_sender row message.sender ≡ false → leb s.limit s.waiting ≡ true → row_misses message (sub_in s) (map row_in rows) ≡ record { pipe = s.pipe; cause = misses.OverLimit } ∷ []
-  told_over heard is =
-      misses_by
-      ∙ ap (λ b. told_if s.pipe b (leb s.limit s.waiting) (eqb (length row.queue) row.depth)) heard
-      ∙ ap (λ b. told_if s.pipe false b (eqb (length row.queue) row.depth)) is
+  pub taken_one : told_by (table.ignores_sender row message.sender) (leb s.limit s.waiting) (eqb (length row.queue) row.depth) ≡ offers.Taken → row_takes message (sub_in s) (map row_in rows) ≡ 1
+  taken_one told =
+      taken_by ∙ ap (λ b. cond {A = ℕ} b 1 0) takes_by ∙ one_if (table.ignores_sender row message.sender) (leb s.limit s.waiting) (eqb (length row.queue) row.depth) told
 
-  -- the depth, or nothing
-  pub told_full : (b : Bool) → table.ignores_sender row message.sender ≡ false → leb s.limit s.waiting ≡ false → eqb (length row.queue) row.depth ≡ b → row_misses message (sub_in s) (map row_in rows) ≡ told_if s.pipe false false b
-  told_full b heard below is =
-      misses_by
-      ∙ ap (λ b. told_if s.pipe b (leb s.limit s.waiting) (eqb (length row.queue) row.depth)) heard
-      ∙ ap (λ b. told_if s.pipe false b (eqb (length row.queue) row.depth)) below
-      ∙ ap (λ b. told_if s.pipe false false b) is
+  pub taken_none : (told_by (table.ignores_sender row message.sender) (leb s.limit s.waiting) (eqb (length row.queue) row.depth) ≡ offers.Taken → ⊥) → row_takes message (sub_in s) (map row_in rows) ≡ 0
+  taken_none apart =
+      taken_by ∙ ap (λ b. cond {A = ℕ} b 1 0) takes_by ∙ none_if (table.ignores_sender row message.sender) (leb s.limit s.waiting) (eqb (length row.queue) row.depth) apart
+
+  -- as contracts see it, the pipe is as the subscription's offer leaves it
+  pub offered_rows : (item : Item) → item.number ≡ message.number → item.desc ≡ message.desc → item.sub.number ≡ s.number →
+      map row_in (table.with_row (with_offer message.sender (leb s.limit s.waiting) item) s.pipe rows) ≡ with_row (offered_row message (sub_in s)) s.pipe (map row_in rows)
+  offered_rows item numbered described own =
+      rows_changed (with_offer message.sender (leb s.limit s.waiting) item) (offered_row message (sub_in s)) s.pipe row rows pipe.number
+      (by_test (table.ignores_sender row message.sender) (leb s.limit s.waiting) (eqb (length row.queue) row.depth)
+      ∙ sym (ap (λ b. cond {A = Row} b (record (row_in row) { queue = map item_in row.queue ++ item_of message (sub_in s) ∷ [] }) (row_in row)) takes_by))
+      pipe.only
+    where
+      more : row_in (record row { queue = row.queue ++ item ∷ [] }) ≡ record (row_in row) { queue = map item_in row.queue ++ item_of message (sub_in s) ∷ [] }
+      more =
+          ap (λ l. let r : Row = record (row_in row) { queue = l } in r) (map-append item_in row.queue (item ∷ [])
+          ∙ ap (λ n. map item_in row.queue ++ record { number = n; desc = item.desc; subscription = item.sub.number } ∷ []) numbered
+          ∙ ap (λ n. map item_in row.queue ++ record { number = message.number; desc = n; subscription = item.sub.number } ∷ []) described
+          ∙ ap (λ n. map item_in row.queue ++ record { number = message.number; desc = message.desc; subscription = n } ∷ []) own)
+
+      by_test : (skips over full : Bool) → row_in (cond {A = PipeRow} (skips || over) row (cond {A = PipeRow} full row (record row { queue = row.queue ++ item ∷ [] })))
+          ≡ cond {A = Row} (not skips && not over && not full) (record (row_in row) { queue = map item_in row.queue ++ item_of message (sub_in s) ∷ [] }) (row_in row)
+      by_test true over full = refl
+      by_test false true full = refl
+      by_test false false true = refl
+      by_test false false false = more
 
   -- a pipe that doesn't take it stays
-  pub refused : takes (row_in row) (sub_in s) message.sender ≡ false → map row_in rows ≡ with_row (offered_row message (sub_in s)) s.pipe (map row_in rows)
-  refused none =
-      rows_unchanged (offered_row message (sub_in s)) s.pipe row rows pipe.number
-      (ap (λ b. cond {A = Row} b (record (row_in row) { queue = map item_in row.queue ++ item_of message (sub_in s) ∷ [] }) (row_in row)) none)
-      pipe.only
+  pub stays : (item : Item) → (told_by (table.ignores_sender row message.sender) (leb s.limit s.waiting) (eqb (length row.queue) row.depth) ≡ offers.Taken → ⊥) → table.with_row (with_offer message.sender (leb s.limit s.waiting) item) s.pipe rows ≡ rows
+  stays item apart =
+      rows_kept (with_offer message.sender (leb s.limit s.waiting) item) s.pipe row rows pipe.number
+      (same_if row (record row { queue = row.queue ++ item ∷ [] }) (table.ignores_sender row message.sender) (leb s.limit s.waiting) (eqb (length row.queue) row.depth) apart) pipe.only
 
-  -- a full pipe stays
-  pub full_stays : (item : Item) (n : ℕ) → n ≡ s.pipe → eqb (length row.queue) row.depth ≡ true → table.with_row (with_item item) n rows ≡ rows
-  full_stays item n is at_depth =
-      ap (λ m. table.with_row (with_item item) m rows) is
-      ∙ rows_kept (with_item item) s.pipe row rows pipe.number (ap (λ b. cond {A = PipeRow} b row (record row { queue = row.queue ++ item ∷ [] })) at_depth) pipe.only
-
-  -- a pipe that takes it has it last
-  pub accepted : (item : Item) → item.number ≡ message.number → item.desc ≡ message.desc → item.sub.number ≡ s.number → takes (row_in row) (sub_in s) message.sender ≡ true → eqb (length row.queue) row.depth ≡ false →
-      map row_in (table.with_row (with_item item) s.pipe rows) ≡ with_row (offered_row message (sub_in s)) s.pipe (map row_in rows)
-  accepted item numbered described own all room =
-      rows_changed (with_item item) (offered_row message (sub_in s)) s.pipe row rows pipe.number
-      (ap (λ b. row_in (cond {A = PipeRow} b row (record row { queue = row.queue ++ item ∷ [] }))) room
-      ∙ ap (λ l. let r : Row = record (row_in row) { queue = l } in r) (map-append item_in row.queue (item ∷ [])
-      ∙ ap (λ n. map item_in row.queue ++ record { number = n; desc = item.desc; subscription = item.sub.number } ∷ []) numbered
-      ∙ ap (λ n. map item_in row.queue ++ record { number = message.number; desc = n; subscription = item.sub.number } ∷ []) described
-      ∙ ap (λ n. map item_in row.queue ++ record { number = message.number; desc = message.desc; subscription = n } ∷ []) own)
-      ∙ ap (λ b. cond {A = Row} b (record (row_in row) { queue = map item_in row.queue ++ item_of message (sub_in s) ∷ [] }) (row_in row)) (sym all))
-      pipe.only
+  -- one that takes it has it last
+  pub goes_on : (item : Item) → told_by (table.ignores_sender row message.sender) (leb s.limit s.waiting) (eqb (length row.queue) row.depth) ≡ offers.Taken → table.with_row (with_offer message.sender (leb s.limit s.waiting) item) s.pipe rows ≡ table.with_row (with_item item) s.pipe rows
+  goes_on item told =
+      let pass = all_pass (table.ignores_sender row message.sender) (leb s.limit s.waiting) (eqb (length row.queue) row.depth) told in
+      rows_alike (with_offer message.sender (leb s.limit s.waiting) item) (with_item item) s.pipe row rows pipe.number
+      (ap (λ b. cond {A = PipeRow} (b || leb s.limit s.waiting) row (with_item item row)) pass.0 ∙ ap (λ b. cond {A = PipeRow} b row (with_item item row)) pass.1) pipe.only
 
 -- What waits then. --
 
@@ -295,9 +267,11 @@ pub own_number : (subs : Subscribed) (sub : SubNo) (s : Subscription) → live_a
 own_number subs sub s live = sym (goes_by_parts sub s (found_passes (goes_by sub) subs.live s live)).1
 
 -- whether it is over its limit
-pub over_is : (subs : Subscribed) (sub : SubNo) (s : Subscription) (verdict : Verdict) → verdict ≡ verdict_at subs sub → live_at subs sub ≡ Some s → sameb the_type verdict OverLimit ≡ leb s.limit s.waiting
-over_is subs sub s verdict is live =
-    ap (λ v. sameb the_type v OverLimit) (is ∙ ap (λ o. option_map_or verdict_of o Inside) live) ∙ by_test (leb s.limit s.waiting)
+pub over_is : (subs : Subscribed) (sub : SubNo) (s : Subscription) (row : SubRow) (over : Bool) (verdict : Verdict) → option_map row_of (live_at subs sub) ≡ Some row → live_at subs sub ≡ Some s →
+    verdict ≡ verdict_of row → over ≡ sameb the_type verdict OverLimit → over ≡ leb s.limit s.waiting
+over_is subs sub s row over verdict at live is told =
+    let same : row_of s ≡ row = cc (at, live) in
+    told ∙ ap (λ v. sameb the_type v OverLimit) (is ∙ ap verdict_of (sym same)) ∙ by_test (leb s.limit s.waiting)
   where
     by_test : (b : Bool) → sameb the_type (cond {A = Verdict} b OverLimit Inside) OverLimit ≡ b
     by_test true = refl

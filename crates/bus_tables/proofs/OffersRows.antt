@@ -67,11 +67,19 @@ rows_kept f number row (r ∷ rows) is same only =
         subst (λ o. f o ≡ o) (sym it) same
     by_test false here = refl
 
--- and so do contracts see it
-pub rows_unchanged : (g : Row → Row) (number : ℕ) (row : PipeRow) (rows : List PipeRow) → row.number ≡ number → g (row_in row) ≡ row_in row →
-    All (λ other. other.number ≡ row.number → other ≡ row) rows → map row_in rows ≡ with_row g number (map row_in rows)
-rows_unchanged g number row rows is same only =
-    ap (map row_in) (sym (rows_kept (λ r. r) number row rows is refl only)) ∙ rows_changed (λ r. r) g number row rows is (sym same) only
+-- two changes that make the same of it make the same of all
+pub rows_alike : (f g : PipeRow → PipeRow) (number : ℕ) (row : PipeRow) (rows : List PipeRow) → row.number ≡ number → f row ≡ g row →
+    All (λ other. other.number ≡ row.number → other ≡ row) rows → table.with_row f number rows ≡ table.with_row g number rows
+rows_alike f g number row [] is same only = refl
+rows_alike f g number row (r ∷ rows) is same only =
+    ap (λ x. x ∷ table.with_row f number rows) (by_test (eqb r.number number) refl)
+    ∙ ap (λ l. cond {A = PipeRow} (eqb r.number number) (g r) r ∷ l) (rows_alike f g number row rows is same (All-tail (λ o. o.number ≡ row.number → o ≡ row) r rows only))
+  where
+    by_test : (b : Bool) → eqb r.number number ≡ b → cond {A = PipeRow} b (f r) r ≡ cond {A = PipeRow} b (g r) r
+    by_test true here =
+        let it : r ≡ row = All-head (λ o. o.number ≡ row.number → o ≡ row) r rows only (eqb-true r.number number here ∙ sym is) in
+        subst (λ o. f o ≡ g o) (sym it) same
+    by_test false here = refl
 
 -- what a change keeps of each pipe, it keeps of the one of a number
 pub of_row_kept : {X : Type 0} (w : PipeRow → X) (f : PipeRow → PipeRow) (number other : ℕ) (rows : List PipeRow) →

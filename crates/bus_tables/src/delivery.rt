@@ -10,7 +10,7 @@ use crate::message::Message;
 use crate::misses::{MissCause, Misses};
 use bucket_list::{Ledger, Steps};
 use pipe_queue::Item;
-use pipe_table::{PipeNo, PipeTable};
+use pipe_table::{OfferVerdict, PipeNo, PipeTable};
 use routing::Routes;
 use subscriptions::{SubNo, Subs, Verdict};
 
@@ -102,22 +102,25 @@ fn offer(
         number: row.pipe,
         place: row.place,
     };
-    if pipes.ignores(pipe, message.sender) {
-        return 0;
-    }
-    if subs.admit(sub) == Verdict::OverLimit {
-        misses.push(row.pipe, MissCause::OverLimit);
-        return 0;
-    }
     let item = Item {
         desc: message.desc,
         number: message.number,
         sub,
     };
-    if pipes.try_put(pipe, item).is_err() {
-        misses.push(row.pipe, MissCause::Full);
-        return 0;
+    let is_over = row.verdict() == Verdict::OverLimit;
+    match pipes.offer(pipe, message.sender, is_over, item) {
+        OfferVerdict::Skipped => 0,
+        OfferVerdict::OverLimit => {
+            misses.push(row.pipe, MissCause::OverLimit);
+            0
+        }
+        OfferVerdict::Full => {
+            misses.push(row.pipe, MissCause::Full);
+            0
+        }
+        OfferVerdict::Taken => {
+            subs.queued(sub);
+            1
+        }
     }
-    subs.queued(sub);
-    1
 }

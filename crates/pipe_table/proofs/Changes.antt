@@ -1,5 +1,5 @@
 -- What is always true of the table stays so: when a pipe is changed, created or removed.
-use Rattle.std.proofs.Common.{◌≡◌, ℕ, suc, zero, ◌+◌, ◌<◌, ◌≤◌, Bool, true, false, not, cond, eqb, List, [], ◌∷◌, ◌++◌, length, filter, set, get_or, Option, Some, None, refl, ap, sym, ◌∙◌, subst, arith, append_assoc}
+use Rattle.std.proofs.Common.{◌≡◌, ℕ, suc, zero, ◌+◌, ◌<◌, ◌≤◌, Bool, true, false, not, ◌||◌, cond, eqb, List, [], ◌∷◌, ◌++◌, length, filter, set, get_or, Option, Some, None, refl, ap, sym, ◌∙◌, subst, arith, append_assoc}
 use Rattle.std.specs.List.{All, AllByRecursion, IsDistinct, remove}
 use Rattle.std.specs.Option.{option_map, option_to_list}
 use Rattle.std.proofs.lemmas.Bool.Decides.{nat_tests}
@@ -7,7 +7,7 @@ use Rattle.std.proofs.lemmas.List.{length-set, length_push}
 use Rattle.std.proofs.lemmas.List.Edits.{length-remove}
 use Rattle.std.proofs.lemmas.List.Elements.{All-set, All-weaker, All-nil, All-cons, All-head, All-tail}
 use Rattle.pipe_queue.specs.declared.item.Item.{Item}
-use Rattle.pipe_table.specs.Table.{PipeRow, with_row, without_row, with_item}
+use Rattle.pipe_table.specs.Table.{PipeRow, with_row, without_row, ignores_sender, with_item, with_offer}
 use Rattle.pipe_table.specs.Inside.{PlaceState, pipe_in, pipe_of, known_of, known_in, place_under, live_in, AreFiled, IsFree, AreKept}
 use Rattle.pipe_table.proofs.Filing.{StandsAt, nowhere, is_same, row_here, ordered, under_index, stands_under, as_many, changed, filed_changed, live_apart, filed_apart, free_apart, removed, filed_removed, removed_apart, pipe_elsewhere, pipe_there, IsApart}
 
@@ -90,12 +90,19 @@ room_at depth [] i within all = absurd (omega (arith, within))
 room_at depth (place ∷ places) zero within all = All-head (λ (p : PlaceState). p.room ≡ depth) place places all
 room_at depth (place ∷ places) (suc i) within all = room_at depth places i (omega (arith, within)) (All-tail (λ (p : PlaceState). p.room ≡ depth) place places all)
 
-pub same-with_item : (item : Item) (row : PipeRow) → ((with_item item row).number ≡ row.number) × ((with_item item row).place ≡ row.place)
+same-with_item : (item : Item) (row : PipeRow) → ((with_item item row).number ≡ row.number) × ((with_item item row).place ≡ row.place)
 same-with_item item row = by_test (eqb (length row.queue) row.depth)
   where
     by_test : (b : Bool) → ((cond {A = PipeRow} b row (record row { queue = row.queue ++ item ∷ [] })).number ≡ row.number) × ((cond {A = PipeRow} b row (record row { queue = row.queue ++ item ∷ [] })).place ≡ row.place)
     by_test true = (refl, refl)
     by_test false = (refl, refl)
+
+pub same-with_offer : (sender : ℕ) (is_over : Bool) (item : Item) (row : PipeRow) → ((with_offer sender is_over item row).number ≡ row.number) × ((with_offer sender is_over item row).place ≡ row.place)
+same-with_offer sender is_over item row = by_test (ignores_sender row sender || is_over)
+  where
+    by_test : (b : Bool) → ((cond {A = PipeRow} b row (with_item item row)).number ≡ row.number) × ((cond {A = PipeRow} b row (with_item item row)).place ≡ row.place)
+    by_test true = (refl, refl)
+    by_test false = same-with_item item row
 
 -- Creating one. --
 

@@ -1,9 +1,11 @@
 -- The live pipes as their user sees them.
-use Rattle.std.specs.Prelude.{ℕ, ◌<◌, ◌%◌, ◌==◌, ◌&&◌, ◌++◌, ◌∷◌, [], not, Bool, List, Option, None, option_map, length, drop, map, filter, find, slice_get, if◌then◌else◌}
+use Rattle.std.specs.Prelude.{ℕ, ◌<◌, ◌%◌, ◌==◌, ◌&&◌, ◌||◌, ◌++◌, ◌∷◌, [], not, Bool, List, Option, None, option_map, length, drop, map, filter, find, slice_get, if◌then◌else◌}
 use Rattle.std.specs.List.{list_any}
 use Rattle.std.specs.Option.{option_and_then}
 use Rattle.std.specs.Str.{bytes_eq}
 use Rattle.pipe_queue.specs.declared.item.Item.{Item}
+use Rattle.pipe_table.specs.declared.offered.OfferVerdict.{OfferVerdict}
+use Rattle.pipe_table.specs.declared.offered.OfferVerdict.TheVariants.{Skipped, OverLimit, Full, Taken}
 
 -- A pipe: number, the place where it lies, name, owner, depth, option bits, the messages that wait, oldest first, and the one
 -- received last.
@@ -71,6 +73,18 @@ with_bits bits row = record row { bits = bits }
 -- the pipe with one message more; none where as many wait as its depth
 abbrev pub with_item : Item → PipeRow → PipeRow
 with_item item row = if length row.queue == row.depth then row else (record row { queue = row.queue ++ item ∷ [] })
+
+-- what becomes of a message of this sender, over its subscription's limit or not: the first that applies
+abbrev pub offered_to : ℕ → Bool → PipeRow → OfferVerdict
+offered_to sender is_over row =
+    if ignores_sender row sender then Skipped
+    else if is_over then OverLimit
+    else if length row.queue == row.depth then Full
+    else Taken
+
+-- the pipe once it was offered the message: it waits last, where the pipe takes it
+abbrev pub with_offer : ℕ → Bool → Item → PipeRow → PipeRow
+with_offer sender is_over item row = if ignores_sender row sender || is_over then row else with_item item row
 
 -- the pipe once the oldest message was received: it is the last then, also where none waits
 abbrev pub taken_row : PipeRow → PipeRow

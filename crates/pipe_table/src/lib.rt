@@ -13,18 +13,20 @@
 //!     ensures { result ≡ Some item }
 //! {
 //!     let pipe = pipes.create(name, app, 4);
-//!     let _ = pipes.try_put(pipe, item);
+//!     let _ = pipes.offer(pipe, app, false, item);
 //!     pipes.take(pipe.number);
 //!     pipes.last(pipe.number)
 //! }
 //! ```
 #![tactic(auto)]
 
+mod offered;
 mod pipe_no;
 mod place;
 mod table;
 #[cfg(test)]
 mod tests;
 
+pub use offered::OfferVerdict;
 pub use pipe_no::PipeNo;
 pub use table::PipeTable;

@@ -1,9 +1,10 @@
 //! A place for a pipe.
-ghost use Rattle.std.specs.Prelude.{◌≡◌, ◌==◌, ◌≤◌, ◌+◌, ◌<◌, ◌↔◌, [], length, slice_get, Some, None, IfOk, IsErr, IsSome, IsTrue, false, ◌%◌, ◌&&◌};
+ghost use Rattle.std.specs.Prelude.{◌≡◌, ◌==◌, ◌≤◌, ◌+◌, ◌<◌, [], length, slice_get, Some, None, IfOk, IsSome, false, ◌%◌, ◌&&◌};
 ghost use Rattle.std.specs.Option.{option_map, option_map_or, option_and_then};
 ghost use Rattle.std.specs.Str.{bytes_eq};
-ghost use Rattle.pipe_table.specs.Table.{PipeRow, new_row, ignores_sender, with_bits, with_item, taken_row, without_front, without_last};
+ghost use Rattle.pipe_table.specs.Table.{PipeRow, new_row, ignores_sender, offered_to, with_offer, with_bits, taken_row, without_front, without_last};
 
+use crate::offered::OfferVerdict;
 use crate::pipe_no::PipeNo;
 use bus_words::PipeText;
 use fsw_base::AppNo;
@@ -158,16 +159,6 @@ impl Place {
         }
     }
 
-    /// Whether the pipe ignores what the application sends.
-    pub(crate) fn ignores(&self, sender: AppNo) -> bool
-        ensures { result ≡ option_map_or (λ pipe. ignores_sender pipe sender) self.now.pipe false }
-    {
-        match &self.label {
-            Some(label) => label.bits % 2 == 1 && label.owner == sender,
-            None => false,
-        }
-    }
-
     /// How many messages wait.
     pub(crate) fn queue_len(&self) -> u32
         ensures { result ≡ option_map_or (λ pipe. length pipe.queue) self.now.pipe 0 }
@@ -221,14 +212,36 @@ impl Place {
         self.queue.set_last(None)
     }
 
-    /// Queues the message on the pipe; Full exactly where as many wait as its depth.
-    pub(crate) fn try_put(&mut self, item: Item) -> Result<(), Full>
+    /// Offers the pipe a message of this sender, over the limit of its subscription or not: queues
+    /// it, unless something is against it.
+    pub(crate) fn offer(&mut self, sender: AppNo, is_over: bool, item: Item) -> OfferVerdict
         requires { IsSome self.old.pipe }
-        ensures full { IsErr result ↔
-            IsTrue (option_map_or (λ pipe. length pipe.queue == pipe.depth) self.old.pipe false) }
+        ensures told { option_map (offered_to sender is_over) self.old.pipe ≡ Some result }
         ensures after { self.new ≡
-            record self.old { pipe = option_map (with_item item) self.old.pipe } }
+            record
+            self.old {
+              pipe = option_map (with_offer sender is_over item) self.old.pipe;
+            } }
     {
-        self.queue.try_put(item)
+        if self.ignores(sender) {
+            return OfferVerdict::Skipped;
+        }
+        if is_over {
+            return OfferVerdict::OverLimit;
+        }
+        match self.queue.try_put(item) {
+            Ok(()) => OfferVerdict::Taken,
+            Err(Full) => OfferVerdict::Full,
+        }
+    }
+
+    // Whether the pipe ignores what the application sends.
+    fn ignores(&self, sender: AppNo) -> bool
+        ensures { result ≡ option_map_or (λ pipe. ignores_sender pipe sender) self.now.pipe false }
+    {
+        match &self.label {
+            Some(label) => label.bits % 2 == 1 && label.owner == sender,
+            None => false,
+        }
     }
 }

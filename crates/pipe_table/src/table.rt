@@ -2,14 +2,15 @@
 ghost use Rattle.std.specs.Prelude.{◌≡◌, ℕ, ◌==◌, ◌+◌, ◌<◌, ◌≤◌, ◌^◌, ◌↔◌, ◌++◌, ◌∷◌, [], length, replicate, true, false, All, IfOk, IsErr, IsSome, IfSome, IsTrue, slice_index, slice_index_or, None, Some, vec_len, vec_capacity};
 ghost use Rattle.std.specs.List.{list_any, range_with_len};
 ghost use Rattle.std.specs.Option.{option_map, option_map_or, option_to_list};
-ghost use Rattle.pipe_table.specs.Table.{Pipes, pipe_row, place_of, is_live_row, owns_row, named_row, with_row, without_row, new_row, ignores_sender, with_bits, with_item, taken_row, without_front, without_last, oldest_on, last_on, first_owned, IsRising};
+ghost use Rattle.pipe_table.specs.Table.{Pipes, pipe_row, place_of, is_live_row, owns_row, named_row, with_row, without_row, new_row, offered_to, with_offer, with_bits, taken_row, without_front, without_last, oldest_on, last_on, first_owned, IsRising};
 ghost use Rattle.pipe_table.specs.Inside.{pipe_in, live_in, place_under, AreRising, AreOrdered, AreFiled};
 
+use crate::offered::OfferVerdict;
 use crate::pipe_no::PipeNo;
 use crate::place::Place;
 use bus_words::PipeText;
 use fsw_base::AppNo;
-use pipe_queue::{Full, Item};
+use pipe_queue::Item;
 use std::alloc::{AllocError, Global};
 use std::marker::Model;
 
@@ -128,16 +129,6 @@ impl PipeTable {
         ensures { result ≡ place_of self.now.live number }
     {
         at_number(&self.live, &self.at, number)
-    }
-
-    /// Whether a live pipe ignores what the application sends. Looks at its place alone.
-    pub fn ignores(&self, pipe: PipeNo, sender: AppNo) -> bool
-        requires live { place_of self.now.live pipe.number ≡ Some pipe.place }
-        ensures { result ≡
-            option_map_or (λ row. ignores_sender row sender) (pipe_row self.now.live pipe.number)
-            false }
-    {
-        place_at(&self.places, pipe.place).ignores(sender)
     }
 
     /// What waits longest on the live pipe of this number.
@@ -272,21 +263,21 @@ impl PipeTable {
         }
     }
 
-    /// Queues a message on a live pipe; Full exactly where as many wait as its depth. Looks at its
-    /// place alone.
-    ///
-    /// # Errors
-    /// `Full` if and only if as many messages wait as the pipe's depth; then nothing changes.
-    pub fn try_put(&mut self, pipe: PipeNo, item: Item) -> Result<(), Full>
+    /// Offers a live pipe a message of this sender, which is over its subscription's limit or not:
+    /// queues it, unless the pipe ignores the sender, it is over the limit, or as many messages
+    /// wait as the pipe's depth; answers the first of these that holds. Looks once at the pipe's
+    /// place, and at no other.
+    pub fn offer(&mut self, pipe: PipeNo, sender: AppNo, is_over: bool, item: Item) -> OfferVerdict
         requires live { place_of self.old.live pipe.number ≡ Some pipe.place }
-        ensures full { IsErr result ↔
-            IsTrue
-            (option_map_or (λ row. length row.queue == row.depth)
-            (pipe_row self.old.live pipe.number) false) }
+        ensures told { option_map (offered_to sender is_over) (pipe_row self.old.live pipe.number) ≡
+            Some result }
         ensures after { self.new ≡
-            record self.old { live = with_row (with_item item) pipe.number self.old.live } }
+            record
+            self.old {
+              live = with_row (with_offer sender is_over item) pipe.number self.old.live;
+            } }
     {
-        self.places[pipe.place as usize].try_put(item)
+        self.places[pipe.place as usize].offer(sender, is_over, item)
     }
 }
 

@@ -14,7 +14,7 @@ fn last_received(pipes: &mut PipeTable, name: &PipeText, app: AppNo, item: Item)
     ensures { result ≡ Some item }
 {
     let pipe = pipes.create(name, app, 4);
-    let _ = pipes.try_put(pipe, item);
+    let _ = pipes.offer(pipe, app, false, item);
     pipes.take(pipe.number);
     pipes.last(pipe.number)
 }

@@ -1,14 +1,11 @@
 -- What a subscription's slot says of it.
-use Rattle.std.proofs.Common.{◌≡◌, ◌≢◌, ℕ, ◌<◌, ◌≤◌, eqb, cond, true, false, Bool, List, [], ◌∷◌, ◌++◌, get_or, find, nat_le, is_some, IsSome, Option, Some, None, refl, sym, ap, subst, ◌∙◌, arith, eq-eqb}
-use Rattle.std.specs.Option.{option_map_or}
+use Rattle.std.proofs.Common.{◌≡◌, ◌≢◌, ℕ, ◌≤◌, eqb, cond, true, false, Bool, List, [], ◌∷◌, ◌++◌, get_or, find, is_some, IsSome, Option, Some, None, refl, sym, ap, subst, ◌∙◌, arith, eq-eqb}
 use Rattle.std.specs.List.{list_any}
 use Rattle.std.proofs.lemmas.List.Elements.{All-weaker}
 use Rattle.std.proofs.lemmas.List.Folds.{list_any_none}
-use Rattle.std.proofs.lemmas.Bool.Decides.{nat_tests}
 use Rattle.subscriptions.specs.declared.place.Place.{Place}
 use Rattle.subscriptions.specs.declared.words.SubNo.{SubNo}
-use Rattle.subscriptions.specs.declared.words.Verdict.TheVariants.{Inside, OverLimit}
-use Rattle.subscriptions.specs.Subs.{Subscription, Subscribed, goes_by, live_at, verdict_at, verdict_of}
+use Rattle.subscriptions.specs.Subs.{Subscription, goes_by}
 use Rattle.subscriptions.specs.Inside.{held_in, live_upto, number_in, number_at, held_at, AreFree, AreKept}
 use Rattle.subscriptions.proofs.Found.{StandsUpto, live_stand, find_live, find_ended}
 use Rattle.subscriptions.proofs.Unused.{last_free}
@@ -46,20 +43,10 @@ live_found slots free made sub p kept is =
 pub live_ended : (slots : List (Option Place)) (made : ℕ) (sub : SubNo) → held_at slots sub.slot sub.number ≡ None → find (goes_by sub) (live_upto slots made) ≡ None
 live_ended slots made sub none = find_ended slots sub made (held_elsewhere slots sub.slot sub.number none)
 
--- the verdict on a live one
-pub over_limit : (subs : Subscribed) (sub : SubNo) (s : Subscription) → live_at subs sub ≡ Some s → s.limit ≤ s.waiting → OverLimit ≡ verdict_at subs sub
-over_limit subs sub s found over =
-    sym (ap (λ o. option_map_or verdict_of o Inside) found ∙ ap (λ b. cond b OverLimit Inside) (holds s.limit s.waiting over))
-  where
-    holds : (a b : ℕ) → a ≤ b → nat_le a b ≡ true
-    holds a b le = grind (arith, nat_tests)
-
-pub inside : (subs : Subscribed) (sub : SubNo) (s : Subscription) → live_at subs sub ≡ Some s → s.waiting < s.limit → Inside ≡ verdict_at subs sub
-inside subs sub s found under =
-    sym (ap (λ o. option_map_or verdict_of o Inside) found ∙ ap (λ b. cond b OverLimit Inside) (holds s.limit s.waiting under))
-  where
-    holds : (a b : ℕ) → b < a → nat_le a b ≡ false
-    holds a b lt = grind (arith, nat_tests)
+-- and so where the slot has the number
+pub live_here : (slots : List (Option Place)) (free : List ℕ) (made : ℕ) (sub : SubNo) (p : Place) → AreKept slots free made → get_or slots sub.slot None ≡ Some p → p.number ≡ sub.number → find (goes_by sub) (live_upto slots made) ≡ Some (held_in sub.slot p)
+live_here slots free made sub p kept here its =
+    live_found slots free made sub p kept (ap (λ b. cond b (get_or slots sub.slot None) None) (eq-eqb (number_at slots sub.slot) sub.number (ap number_in here ∙ its)) ∙ here)
 
 -- the slot of a live subscription holds something
 pub held_if_live : (slots : List (Option Place)) (made : ℕ) (sub : SubNo) (held : Option Place) → held ≡ held_at slots sub.slot sub.number → IsSome (find (goes_by sub) (live_upto slots made)) → IsSome held

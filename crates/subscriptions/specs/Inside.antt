@@ -1,11 +1,16 @@
 -- What the slots stand for: the live subscriptions, in order of number.
 use Rattle.std.specs.Prelude.{◌≡◌, ℕ, zero, suc, ◌+◌, ◌==◌, ◌<◌, ◌≤◌, List, [], ◌∷◌, ◌++◌, length, Option, Some, None, is_some, true, slice_index, slice_index_or, if◌then◌else◌}
 use Rattle.subscriptions.specs.declared.place.Place.{Place}
+use Rattle.subscriptions.specs.declared.words.SubRow.{SubRow}
 use Rattle.subscriptions.specs.Subs.{Subscription}
 
 -- the subscription that a slot holds
 abbrev pub held_in : ℕ → Place → Subscription
 held_in slot p = record { slot = slot; number = p.number; id = p.id; pipe = p.pipe; place = p.place; limit = p.limit; scope = p.scope; waiting = p.waiting }
+
+-- what others are told of it
+abbrev pub row_in : Place → SubRow
+row_in p = record { id = p.id; pipe = p.pipe; place = p.place; limit = p.limit; scope = p.scope; waiting = p.waiting }
 
 -- the subscription of this number, where one of these slots holds it; they are numbered on from the first
 abbrev pub numbered : ℕ → ℕ → List (Option Place) → List Subscription
@@ -35,6 +40,11 @@ held_at slots slot number = if number_at slots slot == number then slice_index_o
 abbrev pub with_waiting : ℕ → Option Place → Option Place
 with_waiting waiting None = None
 with_waiting waiting (Some p) = Some (record p { waiting = waiting })
+
+-- what a slot holds, with the count of messages that wait changed where it has this number
+abbrev pub recounted : ℕ → (ℕ → ℕ) → Option Place → Option Place
+recounted number change None = None
+recounted number change (Some p) = if p.number == number then with_waiting (change p.waiting) (Some p) else Some p
 
 -- these slots are free, and each is named once
 pub record AreFree (slots : List (Option Place)) (free : List ℕ) : Type 0 where

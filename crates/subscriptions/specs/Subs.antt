@@ -38,17 +38,17 @@ goes_by sub s = s.slot == sub.slot && s.number == sub.number
 abbrev pub live_at : Subscribed → SubNo → Option Subscription
 live_at subs sub = find (goes_by sub) subs.live
 
--- what a subscription was made with
+-- what a subscription was made with, and how many of its messages wait
 abbrev pub row_of : Subscription → SubRow
-row_of s = record { id = s.id; pipe = s.pipe; place = s.place; limit = s.limit; scope = s.scope }
+row_of s = record { id = s.id; pipe = s.pipe; place = s.place; limit = s.limit; scope = s.scope; waiting = s.waiting }
 
 -- what its limit says of one message more
-abbrev pub verdict_of : Subscription → Verdict
-verdict_of s = if nat_le s.limit s.waiting then OverLimit else Inside
+abbrev pub verdict_of : SubRow → Verdict
+verdict_of row = if nat_le row.limit row.waiting then OverLimit else Inside
 
 -- the same by number; one that has ended has no limit
 abbrev pub verdict_at : Subscribed → SubNo → Verdict
-verdict_at subs sub = option_map_or verdict_of (live_at subs sub) Inside
+verdict_at subs sub = option_map_or (λ s. verdict_of (row_of s)) (live_at subs sub) Inside
 
 -- one more of its messages waits
 abbrev pub one_more : Subscription → Subscription

@@ -1,5 +1,8 @@
 //! What a slot holds.
+ghost use Rattle.std.specs.Prelude.{◌≡◌};
+ghost use Rattle.subscriptions.specs.Inside.{row_in};
 
+use crate::words::SubRow;
 use fsw_base::Scope;
 
 /// A live subscription.
@@ -19,4 +22,20 @@ pub(crate) struct Place {
     pub(crate) scope: Scope,
     // How many of its messages wait.
     pub(crate) waiting: u32,
+}
+
+impl Place {
+    /// What others are told of it.
+    pub(crate) fn row(self) -> SubRow
+        ensures { result ≡ row_in self }
+    {
+        SubRow {
+            id: self.id,
+            pipe: self.pipe,
+            place: self.place,
+            limit: self.limit,
+            scope: self.scope,
+            waiting: self.waiting,
+        }
+    }
 }

@@ -1,9 +1,9 @@
 //! The subscriptions.
-ghost use Rattle.std.specs.Prelude.{◌≡◌, ℕ, ◌==◌, ◌+◌, ◌-◌, ◌<◌, ◌≤◌, ◌^◌, ◌↔◌, false, Some, None, List, [], ◌∷◌, ◌++◌, length, map, replicate, slice_set, slice_index, slice_index_or, vec_capacity, option_map, IsSome, IsTrue, IfOk, IfSome};
+ghost use Rattle.std.specs.Prelude.{◌≡◌, ℕ, ◌==◌, ◌+◌, ◌-◌, ◌<◌, ◌≤◌, ◌^◌, ◌↔◌, false, Some, None, List, [], ◌∷◌, ◌++◌, length, map, replicate, slice_index, slice_index_or, vec_capacity, option_map, IsSome, IsTrue, IfOk, IfSome};
 ghost use Rattle.std.specs.List.{list_any};
 ghost use Rattle.std.specs.Option.{ForSome};
 ghost use Rattle.subscriptions.specs.Subs.{Subscribed, Subscription, live_at, row_of, verdict_at, one_more, one_fewer, with_change, without, AreInOrder};
-ghost use Rattle.subscriptions.specs.Inside.{held_at, with_waiting};
+ghost use Rattle.subscriptions.specs.Inside.{held_at, recounted};
 
 use crate::place::Place;
 use crate::words::{SubNo, SubRow, Verdict};
@@ -70,13 +70,6 @@ impl Subs {
         (self.slots.len() - self.free.len()) as u32
     }
 
-    /// Whether as many subscriptions are live as may be. Takes a constant time.
-    pub fn is_full(&self) -> bool
-        ensures { result ≡ (length self.now.live == self.now.room) }
-    {
-        self.free.is_empty()
-    }
-
     /// The live subscriptions stand in order of number, and each in a slot below the room. Does
     /// nothing.
     pub fn recall_order(&self)
@@ -135,19 +128,13 @@ impl Subs {
         self.free.push_reserved(sub.slot);
     }
 
-    /// What a live subscription was made with. Takes a constant time.
+    /// What a live subscription was made with, and how many of its messages wait. Takes a constant
+    /// time.
     pub fn at(&self, sub: SubNo) -> SubRow
         requires { IsSome (live_at self.now sub) }
         ensures { option_map row_of (live_at self.now sub) ≡ Some result }
     {
-        let place = held(&self.slots, sub).unwrap();
-        SubRow {
-            id: place.id,
-            pipe: place.pipe,
-            place: place.place,
-            limit: place.limit,
-            scope: place.scope,
-        }
+        held(&self.slots, sub).unwrap().row()
     }
 
     /// What the limit of a subscription says of one message more; one that has ended has no limit.
@@ -156,8 +143,8 @@ impl Subs {
         ensures { result ≡ verdict_at self.now sub }
     {
         match held(&self.slots, sub) {
-            Some(place) if place.limit <= place.waiting => Verdict::OverLimit,
-            _ => Verdict::Inside,
+            Some(place) => place.row().verdict(),
+            None => Verdict::Inside,
         }
     }
 
@@ -167,8 +154,8 @@ impl Subs {
         requires { ForSome (live_at self.old sub) (λ s. s.waiting + 1 < 2 ^ 32) }
         ensures { self.new ≡ with_change self.old sub one_more }
     {
-        if let Some(place) = held(&self.slots, sub) {
-            set_waiting(&mut self.slots, sub.slot, place.waiting + 1);
+        if let Some(slot) = self.slots.get_mut(sub.slot as usize) {
+            count_up(slot, sub.number);
         }
     }
 
@@ -178,8 +165,8 @@ impl Subs {
         requires { ForSome (live_at self.old sub) (λ s. 1 ≤ s.waiting) }
         ensures { self.new ≡ with_change self.old sub one_fewer }
     {
-        if let Some(place) = held(&self.slots, sub) {
-            set_waiting(&mut self.slots, sub.slot, place.waiting - 1);
+        if let Some(slot) = self.slots.get_mut(sub.slot as usize) {
+            count_down(slot, sub.number);
         }
     }
 
@@ -224,15 +211,27 @@ fn held(slots: &[Option<Place>], sub: SubNo) -> Option<Place>
     }
 }
 
-// Sets how many messages of the subscription in a slot wait.
-fn set_waiting(slots: &mut Vec<Option<Place>>, slot: u32, waiting: u32)
-    requires { slot < length slots.old.items }
-    ensures items { slots.new.items ≡
-        slice_set slots.old.items slot
-        (with_waiting waiting (slice_index_or slots.old.items slot None)) }
+// One message more waits of the subscription of this number, where the slot holds it.
+fn count_up(slot: &mut Option<Place>, number: u32)
+    requires { ForSome slot.old (λ p. p.number ≡ number → p.waiting + 1 < 2 ^ 32) }
+    ensures { slot.new ≡ recounted number (λ waiting. waiting + 1) slot.old }
 {
-    if let Some(place) = in_slot(slots, slot) {
-        slots[slot as usize] = Some(Place { waiting, ..place });
+    if let Some(place) = slot {
+        if place.number == number {
+            place.waiting += 1;
+        }
+    }
+}
+
+// One message fewer waits of the subscription of this number, where the slot holds it.
+fn count_down(slot: &mut Option<Place>, number: u32)
+    requires { ForSome slot.old (λ p. p.number ≡ number → 1 ≤ p.waiting) }
+    ensures { slot.new ≡ recounted number (λ waiting. waiting - 1) slot.old }
+{
+    if let Some(place) = slot {
+        if place.number == number {
+            place.waiting -= 1;
+        }
     }
 }
 

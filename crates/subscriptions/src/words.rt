@@ -1,4 +1,6 @@
 //! What calls take and answer.
+ghost use Rattle.std.specs.Prelude.{◌≡◌};
+ghost use Rattle.subscriptions.specs.Subs.{verdict_of};
 
 use fsw_base::Scope;
 
@@ -11,7 +13,7 @@ pub struct SubNo {
     pub number: u32,
 }
 
-/// What a subscription was made with.
+/// What a subscription was made with, and how many of its messages wait.
 #[derive(Clone, Copy, Debug, PartialEq, Eq)]
 pub struct SubRow {
     /// The message id.
@@ -24,6 +26,21 @@ pub struct SubRow {
     pub limit: u32,
     /// Kept, and of no effect here.
     pub scope: Scope,
+    /// How many of its messages wait now.
+    pub waiting: u32,
+}
+
+impl SubRow {
+    /// What the limit says of one message more.
+    pub fn verdict(self) -> Verdict
+        ensures { result ≡ verdict_of self }
+    {
+        if self.limit <= self.waiting {
+            Verdict::OverLimit
+        } else {
+            Verdict::Inside
+        }
+    }
 }
 
 /// What a subscription's limit says of one message more.

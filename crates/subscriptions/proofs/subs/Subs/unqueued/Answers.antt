@@ -1,53 +1,51 @@
 -- The count in the slot changes where the subscription is live, and nothing where it isn't.
-use Rattle.std.proofs.Common.{◌≡◌, ◌-◌, length, get_or, None, refl, sym, ap, subst, ◌∙◌, arith}
-use Rattle.std.proofs.lemmas.List.{length-set}
+use Rattle.std.proofs.Common.{◌≡◌, ◌-◌, set, None, ap, sym, subst, ◌∙◌, vec_capacity, arith}
+use Rattle.subscriptions.specs.contracts.subs.Subs.{the_view, the_invariant}
+use Rattle.subscriptions.specs.declared.subs.Subs.TheInside.{Inside}
 use Rattle.subscriptions.specs.Subs.{live_at, one_fewer, with_change}
-use Rattle.subscriptions.specs.Inside.{held_at, held_in, with_waiting, IsTop}
-use Rattle.subscriptions.proofs.Kept.{live_found, live_ended}
-use Rattle.subscriptions.proofs.Top.{top_waiting}
-use Rattle.subscriptions.proofs.Waiting.{shown_waiting, kept_after, unchanged, held_inside}
+use Rattle.subscriptions.specs.Inside.{held_in, recounted}
+use Rattle.subscriptions.proofs.Kept.{live_here}
+use Rattle.subscriptions.proofs.Waiting.{IsRecounted, recounts, recounts_none, still_kept}
 use Rattle.subscriptions.proofs.subs.Subs.unqueued.Goals as goal
+use Rattle.subscriptions.proofs.subs.Subs.unqueued.Goals.{in-Some, in_default}
 
-pub overflow_sub-place : goal.overflow_sub-place
-overflow_sub-place c =
+pub count_down-requires : goal.count_down-requires
+count_down-requires c = λ p here its.
     let s = c.self.inside in
     let sub = c.args.sub in
-    let held = ap (λ xs. held_at xs sub.slot sub.number) (sym c.deref.ensures.value) ∙ (sym c.held.ensures ∙ c.in-Some.is) in
-    let found = sym (ap (λ v. live_at v sub) c.self.view_is) ∙ live_found s.slots.items s.free.items s.made sub c.in-Some.place c.self.invariant.0 held in
-    let fits = c.requires (held_in sub.slot c.in-Some.place) found in
+    let found = live_here s.slots.items s.free.items s.made sub p c.self.invariant.0 (sym (c.in-Some.ensures.item.3.1 None) ∙ here) its in
+    let fits = c.requires (held_in sub.slot p) (sym (ap (λ v. live_at v sub) c.self.view_is) ∙ found) in
     omega (arith, fits)
 
-pub set_waiting-requires : goal.set_waiting-requires
-set_waiting-requires c =
+-- what is left
+recount : (c : goal.Joined-get_mut) → IsRecounted c.match-get_mut.self-inside.slots.items c.self.inside.slots.items c.self.inside.free.items c.self.inside.made c.args.sub (λ waiting. waiting - 1)
+recount c =
     let s = c.self.inside in
     let sub = c.args.sub in
-    let held = ap (λ xs. held_at xs sub.slot sub.number) (sym c.deref.ensures.value) ∙ (sym c.held.ensures ∙ c.in-Some.is) in
-    held_inside s.slots.items sub c.in-Some.place held
+    elim c.match-get_mut.branch [
+      | in-Some w ↦
+          recounts c.match-get_mut.self-inside.slots.items s.slots.items s.free.items s.made sub (λ waiting. waiting - 1) c.self.invariant.0
+          (ap (λ (i : Inside). i.slots.items) w.self-inside-is
+          ∙ ap (set s.slots.items sub.slot) (w.count_down.ensures ∙ ap (recounted sub.number (λ waiting. waiting - 1)) (w.in-Some.ensures.item.3.1 None)))
+      | in_default w ↦
+          recounts_none c.match-get_mut.self-inside.slots.items s.slots.items s.free.items s.made sub (λ waiting. waiting - 1) c.self.invariant.0
+          (ap (λ (i : Inside). i.slots.items) w.self-inside-is) (sym (w.in_default.ensures.item.4 (omega arith) None))
+    ]
+
+-- the rest stays
+rest : (c : goal.Joined-get_mut) → c.match-get_mut.self-inside ≡ record c.self.inside { slots = c.match-get_mut.self-inside.slots }
+rest c =
+    elim c.match-get_mut.branch [
+      | in-Some w ↦ w.self-inside-is ∙ ap (λ (i : Inside). let j : Inside = record c.self.inside { slots = i.slots } in j) (sym w.self-inside-is)
+      | in_default w ↦ w.self-inside-is ∙ ap (λ (i : Inside). let j : Inside = record c.self.inside { slots = i.slots } in j) (sym w.self-inside-is)
+    ]
+
+pub returns : goal.returns
+returns c =
+    ap the_view (rest c) ∙ ((recount c).live ∙ ap (λ v. with_change v c.args.sub one_fewer) c.self.view_is)
 
 pub invariant_of-self : goal.invariant_of-self
 invariant_of-self c =
     let s = c.self.inside in
-    let sub = c.args.sub in
-    let held = ap (λ xs. held_at xs sub.slot sub.number) (sym c.deref.ensures.value) ∙ (sym c.held.ensures ∙ c.in-Some.is) in
-    let all : length c.set_waiting.new.slots.items ≡ length s.slots.items = ap length c.set_waiting.ensures.items ∙ length-set s.slots.items sub.slot (with_waiting (c.in-Some.place.waiting - 1) (get_or s.slots.items sub.slot None)) in (
-      kept_after c.set_waiting.new.slots.items s.slots.items s.free.items s.made sub c.in-Some.place (c.in-Some.place.waiting - 1) c.self.invariant.0 held c.set_waiting.ensures.items,
-      omega (arith, all, c.self.invariant.1),
-      omega (arith, all, c.self.invariant.2),
-      subst (λ xs. IsTop xs s.top) (sym c.set_waiting.ensures.items) (top_waiting s.slots.items sub.slot s.top (c.in-Some.place.waiting - 1) c.self.invariant.3),
-      omega (arith, all, c.self.invariant.4),
-    )
-
-pub returns-in-Some : goal.returns-in-Some
-returns-in-Some c =
-    let s = c.self.inside in
-    let sub = c.args.sub in
-    let held = ap (λ xs. held_at xs sub.slot sub.number) (sym c.deref.ensures.value) ∙ (sym c.held.ensures ∙ c.in-Some.is) in
-    shown_waiting c.set_waiting.new.slots.items s.slots.items s.free.items s.made sub c.in-Some.place (c.in-Some.place.waiting - 1) one_fewer c.self.invariant.0 held refl c.set_waiting.ensures.items
-    ∙ ap (λ v. with_change v sub one_fewer) c.self.view_is
-
-pub returns-in_default : goal.returns-in_default
-returns-in_default c =
-    let s = c.self.inside in
-    let sub = c.args.sub in
-    let held = ap (λ xs. held_at xs sub.slot sub.number) (sym c.deref.ensures.value) ∙ (sym c.held.ensures ∙ c.in_default.is) in
-    unchanged c.args.self.now sub one_fewer (sym (ap (λ v. live_at v sub) c.self.view_is) ∙ live_ended s.slots.items s.made sub held)
+    subst the_invariant (sym (rest c))
+    (still_kept c.match-get_mut.self-inside.slots.items s.slots.items s.free.items s.made c.args.sub (λ waiting. waiting - 1) (vec_capacity s.free) s.top (recount c) c.self.invariant)
