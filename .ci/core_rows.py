@@ -12,7 +12,7 @@ sys.dont_write_bytecode = True  # nothing is left beside the scripts
 
 from model_answers import compared, model_of
 
-STAGE = "script-and-report"
+STAGE = "memory-pools"
 
 # A title, the limits that aren't the usual ones, the sequence counts at which ids start, and how many applications there are,
 # each with its steps.
@@ -200,6 +200,46 @@ EXAMPLES = [
         a1 end
         a2 pname 1
         a2 end
+    """),
+    ("a memory pool", {"sizes": [32, 64]}, {}, 1, """
+        a1 pool 176
+        a1 pget 1 64
+        a1 pget 1 64
+        a1 pput 1 2
+        a1 pget 1 32
+        a1 pput 1 2
+        a1 pget 1 65
+        a1 pget 1 40
+        a1 pput 1 5
+        a1 pstats 1
+        a1 pget 2 8
+        a1 pput 2 1
+        a1 pstats 2
+        a1 end
+    """),
+    ("grants that come back at an end", {"sizes": [32, 64]}, {}, 2, """
+        a1 pool 47
+        a1 pool 65537
+        a1 pool 160
+        a2 pool 48
+        a1 pget 1 64
+        a2 pget 1 64
+        a2 pget 1 8
+        a2 pget 2 32
+        a1 pput 2 1
+        a2 end
+        a1 pput 1 2
+        a1 pget 1 33
+        a1 pstats 1
+        a1 pstats 2
+        a1 pool 48
+        a1 pool 48
+        a1 pool 48
+        a1 pool 48
+        a1 pool 48
+        a1 pool 48
+        a1 pool 48
+        a1 end
     """),
 ]
 

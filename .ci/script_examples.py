@@ -36,8 +36,9 @@ def rows(text):
 
 def call_lines(page):
     """Each example line with what it must be answered with; None where it must run."""
-    for row in rows(section(page, "Call lines of the software bus")):
-        yield row[-1].strip("`"), None
+    for title in "Call lines of the software bus", "Call lines of memory pools":
+        for row in rows(section(page, title)):
+            yield row[-1].strip("`"), None
     for row in rows(section(page, "Call lines that aren't built yet")):
         yield row[-1].strip("`"), "script:4:NotYet\n"
 

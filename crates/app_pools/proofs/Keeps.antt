@@ -15,7 +15,7 @@ use Rattle.es_pool.specs.Pool.{PoolState, DrawsFor, IsWhole, fits, out_among, is
 use Rattle.es_pool.specs.Account.{IsAccountOf}
 use Rattle.es_pool.proofs.Law.{room_alike, account_new}
 use Rattle.es_pool.proofs.Keeps.{out_few}
-use Rattle.app_pools.specs.Grants.{Grant, PoolGrants, new_account, new_pool, was_given, is_among, get_answer, after_get, after_get_if, with_grant, put_answer, after_put, class_under, without}
+use Rattle.pool_words.specs.Grants.{Grant, PoolGrants, new_account, new_pool, was_given, is_among, get_answer, after_get, after_get_if, with_grant, put_answer, after_put, class_under, without}
 use Rattle.app_pools.specs.Inside.{account_in, grant_of, grants_of, IsLent, HasNumber, AreKept}
 use Rattle.app_pools.specs.declared.pool.Lent.{Lent}
 use Rattle.app_pools.proofs.Accounts.{account_is, Moved, moved_drawn, moved_back, moved_refused, Drawn, drawn, out_other, class_other, one_fewer}

@@ -10,7 +10,7 @@ use Rattle.fsw_base.specs.PoolAccounts.{after_return}
 use Rattle.es_pool.specs.Pool.{PoolState, out_among, is_out, class_at, given_back, most_cut}
 use Rattle.es_pool.proofs.Totals.{block}
 use Rattle.es_pool.proofs.Keeps.{true_from_same}
-use Rattle.app_pools.specs.Grants.{PoolGrants, account_without, after_end, of_others, held_by}
+use Rattle.pool_words.specs.Grants.{PoolGrants, account_without, after_end, of_others, held_by}
 use Rattle.app_pools.specs.Inside.{account_in, grant_of, grants_of, IsLent, AreLent, AreGivenBack, AreKept}
 use Rattle.app_pools.specs.declared.pool.Lent.{Lent}
 use Rattle.app_pools.proofs.Accounts.{Moved, moved_back, out_other, class_other, one_fewer}

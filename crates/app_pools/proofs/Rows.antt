@@ -5,7 +5,6 @@ use Rattle.std.specs.Option.{option_map_or}
 use Rattle.std.proofs.lemmas.Bool.{cases_lt}
 use Rattle.std.proofs.lemmas.Bool.Decides.{nat_tests}
 use Rattle.std.proofs.lemmas.List.Edits.{length-remove, get_or-remove_below, get_or-remove_above}
-use Rattle.std.proofs.lemmas.List.Elements.{All-tail}
 use Rattle.std.proofs.lemmas.List.Folds.{list_any_at, list_any_none}
 use Rattle.std.proofs.lemmas.List.Sums.{sum_by-cons}
 use Rattle.std.specs.List.Sorted.{IsSearchInRange, IsBinarySearchResult, IsNonDecreasingBy}
@@ -14,16 +13,10 @@ use Rattle.std.proofs.lemmas.Cmp.{ranked}
 use Rattle.std.proofs.lemmas.List.Sorted.{IsNonDecreasingBy-from_default}
 use Rattle.fsw_base.proofs.Lists.{list_any-map, filter-map}
 use Rattle.es_pool.proofs.Keeps.{true_from_same, false_from_other}
-use Rattle.app_pools.specs.Grants.{Grant, is_among, class_under, without, of_others, held_by}
+use Rattle.pool_words.proofs.Tests.{filter_all}
+use Rattle.pool_words.specs.Grants.{Grant, is_among, class_under, without, of_others, held_by}
 use Rattle.app_pools.specs.Inside.{grant_of, AreRising, HasNumber}
 use Rattle.app_pools.specs.declared.pool.Lent.{Lent}
-
--- all pass, so none is left out
-pub filter_all : {X : Type 0} (p : X → Bool) (xs : List X) → All (λ x. p x ≡ true) xs → filter p xs ≡ xs
-filter_all p [] all = refl
-filter_all p (x ∷ xs) all =
-    let here : p x ≡ true = all 0 x (omega arith) in
-    ap (λ b. cond b (x ∷ filter p xs) (filter p xs)) here ∙ ap (λ l. x ∷ l) (filter_all p xs (All-tail (λ y. p y ≡ true) x xs all))
 
 -- what holds of every element but one holds of all that are left without it
 pub without_one : {X : Type 0} (P : X → Type 0) (xs : List X) (i : ℕ) → i < length xs → ((k : ℕ) (d : X) → k < length xs → (k ≡ i → ⊥) → P (get_or xs k d)) → All P (remove xs i)

@@ -1,3 +1,1 @@
-pub mod Grants
-pub mod History
 pub mod Inside

@@ -2,8 +2,8 @@
 //! out grants of its blocks, numbered 1, 2, 3 and so on, takes them back, and takes back all those
 //! of an application at its end.
 //!
-//! Each call answers and leaves exactly what the definitions of `Grants.antt` say, which keep
-//! nothing of a grant that came back; a law says that they are enough. A call takes at most 8
+//! Each call answers and leaves exactly what the definitions of `pool_words` say, which keep
+//! nothing of a grant that came back; a law there says that they are enough. A call takes at most 8
 //! steps, an end 8 for each grant that it takes back. Read off the code, and promised by no clause:
 //! no call but `new` takes memory; a grant is found by halves; a return moves the grants given
 //! after it up by one place, and an end goes through those that are out in each pool.
@@ -24,11 +24,9 @@
 //! ```
 #![tactic(auto)]
 
-mod laws;
 mod pool;
 mod pools;
 #[cfg(test)]
 mod tests;
 
-pub use laws::{recall_grants_counted, recall_grants_present};
 pub use pools::{AppPools, MAX_APP_POOLS};

@@ -3,7 +3,7 @@ ghost use Rattle.std.specs.Prelude.{◌≡◌, ◌≢◌, ◌==◌, ◌&&◌, na
 ghost use Rattle.fsw_base.specs.PoolAccounts.{counted};
 ghost use Rattle.es_pool.specs.Account.{IsAccountOf};
 ghost use Rattle.es_pool.specs.Pool.{class_at, is_out, given_back};
-ghost use Rattle.app_pools.specs.Grants.{new_pool, get_answer, after_get, put_answer, after_put, after_end, figures_of, held_by};
+ghost use Rattle.pool_words.specs.Grants.{new_pool, get_answer, after_get, put_answer, after_put, after_end, figures_of, held_by};
 ghost use Rattle.app_pools.specs.Inside.{grant_of, account_in, AreLent, AreRising, HasNumber, AreGivenBack};
 
 use bucket_list::{Ledger, Steps};
@@ -42,7 +42,7 @@ pub(crate) struct AppPool {
 
 impl Model for AppPool {
     ghost use Rattle.std.specs.Prelude.{vec_capacity};
-    ghost use Rattle.app_pools.specs.Grants.{PoolGrants};
+    ghost use Rattle.pool_words.specs.Grants.{PoolGrants};
 
     ghost Value = { PoolGrants };
 

@@ -2,7 +2,7 @@
 ghost use Rattle.std.specs.Prelude.{◌≡◌, ◌+◌, ◌-◌, ◌*◌, ◌<◌, ◌≤◌, ◌^◌, ◌++◌, false, [], length, map, take, drop, replicate, slice_index, sum_by, All, IsTrue, IfOk, IfSome, Ok, None};
 ghost use Rattle.es_pool.specs.Account.{IsAccountOf};
 ghost use Rattle.fsw_base.specs.PoolAccounts.{overhead};
-ghost use Rattle.app_pools.specs.Grants.{new_pool, is_pool, pool_in, with_pool, has_numbers, refuses_pool, create_answer, after_create, answer_in, get_answer, after_get, put_answer, after_put, figures_of, after_end, held_by, all_after_end, held_in, IsCounted};
+ghost use Rattle.pool_words.specs.Grants.{new_pool, is_pool, pool_in, with_pool, has_numbers, refuses_pool, create_answer, after_create, answer_in, get_answer, after_get, put_answer, after_put, figures_of, after_end, held_by, all_after_end, held_in, IsCounted};
 ghost use Rattle.app_pools.specs.Inside.{IsPlace};
 
 use crate::pool::AppPool;
@@ -32,7 +32,7 @@ pub struct AppPools {
 }
 
 impl Model for AppPools {
-    ghost use Rattle.app_pools.specs.Grants.{Pools};
+    ghost use Rattle.pool_words.specs.Grants.{Pools};
 
     ghost Value = { Pools };
 

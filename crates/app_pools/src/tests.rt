@@ -1,6 +1,6 @@
 //! The caller that the crate's head shows, and worked answers.
 ghost use Rattle.std.specs.Prelude.{◌≡◌, ◌+◌, ◌<◌, ◌≤◌, IsTrue};
-ghost use Rattle.app_pools.specs.Grants.{has_numbers};
+ghost use Rattle.pool_words.specs.Grants.{has_numbers};
 
 use crate::pools::AppPools;
 use bucket_list::{Blank, Ledger, Steps};

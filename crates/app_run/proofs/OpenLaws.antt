@@ -8,10 +8,11 @@ use Rattle.std.proofs.lemmas.List.Sums.{sum_by-cons}
 use Rattle.fsw_base.specs.declared.config.Budget.{Budget}
 use Rattle.fsw_base.specs.Limits.{Limits}
 use Rattle.bus_words.specs.declared.history.Entry.{Entry}
-use Rattle.bus_words.specs.declared.journal.Allowance.{Allowance}
+use Rattle.journal_store.specs.declared.allowance.Allowance.{Allowance}
 use Rattle.bus_words.specs.declared.receipts.Receipt.{Receipt}
 use Rattle.bus_words.specs.Bus.{State, Standing, Active, Ended, opening, standing_of}
-use Rattle.bus_words.specs.Log.{AreBudgets, allowance_of, left_of}
+use Rattle.journal_store.specs.Budgets.{AreBudgets, allowance_of}
+use Rattle.bus_words.specs.Log.{left_of}
 use Rattle.sb_calls.specs.Core.{Core, apps_of, state_of}
 use Rattle.script_lines.specs.declared.line.Line.{Line}
 use Rattle.script_lines.specs.declared.line.Line.TheVariants.{Create, Find, Send, SendRaw, Pend, Allocate}
@@ -96,8 +97,8 @@ active-at zero i below = absurd (omega (arith, below))
 active-at (suc n) zero below = refl
 active-at (suc n) (suc i) below = active-at n i (omega (arith, below))
 
-active-opening : (n k : ℕ) → 1 ≤ k → k ≤ n → standing_of (opening n) k ≡ Active
-active-opening n k first last =
+active-opening : (limits : Limits) (n k : ℕ) → 1 ≤ k → k ≤ n → standing_of (opening limits n) k ≡ Active
+active-opening limits n k first last =
     ap (λ b. cond {A = Standing} b Ended (slice_index_or (replicate n Active) (k - 1) Ended)) (ne_eqb k 0 (λ is. omega (arith, is, first)))
     ∙ active-at n (k - 1) (omega (arith, first, last))
 
@@ -122,7 +123,7 @@ stands-opened script k first last =
     let lines = (app_at script k).lines in
     record {
       known = omega (arith, last, apps-opened script);
-      standing = active-opening (apps_of (opened script)) k first (omega (arith, last, apps-opened script));
+      standing = active-opening script.limits (apps_of (opened script)) k first (omega (arith, last, apps-opened script));
       entries = subst (λ (a : Allowance). entries_due lines + 0 ≤ a.entries) (sym allowed) (omega (arith, budget-entries lines));
       bytes = subst (λ (a : Allowance). bytes_due lines ≤ a.bytes) (sym allowed) (budget-bytes lines);
     }
@@ -132,9 +133,9 @@ told-opened script k first last = λ entries.
     let lines = (app_at script k).lines in
     let n = apps_of (opened script) in
     let apps : length script.apps ≡ n = sym (apps-opened script) in
-    ap (λ m. told k first_registers (opening m) lines (seen_from script.limits [] (opening m) k entries)) apps
-    ∙ ap (λ st. told_on st k first_registers (opening n) lines (seen_from script.limits [] (opening n) k entries))
-    (sym (active-opening n k first (omega (arith, last, apps-opened script))))
+    ap (λ m. told k first_registers (opening script.limits m) lines (seen_from script.limits [] (opening script.limits m) k entries)) apps
+    ∙ ap (λ st. told_on st k first_registers (opening script.limits n) lines (seen_from script.limits [] (opening script.limits n) k entries))
+    (sym (active-opening script.limits n k first (omega (arith, last, apps-opened script))))
 
 -- what holds of each number holds of each application
 each-beginning : (P : Progress → Type 0) (script : ScriptText) (a n : ℕ) → ((k : ℕ) → a ≤ k → k < a + n → P (beginning script k)) →
@@ -179,7 +180,7 @@ pub all-starting : (script : ScriptText) → (so_far (opened script), all_going 
 all-starting script =
     ap (λ rs. (so_far (opened script), rs))
     (starting-from script 1 script.apps (omega arith) (λ i below. ap (λ k. slice_index_or script.apps k (record { name = []; lines = [] })) (omega arith)))
-    ∙ ap (λ n. (the_so_far [] (opening n), starting 1 script.apps)) (apps-opened script)
+    ∙ ap (λ n. (the_so_far [] (opening script.limits n), starting 1 script.apps)) (apps-opened script)
 
 -- After the last rotation. --
 

@@ -9,7 +9,8 @@ use Rattle.bus_words.specs.declared.history.Call.{Call}
 use Rattle.bus_words.specs.declared.history.Entry.{Entry}
 use Rattle.bus_words.specs.Bus.{State, standing_of, opening}
 use Rattle.bus_words.specs.Entries.{call_bytes}
-use Rattle.bus_words.specs.Log.{allowances, allowance_of, charged, left_of}
+use Rattle.journal_store.specs.Budgets.{allowances, allowance_of, charged}
+use Rattle.bus_words.specs.Log.{left_of}
 use Rattle.bus_words.specs.Machine.{IsLegal, LegalFrom, step, may_call}
 use Rattle.bus_words.proofs.Journals.{left_from-push}
 use Rattle.bus_words.proofs.Replay.{state_from-push}
@@ -66,14 +67,14 @@ called-front : (core : Core) (e : Entry) (rest : List Entry) → IsLegalCore (wi
 called-front core e rest legal =
     let apps = apps_of core in
     let history = core.log.entries in
-    let parts = legal-last core.limits [] (opening apps) history e (legal-front core.limits [] (opening apps) (history ++ e ∷ []) rest legal) in
+    let parts = legal-last core.limits [] (opening core.limits apps) history e (legal-front core.limits [] (opening core.limits apps) (history ++ e ∷ []) rest legal) in
     record {
       legal = parts.0;
       may = parts.1;
       entries = refl;
       limits = refl;
       left = left_from-push (allowances core.log.budgets) history e;
-      state = state_from-push core.limits [] (opening apps) history e;
+      state = state_from-push core.limits [] (opening core.limits apps) history e;
     }
 
 stands-behind : (progress : Progress) (core : Core) (between : List Entry) → 1 ≤ progress.running.app → All (λ (e : Entry). e.app ≢ progress.running.app) between →

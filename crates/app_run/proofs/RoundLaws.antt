@@ -28,7 +28,7 @@ called : (before after : Core) (who : ℕ) (call : Call) (answer : BusAnswer) �
 called before after who call answer does =
     let e : Entry = record { app = who; call = call; answer = answer } in
     let legal-now : IsLegal before.limits (apps_of before) (before.log.entries ++ e ∷ []) = subst (λ (core : Core). IsLegalCore core) does.entry does.legal in
-    let parts = legal-last before.limits [] (opening (apps_of before)) before.log.entries e legal-now in
+    let parts = legal-last before.limits [] (opening before.limits (apps_of before)) before.log.entries e legal-now in
     record {
       legal = parts.0;
       may = parts.1;

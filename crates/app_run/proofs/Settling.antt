@@ -3,7 +3,6 @@ use Rattle.std.proofs.Common.{◌≡◌, ℕ, zero, suc, ◌-◌, ◌==◌, ◌&
 use Rattle.std.specs.Option.{is_some}
 use Rattle.ccsds_msg.specs.Message.{message_id}
 use Rattle.fsw_base.specs.Limits.{Limits}
-use Rattle.fsw_base.specs.declared.statuses.SbStatus.{SbStatus}
 use Rattle.fsw_base.specs.declared.statuses.SbStatus.TheVariants.{BadArgument, MaxPipesMet, PipeCrErr, MaxMsgsMet, MaxDestsMet, MsgTooBig, BufAlocErr, NoMessage, BufferInvalid}
 use Rattle.bus_words.specs.declared.calls.BusAnswer.{BusAnswer}
 use Rattle.bus_words.specs.declared.calls.BusAnswer.TheVariants.{Pending, Got, TimeOut}
@@ -11,10 +10,11 @@ use Rattle.bus_words.specs.declared.history.Call.{Call}
 use Rattle.bus_words.specs.declared.history.Call.TheVariants as calls
 use Rattle.bus_words.specs.declared.history.Entry.{Entry}
 use Rattle.bus_words.specs.Bus.{State, Standing, Active, Waiting, Ended, Sending, Subscription, standing_of, with_standing, is_empty, others_idle, is_subscribed, route}
+use Rattle.bus_words.specs.Refusals.{Refusal, OfBus, OfPools}
 use Rattle.bus_words.specs.Machine.{step, cause, decided, refused_state, sent_along, received}
 use Rattle.script_lines.specs.declared.line.Line.{Line}
-use Rattle.script_lines.specs.declared.line.Line.TheVariants.{Create, Delete, SetOpts, GetOpts, Find, PipeName, Subscribe, Unsubscribe, Send, SendRaw, Receive, Pend}
-use Rattle.script_runs.specs.Trace.{call_of}
+use Rattle.script_lines.specs.declared.line.Line.TheVariants.{Create, Delete, SetOpts, GetOpts, Find, PipeName, Subscribe, Unsubscribe, Send, SendRaw, Receive, Pend, PoolCreate, PoolGet, PoolPut, PoolFigures}
+use Rattle.script_runs.specs.Trace.{Registers, call_of}
 use Rattle.app_run.specs.Lines.{pipe_waited_for}
 use Rattle.app_run.specs.Runners.{standing_for}
 
@@ -28,10 +28,10 @@ pub record Settles (app : ℕ) (answer : BusAnswer) (after : State) (waits : Opt
   pub standing : standing_of after app ≡ standing_for waits
   pub pending : is_pending answer ≡ is_some waits
 
-abbrev pub SettlesLine : Limits → List Entry → State → ℕ → List ℕ → Line → Option Call → Type 0
-SettlesLine limits history s app pipes line None = Unit {0}
-SettlesLine limits history s app pipes line (Some call) =
-    Settles app (step limits history s app call).0 (step limits history s app call).1 (pipe_waited_for pipes line (step limits history s app call).0)
+abbrev pub SettlesLine : Limits → List Entry → State → ℕ → Registers → Line → Option Call → Type 0
+SettlesLine limits history s app registers line None = Unit {0}
+SettlesLine limits history s app registers line (Some call) =
+    Settles app (step limits history s app call).0 (step limits history s app call).1 (pipe_waited_for registers line (step limits history s app call).0)
 
 -- the same standings
 kept : (s t : State) (app : ℕ) (standing : Standing) → t.standings ≡ s.standings → standing_of s app ≡ standing → standing_of t app ≡ standing
@@ -62,13 +62,17 @@ waiting_not_ended : (pipe : ℕ) → Waiting pipe ≡ Ended → ⊥
 waiting_not_ended pipe h = cc h
 
 -- a step that is decided either way
-settles-decided : (limits : Limits) (history : List Entry) (s : State) (app : ℕ) (call : Call) (why : Option SbStatus) →
-    ((status : SbStatus) → (refused_state s call status).standings ≡ s.standings) →
+settles-decided : (limits : Limits) (history : List Entry) (s : State) (app : ℕ) (call : Call) (why : Option Refusal) →
+    ((why : Refusal) → (refused_state s call why).standings ≡ s.standings) →
     ((decided limits history s app call None).1).standings ≡ s.standings → is_pending (decided limits history s app call None).0 ≡ false →
     standing_of s app ≡ Active →
     Settles app (decided limits history s app call why).0 (decided limits history s app call why).1 None
-settles-decided limits history s app call (Some status) refused accepted told active = record {
-  standing = kept s (refused_state s call status) app Active (refused status) active;
+settles-decided limits history s app call (Some (OfBus status)) refused accepted told active = record {
+  standing = kept s (refused_state s call (OfBus status)) app Active (refused (OfBus status)) active;
+  pending = refl;
+}
+settles-decided limits history s app call (Some (OfPools status)) refused accepted told active = record {
+  standing = kept s (refused_state s call (OfPools status)) app Active (refused (OfPools status)) active;
   pending = refl;
 }
 settles-decided limits history s app call None refused accepted told active = record {
@@ -76,16 +80,17 @@ settles-decided limits history s app call None refused accepted told active = re
   pending = told;
 }
 
-refused-receive : (s : State) (pipe : ℕ) (status : SbStatus) → (refused_state s (calls.Receive pipe) status).standings ≡ s.standings
-refused-receive s pipe BadArgument = refl
-refused-receive s pipe MaxPipesMet = refl
-refused-receive s pipe PipeCrErr = refl
-refused-receive s pipe MaxMsgsMet = refl
-refused-receive s pipe MaxDestsMet = refl
-refused-receive s pipe MsgTooBig = refl
-refused-receive s pipe BufAlocErr = refl
-refused-receive s pipe NoMessage = refl
-refused-receive s pipe BufferInvalid = refl
+refused-receive : (s : State) (pipe : ℕ) (why : Refusal) → (refused_state s (calls.Receive pipe) why).standings ≡ s.standings
+refused-receive s pipe (OfBus BadArgument) = refl
+refused-receive s pipe (OfBus MaxPipesMet) = refl
+refused-receive s pipe (OfBus PipeCrErr) = refl
+refused-receive s pipe (OfBus MaxMsgsMet) = refl
+refused-receive s pipe (OfBus MaxDestsMet) = refl
+refused-receive s pipe (OfBus MsgTooBig) = refl
+refused-receive s pipe (OfBus BufAlocErr) = refl
+refused-receive s pipe (OfBus NoMessage) = refl
+refused-receive s pipe (OfBus BufferInvalid) = refl
+refused-receive s pipe (OfPools status) = refl
 
 either : (b : Bool) (s t : State) → t.standings ≡ s.standings → (cond {A = State} b s t).standings ≡ s.standings
 either true s t same = refl
@@ -102,60 +107,72 @@ along-told (sub ∷ subs) sending s = refl
 settles-transmit : (limits : Limits) (history : List Entry) (s : State) (app : ℕ) (bytes : List ℕ) (inc : Bool) → standing_of s app ≡ Active →
     Settles app (step limits history s app (calls.Transmit bytes inc)).0 (step limits history s app (calls.Transmit bytes inc)).1 None
 settles-transmit limits history s app bytes inc active =
-    settles-decided limits history s app (calls.Transmit bytes inc) (cause limits history s app (calls.Transmit bytes inc)) (λ status. refl)
+    settles-decided limits history s app (calls.Transmit bytes inc) (cause limits history s app (calls.Transmit bytes inc)) (λ why. refl)
     (along (route s.subscriptions (message_id bytes)) _ s) (along-told (route s.subscriptions (message_id bytes)) _ s) active
 
 -- a receive that may wait
-settles-pended : (e o : Bool) (n : ℕ) (s t : State) (app r : ℕ) (pipes : List ℕ) → t.standings ≡ s.standings → standing_of s app ≡ Active →
+settles-pended : (e o : Bool) (n : ℕ) (s t : State) (app r : ℕ) (registers : Registers) → t.standings ≡ s.standings → standing_of s app ≡ Active →
     let answer : BusAnswer = cond {A = BusAnswer} (not e) (Got n) (cond {A = BusAnswer} o TimeOut Pending) in
-    Settles app answer (cond {A = State} (e && not o) (with_standing t app (Waiting (slice_index pipes r))) t) (pipe_waited_for pipes (Pend r) answer)
+    Settles app answer (cond {A = State} (e && not o) (with_standing t app (Waiting (slice_index registers.pipes r))) t) (pipe_waited_for registers (Pend r) answer)
 unfolding pipe_waited_for
-settles-pended false o n s t app r pipes same active = record { standing = kept s t app Active same active; pending = refl }
-settles-pended true true n s t app r pipes same active = record { standing = kept s t app Active same active; pending = refl }
-settles-pended true false n s t app r pipes same active = record {
-  standing = standing-set s t app Active (Waiting (slice_index pipes r)) same active not_ended;
+settles-pended false o n s t app r registers same active = record { standing = kept s t app Active same active; pending = refl }
+settles-pended true true n s t app r registers same active = record { standing = kept s t app Active same active; pending = refl }
+settles-pended true false n s t app r registers same active = record {
+  standing = standing-set s t app Active (Waiting (slice_index registers.pipes r)) same active not_ended;
   pending = refl;
 }
 
-settles-pend : (limits : Limits) (history : List Entry) (s : State) (app r : ℕ) (pipes : List ℕ) (why : Option SbStatus) → standing_of s app ≡ Active →
-    Settles app (decided limits history s app (calls.Pend (slice_index pipes r)) why).0 (decided limits history s app (calls.Pend (slice_index pipes r)) why).1
-    (pipe_waited_for pipes (Pend r) (decided limits history s app (calls.Pend (slice_index pipes r)) why).0)
+settles-pend : (limits : Limits) (history : List Entry) (s : State) (app r : ℕ) (registers : Registers) (why : Option Refusal) → standing_of s app ≡ Active →
+    Settles app (decided limits history s app (calls.Pend (slice_index registers.pipes r)) why).0 (decided limits history s app (calls.Pend (slice_index registers.pipes r)) why).1
+    (pipe_waited_for registers (Pend r) (decided limits history s app (calls.Pend (slice_index registers.pipes r)) why).0)
 unfolding pipe_waited_for
-settles-pend limits history s app r pipes (Some status) active = record { standing = active; pending = refl }
-settles-pend limits history s app r pipes None active =
-    let pipe = slice_index pipes r in
-    settles-pended (is_empty s.pipes pipe) (others_idle s app) _ s (received s pipe) app r pipes refl active
+settles-pend limits history s app r registers (Some (OfBus status)) active = record { standing = active; pending = refl }
+settles-pend limits history s app r registers (Some (OfPools status)) active = record { standing = active; pending = refl }
+settles-pend limits history s app r registers None active =
+    let pipe = slice_index registers.pipes r in
+    settles-pended (is_empty s.pipes pipe) (others_idle s app) _ s (received s pipe) app r registers refl active
 
 -- the call of an active application's line
-pub settles-line : (limits : Limits) (history : List Entry) (s : State) (app : ℕ) (pipes : List ℕ) (line : Line) → standing_of s app ≡ Active →
-    SettlesLine limits history s app pipes line (call_of pipes line)
+pub settles-line : (limits : Limits) (history : List Entry) (s : State) (app : ℕ) (registers : Registers) (line : Line) → standing_of s app ≡ Active →
+    SettlesLine limits history s app registers line (call_of registers line)
 unfolding call_of pipe_waited_for
-settles-line limits history s app pipes (Create pipe depth name) active =
-    settles-decided limits history s app (calls.Create depth name) (cause limits history s app (calls.Create depth name)) (λ status. refl) refl refl active
-settles-line limits history s app pipes (Delete pipe) active =
-    settles-decided limits history s app (calls.Delete _) (cause limits history s app (calls.Delete (slice_index pipes pipe))) (λ status. refl) refl refl active
-settles-line limits history s app pipes (SetOpts pipe bits) active =
-    settles-decided limits history s app (calls.SetOpts _ bits) (cause limits history s app (calls.SetOpts (slice_index pipes pipe) bits)) (λ status. refl) refl refl active
-settles-line limits history s app pipes (GetOpts pipe) active =
-    settles-decided limits history s app (calls.GetOpts _) (cause limits history s app (calls.GetOpts (slice_index pipes pipe))) (λ status. refl) refl refl active
-settles-line limits history s app pipes (Find pipe name) active =
-    settles-decided limits history s app (calls.Find name) (cause limits history s app (calls.Find name)) (λ status. refl) refl refl active
-settles-line limits history s app pipes (PipeName pipe) active =
-    settles-decided limits history s app (calls.PipeName _) (cause limits history s app (calls.PipeName (slice_index pipes pipe))) (λ status. refl) refl refl active
-settles-line limits history s app pipes (Subscribe id pipe limit scope) active =
-    let at = slice_index pipes pipe in
-    settles-decided limits history s app (calls.Subscribe id at limit scope) (cause limits history s app (calls.Subscribe id at limit scope)) (λ status. refl)
+settles-line limits history s app registers (Create pipe depth name) active =
+    settles-decided limits history s app (calls.Create depth name) (cause limits history s app (calls.Create depth name)) (λ why. refl) refl refl active
+settles-line limits history s app registers (Delete pipe) active =
+    settles-decided limits history s app (calls.Delete _) (cause limits history s app (calls.Delete (slice_index registers.pipes pipe))) (λ why. refl) refl refl active
+settles-line limits history s app registers (SetOpts pipe bits) active =
+    settles-decided limits history s app (calls.SetOpts _ bits) (cause limits history s app (calls.SetOpts (slice_index registers.pipes pipe) bits)) (λ why. refl) refl refl active
+settles-line limits history s app registers (GetOpts pipe) active =
+    settles-decided limits history s app (calls.GetOpts _) (cause limits history s app (calls.GetOpts (slice_index registers.pipes pipe))) (λ why. refl) refl refl active
+settles-line limits history s app registers (Find pipe name) active =
+    settles-decided limits history s app (calls.Find name) (cause limits history s app (calls.Find name)) (λ why. refl) refl refl active
+settles-line limits history s app registers (PipeName pipe) active =
+    settles-decided limits history s app (calls.PipeName _) (cause limits history s app (calls.PipeName (slice_index registers.pipes pipe))) (λ why. refl) refl refl active
+settles-line limits history s app registers (Subscribe id pipe limit scope) active =
+    let at = slice_index registers.pipes pipe in
+    settles-decided limits history s app (calls.Subscribe id at limit scope) (cause limits history s app (calls.Subscribe id at limit scope)) (λ why. refl)
     (either (is_subscribed s.subscriptions id at) s _ refl) refl active
-settles-line limits history s app pipes (Unsubscribe id pipe) active =
-    settles-decided limits history s app (calls.Unsubscribe id _) (cause limits history s app (calls.Unsubscribe id (slice_index pipes pipe))) (λ status. refl) refl refl active
-settles-line limits history s app pipes (Send id size fill inc) active = settles-transmit limits history s app _ inc active
-settles-line limits history s app pipes (SendRaw bytes inc) active = settles-transmit limits history s app bytes inc active
-settles-line limits history s app pipes (Receive pipe) active =
-    let at = slice_index pipes pipe in
+settles-line limits history s app registers (Unsubscribe id pipe) active =
+    settles-decided limits history s app (calls.Unsubscribe id _) (cause limits history s app (calls.Unsubscribe id (slice_index registers.pipes pipe))) (λ why. refl) refl refl active
+settles-line limits history s app registers (Send id size fill inc) active = settles-transmit limits history s app _ inc active
+settles-line limits history s app registers (SendRaw bytes inc) active = settles-transmit limits history s app bytes inc active
+settles-line limits history s app registers (Receive pipe) active =
+    let at = slice_index registers.pipes pipe in
     settles-decided limits history s app (calls.Receive at) (cause limits history s app (calls.Receive at)) (refused-receive s at) refl refl active
-settles-line limits history s app pipes (Pend pipe) active =
-    settles-pend limits history s app pipe pipes (cause limits history s app (calls.Pend (slice_index pipes pipe))) active
-settles-line limits history s app pipes line active = tt
+settles-line limits history s app registers (Pend pipe) active =
+    settles-pend limits history s app pipe registers (cause limits history s app (calls.Pend (slice_index registers.pipes pipe))) active
+settles-line limits history s app registers (PoolCreate pool bytes) active =
+    settles-decided limits history s app (calls.PoolCreate bytes) (cause limits history s app (calls.PoolCreate bytes)) (λ why. refl) refl refl active
+settles-line limits history s app registers (PoolGet grant pool size) active =
+    let call = calls.PoolGet (slice_index registers.pools pool) size in
+    settles-decided limits history s app call (cause limits history s app call) (λ why. refl) refl refl active
+settles-line limits history s app registers (PoolPut pool grant) active =
+    let call = calls.PoolPut (slice_index registers.pools pool) (slice_index registers.grants grant) in
+    settles-decided limits history s app call (cause limits history s app call) (λ why. refl) refl refl active
+settles-line limits history s app registers (PoolFigures pool) active =
+    let call = calls.PoolFigures (slice_index registers.pools pool) in
+    settles-decided limits history s app call (cause limits history s app call) (λ why. refl) refl refl active
+settles-line limits history s app registers line active = tt
 
 -- a look that finds a message, or that none can come
 looked-active : (e o : Bool) (n : ℕ) (s t : State) (app : ℕ) (standing : Standing) → t.standings ≡ s.standings → standing_of s app ≡ standing → (standing ≡ Ended → ⊥) →

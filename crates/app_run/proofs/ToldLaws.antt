@@ -16,7 +16,7 @@ use Rattle.script_lines.specs.declared.line.Line.{Line}
 use Rattle.script_lines.specs.declared.line.Line.TheVariants.{ShowPipe}
 use Rattle.script_runs.specs.Rotation.{Running, SoFar, after_call, after_look, answer_to, turn, turn_in, active_turn, line_turn, behind}
 use Rattle.script_runs.specs.Told.{Seen, seen_from, got_in, receipts_of, shown, told_after, line_told, told}
-use Rattle.script_runs.specs.Trace.{call_of, registers_after}
+use Rattle.script_runs.specs.Trace.{Registers, call_of, registers_after}
 use Rattle.script_runs.proofs.LegalSteps.{standing-ended}
 use Rattle.app_run.specs.Lines.{pipe_waited_for}
 use Rattle.app_run.specs.Runners.{standing_for}
@@ -207,13 +207,13 @@ tells-turn limits sofar running new goes = tells-standing limits sofar running n
 
 -- Turns of others. --
 
-shown-same : (app : ℕ) (s t : State) (registers : List ℕ) (line : Line) → ((pipe : ℕ) → receipt_in t app pipe ≡ receipt_in s app pipe) →
+shown-same : (app : ℕ) (s t : State) (registers : Registers) (line : Line) → ((pipe : ℕ) → receipt_in t app pipe ≡ receipt_in s app pipe) →
     shown app t registers line ≡ shown app s registers line
 unfolding shown
-shown-same app s t registers (ShowPipe pipe) same = ap (λ r. unwrap_or r Nothing ∷ []) (same (slice_index registers pipe))
+shown-same app s t registers (ShowPipe pipe) same = ap (λ r. unwrap_or r Nothing ∷ []) (same (slice_index registers.pipes pipe))
 shown-same app s t registers line same = refl
 
-told-same : (app : ℕ) (s t : State) (registers : List ℕ) (lines : List Line) (seen : List Seen) → ((pipe : ℕ) → receipt_in t app pipe ≡ receipt_in s app pipe) →
+told-same : (app : ℕ) (s t : State) (registers : Registers) (lines : List Line) (seen : List Seen) → ((pipe : ℕ) → receipt_in t app pipe ≡ receipt_in s app pipe) →
     told app registers t lines seen ≡ told app registers s lines seen
 told-same app s t registers [] seen same = refl
 told-same app s t registers (line ∷ lines) seen same = by_call (λ rest. told-same app s t registers lines rest same) (call_of registers line) seen
@@ -229,7 +229,7 @@ told-same app s t registers (line ∷ lines) seen same = by_call (λ rest. told-
     by_call lines_same (Some call) [] = refl
     by_call lines_same (Some call) (first ∷ others) = refl
 
-pub told_on-same : (standing : Standing) (app : ℕ) (s t : State) (registers : List ℕ) (lines : List Line) (seen : List Seen) →
+pub told_on-same : (standing : Standing) (app : ℕ) (s t : State) (registers : Registers) (lines : List Line) (seen : List Seen) →
     ((pipe : ℕ) → receipt_in t app pipe ≡ receipt_in s app pipe) →
     told_on standing app registers t lines seen ≡ told_on standing app registers s lines seen
 told_on-same Active app s t registers lines seen same = told-same app s t registers lines seen same

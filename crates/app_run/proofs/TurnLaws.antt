@@ -25,22 +25,23 @@ use Rattle.bus_words.specs.declared.calls.BusAnswer.TheVariants.{Done, Pending, 
 use Rattle.bus_words.specs.declared.history.Call.{Call}
 use Rattle.bus_words.specs.declared.history.Call.TheVariants as calls
 use Rattle.bus_words.specs.declared.history.Entry.{Entry}
-use Rattle.bus_words.specs.declared.journal.Allowance.{Allowance}
+use Rattle.journal_store.specs.declared.allowance.Allowance.{Allowance}
 use Rattle.bus_words.specs.declared.receipts.Receipt.{Receipt}
 use Rattle.bus_words.specs.Bus.{State, Standing, Active, Waiting, Ended, standing_of}
 use Rattle.bus_words.specs.Entries.{call_bytes}
-use Rattle.bus_words.specs.Log.{allowances, allowance_of, charged, left_of}
+use Rattle.journal_store.specs.Budgets.{allowances, allowance_of, charged}
+use Rattle.bus_words.specs.Log.{left_of}
 use Rattle.bus_words.proofs.Journals.{left_from-push, length-left_of}
 use Rattle.bus_words.specs.Machine.{may_call}
 use Rattle.sb_calls.specs.Core.{Core, Does, MayCall, apps_of, state_of, is_within}
 use Rattle.script_lines.specs.declared.line.Line.{Line}
-use Rattle.script_lines.specs.declared.line.Line.TheVariants.{Create, Delete, SetOpts, GetOpts, Find, PipeName, Subscribe, Unsubscribe, Send, SendRaw, Receive, Pend}
+use Rattle.script_lines.specs.declared.line.Line.TheVariants.{Create, Delete, SetOpts, GetOpts, Find, PipeName, Subscribe, Unsubscribe, Send, SendRaw, Receive, Pend, PoolCreate, PoolGet, PoolPut, PoolFigures}
 use Rattle.script_settings.specs.Accounts.{waits_of}
 use Rattle.script_runs.specs.Messages.{fill_byte, sent_message}
 use Rattle.app_script.specs.Ranges.{IsLineInRange}
 use Rattle.script_runs.specs.Rotation.{Running, SoFar, after_call, after_look, answer_to, turn, turn_in, active_turn, line_turn}
 use Rattle.script_runs.specs.Told.{got_in, shown}
-use Rattle.script_runs.specs.Trace.{call_of, registers_after}
+use Rattle.script_runs.specs.Trace.{Registers, call_of, registers_after}
 use Rattle.app_run.specs.Callers.{Caller}
 use Rattle.app_run.specs.Lines.{MayRun, pipe_waited_for, line_bytes, entries_due, bytes_due}
 use Rattle.app_run.specs.Runners.{Progress, standing_for}
@@ -191,25 +192,29 @@ abbrev pub AllowedLine : Line → Option Call → Type 0
 AllowedLine line None = Unit {0}
 AllowedLine line (Some call) = Allowed line call
 
-pub allowed-line : (pipes : List ℕ) (line : Line) → IsLineInRange line → AllowedLine line (call_of pipes line)
+pub allowed-line : (registers : Registers) (line : Line) → IsLineInRange line → AllowedLine line (call_of registers line)
 unfolding call_of line_bytes IsLineInRange
-allowed-line pipes (Create pipe depth name) range = record { bytes = refl; within = le-leb (length name) 64 range; active = refl }
-allowed-line pipes (Delete pipe) range = record { bytes = refl; within = refl; active = refl }
-allowed-line pipes (SetOpts pipe bits) range = record { bytes = refl; within = refl; active = refl }
-allowed-line pipes (GetOpts pipe) range = record { bytes = refl; within = refl; active = refl }
-allowed-line pipes (Find pipe name) range = record { bytes = refl; within = le-leb (length name) 64 range; active = refl }
-allowed-line pipes (PipeName pipe) range = record { bytes = refl; within = refl; active = refl }
-allowed-line pipes (Subscribe id pipe limit scope) range = record { bytes = refl; within = refl; active = refl }
-allowed-line pipes (Unsubscribe id pipe) range = record { bytes = refl; within = refl; active = refl }
-allowed-line pipes (Send id size fill inc) range = record {
+allowed-line registers (Create pipe depth name) range = record { bytes = refl; within = le-leb (length name) 64 range; active = refl }
+allowed-line registers (Delete pipe) range = record { bytes = refl; within = refl; active = refl }
+allowed-line registers (SetOpts pipe bits) range = record { bytes = refl; within = refl; active = refl }
+allowed-line registers (GetOpts pipe) range = record { bytes = refl; within = refl; active = refl }
+allowed-line registers (Find pipe name) range = record { bytes = refl; within = le-leb (length name) 64 range; active = refl }
+allowed-line registers (PipeName pipe) range = record { bytes = refl; within = refl; active = refl }
+allowed-line registers (Subscribe id pipe limit scope) range = record { bytes = refl; within = refl; active = refl }
+allowed-line registers (Unsubscribe id pipe) range = record { bytes = refl; within = refl; active = refl }
+allowed-line registers (Send id size fill inc) range = record {
   bytes = length-sent_message id size fill range.0;
   within = le-leb (length (sent_message id size fill)) 65542 (omega (arith, length-sent_message id size fill range.0, range.1));
   active = refl;
 }
-allowed-line pipes (SendRaw bytes inc) range = record { bytes = refl; within = le-leb (length bytes) 65542 range; active = refl }
-allowed-line pipes (Receive pipe) range = record { bytes = refl; within = refl; active = refl }
-allowed-line pipes (Pend pipe) range = record { bytes = refl; within = refl; active = refl }
-allowed-line pipes line range = tt
+allowed-line registers (SendRaw bytes inc) range = record { bytes = refl; within = le-leb (length bytes) 65542 range; active = refl }
+allowed-line registers (Receive pipe) range = record { bytes = refl; within = refl; active = refl }
+allowed-line registers (Pend pipe) range = record { bytes = refl; within = refl; active = refl }
+allowed-line registers (PoolCreate pool bytes) range = record { bytes = refl; within = refl; active = refl }
+allowed-line registers (PoolGet grant pool size) range = record { bytes = refl; within = refl; active = refl }
+allowed-line registers (PoolPut pool grant) range = record { bytes = refl; within = refl; active = refl }
+allowed-line registers (PoolFigures pool) range = record { bytes = refl; within = refl; active = refl }
+allowed-line registers line range = tt
 
 -- the application may run its next line
 pub may-run : (progress : Progress) (caller : Caller) (line : Line) (lines : List Line) (o : Option Call) → Stands progress caller.core → caller.app ≡ progress.running.app →
@@ -266,11 +271,11 @@ tells-line limits sofar running line lines o active next call =
     ap (λ s. tells_in limits sofar running s) active ∙ ap (λ ls. active_tells limits sofar running ls) next ∙ ap (λ c. line_tells limits sofar running line c) call
 
 -- a line can wait for one answer more where it waits
-waits-few : (pipes : List ℕ) (line : Line) (answer : BusAnswer) → cond (is_some (pipe_waited_for pipes line answer)) 1 0 ≤ waits_of line
+waits-few : (registers : Registers) (line : Line) (answer : BusAnswer) → cond (is_some (pipe_waited_for registers line answer)) 1 0 ≤ waits_of line
 unfolding pipe_waited_for waits_of
-waits-few pipes (Pend pipe) Pending = omega arith
-waits-few pipes (Pend pipe) answer = omega arith
-waits-few pipes line answer = omega arith
+waits-few registers (Pend pipe) Pending = omega arith
+waits-few registers (Pend pipe) answer = omega arith
+waits-few registers line answer = omega arith
 
 line-exact : (old : Progress) (before after : Core) (line : Line) (lines : List Line) (call : Call) → Stands old before → old.ended ≡ false → old.waits_on ≡ None →
     old.running.lines ≡ line ∷ lines → call_of old.running.registers line ≡ Some call → Allowed line call →
@@ -367,7 +372,7 @@ progress-looked p old r told is goes same =
     ∙ ap (λ e. the_progress old.running None e r) goes
     ∙ ap (λ x. looked_on old x) same
 
-progress-behind : (p old : Progress) (line : Line) (lines : List Line) (answer : BusAnswer) (registers : List ℕ) (waits_on : Option ℕ) (r told : List Receipt) → p ≡ old → old.ended ≡ false →
+progress-behind : (p old : Progress) (line : Line) (lines : List Line) (answer : BusAnswer) (registers : Registers) (waits_on : Option ℕ) (r told : List Receipt) → p ≡ old → old.ended ≡ false →
     registers ≡ registers_after p.running.registers line answer → waits_on ≡ pipe_waited_for p.running.registers line answer → r ≡ told →
     the_progress (record { app = p.running.app; lines = lines; registers = registers }) waits_on p.ended r ≡ behind_line old line lines answer told
 progress-behind p old line lines answer registers waits_on r told is goes noted waiting same =
@@ -513,7 +518,7 @@ pub get_at : {X : Type 0} (P : X → Type 0) (xs : List X) (i : ℕ) (x : X) →
 get_at P xs i x there all = subst P (get_or_from_slice_get xs i x x there) (All-get_or P xs i x (slice_get_within xs i x there) all)
 
 -- a line that was run
-pub ran-line : (p old : Progress) (before mid after : Caller) (line : Line) (lines : List Line) (answer : BusAnswer) (registers : List ℕ) (waits_on : Option ℕ) (r : List Receipt) (o : Option Call) →
+pub ran-line : (p old : Progress) (before mid after : Caller) (line : Line) (lines : List Line) (answer : BusAnswer) (registers : Registers) (waits_on : Option ℕ) (r : List Receipt) (o : Option Call) →
     p ≡ old → MayTurn old before → old.waits_on ≡ None → p.running.lines ≡ line ∷ lines → IsLineInRange line →
     call_of p.running.registers line ≡ o → IsRun before mid o (Some answer) → after ≡ mid →
     r ≡ p.receipts ++ got_of mid o answer → registers ≡ registers_after p.running.registers line answer →
@@ -568,8 +573,8 @@ run-same before mid after (Some call) None run same = absurd run
 run-same before mid after (Some call) (Some answer) run same = subst (λ caller. SameBus before caller) (sym same) run.same
 
 -- a line that waits got nothing yet
-pub waits-or-got : (pipes : List ℕ) (line : Line) (answer : BusAnswer) → cond (is_some (pipe_waited_for pipes line answer)) 1 0 + most_receipts answer ≤ 1
+pub waits-or-got : (registers : Registers) (line : Line) (answer : BusAnswer) → cond (is_some (pipe_waited_for registers line answer)) 1 0 + most_receipts answer ≤ 1
 unfolding pipe_waited_for
-waits-or-got pipes (Pend pipe) Pending = omega arith
-waits-or-got pipes line (Got n) = omega arith
-waits-or-got pipes line answer = omega arith
+waits-or-got registers (Pend pipe) Pending = omega arith
+waits-or-got registers line (Got n) = omega arith
+waits-or-got registers line answer = omega arith

@@ -6,6 +6,7 @@ use Rattle.bus_words.specs.declared.history.Call.{Call}
 use Rattle.script_lines.specs.declared.line.Line.{Line}
 use Rattle.script_lines.specs.declared.line.Line.TheVariants.{Create, Find, Send, SendRaw, Pend}
 use Rattle.script_settings.specs.Accounts.{waits_of}
+use Rattle.script_runs.specs.Trace.{Registers}
 use Rattle.app_run.specs.Callers.{Caller, MayCallBus, Answers}
 
 -- the application may make the call of its line, where the line makes one
@@ -26,9 +27,9 @@ message_size (Send id size fill inc) = size
 message_size line = 0
 
 -- the pipe that the application waits on after a line so answered
-unfoldable pub pipe_waited_for : List ℕ → Line → BusAnswer → Option ℕ
-pipe_waited_for pipes (Pend pipe) Pending = Some (slice_index pipes pipe)
-pipe_waited_for pipes line answer = None
+unfoldable pub pipe_waited_for : Registers → Line → BusAnswer → Option ℕ
+pipe_waited_for registers (Pend pipe) Pending = Some (slice_index registers.pipes pipe)
+pipe_waited_for registers line answer = None
 
 -- the bytes that the call of a line brings
 unfoldable pub line_bytes : Line → ℕ

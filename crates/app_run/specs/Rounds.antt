@@ -7,6 +7,7 @@ use Rattle.fsw_base.specs.Limits.{Limits}
 use Rattle.bus_words.specs.Bus.{State, Standing, Active, Waiting, Ended, standing_of}
 use Rattle.sb_calls.specs.Core.{Core, apps_of}
 use Rattle.script_lines.specs.declared.line.Line.{Line}
+use Rattle.script_runs.specs.Trace.{Registers}
 use Rattle.script_runs.specs.Rotation.{Running, SoFar, rotated, rotations}
 use Rattle.app_script.specs.Script.{ScriptText}
 use Rattle.script_runs.specs.Told.{Seen, seen_from, receipts_of, receipts_told, told}
@@ -35,12 +36,12 @@ pub record AllStand (core : Core) (all : List Progress) : Type 0 where
 -- What is still to be told. --
 
 -- of an application that waits: its look's receipts first
-abbrev pub told_waiting : ℕ → List ℕ → List Line → List Seen → List Receipt
+abbrev pub told_waiting : ℕ → Registers → List Line → List Seen → List Receipt
 told_waiting app registers lines [] = []
 told_waiting app registers lines (look ∷ others) = receipts_of app look ++ told app registers look.after lines others
 
 -- of an application in this standing: nothing more once it has ended
-abbrev pub told_on : Standing → ℕ → List ℕ → State → List Line → List Seen → List Receipt
+abbrev pub told_on : Standing → ℕ → Registers → State → List Line → List Seen → List Receipt
 told_on Active app registers s lines seen = told app registers s lines seen
 told_on (Waiting pipe) app registers s lines seen = told_waiting app registers lines seen
 told_on Ended app registers s lines seen = []

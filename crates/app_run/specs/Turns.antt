@@ -6,7 +6,8 @@ use Rattle.bus_words.specs.declared.history.Call.{Call}
 use Rattle.bus_words.specs.declared.history.Call.TheVariants.{Look}
 use Rattle.bus_words.specs.declared.receipts.Receipt.{Receipt}
 use Rattle.bus_words.specs.Bus.{Standing, Active, Waiting, Ended, standing_of}
-use Rattle.bus_words.specs.Log.{allowance_of, left_of}
+use Rattle.journal_store.specs.Budgets.{allowance_of}
+use Rattle.bus_words.specs.Log.{left_of}
 use Rattle.sb_calls.specs.Core.{Core, Does, apps_of, state_of}
 use Rattle.script_lines.specs.declared.line.Line.{Line}
 use Rattle.script_runs.specs.Trace.{call_of}

@@ -1,9 +1,9 @@
 //! The answers of the calls, as entries of the journal have them.
 ghost use Rattle.std.specs.Prelude.{◌≡◌};
-ghost use Rattle.sb_core.specs.Answers.{created, done, named, sent, got, waited, pended};
+ghost use Rattle.sb_core.specs.Answers.{created, done, named, sent, got, waited, pended, pool_told, grant_back, figures_told};
 
 use bus_words::{BusAnswer, PipeText};
-use fsw_base::SbStatus;
+use fsw_base::{EsStatus, PoolStats, SbStatus};
 use sb_calls::{Pended, Sent};
 
 /// A number that was asked for, or the refusal.
@@ -86,5 +86,35 @@ fn waited_answer(answer: Pended) -> BusAnswer
         Pended::Got(number) => BusAnswer::Got(number),
         Pended::TimeOut => BusAnswer::TimeOut,
         Pended::Pending => BusAnswer::Pending,
+    }
+}
+
+/// The number of a pool or of a grant, or the refusal.
+pub(crate) fn pool_told(answer: Result<u32, EsStatus>) -> BusAnswer
+    ensures { result ≡ pool_told answer }
+{
+    match answer {
+        Ok(number) => BusAnswer::Number(number),
+        Err(status) => BusAnswer::Es(status),
+    }
+}
+
+/// Done, or the refusal of the pools.
+pub(crate) fn grant_back(answer: Result<(), EsStatus>) -> BusAnswer
+    ensures { result ≡ grant_back answer }
+{
+    match answer {
+        Ok(()) => BusAnswer::Done,
+        Err(status) => BusAnswer::Es(status),
+    }
+}
+
+/// The figures of a pool, or the refusal.
+pub(crate) fn figures(answer: Result<PoolStats, EsStatus>) -> BusAnswer
+    ensures { result ≡ figures_told answer }
+{
+    match answer {
+        Ok(figures) => BusAnswer::Pool(figures),
+        Err(status) => BusAnswer::Es(status),
     }
 }

@@ -1,12 +1,12 @@
 //! The calls of one application.
 ghost use Rattle.std.specs.Prelude.{◌≡◌};
 ghost use Rattle.bus_words.specs.Receipts.{receipt_in};
-ghost use Rattle.sb_core.specs.Answers.{created, found, done, bits_told, named, sent, got, pended};
+ghost use Rattle.sb_core.specs.Answers.{created, found, done, bits_told, named, sent, got, pended, pool_told, grant_back, figures_told};
 ghost use Rattle.sb_calls.specs.Core.{state_of};
 ghost use Rattle.app_run.specs.Callers.{Caller, MayCallBus, Answers, AnswersLook, pipe_waited_on};
 
 use bus_words::{BusAnswer, Call, PipeText, Receipt};
-use fsw_base::{SbStatus, Scope};
+use fsw_base::{EsStatus, PoolStats, SbStatus, Scope};
 use sb_calls::{Pended, Sent};
 
 /// The calls of the software bus that one application makes.
@@ -119,7 +119,44 @@ pub trait Calls {
         ensures { AnswersLook (caller self.old) (caller self.new) (pipe_waited_on (caller self.old))
             result };
 
-    /// The application's last call: its pipes leave with their subscriptions and messages.
+    /// Makes a memory pool of so many bytes, and answers its number.
+    ///
+    /// # Errors
+    /// As `BusCore::pool_create`.
+    fn pool_create(&mut self, bytes: u32) -> Result<u32, EsStatus>
+        requires { MayCallBus (caller self.old) (Call.PoolCreate bytes) }
+        ensures { Answers (caller self.old) (caller self.new) (Call.PoolCreate bytes)
+            (pool_told result) };
+
+    /// Takes a block of at least `size` bytes, and answers the number of its grant.
+    ///
+    /// # Errors
+    /// As `BusCore::pool_get`.
+    fn pool_get(&mut self, pool: u32, size: u32) -> Result<u32, EsStatus>
+        requires { MayCallBus (caller self.old) (Call.PoolGet pool size) }
+        ensures { Answers (caller self.old) (caller self.new) (Call.PoolGet pool size)
+            (pool_told result) };
+
+    /// Gives a grant's block back, whichever application it was given to.
+    ///
+    /// # Errors
+    /// As `BusCore::pool_put`.
+    fn pool_put(&mut self, pool: u32, grant: u32) -> Result<(), EsStatus>
+        requires { MayCallBus (caller self.old) (Call.PoolPut pool grant) }
+        ensures { Answers (caller self.old) (caller self.new) (Call.PoolPut pool grant)
+            (grant_back result) };
+
+    /// Answers a pool's figures.
+    ///
+    /// # Errors
+    /// As `BusCore::pool_stats`.
+    fn pool_stats(&mut self, pool: u32) -> Result<PoolStats, EsStatus>
+        requires { MayCallBus (caller self.old) (Call.PoolFigures pool) }
+        ensures { Answers (caller self.old) (caller self.new) (Call.PoolFigures pool)
+            (figures_told result) };
+
+    /// The application's last call: its pipes leave with their subscriptions and messages, and its
+    /// grants come back to their pools.
     fn bus_end(&mut self)
         requires { MayCallBus (caller self.old) Call.End }
         ensures { Answers (caller self.old) (caller self.new) Call.End BusAnswer.Done };

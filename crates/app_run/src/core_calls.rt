@@ -4,7 +4,7 @@ ghost use Rattle.std.specs.Prelude.{◌≡◌, true};
 use crate::calls::Calls;
 use bucket_list::{Ledger, Steps};
 use bus_words::{PipeText, Receipt};
-use fsw_base::{AppNo, SbStatus, Scope};
+use fsw_base::{AppNo, EsStatus, PoolStats, SbStatus, Scope};
 use sb_calls::{BusCore, Pended, Sent};
 
 /// The calls of one application straight on the bus's core.
@@ -79,6 +79,22 @@ impl<L: Ledger> Calls for CoreCalls<'_, L> {
 
     fn look(&mut self) -> Pended {
         self.core.look(self.app)
+    }
+
+    fn pool_create(&mut self, bytes: u32) -> Result<u32, EsStatus> {
+        self.core.pool_create(self.app, bytes)
+    }
+
+    fn pool_get(&mut self, pool: u32, size: u32) -> Result<u32, EsStatus> {
+        self.core.pool_get(self.app, pool, size, self.steps)
+    }
+
+    fn pool_put(&mut self, pool: u32, grant: u32) -> Result<(), EsStatus> {
+        self.core.pool_put(self.app, pool, grant, self.steps)
+    }
+
+    fn pool_stats(&mut self, pool: u32) -> Result<PoolStats, EsStatus> {
+        self.core.pool_stats(self.app, pool)
     }
 
     fn bus_end(&mut self) {

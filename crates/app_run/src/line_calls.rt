@@ -9,17 +9,17 @@ ghost use Rattle.app_run.specs.Lines.{MayRun, IsRun, message_size};
 use crate::answers;
 use crate::calls::Calls;
 use crate::messages::make_message;
-use crate::registers::value_in;
+use crate::registers::Registers;
 use bus_words::{BusAnswer, Call};
 use fsw_base::Scope;
-use script_lines::{Line, REGISTERS};
+use script_lines::Line;
 
 /// Makes the call of a line, its registers filled in, and tells what it was answered; None for a
 /// line that makes no call.
 #[tactic(auto, unfolding(script_runs::specs::Trace::call_of, app_script::specs::Ranges::IsLineInRange, crate::specs::Lines::message_size))]
 pub(crate) fn run_line<C: Calls>(
     calls: &mut C,
-    registers: &[u32; REGISTERS],
+    registers: &Registers,
     message: &mut Vec<u8>,
     line: &Line,
 ) -> Option<BusAnswer>
@@ -32,18 +32,18 @@ pub(crate) fn run_line<C: Calls>(
 {
     match line {
         Line::Create { depth, name, .. } => Some(create(calls, *depth, name.as_slice())),
-        Line::Delete { pipe } => Some(delete(calls, value_in(registers, *pipe))),
-        Line::SetOpts { pipe, bits } => Some(set_opts(calls, value_in(registers, *pipe), *bits)),
-        Line::GetOpts { pipe } => Some(get_opts(calls, value_in(registers, *pipe))),
+        Line::Delete { pipe } => Some(delete(calls, registers.pipe(*pipe))),
+        Line::SetOpts { pipe, bits } => Some(set_opts(calls, registers.pipe(*pipe), *bits)),
+        Line::GetOpts { pipe } => Some(get_opts(calls, registers.pipe(*pipe))),
         Line::Find { name, .. } => Some(find(calls, name.as_slice())),
-        Line::PipeName { pipe } => Some(name_of(calls, value_in(registers, *pipe))),
+        Line::PipeName { pipe } => Some(name_of(calls, registers.pipe(*pipe))),
         Line::Subscribe {
             id,
             pipe,
             limit,
             scope,
-        } => Some(subscribe(calls, *id, value_in(registers, *pipe), *limit, *scope)),
-        Line::Unsubscribe { id, pipe } => Some(unsubscribe(calls, *id, value_in(registers, *pipe))),
+        } => Some(subscribe(calls, *id, registers.pipe(*pipe), *limit, *scope)),
+        Line::Unsubscribe { id, pipe } => Some(unsubscribe(calls, *id, registers.pipe(*pipe))),
         Line::Send {
             id,
             size,
@@ -51,8 +51,15 @@ pub(crate) fn run_line<C: Calls>(
             inc,
         } => Some(send(calls, message, *id, *size, *fill, *inc)),
         Line::SendRaw { bytes, inc } => Some(transmit(calls, bytes.as_slice(), *inc)),
-        Line::Receive { pipe } => Some(receive(calls, value_in(registers, *pipe))),
-        Line::Pend { pipe } => Some(pend(calls, value_in(registers, *pipe))),
+        Line::Receive { pipe } => Some(receive(calls, registers.pipe(*pipe))),
+        Line::Pend { pipe } => Some(pend(calls, registers.pipe(*pipe))),
+        Line::PoolCreate { bytes, .. } => Some(pool_create(calls, *bytes)),
+        Line::PoolGet { pool, size, .. } => Some(pool_get(calls, registers.pool(*pool), *size)),
+        Line::PoolPut { pool, grant } => {
+            let pool = registers.pool(*pool);
+            Some(pool_put(calls, pool, registers.grant(*grant)))
+        }
+        Line::PoolFigures { pool } => Some(pool_figures(calls, registers.pool(*pool))),
         _ => None,
     }
 }
@@ -168,4 +175,36 @@ fn pend<C: Calls>(calls: &mut C, pipe: u32) -> BusAnswer
 {
     let answer = calls.pend(pipe);
     answers::pended(answer)
+}
+
+fn pool_create<C: Calls>(calls: &mut C, bytes: u32) -> BusAnswer
+    requires { MayCallBus (C.caller calls.old) (Call.PoolCreate bytes) }
+    ensures { Answers (C.caller calls.old) (C.caller calls.new) (Call.PoolCreate bytes) result }
+{
+    let answer = calls.pool_create(bytes);
+    answers::pool_told(answer)
+}
+
+fn pool_get<C: Calls>(calls: &mut C, pool: u32, size: u32) -> BusAnswer
+    requires { MayCallBus (C.caller calls.old) (Call.PoolGet pool size) }
+    ensures { Answers (C.caller calls.old) (C.caller calls.new) (Call.PoolGet pool size) result }
+{
+    let answer = calls.pool_get(pool, size);
+    answers::pool_told(answer)
+}
+
+fn pool_put<C: Calls>(calls: &mut C, pool: u32, grant: u32) -> BusAnswer
+    requires { MayCallBus (C.caller calls.old) (Call.PoolPut pool grant) }
+    ensures { Answers (C.caller calls.old) (C.caller calls.new) (Call.PoolPut pool grant) result }
+{
+    let answer = calls.pool_put(pool, grant);
+    answers::grant_back(answer)
+}
+
+fn pool_figures<C: Calls>(calls: &mut C, pool: u32) -> BusAnswer
+    requires { MayCallBus (C.caller calls.old) (Call.PoolFigures pool) }
+    ensures { Answers (C.caller calls.old) (C.caller calls.new) (Call.PoolFigures pool) result }
+{
+    let answer = calls.pool_stats(pool);
+    answers::figures(answer)
 }

@@ -1,27 +1,97 @@
-//! An application's registers of pipes.
+//! An application's registers.
 ghost use Rattle.std.specs.Prelude.{◌≡◌, slice_index, slice_set};
-ghost use Rattle.script_runs.specs.Trace.{number_of, registers_after};
+ghost use Rattle.script_runs.specs.Trace.{number_of, first_registers, registers_after};
 
 use bus_words::BusAnswer;
 use script_lines::{Line, REGISTERS};
+use std::marker::Model;
 
-/// The number in a register; 0 where there is no such register.
-pub(crate) fn value_in(registers: &[u32; REGISTERS], register: u32) -> u32
-    ensures { result ≡ slice_index registers.now register }
-{
-    if register < REGISTERS as u32 {
-        registers[register as usize]
-    } else {
-        0
+// How many registers of pools an application has; of pipes and of grants it has `REGISTERS` each.
+const POOL_REGISTERS: usize = 8;
+
+/// An application's registers, which hold the numbers that its calls answered.
+#[derive(Drop)]
+pub(crate) struct Registers {
+    // Of pipes, `p0` to `p63`.
+    pipes: [u32; REGISTERS],
+    // Of memory pools, `q0` to `q7`.
+    pools: [u32; POOL_REGISTERS],
+    // Of the pools' grants, `m0` to `m63`.
+    grants: [u32; REGISTERS],
+}
+
+impl Model for Registers {
+    ghost use Rattle.script_runs.specs.Trace.{Registers};
+
+    ghost Value = { Registers };
+
+    ghost view = { λ r. record { pipes = r.pipes; pools = r.pools; grants = r.grants } };
+}
+
+impl Registers {
+    /// Before the first line all are 0.
+    pub(crate) fn new() -> Registers
+        ensures { result ≡ first_registers }
+    {
+        Registers {
+            pipes: [0; REGISTERS],
+            pools: [0; POOL_REGISTERS],
+            grants: [0; REGISTERS],
+        }
+    }
+
+    /// The number in a register of pipes; 0 where there is no such register.
+    pub(crate) fn pipe(&self, register: u32) -> u32
+        ensures { result ≡ slice_index self.now.pipes register }
+    {
+        value_in(&self.pipes, register)
+    }
+
+    /// The number in a register of pools; 0 where there is no such register.
+    pub(crate) fn pool(&self, register: u32) -> u32
+        ensures { result ≡ slice_index self.now.pools register }
+    {
+        value_in(&self.pools, register)
+    }
+
+    /// The number in a register of grants; 0 where there is no such register.
+    pub(crate) fn grant(&self, register: u32) -> u32
+        ensures { result ≡ slice_index self.now.grants register }
+    {
+        value_in(&self.grants, register)
+    }
+
+    /// Notes what a line's call was answered.
+    #[tactic(auto, unfolding(script_runs::specs::Trace::registers_after))]
+    pub(crate) fn note(&mut self, line: &Line, answer: &BusAnswer)
+        ensures { self.new ≡ registers_after self.old line.now answer.now }
+    {
+        match line {
+            Line::Create { pipe, .. } => set(&mut self.pipes, *pipe, number_of(answer)),
+            Line::Find { pipe, .. } => set(&mut self.pipes, *pipe, number_of(answer)),
+            Line::PoolCreate { pool, .. } => set(&mut self.pools, *pool, number_of(answer)),
+            Line::PoolGet { grant, .. } => set(&mut self.grants, *grant, number_of(answer)),
+            _ => {}
+        }
     }
 }
 
-// Puts a number into a register, where there is that register.
-fn set(registers: &mut [u32; REGISTERS], register: u32, number: u32)
-    ensures { registers.new ≡ slice_set registers.old register number }
+// The number at a place; 0 where there is no such place.
+fn value_in(numbers: &[u32], place: u32) -> u32
+    ensures { result ≡ slice_index numbers.now place }
 {
-    if register < REGISTERS as u32 {
-        registers[register as usize] = number;
+    match numbers.get(place as usize) {
+        Some(number) => *number,
+        None => 0,
+    }
+}
+
+// Puts a number at a place, where there is that place.
+fn set(numbers: &mut [u32], place: u32, number: u32)
+    ensures { numbers.new ≡ slice_set numbers.old place number }
+{
+    if (place as usize) < numbers.len() {
+        numbers[place as usize] = number;
     }
 }
 
@@ -32,17 +102,5 @@ fn number_of(answer: &BusAnswer) -> u32
     match answer {
         BusAnswer::Number(number) => *number,
         _ => 0,
-    }
-}
-
-/// The registers once a line's call was so answered.
-#[tactic(auto, unfolding(script_runs::specs::Trace::registers_after))]
-pub(crate) fn note(registers: &mut [u32; REGISTERS], line: &Line, answer: &BusAnswer)
-    ensures { registers.new ≡ registers_after registers.old line.now answer.now }
-{
-    match line {
-        Line::Create { pipe, .. } => set(registers, *pipe, number_of(answer)),
-        Line::Find { pipe, .. } => set(registers, *pipe, number_of(answer)),
-        _ => {}
     }
 }

@@ -12,12 +12,12 @@ ghost use Rattle.app_run.specs.Runners.{beginning};
 
 use crate::calls::Calls;
 use crate::line_calls::run_line;
-use crate::registers::{note, value_in};
+use crate::registers::Registers;
 use app_script::Script;
 use bus_words::{BusAnswer, Receipt, ReceiptList};
 use fsw_base::AppNo;
 use sb_calls::Pended;
-use script_lines::{Line, REGISTERS};
+use script_lines::Line;
 use std::alloc::{AllocError, Global};
 use std::marker::Model;
 
@@ -41,8 +41,8 @@ pub struct Runner<'s> {
     app: AppNo,
     // The place of its next line; how many lines there are once they are through.
     next: u32,
-    // Its registers of pipes.
-    registers: [u32; REGISTERS],
+    // Its registers.
+    registers: Registers,
     // The pipe that it waits on.
     waits_on: Option<u32>,
     // Whether it made its end.
@@ -84,7 +84,7 @@ impl<'s> Runner<'s> {
             script,
             app,
             next: 0,
-            registers: [0; REGISTERS],
+            registers: Registers::new(),
             waits_on: None,
             ended: false,
             message: vec![in alloc; 0; size as usize]?,
@@ -161,7 +161,7 @@ impl<'s> Runner<'s> {
             Some(answer) => {
                 receive(calls, &self.registers, line, &answer, &mut self.receipts);
                 self.waits_on = pipe_waited_for(&self.registers, line, &answer);
-                note(&mut self.registers, line, &answer);
+                self.registers.note(line, &answer);
             }
             None => show(calls, &self.registers, line, &mut self.receipts),
         }
@@ -243,7 +243,7 @@ fn take_receipt<C: Calls>(calls: &mut C, pipe: u32, receipts: &mut ReceiptList)
 #[tactic(auto, unfolding(script_runs::specs::Trace::call_of))]
 fn receive<C: Calls>(
     calls: &mut C,
-    registers: &[u32; REGISTERS],
+    registers: &Registers,
     line: &Line,
     answer: &BusAnswer,
     receipts: &mut ReceiptList,
@@ -258,20 +258,15 @@ fn receive<C: Calls>(
         return;
     };
     match line {
-        Line::Receive { pipe } => take_receipt(calls, value_in(registers, *pipe), receipts),
-        Line::Pend { pipe } => take_receipt(calls, value_in(registers, *pipe), receipts),
+        Line::Receive { pipe } => take_receipt(calls, registers.pipe(*pipe), receipts),
+        Line::Pend { pipe } => take_receipt(calls, registers.pipe(*pipe), receipts),
         _ => {}
     }
 }
 
 // Adds the receipts of a line that makes no call.
 #[tactic(auto, unfolding(script_runs::specs::Told::shown))]
-fn show<C: Calls>(
-    calls: &mut C,
-    registers: &[u32; REGISTERS],
-    line: &Line,
-    receipts: &mut ReceiptList,
-)
+fn show<C: Calls>(calls: &mut C, registers: &Registers, line: &Line, receipts: &mut ReceiptList)
     requires { 1 ≤ receipts.old.room }
     ensures receipts { receipts.new.receipts ≡ receipts.old.receipts ++
         shown (C.caller calls.old).app (state_of (C.caller calls.old).core) registers.now line.now }
@@ -279,7 +274,7 @@ fn show<C: Calls>(
     ensures same { C.caller calls.new ≡ C.caller calls.old }
 {
     if let Line::ShowPipe { pipe } = line {
-        match calls.last_receipt(value_in(registers, *pipe)) {
+        match calls.last_receipt(registers.pipe(*pipe)) {
             Some(receipt) => receipts.push(receipt),
             None => receipts.push(Receipt::Nothing),
         }
@@ -288,14 +283,14 @@ fn show<C: Calls>(
 
 // The pipe that the application waits on after a line that was so answered.
 #[tactic(auto, unfolding(crate::specs::Lines::pipe_waited_for))]
-fn pipe_waited_for(registers: &[u32; REGISTERS], line: &Line, answer: &BusAnswer) -> Option<u32>
+fn pipe_waited_for(registers: &Registers, line: &Line, answer: &BusAnswer) -> Option<u32>
     ensures { result ≡ pipe_waited_for registers.now line.now answer.now }
 {
     let BusAnswer::Pending = answer else {
         return None;
     };
     match line {
-        Line::Pend { pipe } => Some(value_in(registers, *pipe)),
+        Line::Pend { pipe } => Some(registers.pipe(*pipe)),
         _ => None,
     }
 }

@@ -11,3 +11,4 @@ pub mod ItemsTell
 pub mod Leading
 pub mod ItemsPass
 pub mod LanguageLaw
+pub mod LinesCounted

@@ -2,7 +2,7 @@
 use Rattle.std.proofs.Common.{◌≡◌, ℕ, Bool, false, List, refl}
 use Rattle.fsw_base.specs.declared.config.Scope.{Scope}
 use Rattle.script_lines.specs.declared.line.Line.{Line}
-use Rattle.script_lines.specs.declared.line.Line.TheVariants.{Create, Delete, SetOpts, GetOpts, Find, PipeName, Subscribe, Unsubscribe, Send, SendRaw, Receive, Pend, ShowPipe}
+use Rattle.script_lines.specs.declared.line.Line.TheVariants.{Create, Delete, SetOpts, GetOpts, Find, PipeName, Subscribe, Unsubscribe, Send, SendRaw, Receive, Pend, PoolCreate, PoolGet, PoolPut, PoolFigures, ShowPipe}
 use Rattle.app_script.specs.Built.{is_built}
 
 -- a line that is none of those built
@@ -19,6 +19,10 @@ pub record IsLater (line : Line) : Type 0 where
   pub sendraw : (bytes : List ℕ) (inc : Bool) → line ≡ SendRaw bytes inc → ⊥
   pub recv : (pipe : ℕ) → line ≡ Receive pipe → ⊥
   pub pend : (pipe : ℕ) → line ≡ Pend pipe → ⊥
+  pub pool : (pool bytes : ℕ) → line ≡ PoolCreate pool bytes → ⊥
+  pub pget : (grant pool size : ℕ) → line ≡ PoolGet grant pool size → ⊥
+  pub pput : (pool grant : ℕ) → line ≡ PoolPut pool grant → ⊥
+  pub pstats : (pool : ℕ) → line ≡ PoolFigures pool → ⊥
   pub show : (pipe : ℕ) → line ≡ ShowPipe pipe → ⊥
 
 pub built_default : (line : Line) → IsLater line → false ≡ is_built line
@@ -35,5 +39,9 @@ built_default (Send id size fill inc) never = absurd (never.send id size fill in
 built_default (SendRaw bytes inc) never = absurd (never.sendraw bytes inc refl)
 built_default (Receive pipe) never = absurd (never.recv pipe refl)
 built_default (Pend pipe) never = absurd (never.pend pipe refl)
+built_default (PoolCreate pool bytes) never = absurd (never.pool pool bytes refl)
+built_default (PoolGet grant pool size) never = absurd (never.pget grant pool size refl)
+built_default (PoolPut pool grant) never = absurd (never.pput pool grant refl)
+built_default (PoolFigures pool) never = absurd (never.pstats pool refl)
 built_default (ShowPipe pipe) never = absurd (never.show pipe refl)
 built_default line never = refl

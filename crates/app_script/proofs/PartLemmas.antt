@@ -16,12 +16,12 @@ use Rattle.script_settings.specs.Settings.{seq_of}
 use Rattle.app_script.specs.Grammar.{Progress, after_seq, apps_of}
 use Rattle.app_script.proofs.ScriptLemmas.{account_of_push}
 
-waits_few : (line : Line) → waits_of line ≤ 1
+pub waits_few : (line : Line) → waits_of line ≤ 1
 unfolding waits_of
 waits_few (Pend pipe) = omega arith
 waits_few line = omega arith
 
-buffers_few : (line : Line) → buffers_of line ≤ 1
+pub buffers_few : (line : Line) → buffers_of line ≤ 1
 unfolding buffers_of
 buffers_few (Allocate buf size) = omega arith
 buffers_few line = omega arith

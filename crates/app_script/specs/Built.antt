@@ -22,13 +22,17 @@ is_built (lines.Send id size fill inc) = true
 is_built (lines.SendRaw bytes inc) = true
 is_built (lines.Receive pipe) = true
 is_built (lines.Pend pipe) = true
+is_built (lines.PoolCreate pool bytes) = true
+is_built (lines.PoolGet grant pool size) = true
+is_built (lines.PoolPut pool grant) = true
+is_built (lines.PoolFigures pool) = true
 is_built (lines.ShowPipe pipe) = true
 is_built line = false
 
 -- which limits and other settings it runs with
 abbrev pub is_built_setting : Setting → Bool
 is_built_setting (Limit name value) = is_built_limit name
-is_built_setting (Sizes sizes) = false
+is_built_setting (Sizes sizes) = true
 is_built_setting (Start id count) = true
 
 abbrev pub is_built_item : Item → Bool

@@ -1,5 +1,6 @@
 //! One application of a script.
 ghost use Rattle.std.specs.Prelude.{◌≡◌, ◌+◌, ◌<◌, ◌≤◌, ◌++◌, ◌∷◌, [], length, OnOk, OnErr, Some, slice_get};
+ghost use Rattle.script_settings.specs.Accounts.{account_of};
 
 use fsw_base::Budget;
 use script_lines::{ByteText, Line};
@@ -30,8 +31,25 @@ impl Model for App {
     ghost invariant = { Fits };
 }
 
+// What call lines take.
+fn account_of(lines: &[Line]) -> Account
+    requires calls { length lines.now ≤ 20000 }
+    requires bytes { (account_of lines.now).bytes ≤ 16777216 }
+    ensures account { result ≡ account_of lines.now }
+    ensures each { result.calls ≡ length lines.now }
+    ensures waits { result.waits ≤ length lines.now }
+    ensures buffers { result.buffers ≤ length lines.now }
+{
+    let mut account = Account::new();
+    for line in lines {
+        let charge = account.charge(line);
+        account.count(line, charge as u32);
+    }
+    account
+}
+
 impl App {
-    ghost use Rattle.script_settings.specs.Accounts.{account_of, charge_of, budget_of};
+    ghost use Rattle.script_settings.specs.Accounts.{charge_of, budget_of};
 
     /// An application without lines.
     #[tactic(auto, unfolding(script_settings::specs::Accounts::account_of))]
@@ -42,6 +60,21 @@ impl App {
             name,
             lines: Vec::new(alloc),
             account: Account::new(),
+        }
+    }
+
+    /// An application of this name and these call lines, in order: at most 20000, whose charges
+    /// come to at most 16777216 bytes. It keeps the lines where they are, and takes no memory.
+    pub fn of_lines(name: ByteText, lines: Vec<Line>) -> App
+        requires calls { length lines.items ≤ 20000 }
+        requires bytes { (account_of lines.items).bytes ≤ 16777216 }
+        ensures { result ≡ record { name = name; lines = lines.items } }
+    {
+        let account = account_of(lines.as_slice());
+        App {
+            name,
+            lines,
+            account,
         }
     }
 

@@ -88,6 +88,10 @@ fn is_built(line: &Line) -> bool
         Line::SendRaw { .. } => true,
         Line::Receive { .. } => true,
         Line::Pend { .. } => true,
+        Line::PoolCreate { .. } => true,
+        Line::PoolGet { .. } => true,
+        Line::PoolPut { .. } => true,
+        Line::PoolFigures { .. } => true,
         Line::ShowPipe { .. } => true,
         _ => false,
     }
@@ -163,11 +167,9 @@ impl Reading {
     }
 
     // sizes S1 S2 ..
-    #[tactic(auto, unfolding(crate::specs::Grammar::after_sizes, crate::specs::Items::item_of))]
-    fn sizes(&mut self, rest: &[u8]) -> Result<bool, LineFail>
-        ensures read { Moves result self.new (after_sizes self.old (words_of rest.now)) }
-        ensures built { IfOk result
-            (λ built. built ≡ is_built_reading (item_of form.Sizes rest.now)) }
+    #[tactic(auto, unfolding(crate::specs::Grammar::after_sizes))]
+    fn sizes(&mut self, rest: &[u8]) -> Result<(), LineFail>
+        ensures { Moves result self.new (after_sizes self.old (words_of rest.now)) }
     {
         let sizes = sizes(rest)?;
         if self.sized {
@@ -175,7 +177,7 @@ impl Reading {
         }
         self.config.sizes = sizes;
         self.sized = true;
-        Ok(false)
+        Ok(())
     }
 
     // seq ID COUNT
@@ -270,7 +272,10 @@ impl Reading {
                 Ok(true)
             }
             Form::Set => self.set(rest),
-            Form::Sizes => self.sizes(rest),
+            Form::Sizes => {
+                self.sizes(rest)?;
+                Ok(true)
+            }
             Form::Seq => {
                 self.seq(rest)?;
                 Ok(true)

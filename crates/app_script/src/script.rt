@@ -43,8 +43,9 @@ impl Script {
     ghost use Rattle.app_script.specs.Script.{app_at};
     ghost use Rattle.script_settings.specs.Accounts.{budget_of};
 
-    /// The script of what was read.
-    pub(crate) fn new(config: Config, apps: Vec<App>) -> Script
+    /// The script of these limits and applications, numbered in their order. Each limit, name and
+    /// call line is in its range, and all of it within the bounds of a script.
+    pub fn new(config: Config, apps: Vec<App>) -> Script
         requires { IsScript (record { limits = limits_of config; apps = apps.items }) }
         ensures { result ≡ record { limits = limits_of config; apps = apps.items } }
     {

@@ -9,15 +9,15 @@ use Rattle.std.proofs.lemmas.List.{map_push}
 use Rattle.std.proofs.lemmas.List.Sums.{sum_by-append}
 use Rattle.ccsds_msg.specs.Message.{message_id, with_count}
 use Rattle.fsw_base.specs.declared.config.Scope.{Scope}
-use Rattle.fsw_base.specs.declared.statuses.SbStatus.{SbStatus}
 use Rattle.fsw_base.specs.Limits.{Limits}
 use Rattle.fsw_base.specs.Starts.{start_of}
 use Rattle.bus_words.specs.declared.calls.BusAnswer.{BusAnswer}
-use Rattle.bus_words.specs.declared.calls.BusAnswer.TheVariants.{Done, Sent, Sb}
+use Rattle.bus_words.specs.declared.calls.BusAnswer.TheVariants.{Done, Sent}
 use Rattle.bus_words.specs.declared.history.Call.{Call}
-use Rattle.bus_words.specs.declared.history.Call.TheVariants.{Create, Delete, SetOpts, GetOpts, Find, PipeName, Subscribe, Unsubscribe, Transmit, Receive, Pend, Look, End}
+use Rattle.bus_words.specs.declared.history.Call.TheVariants.{Create, Delete, SetOpts, GetOpts, Find, PipeName, Subscribe, Unsubscribe, Transmit, Receive, Pend, Look, PoolCreate, PoolGet, PoolPut, PoolFigures, End}
 use Rattle.bus_words.specs.declared.history.Entry.{Entry}
 use Rattle.bus_words.specs.Bus.{Subscription, State, Sending, Active, Waiting, opening, with_standing, is_empty, others_idle, route, is_subscribed, has_route, reached}
+use Rattle.bus_words.specs.Refusals.{Refusal, OfBus, OfPools, refusal_answer}
 use Rattle.bus_words.specs.Machine.{Reads, reads_after, counts_for, next_count, stamped, delivered, sent_along, transmitted, received, refused_state, accept, accept_with, decided, decided_with, cause, cause_with, step, step_with, state_from, state_after, LegalFrom, IsLegal}
 use Rattle.bus_words.specs.Acts.{NextCount, Whole, AreAlike, reads_in, next_in, has_next, moved_on, first_next, nexts_after, completed, act, whole_from, whole_after, nexts_of, whole_of}
 use Rattle.bus_words.proofs.Finds.{Each, Each-push, Each-drop, Each-filter, any-push, any-map, same-self, same-sym}
@@ -63,6 +63,7 @@ HaveWays-step limits history s app call ways =
       unsubscribes = λ id pipe none. Each-filter Way (λ x. not (x.id == id && x.pipe == pipe)) s.subscriptions ways;
       stands = λ pipe standing. ways;
       ends = Each-filter Way _ s.subscriptions ways;
+      pools = λ next follows. ways;
     })
 
 -- a subscription of an id, whatever else is asked of it, shows the id's route
@@ -117,6 +118,10 @@ accepts_alike reads other limits s app (Transmit bytes inc) same ways = sends_al
 accepts_alike reads other limits s app (Receive pipe) same ways = refl
 accepts_alike reads other limits s app (Pend pipe) same ways = refl
 accepts_alike reads other limits s app (Look pipe) same ways = refl
+accepts_alike reads other limits s app (PoolCreate bytes) same ways = refl
+accepts_alike reads other limits s app (PoolGet pool size) same ways = refl
+accepts_alike reads other limits s app (PoolPut pool grant) same ways = refl
+accepts_alike reads other limits s app (PoolFigures pool) same ways = refl
 accepts_alike reads other limits s app End same ways = refl
 
 pub causes_alike : (reads other : Reads) (limits : Limits) (s : State) (app : ℕ) (call : Call) → cause_with reads limits s app call ≡ cause_with other limits s app call
@@ -132,6 +137,10 @@ causes_alike reads other limits s app (Transmit bytes inc) = refl
 causes_alike reads other limits s app (Receive pipe) = refl
 causes_alike reads other limits s app (Pend pipe) = refl
 causes_alike reads other limits s app (Look pipe) = refl
+causes_alike reads other limits s app (PoolCreate bytes) = refl
+causes_alike reads other limits s app (PoolGet pool size) = refl
+causes_alike reads other limits s app (PoolPut pool grant) = refl
+causes_alike reads other limits s app (PoolFigures pool) = refl
 causes_alike reads other limits s app End = refl
 
 pub steps_alike : (reads other : Reads) (limits : Limits) (s : State) (app : ℕ) (call : Call) → AreAlike reads other s → HaveWays s →
@@ -139,8 +148,8 @@ pub steps_alike : (reads other : Reads) (limits : Limits) (s : State) (app : ℕ
 steps_alike reads other limits s app call same ways =
     ap (decided_with reads limits s app call) (causes_alike reads other limits s app call) ∙ by_cause (cause_with other limits s app call)
   where
-    by_cause : (why : Option SbStatus) → decided_with reads limits s app call why ≡ decided_with other limits s app call why
-    by_cause (Some status) = refl
+    by_cause : (why : Option Refusal) → decided_with reads limits s app call why ≡ decided_with other limits s app call why
+    by_cause (Some why) = refl
     by_cause None = accepts_alike reads other limits s app call same ways
 
 -- Next counts. --
@@ -227,39 +236,61 @@ module _ (limits : Limits) (history : List Entry) (s : State) (app : ℕ) (ways 
         silent = λ id none. counted_still history e id (silent id) ∙ quiet id (ap (λ l. has_route l id) (sym routed) ∙ none);
       }
 
-  refuses : (call : Call) (status : SbStatus) → Moves limits history s app call (Sb status, refused_state s call status)
-  refuses call status =
-      stays call (Sb status, refused_state s call status) (after_refusal (λ t. t.routed ≡ s.routed) s call status refl (λ pipe. refl)) (λ id. uncounted id call) (unmoved call)
+  refuses : (call : Call) (why : Refusal) → Moves limits history s app call (refusal_answer why, refused_state s call why)
+  refuses call why =
+      stays call (refusal_answer why, refused_state s call why) (after_refusal (λ t. t.routed ≡ s.routed) s call why refl (λ pipe. refl) (λ next follows. refl)) (λ id. uncounted id call why) (unmoved call why)
     where
-      uncounted : (id : ℕ) (made : Call) → counts_for id made (Sb status) ≡ false
-      uncounted id (Create depth name) = refl
-      uncounted id (Delete pipe) = refl
-      uncounted id (SetOpts pipe bits) = refl
-      uncounted id (GetOpts pipe) = refl
-      uncounted id (Find name) = refl
-      uncounted id (PipeName pipe) = refl
-      uncounted id (Subscribe i pipe limit scope) = refl
-      uncounted id (Unsubscribe i pipe) = refl
-      uncounted id (Transmit bytes inc) = refl
-      uncounted id (Receive pipe) = refl
-      uncounted id (Pend pipe) = refl
-      uncounted id (Look pipe) = refl
-      uncounted id End = refl
+      unsent : (id : ℕ) (bytes : List ℕ) (inc : Bool) (because : Refusal) → counts_for id (Transmit bytes inc) (refusal_answer because) ≡ false
+      unsent id bytes inc (OfBus status) = refl
+      unsent id bytes inc (OfPools status) = refl
 
-      unmoved : (made : Call) → nexts_after limits (nexts_of limits history s.routed) made (Sb status) ≡ nexts_of limits history s.routed
-      unmoved (Create depth name) = refl
-      unmoved (Delete pipe) = refl
-      unmoved (SetOpts pipe bits) = refl
-      unmoved (GetOpts pipe) = refl
-      unmoved (Find name) = refl
-      unmoved (PipeName pipe) = refl
-      unmoved (Subscribe i pipe limit scope) = refl
-      unmoved (Unsubscribe i pipe) = refl
-      unmoved (Transmit bytes inc) = refl
-      unmoved (Receive pipe) = refl
-      unmoved (Pend pipe) = refl
-      unmoved (Look pipe) = refl
-      unmoved End = refl
+      uncounted : (id : ℕ) (made : Call) (because : Refusal) → counts_for id made (refusal_answer because) ≡ false
+      uncounted id (Create depth name) because = refl
+      uncounted id (Delete pipe) because = refl
+      uncounted id (SetOpts pipe bits) because = refl
+      uncounted id (GetOpts pipe) because = refl
+      uncounted id (Find name) because = refl
+      uncounted id (PipeName pipe) because = refl
+      uncounted id (Subscribe i pipe limit scope) because = refl
+      uncounted id (Unsubscribe i pipe) because = refl
+      uncounted id (Transmit bytes inc) because = unsent id bytes inc because
+      uncounted id (Receive pipe) because = refl
+      uncounted id (Pend pipe) because = refl
+      uncounted id (Look pipe) because = refl
+      uncounted id (PoolCreate bytes) because = refl
+      uncounted id (PoolGet pool size) because = refl
+      uncounted id (PoolPut pool grant) because = refl
+      uncounted id (PoolFigures pool) because = refl
+      uncounted id End because = refl
+
+      unrouted : (id pipe limit : ℕ) (scope : Scope) (because : Refusal) →
+          nexts_after limits (nexts_of limits history s.routed) (Subscribe id pipe limit scope) (refusal_answer because) ≡ nexts_of limits history s.routed
+      unrouted id pipe limit scope (OfBus status) = refl
+      unrouted id pipe limit scope (OfPools status) = refl
+
+      unstamped : (bytes : List ℕ) (inc : Bool) (because : Refusal) →
+          nexts_after limits (nexts_of limits history s.routed) (Transmit bytes inc) (refusal_answer because) ≡ nexts_of limits history s.routed
+      unstamped bytes inc (OfBus status) = refl
+      unstamped bytes inc (OfPools status) = refl
+
+      unmoved : (made : Call) (because : Refusal) → nexts_after limits (nexts_of limits history s.routed) made (refusal_answer because) ≡ nexts_of limits history s.routed
+      unmoved (Create depth name) because = refl
+      unmoved (Delete pipe) because = refl
+      unmoved (SetOpts pipe bits) because = refl
+      unmoved (GetOpts pipe) because = refl
+      unmoved (Find name) because = refl
+      unmoved (PipeName pipe) because = refl
+      unmoved (Subscribe i pipe limit scope) because = unrouted i pipe limit scope because
+      unmoved (Unsubscribe i pipe) because = refl
+      unmoved (Transmit bytes inc) because = unstamped bytes inc because
+      unmoved (Receive pipe) because = refl
+      unmoved (Pend pipe) because = refl
+      unmoved (Look pipe) because = refl
+      unmoved (PoolCreate bytes) because = refl
+      unmoved (PoolGet pool size) because = refl
+      unmoved (PoolPut pool grant) because = refl
+      unmoved (PoolFigures pool) because = refl
+      unmoved End because = refl
 
   -- an accepted subscription gives its id a route, if it has none
   subscribes : (id pipe limit : ℕ) (scope : Scope) → Moves limits history s app (Subscribe id pipe limit scope) (accept limits history s app (Subscribe id pipe limit scope))
@@ -366,13 +397,17 @@ module _ (limits : Limits) (history : List Entry) (s : State) (app : ℕ) (ways 
       stays (Look pipe) (accept limits history s app (Look pipe))
       (after_choice (λ t. t.routed ≡ s.routed) (is_empty s.pipes pipe && not (others_idle s app)) s (with_standing (received s pipe) app Active) refl refl)
       (λ id. refl) refl
+  accepts (PoolCreate bytes) = stays (PoolCreate bytes) (accept limits history s app (PoolCreate bytes)) refl (λ id. refl) refl
+  accepts (PoolGet pool size) = stays (PoolGet pool size) (accept limits history s app (PoolGet pool size)) refl (λ id. refl) refl
+  accepts (PoolPut pool grant) = stays (PoolPut pool grant) (accept limits history s app (PoolPut pool grant)) refl (λ id. refl) refl
+  accepts (PoolFigures pool) = stays (PoolFigures pool) (accept limits history s app (PoolFigures pool)) refl (λ id. refl) refl
   accepts End = stays End (accept limits history s app End) refl (λ id. refl) refl
 
   moves : (call : Call) → Moves limits history s app call (step limits history s app call)
   moves call = by_cause (cause limits history s app call)
     where
-      by_cause : (why : Option SbStatus) → Moves limits history s app call (decided limits history s app call why)
-      by_cause (Some status) = refuses call status
+      by_cause : (why : Option Refusal) → Moves limits history s app call (decided limits history s app call why)
+      by_cause (Some why) = refuses call why
       by_cause None = accepts call
 
   -- one call of the whole state is the history's step, and leaves what the longer history is read as
@@ -414,12 +449,12 @@ silent_from limits history s (e ∷ es) legal ways quiet =
 
 -- each subscription's id has a route after every history
 pub HaveWays-after : (limits : Limits) (apps : ℕ) (history : List Entry) → HaveWays (state_after limits apps history)
-HaveWays-after limits apps history = state_from-keeps HaveWays limits (HaveWays-step limits) [] (opening apps) history tt
+HaveWays-after limits apps history = state_from-keeps HaveWays limits (HaveWays-step limits) [] (opening limits apps) history tt
 
 -- folding a legal history gives the state that it is read as
 pub whole_after-legal : (limits : Limits) (apps : ℕ) (history : List Entry) → IsLegal limits apps history →
     whole_after limits apps history ≡ whole_of limits history (state_after limits apps history)
-whole_after-legal limits apps history legal = whole_from-legal limits [] (opening apps) history legal tt (λ id none. refl)
+whole_after-legal limits apps history legal = whole_from-legal limits [] (opening limits apps) history legal tt (λ id none. refl)
 
 -- and a call there answers what it answers after the history, and leaves what the longer history is read as
 pub acts_after : (limits : Limits) (apps : ℕ) (history : List Entry) (app : ℕ) (call : Call) → IsLegal limits apps history →
@@ -432,7 +467,7 @@ pub acts_after : (limits : Limits) (apps : ℕ) (history : List Entry) (app : �
 acts_after limits apps history app call legal =
     ap (λ w. act limits w app call) (whole_after-legal limits apps history legal)
     ∙ acts limits history (state_after limits apps history) app (HaveWays-after limits apps history)
-    (silent_from limits [] (opening apps) history legal tt (λ id none. refl)) call
+    (silent_from limits [] (opening limits apps) history legal tt (λ id none. refl)) call
 
 -- what a call sees in that state is what it sees after the history
 pub reads_after-legal : (limits : Limits) (apps : ℕ) (history : List Entry) → IsLegal limits apps history →

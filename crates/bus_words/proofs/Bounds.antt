@@ -275,10 +275,11 @@ IsWithin-step limits history s app call within =
         routed = within.routed;
         routes = λ id. let fewer = length-filter_of_filter (λ (x : Subscription). not (owns s.pipes app x.pipe)) (λ (x : Subscription). x.id == id) s.subscriptions in omega (arith, within.routes id);
       };
+      pools = λ next follows. record { pipes = within.pipes; each = within.each; routed = within.routed; routes = within.routes };
     })
 
 -- every history stays within the limits
 pub IsWithin-after : (limits : Limits) (apps : ℕ) (history : List Entry) → IsWithin limits (state_after limits apps history)
 IsWithin-after limits apps history =
-    state_from-keeps (IsWithin limits) limits (IsWithin-step limits) [] (opening apps) history
+    state_from-keeps (IsWithin limits) limits (IsWithin-step limits) [] (opening limits apps) history
     (record { pipes = omega arith; each = tt; routed = omega arith; routes = λ id. omega arith })

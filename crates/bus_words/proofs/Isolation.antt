@@ -1,5 +1,5 @@
 -- Each pipe stands alone: through every legal history it stays alike the pipe alone that gets its inputs.
-use Rattle.std.proofs.Common.{◌≡◌, ℕ, ◌+◌, ◌==◌, ◌&&◌, not, Bool, true, false, cond, true≢false, eqb-true, le-leb, leb-false, append-nil, append_assoc, List, [], ◌∷◌, ◌++◌, length, Option, Some, None, IsTrue, refl, ap, sym, ◌∙◌, subst, arith}
+use Rattle.std.proofs.Common.{◌≡◌, ℕ, ◌+◌, ◌==◌, ◌&&◌, not, Bool, true, false, cond, true≢false, eqb-true, le-leb, leb-false, append-nil, append_assoc, List, [], ◌∷◌, ◌++◌, length, Option, Some, None, is_some, IsTrue, refl, ap, sym, ◌∙◌, subst, arith}
 use Rattle.std.specs.Option.{option_map, option_map_or}
 use Rattle.fsw_base.specs.declared.config.Scope.{Scope}
 use Rattle.fsw_base.specs.declared.statuses.SbStatus.{SbStatus}
@@ -9,12 +9,13 @@ use Rattle.ccsds_msg.specs.Message.{message_id}
 use Rattle.bus_words.specs.declared.calls.BusAnswer.{BusAnswer}
 use Rattle.bus_words.specs.declared.calls.BusAnswer.TheVariants.{Done, Got, TimeOut, Pending, Sb}
 use Rattle.bus_words.specs.declared.history.Call.{Call}
-use Rattle.bus_words.specs.declared.history.Call.TheVariants.{Create, Delete, SetOpts, GetOpts, Find, PipeName, Subscribe, Unsubscribe, Transmit, Receive, Pend, Look, End}
+use Rattle.bus_words.specs.declared.history.Call.TheVariants.{Create, Delete, SetOpts, GetOpts, Find, PipeName, Subscribe, Unsubscribe, Transmit, Receive, Pend, Look, PoolCreate, PoolGet, PoolPut, PoolFigures, End}
 use Rattle.bus_words.specs.declared.history.Entry.{Entry}
 use Rattle.bus_words.specs.Bus.{Item, Pipe, Subscription, State, Sending, Waiting, Active, opening, pipe_at, with_pipe, is_empty, is_subscribed, others_idle, owns, route, deliver, oldest, after_receive, with_standing}
+use Rattle.bus_words.specs.Refusals.{Refusal, OfBus, OfPools, refusal_answer}
 use Rattle.bus_words.specs.Machine.{delivered, refused_if, unowned_cause, receive_cause, subscribed, sent_along, received, oldest_number, cause, accept, decided, refused_state, step, makes_entry, state_from, LegalFrom, IsLegal}
 use Rattle.bus_words.specs.Alone.{Alone, Input, Send, Received, unmade, solo, solo_receipts, input_alone, given, inputs_of, gets_from, was_made, cut_from, cut, last_on, receipts_from, receipts, received_of, last_of, Gives}
-use Rattle.bus_words.proofs.Steps.{AreNumbered, AreNumbered-step, with_subscription}
+use Rattle.bus_words.proofs.Steps.{AreNumbered, AreNumbered-step, with_subscription, by_bus-none, by_bus-some}
 use Rattle.bus_words.proofs.Ties.{AreTied, AreTied-step}
 use Rattle.bus_words.proofs.Solo.{newest_on, changed_here, Stand, Goes, goes_by, goes-create, goes-delete, goes-opts, goes-duplicate, goes-subscribe, goes-unsubscribe, goes-got, goes-empty, goes-send, goes-early, goes-end}
 
@@ -29,8 +30,8 @@ Does limits history s p a app call next =
     Goes p (inputs_of limits history s p (record { app = app; call = call; answer = next.0 })) (gets_from p (record { app = app; call = call; answer = next.0 }))
     next.1.subscriptions_made next.1.pipes next.1.subscriptions a
 
-some_none : (status : SbStatus) → Some status ≡ None → ⊥
-some_none status is = true≢false (ap (λ (o : Option SbStatus). option_map_or (λ x. true) o false) is)
+some_none : {A : Type 0} (x : A) → Some x ≡ None → ⊥
+some_none x is = true≢false (ap is_some is)
 
 is_same : (status other : SbStatus) → Some status ≡ Some other → status ≡ other
 is_same status other is = ap (λ (o : Option SbStatus). option_map_or (λ x. x) o status) is
@@ -66,7 +67,7 @@ bad_argument s app pipe status is = by_test (not (owns s.pipes app pipe)) is
     by_test false is = absurd (some_none status (sym is))
 
 does-receive_refused : (limits : Limits) (history : List Entry) (s : State) (p : ℕ) (a : Alone) (own : ℕ → ℕ) (app pipe : ℕ) (status : SbStatus) →
-    Stand own p s a → receive_cause s app pipe ≡ Some status → Does limits history s p a app (Receive pipe) (Sb status, refused_state s (Receive pipe) status)
+    Stand own p s a → receive_cause s app pipe ≡ Some status → Does limits history s p a app (Receive pipe) (Sb status, refused_state s (Receive pipe) (OfBus status))
 does-receive_refused limits history s p a own app pipe BadArgument alike is = goes_by own p s.subscriptions_made s.pipes s.subscriptions a alike
 does-receive_refused limits history s p a own app pipe MaxPipesMet alike is = goes_by own p s.subscriptions_made s.pipes s.subscriptions a alike
 does-receive_refused limits history s p a own app pipe PipeCrErr alike is = goes_by own p s.subscriptions_made s.pipes s.subscriptions a alike
@@ -77,22 +78,43 @@ does-receive_refused limits history s p a own app pipe BufAlocErr alike is = goe
 does-receive_refused limits history s p a own app pipe NoMessage alike is = goes-empty own p s.subscriptions_made pipe s.pipes s.subscriptions a (no_message s app pipe is) alike
 does-receive_refused limits history s p a own app pipe BufferInvalid alike is = goes_by own p s.subscriptions_made s.pipes s.subscriptions a alike
 
-does-refused : (limits : Limits) (history : List Entry) (s : State) (p : ℕ) (a : Alone) (own : ℕ → ℕ) (app : ℕ) (call : Call) (status : SbStatus) →
-    Stand own p s a → cause limits history s app call ≡ Some status → Does limits history s p a app call (Sb status, refused_state s call status)
-does-refused limits history s p a own app (Create depth name) status alike is = goes_by own p s.subscriptions_made s.pipes s.subscriptions a alike
-does-refused limits history s p a own app (Delete pipe) status alike is = goes_by own p s.subscriptions_made s.pipes s.subscriptions a alike
-does-refused limits history s p a own app (SetOpts pipe bits) status alike is = goes_by own p s.subscriptions_made s.pipes s.subscriptions a alike
-does-refused limits history s p a own app (GetOpts pipe) status alike is = goes_by own p s.subscriptions_made s.pipes s.subscriptions a alike
-does-refused limits history s p a own app (Find name) status alike is = goes_by own p s.subscriptions_made s.pipes s.subscriptions a alike
-does-refused limits history s p a own app (PipeName pipe) status alike is = goes_by own p s.subscriptions_made s.pipes s.subscriptions a alike
-does-refused limits history s p a own app (Subscribe id pipe limit scope) status alike is = goes_by own p s.subscriptions_made s.pipes s.subscriptions a alike
-does-refused limits history s p a own app (Unsubscribe id pipe) status alike is = goes_by own p s.subscriptions_made s.pipes s.subscriptions a alike
-does-refused limits history s p a own app (Transmit bytes inc) status alike is = goes_by own p s.subscriptions_made s.pipes s.subscriptions a alike
-does-refused limits history s p a own app (Receive pipe) status alike is = does-receive_refused limits history s p a own app pipe status alike is
-does-refused limits history s p a own app (Pend pipe) status alike is =
-    subst (λ x. Does limits history s p a app (Pend pipe) (Sb x, s)) (bad_argument s app pipe status is) (goes_by own p s.subscriptions_made s.pipes s.subscriptions a alike)
-does-refused limits history s p a own app (Look pipe) status alike is = absurd (some_none status (sym is))
-does-refused limits history s p a own app End status alike is = absurd (some_none status (sym is))
+does-refused : (limits : Limits) (history : List Entry) (s : State) (p : ℕ) (a : Alone) (own : ℕ → ℕ) (app : ℕ) (call : Call) (why : Refusal) →
+    Stand own p s a → cause limits history s app call ≡ Some why → Does limits history s p a app call (refusal_answer why, refused_state s call why)
+does-refused limits history s p a own app (Create depth name) (OfBus status) alike is = goes_by own p s.subscriptions_made s.pipes s.subscriptions a alike
+does-refused limits history s p a own app (Delete pipe) (OfBus status) alike is = goes_by own p s.subscriptions_made s.pipes s.subscriptions a alike
+does-refused limits history s p a own app (SetOpts pipe bits) (OfBus status) alike is = goes_by own p s.subscriptions_made s.pipes s.subscriptions a alike
+does-refused limits history s p a own app (GetOpts pipe) (OfBus status) alike is = goes_by own p s.subscriptions_made s.pipes s.subscriptions a alike
+does-refused limits history s p a own app (Find name) (OfBus status) alike is = goes_by own p s.subscriptions_made s.pipes s.subscriptions a alike
+does-refused limits history s p a own app (PipeName pipe) (OfBus status) alike is = goes_by own p s.subscriptions_made s.pipes s.subscriptions a alike
+does-refused limits history s p a own app (Subscribe id pipe limit scope) (OfBus status) alike is = goes_by own p s.subscriptions_made s.pipes s.subscriptions a alike
+does-refused limits history s p a own app (Unsubscribe id pipe) (OfBus status) alike is = goes_by own p s.subscriptions_made s.pipes s.subscriptions a alike
+does-refused limits history s p a own app (Transmit bytes inc) (OfBus status) alike is = goes_by own p s.subscriptions_made s.pipes s.subscriptions a alike
+does-refused limits history s p a own app (Receive pipe) (OfBus status) alike is = does-receive_refused limits history s p a own app pipe status alike (by_bus-some (receive_cause s app pipe) status is)
+does-refused limits history s p a own app (Pend pipe) (OfBus status) alike is =
+    subst (λ x. Does limits history s p a app (Pend pipe) (Sb x, s)) (bad_argument s app pipe status (by_bus-some (unowned_cause s app pipe) status is)) (goes_by own p s.subscriptions_made s.pipes s.subscriptions a alike)
+does-refused limits history s p a own app (Look pipe) (OfBus status) alike is = absurd (some_none (OfBus status) (sym is))
+does-refused limits history s p a own app (PoolCreate bytes) (OfBus status) alike is = goes_by own p s.subscriptions_made s.pipes s.subscriptions a alike
+does-refused limits history s p a own app (PoolGet pool size) (OfBus status) alike is = goes_by own p s.subscriptions_made s.pipes s.subscriptions a alike
+does-refused limits history s p a own app (PoolPut pool grant) (OfBus status) alike is = goes_by own p s.subscriptions_made s.pipes s.subscriptions a alike
+does-refused limits history s p a own app (PoolFigures pool) (OfBus status) alike is = goes_by own p s.subscriptions_made s.pipes s.subscriptions a alike
+does-refused limits history s p a own app End (OfBus status) alike is = absurd (some_none (OfBus status) (sym is))
+does-refused limits history s p a own app (Create depth name) (OfPools status) alike is = goes_by own p s.subscriptions_made s.pipes s.subscriptions a alike
+does-refused limits history s p a own app (Delete pipe) (OfPools status) alike is = goes_by own p s.subscriptions_made s.pipes s.subscriptions a alike
+does-refused limits history s p a own app (SetOpts pipe bits) (OfPools status) alike is = goes_by own p s.subscriptions_made s.pipes s.subscriptions a alike
+does-refused limits history s p a own app (GetOpts pipe) (OfPools status) alike is = goes_by own p s.subscriptions_made s.pipes s.subscriptions a alike
+does-refused limits history s p a own app (Find name) (OfPools status) alike is = goes_by own p s.subscriptions_made s.pipes s.subscriptions a alike
+does-refused limits history s p a own app (PipeName pipe) (OfPools status) alike is = goes_by own p s.subscriptions_made s.pipes s.subscriptions a alike
+does-refused limits history s p a own app (Subscribe id pipe limit scope) (OfPools status) alike is = goes_by own p s.subscriptions_made s.pipes s.subscriptions a alike
+does-refused limits history s p a own app (Unsubscribe id pipe) (OfPools status) alike is = goes_by own p s.subscriptions_made s.pipes s.subscriptions a alike
+does-refused limits history s p a own app (Transmit bytes inc) (OfPools status) alike is = goes_by own p s.subscriptions_made s.pipes s.subscriptions a alike
+does-refused limits history s p a own app (Receive pipe) (OfPools status) alike is = goes_by own p s.subscriptions_made s.pipes s.subscriptions a alike
+does-refused limits history s p a own app (Pend pipe) (OfPools status) alike is = goes_by own p s.subscriptions_made s.pipes s.subscriptions a alike
+does-refused limits history s p a own app (Look pipe) (OfPools status) alike is = goes_by own p s.subscriptions_made s.pipes s.subscriptions a alike
+does-refused limits history s p a own app (PoolCreate bytes) (OfPools status) alike is = goes_by own p s.subscriptions_made s.pipes s.subscriptions a alike
+does-refused limits history s p a own app (PoolGet pool size) (OfPools status) alike is = goes_by own p s.subscriptions_made s.pipes s.subscriptions a alike
+does-refused limits history s p a own app (PoolPut pool grant) (OfPools status) alike is = goes_by own p s.subscriptions_made s.pipes s.subscriptions a alike
+does-refused limits history s p a own app (PoolFigures pool) (OfPools status) alike is = goes_by own p s.subscriptions_made s.pipes s.subscriptions a alike
+does-refused limits history s p a own app End (OfPools status) alike is = absurd (some_none (OfPools status) (sym is))
 
 -- Accepted calls. --
 
@@ -166,12 +188,16 @@ does-accepted limits history s p a own app (Transmit bytes inc) ordered alike en
 does-accepted limits history s p a own app (Receive pipe) ordered alike enters = goes-got own p s.subscriptions_made pipe s.pipes s.subscriptions a alike
 does-accepted limits history s p a own app (Pend pipe) ordered alike enters = does-pend limits history s p a own app pipe alike
 does-accepted limits history s p a own app (Look pipe) ordered alike enters = does-look limits history s p a own app pipe alike enters
+does-accepted limits history s p a own app (PoolCreate bytes) ordered alike enters = goes_by own p s.subscriptions_made s.pipes s.subscriptions a alike
+does-accepted limits history s p a own app (PoolGet pool size) ordered alike enters = goes_by own p s.subscriptions_made s.pipes s.subscriptions a alike
+does-accepted limits history s p a own app (PoolPut pool grant) ordered alike enters = goes_by own p s.subscriptions_made s.pipes s.subscriptions a alike
+does-accepted limits history s p a own app (PoolFigures pool) ordered alike enters = goes_by own p s.subscriptions_made s.pipes s.subscriptions a alike
 does-accepted limits history s p a own app End ordered alike enters = goes-end own p s.subscriptions_made s.pipes_created app s.pipes s.subscriptions a ordered.numbered.pipes alike
 
-does-decided : (limits : Limits) (history : List Entry) (s : State) (p : ℕ) (a : Alone) (own : ℕ → ℕ) (app : ℕ) (call : Call) (why : Option SbStatus) →
+does-decided : (limits : Limits) (history : List Entry) (s : State) (p : ℕ) (a : Alone) (own : ℕ → ℕ) (app : ℕ) (call : Call) (why : Option Refusal) →
     cause limits history s app call ≡ why → AreOrdered s → Stand own p s a → IsTrue (makes_entry call ((decided limits history s app call why).0)) →
     Does limits history s p a app call (decided limits history s app call why)
-does-decided limits history s p a own app call (Some status) is ordered alike enters = does-refused limits history s p a own app call status alike is
+does-decided limits history s p a own app call (Some why) is ordered alike enters = does-refused limits history s p a own app call why alike is
 does-decided limits history s p a own app call None is ordered alike enters = does-accepted limits history s p a own app call ordered alike enters
 
 -- what an entry of a legal history does
@@ -209,14 +235,14 @@ alone_from limits history s p a own (e ∷ es) ordered alike legal =
     ∙ ap (λ xs. solo_receipts a inputs ++ xs) (alone_from limits now next p (solo a inputs) goes.own es (AreOrdered-step limits history s e ordered) goes.alike legal.3)
     ∙ sym (solo_receipts-append a inputs (cut_from limits now next p es))
 
-opening_ordered : (apps : ℕ) → AreOrdered (opening apps)
-opening_ordered apps = record {
+opening_ordered : (limits : Limits) (apps : ℕ) → AreOrdered (opening limits apps)
+opening_ordered limits apps = record {
   numbered = record { pipes = omega arith; subscriptions = omega arith };
   tied = record { pairs = tt; live = tt };
 }
 
-opening_alike : (apps p : ℕ) → Stand (λ n. 0) p (opening apps) unmade
-opening_alike apps p = record {
+opening_alike : (limits : Limits) (apps p : ℕ) → Stand (λ n. 0) p (opening limits apps) unmade
+opening_alike limits apps p = record {
   numbers = record { bounded = λ n. omega arith; apart = λ n m one. absurd (omega (arith, one)); fresh = λ n above. refl };
   pipe = (refl, refl);
   subscriptions = refl;
@@ -225,7 +251,7 @@ opening_alike apps p = record {
 
 -- a pipe's receipts are those of the pipe alone
 pub stands_alone : (limits : Limits) (apps p : ℕ) (history : List Entry) → IsLegal limits apps history → receipts limits apps p history ≡ solo_receipts unmade (cut limits apps p history)
-stands_alone limits apps p history legal = alone_from limits [] (opening apps) p unmade (λ n. 0) history (opening_ordered apps) (opening_alike apps p) legal
+stands_alone limits apps p history legal = alone_from limits [] (opening limits apps) p unmade (λ n. 0) history (opening_ordered limits apps) (opening_alike limits apps p) legal
 
 -- histories that are the same to a pipe give it the same receipts
 pub stands_apart : (limits others : Limits) (apps many p : ℕ) (history another : List Entry) → IsLegal limits apps history → IsLegal others many another →
@@ -273,20 +299,27 @@ not_empty s app pipe is = by_tests (not (owns s.pipes app pipe)) (is_empty s.pip
     by_tests false true is = absurd (some_none NoMessage is)
     by_tests false false is = refl
 
-gave-refused : (s : State) (p app : ℕ) (call : Call) (status : SbStatus) → Gave p app call (Sb status, refused_state s call status)
-gave-refused s p app (Create depth name) status gets = absurd (true≢false (sym gets))
-gave-refused s p app (Delete pipe) status gets = absurd (true≢false (sym gets))
-gave-refused s p app (SetOpts pipe bits) status gets = absurd (true≢false (sym gets))
-gave-refused s p app (GetOpts pipe) status gets = absurd (true≢false (sym gets))
-gave-refused s p app (Find name) status gets = absurd (true≢false (sym gets))
-gave-refused s p app (PipeName pipe) status gets = absurd (true≢false (sym gets))
-gave-refused s p app (Subscribe id pipe limit scope) status gets = absurd (true≢false (sym gets))
-gave-refused s p app (Unsubscribe id pipe) status gets = absurd (true≢false (sym gets))
-gave-refused s p app (Transmit bytes inc) status gets = absurd (true≢false (sym gets))
-gave-refused s p app (Receive pipe) status gets = absurd (true≢false (sym gets))
-gave-refused s p app (Pend pipe) status gets = absurd (true≢false (sym gets))
-gave-refused s p app (Look pipe) status gets = absurd (true≢false (sym gets))
-gave-refused s p app End status gets = absurd (true≢false (sym gets))
+gave-refused : (s : State) (p app : ℕ) (call : Call) (why : Refusal) → Gave p app call (refusal_answer why, refused_state s call why)
+gave-refused s p app (Create depth name) why gets = absurd (true≢false (sym gets))
+gave-refused s p app (Delete pipe) why gets = absurd (true≢false (sym gets))
+gave-refused s p app (SetOpts pipe bits) why gets = absurd (true≢false (sym gets))
+gave-refused s p app (GetOpts pipe) why gets = absurd (true≢false (sym gets))
+gave-refused s p app (Find name) why gets = absurd (true≢false (sym gets))
+gave-refused s p app (PipeName pipe) why gets = absurd (true≢false (sym gets))
+gave-refused s p app (Subscribe id pipe limit scope) why gets = absurd (true≢false (sym gets))
+gave-refused s p app (Unsubscribe id pipe) why gets = absurd (true≢false (sym gets))
+gave-refused s p app (Transmit bytes inc) why gets = absurd (true≢false (sym gets))
+gave-refused s p app (Receive pipe) (OfBus status) gets = absurd (true≢false (sym gets))
+gave-refused s p app (Receive pipe) (OfPools status) gets = absurd (true≢false (sym gets))
+gave-refused s p app (Pend pipe) (OfBus status) gets = absurd (true≢false (sym gets))
+gave-refused s p app (Pend pipe) (OfPools status) gets = absurd (true≢false (sym gets))
+gave-refused s p app (Look pipe) (OfBus status) gets = absurd (true≢false (sym gets))
+gave-refused s p app (Look pipe) (OfPools status) gets = absurd (true≢false (sym gets))
+gave-refused s p app (PoolCreate bytes) why gets = absurd (true≢false (sym gets))
+gave-refused s p app (PoolGet pool size) why gets = absurd (true≢false (sym gets))
+gave-refused s p app (PoolPut pool grant) why gets = absurd (true≢false (sym gets))
+gave-refused s p app (PoolFigures pool) why gets = absurd (true≢false (sym gets))
+gave-refused s p app End why gets = absurd (true≢false (sym gets))
 
 gave-pend : (limits : Limits) (history : List Entry) (s : State) (p app pipe : ℕ) → Gave p app (Pend pipe) (accept limits history s app (Pend pipe))
 gave-pend limits history s p app pipe =
@@ -324,13 +357,17 @@ gave-accepted limits history s p app (PipeName pipe) none gets = absurd (true≢
 gave-accepted limits history s p app (Subscribe id pipe limit scope) none gets = absurd (true≢false (sym gets))
 gave-accepted limits history s p app (Unsubscribe id pipe) none gets = absurd (true≢false (sym gets))
 gave-accepted limits history s p app (Transmit bytes inc) none gets = absurd (true≢false (sym gets))
-gave-accepted limits history s p app (Receive pipe) none gets = gave_got s.pipes p pipe (not_empty s app pipe none) gets
+gave-accepted limits history s p app (Receive pipe) none gets = gave_got s.pipes p pipe (not_empty s app pipe (by_bus-none (receive_cause s app pipe) none)) gets
 gave-accepted limits history s p app (Pend pipe) none gets = gave-pend limits history s p app pipe gets
 gave-accepted limits history s p app (Look pipe) none gets = gave-look limits history s p app pipe gets
+gave-accepted limits history s p app (PoolCreate bytes) none gets = absurd (true≢false (sym gets))
+gave-accepted limits history s p app (PoolGet pool size) none gets = absurd (true≢false (sym gets))
+gave-accepted limits history s p app (PoolPut pool grant) none gets = absurd (true≢false (sym gets))
+gave-accepted limits history s p app (PoolFigures pool) none gets = absurd (true≢false (sym gets))
 gave-accepted limits history s p app End none gets = absurd (true≢false (sym gets))
 
-gave-decided : (limits : Limits) (history : List Entry) (s : State) (p app : ℕ) (call : Call) (why : Option SbStatus) → cause limits history s app call ≡ why → Gave p app call (decided limits history s app call why)
-gave-decided limits history s p app call (Some status) is = gave-refused s p app call status
+gave-decided : (limits : Limits) (history : List Entry) (s : State) (p app : ℕ) (call : Call) (why : Option Refusal) → cause limits history s app call ≡ why → Gave p app call (decided limits history s app call why)
+gave-decided limits history s p app call (Some why) is = gave-refused s p app call why
 gave-decided limits history s p app call None is = gave-accepted limits history s p app call is
 
 -- the message that an entry gives is the pipe's last
@@ -380,5 +417,5 @@ gives_from limits history s p a own (x ∷ es) e ordered alike legal gets =
 pub gives_newest : (limits : Limits) (apps p : ℕ) (history : List Entry) (e : Entry) → IsLegal limits apps (history ++ e ∷ []) → gets_from p e ≡ true →
     (message : Received) × Gives limits apps p history e message
 gives_newest limits apps p history e legal gets =
-    let gives = gives_from limits [] (opening apps) p unmade (λ n. 0) history e (opening_ordered apps) (opening_alike apps p) legal gets in
+    let gives = gives_from limits [] (opening limits apps) p unmade (λ n. 0) history e (opening_ordered limits apps) (opening_alike limits apps p) legal gets in
     (gives.0, record { answer = gives.1.answer; last = gives.1.last; newest = gives.1.newest })

@@ -4,6 +4,7 @@ pub mod Bounds
 pub mod Finds
 pub mod Isolation
 pub mod Journals
+pub mod PoolGrants
 pub mod Replay
 pub mod Solo
 pub mod Steps

@@ -45,8 +45,8 @@ pub goes_on : (limits : Limits) (apps : ℕ) (history : List Entry) (e : Entry) 
     IsTrue (makes_entry e.call e.answer) →
     Follows limits apps history e
 goes_on limits apps history e legal may answered entered = record {
-  legal = LegalFrom-push limits [] (opening apps) history e legal may answered entered;
-  state = state_from-push limits [] (opening apps) history e;
+  legal = LegalFrom-push limits [] (opening limits apps) history e legal may answered entered;
+  state = state_from-push limits [] (opening limits apps) history e;
 }
 
 -- the calls of a legal history, made from where it began, give it and its state again

@@ -1,19 +1,37 @@
 -- What holds after every step of the bus, and so after every history: how many standings there are, and that live
 -- pipes and subscriptions stand in order of number, none above those that were made.
-use Rattle.std.proofs.Common.{◌≡◌, ℕ, ◌+◌, ◌-◌, ◌<◌, ◌≤◌, ◌==◌, ◌&&◌, not, Bool, true, false, cond, if◌then◌else◌, append-nil, append_assoc, List, [], ◌∷◌, ◌++◌, length, map, filter, Option, Some, None, refl, ap, sym, ◌∙◌, subst, arith}
+use Rattle.std.proofs.Common.{◌≡◌, ℕ, ◌+◌, ◌-◌, ◌<◌, ◌≤◌, ◌==◌, ◌&&◌, not, Bool, true, false, cond, if◌then◌else◌, append-nil, append_assoc, List, [], ◌∷◌, ◌++◌, length, map, filter, Option, Some, None, is_some, refl, ap, sym, ◌∙◌, subst, arith, true≢false}
 use Rattle.std.proofs.lemmas.List.{length-set, length-replicate, length_push, map_push}
 use Rattle.ccsds_msg.specs.Message.{message_id}
 use Rattle.fsw_base.specs.declared.config.Scope.{Scope}
 use Rattle.fsw_base.specs.declared.statuses.SbStatus.{SbStatus}
 use Rattle.fsw_base.specs.declared.statuses.SbStatus.TheVariants.{BadArgument, MaxPipesMet, PipeCrErr, MaxMsgsMet, MaxDestsMet, MsgTooBig, BufAlocErr, NoMessage, BufferInvalid}
 use Rattle.fsw_base.specs.Limits.{Limits}
+use Rattle.pool_words.specs.Grants.{Pools, pool_in, with_pool, after_create, after_get, after_put}
+use Rattle.pool_words.proofs.Following.{Follow, follows_create, follows_get, follows_put}
 use Rattle.bus_words.specs.declared.history.Call.{Call}
-use Rattle.bus_words.specs.declared.history.Call.TheVariants.{Create, Delete, SetOpts, GetOpts, Find, PipeName, Subscribe, Unsubscribe, Transmit, Receive, Pend, Look, End}
+use Rattle.bus_words.specs.declared.history.Call.TheVariants.{Create, Delete, SetOpts, GetOpts, Find, PipeName, Subscribe, Unsubscribe, Transmit, Receive, Pend, Look, PoolCreate, PoolGet, PoolPut, PoolFigures, End}
 use Rattle.bus_words.specs.declared.history.Entry.{Entry}
 use Rattle.bus_words.specs.Bus.{Pipe, Subscription, State, Standing, Active, Waiting, Ended, Sending, opening, with_pipe, with_bits, with_standing, is_empty, others_idle, route, is_subscribed, has_route, offered, deliver, is_in, verdict, item_for, after_receive, owns}
-use Rattle.bus_words.specs.Machine.{delivered, created, deleted, unsubscribed, sent_along, received, ended, cause, create_cause, subscribe_cause, unowned_cause, set_opts_cause, unsubscribe_cause, accept, refused_state, decided, step, state_from, state_after}
+use Rattle.bus_words.specs.Refusals.{Refusal, OfBus, OfPools}
+use Rattle.bus_words.specs.Machine.{by_bus, delivered, created, deleted, unsubscribed, sent_along, received, ended, cause, create_cause, subscribe_cause, unowned_cause, set_opts_cause, unsubscribe_cause, accept, refused_state, decided, step, state_from, state_after}
 
 -- Steps by cases. --
+
+-- a refusal of the bus that doesn't come
+pub by_bus-none : (why : Option SbStatus) → by_bus why ≡ None → why ≡ None
+by_bus-none None is = refl
+by_bus-none (Some status) is = absurd (true≢false (ap is_some is))
+
+-- one that comes
+pub by_bus-some : (why : Option SbStatus) (status : SbStatus) → by_bus why ≡ Some (OfBus status) → why ≡ Some status
+by_bus-some None status is = absurd (true≢false (sym (ap is_some is)))
+by_bus-some (Some other) status is = ap status_of is
+  where
+    status_of : Option Refusal → Option SbStatus
+    status_of None = None
+    status_of (Some (OfBus found)) = Some found
+    status_of (Some (OfPools found)) = None
 
 -- the bus with one subscription more
 abbrev pub with_subscription : State → ℕ → ℕ → ℕ → Scope → State
@@ -41,32 +59,39 @@ pub record Keeps (F : State → Type 0) (limits : Limits) (s : State) (app : ℕ
   pub unsubscribes : (id pipe : ℕ) → unsubscribe_cause s app id pipe ≡ None → F (unsubscribed s id pipe)
   pub stands : (pipe : ℕ) (standing : Standing) → F (with_standing (received s pipe) app standing)
   pub ends : F (ended s app)
+  pub pools : (next : Pools) → Follow s.pools next → F (record s { pools = next })
 
-refused_receive : (F : State → Type 0) (s : State) (pipe : ℕ) (status : SbStatus) → F s → F (received s pipe) → F (refused_state s (Receive pipe) status)
-refused_receive F s pipe BadArgument same receives = same
-refused_receive F s pipe MaxPipesMet same receives = same
-refused_receive F s pipe PipeCrErr same receives = same
-refused_receive F s pipe MaxMsgsMet same receives = same
-refused_receive F s pipe MaxDestsMet same receives = same
-refused_receive F s pipe MsgTooBig same receives = same
-refused_receive F s pipe BufAlocErr same receives = same
-refused_receive F s pipe NoMessage same receives = receives
-refused_receive F s pipe BufferInvalid same receives = same
+refused_receive : (F : State → Type 0) (s : State) (pipe : ℕ) (why : Refusal) → F s → F (received s pipe) → F (refused_state s (Receive pipe) why)
+refused_receive F s pipe (OfBus BadArgument) same receives = same
+refused_receive F s pipe (OfBus MaxPipesMet) same receives = same
+refused_receive F s pipe (OfBus PipeCrErr) same receives = same
+refused_receive F s pipe (OfBus MaxMsgsMet) same receives = same
+refused_receive F s pipe (OfBus MaxDestsMet) same receives = same
+refused_receive F s pipe (OfBus MsgTooBig) same receives = same
+refused_receive F s pipe (OfBus BufAlocErr) same receives = same
+refused_receive F s pipe (OfBus NoMessage) same receives = receives
+refused_receive F s pipe (OfBus BufferInvalid) same receives = same
+refused_receive F s pipe (OfPools status) same receives = same
 
-pub after_refusal : (F : State → Type 0) (s : State) (call : Call) (status : SbStatus) → F s → ((pipe : ℕ) → F (received s pipe)) → F (refused_state s call status)
-after_refusal F s (Create depth name) status same receives = same
-after_refusal F s (Delete pipe) status same receives = same
-after_refusal F s (SetOpts pipe bits) status same receives = same
-after_refusal F s (GetOpts pipe) status same receives = same
-after_refusal F s (Find name) status same receives = same
-after_refusal F s (PipeName pipe) status same receives = same
-after_refusal F s (Subscribe id pipe limit scope) status same receives = same
-after_refusal F s (Unsubscribe id pipe) status same receives = same
-after_refusal F s (Transmit bytes inc) status same receives = same
-after_refusal F s (Receive pipe) status same receives = refused_receive F s pipe status same (receives pipe)
-after_refusal F s (Pend pipe) status same receives = same
-after_refusal F s (Look pipe) status same receives = same
-after_refusal F s End status same receives = same
+pub after_refusal : (F : State → Type 0) (s : State) (call : Call) (why : Refusal) → F s → ((pipe : ℕ) → F (received s pipe)) → ((next : Pools) → Follow s.pools next → F (record s { pools = next })) →
+    F (refused_state s call why)
+after_refusal F s (Create depth name) why same receives pools = same
+after_refusal F s (Delete pipe) why same receives pools = same
+after_refusal F s (SetOpts pipe bits) why same receives pools = same
+after_refusal F s (GetOpts pipe) why same receives pools = same
+after_refusal F s (Find name) why same receives pools = same
+after_refusal F s (PipeName pipe) why same receives pools = same
+after_refusal F s (Subscribe id pipe limit scope) why same receives pools = same
+after_refusal F s (Unsubscribe id pipe) why same receives pools = same
+after_refusal F s (Transmit bytes inc) why same receives pools = same
+after_refusal F s (Receive pipe) why same receives pools = refused_receive F s pipe why same (receives pipe)
+after_refusal F s (Pend pipe) why same receives pools = same
+after_refusal F s (Look pipe) why same receives pools = same
+after_refusal F s (PoolCreate bytes) why same receives pools = same
+after_refusal F s (PoolGet pool size) why same receives pools = same
+after_refusal F s (PoolPut pool grant) why same receives pools = pools (with_pool s.pools pool (after_put (pool_in s.pools pool) grant)) (follows_put s.pools pool grant)
+after_refusal F s (PoolFigures pool) why same receives pools = same
+after_refusal F s End why same receives pools = same
 
 after_subscribe : (F : State → Type 0) (s next : State) (live : Bool) → F s → (live ≡ false → F next) → F (if live then s else next)
 after_subscribe F s next true same other = same
@@ -82,15 +107,15 @@ after_choice F false one other first second = second
 
 after_accepted : (F : State → Type 0) (limits : Limits) (history : List Entry) (s : State) (app : ℕ) (call : Call) →
     cause limits history s app call ≡ None → Keeps F limits s app → F ((accept limits history s app call).1)
-after_accepted F limits history s app (Create depth name) none keeps = keeps.creates depth name none
-after_accepted F limits history s app (Delete pipe) none keeps = keeps.deletes pipe none
-after_accepted F limits history s app (SetOpts pipe bits) none keeps = keeps.sets pipe bits none
+after_accepted F limits history s app (Create depth name) none keeps = keeps.creates depth name (by_bus-none (create_cause limits s depth name) none)
+after_accepted F limits history s app (Delete pipe) none keeps = keeps.deletes pipe (by_bus-none (unowned_cause s app pipe) none)
+after_accepted F limits history s app (SetOpts pipe bits) none keeps = keeps.sets pipe bits (by_bus-none (set_opts_cause s app pipe bits) none)
 after_accepted F limits history s app (GetOpts pipe) none keeps = keeps.same
 after_accepted F limits history s app (Find name) none keeps = keeps.same
 after_accepted F limits history s app (PipeName pipe) none keeps = keeps.same
 after_accepted F limits history s app (Subscribe id pipe limit scope) none keeps =
-    after_subscribe F s (with_subscription s id pipe limit scope) (is_subscribed s.subscriptions id pipe) keeps.same (keeps.subscribes id pipe limit scope none)
-after_accepted F limits history s app (Unsubscribe id pipe) none keeps = keeps.unsubscribes id pipe none
+    after_subscribe F s (with_subscription s id pipe limit scope) (is_subscribed s.subscriptions id pipe) keeps.same (keeps.subscribes id pipe limit scope (by_bus-none (subscribe_cause limits s app id pipe) none))
+after_accepted F limits history s app (Unsubscribe id pipe) none keeps = keeps.unsubscribes id pipe (by_bus-none (unsubscribe_cause s app id pipe) none)
 after_accepted F limits history s app (Transmit bytes inc) none keeps =
     let sending : Sending = record { sender = app; number = s.numbers_given + 1; asked = length bytes; message = delivered limits history bytes inc } in
     after_send F s sending (route s.subscriptions (message_id bytes)) keeps.same (keeps.sends sending (message_id bytes) refl refl)
@@ -101,11 +126,15 @@ after_accepted F limits history s app (Pend pipe) none keeps =
 after_accepted F limits history s app (Look pipe) none keeps =
     after_choice F (is_empty s.pipes pipe && not (others_idle s app)) s (with_standing (received s pipe) app Active)
     keeps.same (keeps.stands pipe Active)
+after_accepted F limits history s app (PoolCreate bytes) none keeps = keeps.pools (after_create s.pools bytes) (follows_create s.pools bytes)
+after_accepted F limits history s app (PoolGet pool size) none keeps = keeps.pools (with_pool s.pools pool (after_get (pool_in s.pools pool) app size)) (follows_get s.pools pool app size)
+after_accepted F limits history s app (PoolPut pool grant) none keeps = keeps.pools (with_pool s.pools pool (after_put (pool_in s.pools pool) grant)) (follows_put s.pools pool grant)
+after_accepted F limits history s app (PoolFigures pool) none keeps = keeps.same
 after_accepted F limits history s app End none keeps = keeps.ends
 
-after_decided : (F : State → Type 0) (limits : Limits) (history : List Entry) (s : State) (app : ℕ) (call : Call) (why : Option SbStatus) →
+after_decided : (F : State → Type 0) (limits : Limits) (history : List Entry) (s : State) (app : ℕ) (call : Call) (why : Option Refusal) →
     cause limits history s app call ≡ why → Keeps F limits s app → F ((decided limits history s app call why).1)
-after_decided F limits history s app call (Some status) is keeps = after_refusal F s call status keeps.same keeps.receives
+after_decided F limits history s app call (Some why) is keeps = after_refusal F s call why keeps.same keeps.receives keeps.pools
 after_decided F limits history s app call None is keeps = after_accepted F limits history s app call is keeps
 
 -- what each change keeps holds after a step
@@ -138,6 +167,7 @@ length-standings-step limits history s app call =
       unsubscribes = λ id pipe none. refl;
       stands = λ pipe standing. length-set s.standings (app - 1) standing;
       ends = length-set s.standings (app - 1) Ended;
+      pools = λ next follows. refl;
     })
 
 -- after a history of so many applications there are so many standings
@@ -145,7 +175,7 @@ pub length-standings : (limits : Limits) (apps : ℕ) (history : List Entry) →
 length-standings limits apps history =
     state_from-keeps (λ t. length t.standings ≡ apps) limits
     (λ before s app call is. length-standings-step limits before s app call ∙ is)
-    [] (opening apps) history (length-replicate apps _)
+    [] (opening limits apps) history (length-replicate apps _)
 
 -- Numbers. --
 
@@ -249,12 +279,13 @@ AreNumbered-step limits history s app call numbered =
         pipes = AreRising-filter (λ (p : Pipe). p.number) (λ p. not (p.owner == app)) 0 s.pipes_created s.pipes numbered.pipes;
         subscriptions = AreRising-filter (λ (x : Subscription). x.number) (λ x. not (owns s.pipes app x.pipe)) 0 s.subscriptions_made s.subscriptions numbered.subscriptions;
       };
+      pools = λ next follows. record { pipes = numbered.pipes; subscriptions = numbered.subscriptions };
     })
 
 -- after every history
 pub AreNumbered-after : (limits : Limits) (apps : ℕ) (history : List Entry) → AreNumbered (state_after limits apps history)
 AreNumbered-after limits apps history =
-    state_from-keeps AreNumbered limits (AreNumbered-step limits) [] (opening apps) history (record { pipes = omega arith; subscriptions = omega arith })
+    state_from-keeps AreNumbered limits (AreNumbered-step limits) [] (opening limits apps) history (record { pipes = omega arith; subscriptions = omega arith })
 
 -- Counts. --
 
@@ -278,6 +309,7 @@ AtMostOneMore-step limits history s app call =
       unsubscribes = λ id pipe none. record { pipes = omega arith; subscriptions = omega arith; numbers = omega arith };
       stands = λ pipe standing. record { pipes = omega arith; subscriptions = omega arith; numbers = omega arith };
       ends = record { pipes = omega arith; subscriptions = omega arith; numbers = omega arith };
+      pools = λ next follows. record { pipes = omega arith; subscriptions = omega arith; numbers = omega arith };
     })
 
 -- the counts are at most so high
@@ -297,4 +329,4 @@ counted_from limits history s (e ∷ es) counted =
 
 -- no count is higher than the number of entries
 pub AreCounted-after : (limits : Limits) (apps : ℕ) (history : List Entry) → AreCounted (state_after limits apps history) (length history)
-AreCounted-after limits apps history = counted_from limits [] (opening apps) history (record { pipes = omega arith; subscriptions = omega arith; numbers = omega arith })
+AreCounted-after limits apps history = counted_from limits [] (opening limits apps) history (record { pipes = omega arith; subscriptions = omega arith; numbers = omega arith })

@@ -118,8 +118,9 @@ AreTied-step limits history s app call tied =
         live = Each-kept (λ (sub : Subscription). is_live s.pipes sub.pipe ≡ true) (λ sub. is_live (filter (λ pipe. not (pipe.owner == app)) s.pipes) sub.pipe ≡ true) (λ x. not (owns s.pipes app x.pipe)) s.subscriptions
             (λ sub other is. any-rest (λ (pipe : Pipe). pipe.number == sub.pipe) (λ pipe. pipe.owner == app) s.pipes is (not_true (owns s.pipes app sub.pipe) other)) tied.live;
       };
+      pools = λ next follows. record { pairs = tied.pairs; live = tied.live };
     })
 
 -- after every history
 pub AreTied-after : (limits : Limits) (apps : ℕ) (history : List Entry) → AreTied (state_after limits apps history)
-AreTied-after limits apps history = state_from-keeps AreTied limits (AreTied-step limits) [] (opening apps) history (record { pairs = tt; live = tt })
+AreTied-after limits apps history = state_from-keeps AreTied limits (AreTied-step limits) [] (opening limits apps) history (record { pairs = tt; live = tt })

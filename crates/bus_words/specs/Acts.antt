@@ -60,8 +60,8 @@ abbrev pub act : Limits → Whole → ℕ → Call → BusAnswer × Whole
 act limits w app call = completed limits w call (step_with (reads_in w) limits w.bus app call)
 
 -- before the first call of so many applications
-abbrev pub opening_whole : ℕ → Whole
-opening_whole apps = record { bus = opening apps; nexts = [] }
+abbrev pub opening_whole : Limits → ℕ → Whole
+opening_whole limits apps = record { bus = opening limits apps; nexts = [] }
 
 -- the state after these entries' calls
 abbrev pub whole_from : Limits → Whole → List Entry → Whole
@@ -70,7 +70,7 @@ whole_from limits w (e ∷ es) = whole_from limits ((act limits w e.app e.call).
 
 -- the state after a history of so many applications
 abbrev pub whole_after : Limits → ℕ → List Entry → Whole
-whole_after limits apps history = whole_from limits (opening_whole apps) history
+whole_after limits apps history = whole_from limits (opening_whole limits apps) history
 
 -- Read off a history. --
 

@@ -153,7 +153,7 @@ cut_from limits history s p (e ∷ es) =
 
 -- what a history of so many applications is to pipe p, from the entry on that made it
 abbrev pub cut : Limits → ℕ → ℕ → List Entry → List Input
-cut limits apps p history = cut_from limits [] (opening apps) p history
+cut limits apps p history = cut_from limits [] (opening limits apps) p history
 
 -- What pipe p's owner receives. --
 
@@ -180,7 +180,7 @@ receipts_from limits history s p (e ∷ es) =
 
 -- the messages that a history of so many applications gives from pipe p, in order
 abbrev pub receipts : Limits → ℕ → ℕ → List Entry → List Received
-receipts limits apps p history = receipts_from limits [] (opening apps) p history
+receipts limits apps p history = receipts_from limits [] (opening limits apps) p history
 
 -- an entry that follows a history gives this message from pipe p: it is the pipe's last, and the newest that the pipe
 -- alone gives

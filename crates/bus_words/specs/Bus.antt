@@ -1,10 +1,12 @@
 -- The state of the software bus (cFE Software Bus; packets by CCSDS 133.0-B, 4.1). Pipes keep copies of the
 -- messages sent to them; nothing here is shared.
-use Rattle.std.specs.Prelude.{ℕ, ◌+◌, ◌-◌, ◌%◌, ◌==◌, ◌&&◌, nat_le, Bool, true, false, List, [], ◌∷◌, ◌++◌, length, drop, map, filter, find, count_by, replicate, slice_set, slice_index_or, Option, Some, None, if◌then◌else◌}
+use Rattle.std.specs.Prelude.{◌≡◌, ℕ, ◌≤◌, All, ◌+◌, ◌-◌, ◌%◌, ◌==◌, ◌&&◌, nat_le, Bool, true, false, List, [], ◌∷◌, ◌++◌, length, drop, map, filter, find, count_by, replicate, slice_set, slice_index_or, Option, Some, None, if◌then◌else◌}
 use Rattle.std.specs.List.{list_any, list_all}
 use Rattle.std.specs.Option.{option_map_or}
 use Rattle.std.specs.Str.{bytes_eq}
+use Rattle.fsw_base.specs.Limits.{Limits}
 use Rattle.fsw_base.specs.declared.config.Scope.{Scope}
+use Rattle.pool_words.specs.Grants.{Pools, IsCounted}
 
 -- A message that is queued for one subscription: its send number, the size first asked for, the subscription's number, its bytes.
 pub record Item : Type 0 where
@@ -42,7 +44,8 @@ pub data Standing : Type 0 where
   Ended : Standing
 
 -- The bus: the live pipes and how many were created, the live subscriptions and how many were made, each in order of
--- number; the ids that have a route; how many send numbers were given; and the standing of each application, from 1.
+-- number; the ids that have a route; how many send numbers were given; the standing of each application, from 1; and the
+-- memory pools of applications.
 pub record State : Type 0 where
   pub pipes : List Pipe
   pub pipes_created : ℕ
@@ -51,10 +54,11 @@ pub record State : Type 0 where
   pub routed : List ℕ
   pub numbers_given : ℕ
   pub standings : List Standing
+  pub pools : Pools
 
 -- before the first call of so many applications
-abbrev pub opening : ℕ → State
-opening apps = record {
+abbrev pub opening : Limits → ℕ → State
+opening limits apps = record {
   pipes = [];
   pipes_created = 0;
   subscriptions = [];
@@ -62,7 +66,17 @@ opening apps = record {
   routed = [];
   numbers_given = 0;
   standings = replicate apps Active;
+  pools = record { most = limits.apppool; sizes = limits.sizes; pools = [] };
 }
+
+-- the memory pools of a bus after so many entries: they have the limits' block sizes, each is counted, and each gave at most as
+-- many grants as there are entries
+pub record ArePools (limits : Limits) (entries : ℕ) (pools : Pools) : Type 0 where
+  pub most : pools.most ≡ limits.apppool
+  pub sizes : pools.sizes ≡ limits.sizes
+  pub few : length pools.pools ≤ 8
+  pub counted : All IsCounted pools.pools
+  pub given : All (λ pool. pool.given ≤ entries) pools.pools
 
 -- the standing of an application; one that the bus doesn't know has ended
 abbrev pub standing_of : State → ℕ → Standing

@@ -1,10 +1,10 @@
 -- Entries as whole lists: what a borrowing entry stands for.
-use Rattle.std.specs.Prelude.{ℕ, length}
+use Rattle.std.specs.Prelude.{ℕ, List, [], length}
 use Rattle.bus_words.specs.declared.calls.BusCall.{BusCall}
 use Rattle.bus_words.specs.declared.calls.BusCall.TheVariants as borrowed
 use Rattle.bus_words.specs.declared.calls.BusEntry.{BusEntry}
 use Rattle.bus_words.specs.declared.history.Call.{Call}
-use Rattle.bus_words.specs.declared.history.Call.TheVariants.{Create, Delete, SetOpts, GetOpts, Find, PipeName, Subscribe, Unsubscribe, Transmit, Receive, Pend, Look, End}
+use Rattle.bus_words.specs.declared.history.Call.TheVariants.{Create, Delete, SetOpts, GetOpts, Find, PipeName, Subscribe, Unsubscribe, Transmit, Receive, Pend, Look, PoolCreate, PoolGet, PoolPut, PoolFigures, End}
 use Rattle.bus_words.specs.declared.history.Entry.{Entry}
 
 -- the call with its bytes
@@ -21,24 +21,36 @@ call_of (borrowed.Transmit bytes inc) = Transmit bytes.now inc
 call_of (borrowed.Receive pipe) = Receive pipe
 call_of (borrowed.Pend pipe) = Pend pipe
 call_of (borrowed.Look pipe) = Look pipe
+call_of (borrowed.PoolCreate bytes) = PoolCreate bytes
+call_of (borrowed.PoolGet pool size) = PoolGet pool size
+call_of (borrowed.PoolPut pool grant) = PoolPut pool grant
+call_of (borrowed.PoolFigures pool) = PoolFigures pool
 call_of borrowed.End = End
 
 -- the entry with its bytes
 abbrev pub entry_of : BusEntry → Entry
 entry_of e = record { app = e.app; call = call_of e.call; answer = e.answer }
 
--- the bytes of a call: its name or its message
+-- the bytes that a call brings: its name or its message
+abbrev pub call_text : Call → List ℕ
+call_text (Create depth name) = name
+call_text (Delete pipe) = []
+call_text (SetOpts pipe bits) = []
+call_text (GetOpts pipe) = []
+call_text (Find name) = name
+call_text (PipeName pipe) = []
+call_text (Subscribe id pipe limit scope) = []
+call_text (Unsubscribe id pipe) = []
+call_text (Transmit bytes inc) = bytes
+call_text (Receive pipe) = []
+call_text (Pend pipe) = []
+call_text (Look pipe) = []
+call_text (PoolCreate bytes) = []
+call_text (PoolGet pool size) = []
+call_text (PoolPut pool grant) = []
+call_text (PoolFigures pool) = []
+call_text End = []
+
+-- how many they are
 abbrev pub call_bytes : Call → ℕ
-call_bytes (Create depth name) = length name
-call_bytes (Delete pipe) = 0
-call_bytes (SetOpts pipe bits) = 0
-call_bytes (GetOpts pipe) = 0
-call_bytes (Find name) = length name
-call_bytes (PipeName pipe) = 0
-call_bytes (Subscribe id pipe limit scope) = 0
-call_bytes (Unsubscribe id pipe) = 0
-call_bytes (Transmit bytes inc) = length bytes
-call_bytes (Receive pipe) = 0
-call_bytes (Pend pipe) = 0
-call_bytes (Look pipe) = 0
-call_bytes End = 0
+call_bytes call = length (call_text call)

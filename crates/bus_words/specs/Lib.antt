@@ -6,5 +6,6 @@ pub mod Log
 pub mod Machine
 pub mod ReceiptLists
 pub mod Receipts
+pub mod Refusals
 pub mod Inside
 pub mod Runs

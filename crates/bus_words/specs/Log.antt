@@ -1,59 +1,24 @@
 -- What a journal stands for: the budgets of its applications, and its entries. What each may still add follows.
-use Rattle.std.specs.Prelude.{ℕ, ◌-◌, ◌^◌, ◌<◌, ◌≤◌, List, [], ◌∷◌, ◌++◌, length, map, sum_by, slice_index_or, slice_set}
+use Rattle.std.specs.Prelude.{List, [], ◌∷◌, ◌++◌, map}
 use Rattle.fsw_base.specs.declared.config.Budget.{Budget}
+use Rattle.journal_store.specs.declared.allowance.Allowance.{Allowance}
+use Rattle.journal_store.specs.Budgets.{Charge, allowances, left_from}
 use Rattle.bus_words.specs.declared.history.Entry.{Entry}
-use Rattle.bus_words.specs.declared.journal.Allowance.{Allowance}
 use Rattle.bus_words.specs.Entries.{call_bytes}
-
--- one to sixteen budgets, whose entries, bytes and buffers each add up to less than 2^32
-pub record AreBudgets (budgets : List Budget) : Type 0 where
-  pub some : 1 ≤ length budgets
-  pub few : length budgets ≤ 16
-  pub entries : sum_by (λ budget. budget.entries) budgets < 2 ^ 32
-  pub bytes : sum_by (λ budget. budget.bytes) budgets < 2 ^ 32
-  pub buffers : sum_by (λ budget. budget.buffers) budgets < 2 ^ 32
 
 -- The budgets of the applications 1, 2, 3 and so on, which never change, and the entries in order.
 pub record Log : Type 0 where
   pub budgets : List Budget
   pub entries : List Entry
 
--- what applications with these budgets may add
-abbrev pub allowances : List Budget → List Allowance
-allowances budgets = map (λ budget. record { entries = budget.entries; bytes = budget.bytes }) budgets
-
--- what an application, from 1, may still add; one that is not known may add nothing
-abbrev pub allowance_of : List Allowance → ℕ → Allowance
-allowance_of left app = slice_index_or left (app - 1) (record { entries = 0; bytes = 0 })
-
--- an entry of so many bytes may be added for the application
-pub record HasRoom (left : List Allowance) (app bytes : ℕ) : Type 0 where
-  pub known : app ≤ length left
-  pub one_entry : 1 ≤ (allowance_of left app).entries
-  pub its_bytes : bytes ≤ (allowance_of left app).bytes
-
--- one entry of so many bytes less for the application
-abbrev pub charged : List Allowance → ℕ → ℕ → List Allowance
-charged left app bytes =
-    slice_set left (app - 1) (record { entries = (allowance_of left app).entries - 1; bytes = (allowance_of left app).bytes - bytes })
-
--- what is left of these allowances once these entries were made
-abbrev pub left_from : List Allowance → List Entry → List Allowance
-left_from left [] = left
-left_from left (e ∷ es) = left_from (charged left e.app (call_bytes e.call)) es
+-- what an entry takes of its application's budget
+abbrev pub charge_of : Entry → Charge
+charge_of e = record { app = e.app; bytes = call_bytes e.call }
 
 -- what each application may still add: its budget's entries and bytes, less those of its entries
 abbrev pub left_of : Log → List Allowance
-left_of log = left_from (allowances log.budgets) log.entries
+left_of log = left_from (allowances log.budgets) (map charge_of log.entries)
 
 -- the journal with one more entry
 abbrev pub with_entry : Log → Entry → Log
 with_entry log e = record log { entries = log.entries ++ e ∷ [] }
-
--- how many entries may still be added in all
-abbrev pub entries_left : List Allowance → ℕ
-entries_left left = sum_by (λ allowance. allowance.entries) left
-
--- how many bytes may still be added in all
-abbrev pub bytes_left : List Allowance → ℕ
-bytes_left left = sum_by (λ allowance. allowance.bytes) left

@@ -1,17 +1,22 @@
 -- The bus as a machine: why a call is refused, what it answers and what it changes, and which histories are legal.
 use Rattle.std.specs.Prelude.{◌≡◌, ℕ, ◌+◌, ◌-◌, ◌%◌, ◌==◌, ◌&&◌, ◌||◌, not, nat_le, nat_lt, Bool, true, false, List, [], ◌∷◌, ◌++◌, length, filter, count_by, slice_set, Option, Some, None, is_some, IsTrue, if◌then◌else◌}
-use Rattle.std.specs.Option.{option_map_or}
+use Rattle.std.specs.Option.{option_map, option_map_or}
 use Rattle.fsw_base.specs.declared.config.Scope.{Scope}
 use Rattle.fsw_base.specs.Limits.{Limits}
 use Rattle.fsw_base.specs.Starts.{start_of}
 use Rattle.fsw_base.specs.declared.statuses.SbStatus.{SbStatus}
 use Rattle.fsw_base.specs.declared.statuses.SbStatus.TheVariants.{BadArgument, MaxPipesMet, PipeCrErr, MaxMsgsMet, MaxDestsMet, MsgTooBig, NoMessage}
+use Rattle.fsw_base.specs.declared.statuses.EsStatus.{EsStatus}
+use Rattle.fsw_base.specs.declared.statuses.EsStatus.TheVariants.{ErrMemBlockSize, BufferNotInPool, PoolBlockInvalid, NoPool}
+use Rattle.fsw_base.specs.PoolAccounts.{has_room}
+use Rattle.pool_words.specs.Grants.{is_pool, pool_in, with_pool, refuses_pool, after_create, was_given, is_among, after_get, after_put, figures_of, all_after_end}
 use Rattle.ccsds_msg.specs.Message.{fault, message_id, with_count, is_valid_id}
 use Rattle.bus_words.specs.declared.calls.BusAnswer.{BusAnswer}
-use Rattle.bus_words.specs.declared.calls.BusAnswer.TheVariants.{Done, Number, Name, Sent, Got, TimeOut, Pending, Sb}
+use Rattle.bus_words.specs.declared.calls.BusAnswer.TheVariants.{Done, Number, Name, Sent, Got, TimeOut, Pending, Pool}
 use Rattle.bus_words.specs.declared.history.Call.{Call}
-use Rattle.bus_words.specs.declared.history.Call.TheVariants.{Create, Delete, SetOpts, GetOpts, Find, PipeName, Subscribe, Unsubscribe, Transmit, Receive, Pend, Look, End}
+use Rattle.bus_words.specs.declared.history.Call.TheVariants.{Create, Delete, SetOpts, GetOpts, Find, PipeName, Subscribe, Unsubscribe, Transmit, Receive, Pend, Look, PoolCreate, PoolGet, PoolPut, PoolFigures, End}
 use Rattle.bus_words.specs.declared.history.Entry.{Entry}
+use Rattle.bus_words.specs.Refusals.{Refusal, OfBus, OfPools, refusal_answer}
 use Rattle.bus_words.specs.Bus.{Pipe, Subscription, State, Standing, Active, Waiting, Ended, Sending, opening, standing_of, pipe_at, pipe_named, is_live, is_named, owns, with_pipe, with_bits, with_standing, route, is_subscribed, has_route, is_empty, others_idle, deliver, reached, oldest, after_receive}
 
 -- Sequence counts (CCSDS 133.0-B, 4.1.3.4.3). --
@@ -45,7 +50,7 @@ delivered limits history bytes inc = stamped (reads_after limits history) bytes 
 -- Refusals. Each call has its own, in the order in which they are tried. --
 
 -- this refusal where the test is true, else the ones that follow
-abbrev pub refused_if : Bool → SbStatus → Option SbStatus → Option SbStatus
+abbrev pub refused_if : {A : Type 0} → Bool → A → Option A → Option A
 refused_if test status others = if test then Some status else others
 
 abbrev pub create_cause : Limits → State → ℕ → List ℕ → Option SbStatus
@@ -89,24 +94,55 @@ receive_cause s app pipe =
     refused_if (not (owns s.pipes app pipe)) BadArgument
     (refused_if (is_empty s.pipes pipe) NoMessage None)
 
+abbrev pub pool_create_cause : State → ℕ → Option EsStatus
+pool_create_cause s bytes = refused_if (refuses_pool s.pools bytes) ErrMemBlockSize None
+
+abbrev pub pool_get_cause : State → ℕ → ℕ → Option EsStatus
+pool_get_cause s pool size =
+    refused_if (not (is_pool s.pools pool)) NoPool
+    (refused_if (not (has_room (pool_in s.pools pool).account size)) ErrMemBlockSize None)
+
+-- where the pool wasn't created, never gave the grant, or the grant isn't out any more
+abbrev pub pool_put_cause : State → ℕ → ℕ → Option EsStatus
+pool_put_cause s pool grant =
+    refused_if (not (is_pool s.pools pool)) NoPool
+    (refused_if (not (was_given (pool_in s.pools pool) grant)) BufferNotInPool
+    (refused_if (not (is_among (pool_in s.pools pool).out grant)) PoolBlockInvalid None))
+
+-- where no pool of this number was created
+abbrev pub no_pool_cause : State → ℕ → Option EsStatus
+no_pool_cause s pool = refused_if (not (is_pool s.pools pool)) NoPool None
+
+-- a refusal of the bus, if there is one
+abbrev pub by_bus : Option SbStatus → Option Refusal
+by_bus why = option_map OfBus why
+
+-- a refusal of the memory pools, if there is one
+abbrev pub by_pools : Option EsStatus → Option Refusal
+by_pools why = option_map OfPools why
+
 -- the first refusal whose condition holds
-abbrev pub cause_with : Reads → Limits → State → ℕ → Call → Option SbStatus
-cause_with reads limits s app (Create depth name) = create_cause limits s depth name
-cause_with reads limits s app (Delete pipe) = unowned_cause s app pipe
-cause_with reads limits s app (SetOpts pipe bits) = set_opts_cause s app pipe bits
-cause_with reads limits s app (GetOpts pipe) = dead_cause s pipe
-cause_with reads limits s app (Find name) = find_cause s name
-cause_with reads limits s app (PipeName pipe) = dead_cause s pipe
-cause_with reads limits s app (Subscribe id pipe limit scope) = subscribe_cause limits s app id pipe
-cause_with reads limits s app (Unsubscribe id pipe) = unsubscribe_cause s app id pipe
-cause_with reads limits s app (Transmit bytes inc) = transmit_cause limits s bytes
-cause_with reads limits s app (Receive pipe) = receive_cause s app pipe
-cause_with reads limits s app (Pend pipe) = unowned_cause s app pipe
+abbrev pub cause_with : Reads → Limits → State → ℕ → Call → Option Refusal
+cause_with reads limits s app (Create depth name) = by_bus (create_cause limits s depth name)
+cause_with reads limits s app (Delete pipe) = by_bus (unowned_cause s app pipe)
+cause_with reads limits s app (SetOpts pipe bits) = by_bus (set_opts_cause s app pipe bits)
+cause_with reads limits s app (GetOpts pipe) = by_bus (dead_cause s pipe)
+cause_with reads limits s app (Find name) = by_bus (find_cause s name)
+cause_with reads limits s app (PipeName pipe) = by_bus (dead_cause s pipe)
+cause_with reads limits s app (Subscribe id pipe limit scope) = by_bus (subscribe_cause limits s app id pipe)
+cause_with reads limits s app (Unsubscribe id pipe) = by_bus (unsubscribe_cause s app id pipe)
+cause_with reads limits s app (Transmit bytes inc) = by_bus (transmit_cause limits s bytes)
+cause_with reads limits s app (Receive pipe) = by_bus (receive_cause s app pipe)
+cause_with reads limits s app (Pend pipe) = by_bus (unowned_cause s app pipe)
 cause_with reads limits s app (Look pipe) = None
+cause_with reads limits s app (PoolCreate bytes) = by_pools (pool_create_cause s bytes)
+cause_with reads limits s app (PoolGet pool size) = by_pools (pool_get_cause s pool size)
+cause_with reads limits s app (PoolPut pool grant) = by_pools (pool_put_cause s pool grant)
+cause_with reads limits s app (PoolFigures pool) = by_pools (no_pool_cause s pool)
 cause_with reads limits s app End = None
 
 -- the first refusal after a history
-abbrev pub cause : Limits → List Entry → State → ℕ → Call → Option SbStatus
+abbrev pub cause : Limits → List Entry → State → ℕ → Call → Option Refusal
 cause limits history s app call = cause_with (reads_after limits history) limits s app call
 
 -- What a call that isn't refused answers and changes. --
@@ -196,12 +232,28 @@ looked s app pipe =
     if is_empty s.pipes pipe && not (others_idle s app) then s
     else with_standing (received s pipe) app Active
 
--- the application's pipes with their subscriptions leave
+-- a new pool; its number is one more than there are
+abbrev pub pool_created : State → ℕ → BusAnswer × State
+pool_created s bytes = (Number (length s.pools.pools + 1), record s { pools = after_create s.pools bytes })
+
+-- a grant of the pool, numbered one more than it gave
+abbrev pub pool_given : State → ℕ → ℕ → ℕ → BusAnswer × State
+pool_given s app pool size = (
+  Number ((pool_in s.pools pool).given + 1),
+  record s { pools = with_pool s.pools pool (after_get (pool_in s.pools pool) app size) },
+)
+
+-- the bus after a return to the pool, if there is one: the grant is back, or the return is counted as refused
+abbrev pub pool_returned : State → ℕ → ℕ → State
+pool_returned s pool grant = record s { pools = with_pool s.pools pool (after_put (pool_in s.pools pool) grant) }
+
+-- the application's pipes with their subscriptions leave, and its grants come back
 abbrev pub ended : State → ℕ → State
 ended s app = record s {
   pipes = filter (λ pipe. not (pipe.owner == app)) s.pipes;
   subscriptions = filter (λ sub. not (owns s.pipes app sub.pipe)) s.subscriptions;
   standings = slice_set s.standings (app - 1) Ended;
+  pools = all_after_end app s.pools;
 }
 
 abbrev pub accept_with : Reads → Limits → State → ℕ → Call → BusAnswer × State
@@ -217,24 +269,30 @@ accept_with reads limits s app (Transmit bytes inc) = transmitted reads s app by
 accept_with reads limits s app (Receive pipe) = (Got (oldest_number s.pipes pipe), received s pipe)
 accept_with reads limits s app (Pend pipe) = (pended_answer s app pipe, pended s app pipe)
 accept_with reads limits s app (Look pipe) = (pended_answer s app pipe, looked s app pipe)
+accept_with reads limits s app (PoolCreate bytes) = pool_created s bytes
+accept_with reads limits s app (PoolGet pool size) = pool_given s app pool size
+accept_with reads limits s app (PoolPut pool grant) = (Done, pool_returned s pool grant)
+accept_with reads limits s app (PoolFigures pool) = (Pool (figures_of (pool_in s.pools pool)), s)
 accept_with reads limits s app End = (Done, ended s app)
 
 -- what a call that isn't refused answers and changes after a history
 abbrev pub accept : Limits → List Entry → State → ℕ → Call → BusAnswer × State
 accept limits history s app call = accept_with (reads_after limits history) limits s app call
 
--- A refused call changes nothing, but that a receive that finds no message has released the last one.
-abbrev pub refused_state : State → Call → SbStatus → State
-refused_state s (Receive pipe) NoMessage = received s pipe
-refused_state s call status = s
+-- A refused call changes nothing, but that a receive that finds no message has released the last one, and that a pool counts
+-- the returns that were refused.
+abbrev pub refused_state : State → Call → Refusal → State
+refused_state s (Receive pipe) (OfBus NoMessage) = received s pipe
+refused_state s (PoolPut pool grant) why = pool_returned s pool grant
+refused_state s call why = s
 
 -- Steps and histories. --
 
-abbrev pub decided_with : Reads → Limits → State → ℕ → Call → Option SbStatus → BusAnswer × State
-decided_with reads limits s app call (Some status) = (Sb status, refused_state s call status)
+abbrev pub decided_with : Reads → Limits → State → ℕ → Call → Option Refusal → BusAnswer × State
+decided_with reads limits s app call (Some why) = (refusal_answer why, refused_state s call why)
 decided_with reads limits s app call None = accept_with reads limits s app call
 
-abbrev pub decided : Limits → List Entry → State → ℕ → Call → Option SbStatus → BusAnswer × State
+abbrev pub decided : Limits → List Entry → State → ℕ → Call → Option Refusal → BusAnswer × State
 decided limits history s app call why = decided_with (reads_after limits history) limits s app call why
 
 -- what the call answers where it sees this beside the bus, and the bus afterwards
@@ -252,7 +310,7 @@ state_from limits history s (e ∷ es) = state_from limits (history ++ e ∷ [])
 
 -- the bus after a history of so many applications
 abbrev pub state_after : Limits → ℕ → List Entry → State
-state_after limits apps history = state_from limits [] (opening apps) history
+state_after limits apps history = state_from limits [] (opening limits apps) history
 
 -- whether an application may make this call: a look while it waits on that pipe, its end while it hasn't ended, every
 -- other call while it is active
@@ -281,4 +339,4 @@ LegalFrom limits history s (e ∷ es) =
 
 -- a history that the bus can have
 abbrev pub IsLegal : Limits → ℕ → List Entry → Type 0
-IsLegal limits apps history = LegalFrom limits [] (opening apps) history
+IsLegal limits apps history = LegalFrom limits [] (opening limits apps) history

@@ -2,7 +2,7 @@
 ghost use Rattle.std.specs.Prelude.{◌≡◌};
 
 use crate::pipe_text::PipeText;
-use fsw_base::{AppNo, SbStatus, Scope};
+use fsw_base::{AppNo, EsStatus, PoolStats, SbStatus, Scope};
 
 /// A call of the software bus by one application, with its bytes borrowed (cFE Software Bus).
 #[derive(Clone, Copy, Debug)]
@@ -81,6 +81,30 @@ pub enum BusCall<'a> {
         /// The pipe's number.
         pipe: u32,
     },
+    /// Creates a memory pool of applications.
+    PoolCreate {
+        /// Its bytes.
+        bytes: u32,
+    },
+    /// Asks for a grant of a pool's block.
+    PoolGet {
+        /// The pool's number.
+        pool: u32,
+        /// How many bytes the block must have at least.
+        size: u32,
+    },
+    /// Gives a grant back, whichever application it was given to.
+    PoolPut {
+        /// The pool's number.
+        pool: u32,
+        /// The grant's number.
+        grant: u32,
+    },
+    /// Asks for a pool's figures.
+    PoolFigures {
+        /// The pool's number.
+        pool: u32,
+    },
     /// The application's last call.
     End,
 }
@@ -90,7 +114,8 @@ pub enum BusCall<'a> {
 pub enum BusAnswer {
     /// Done, with nothing to tell.
     Done,
-    /// The number of the pipe that was made or found, or the option bits asked for.
+    /// The number of the pipe that was made or found, of the pool that was created, or of the
+    /// grant; or the option bits asked for.
     Number(u32),
     /// The name asked for.
     Name(PipeText),
@@ -108,8 +133,12 @@ pub enum BusAnswer {
     TimeOut,
     /// No message is there yet; the application waits.
     Pending,
-    /// Refused.
+    /// The pool's figures.
+    Pool(PoolStats),
+    /// Refused by the bus.
     Sb(SbStatus),
+    /// Refused by the memory pools.
+    Es(EsStatus),
 }
 
 impl BusAnswer {
@@ -128,7 +157,9 @@ impl BusAnswer {
             BusAnswer::Got(number) => BusAnswer::Got(*number),
             BusAnswer::TimeOut => BusAnswer::TimeOut,
             BusAnswer::Pending => BusAnswer::Pending,
+            BusAnswer::Pool(figures) => BusAnswer::Pool(*figures),
             BusAnswer::Sb(status) => BusAnswer::Sb(*status),
+            BusAnswer::Es(status) => BusAnswer::Es(*status),
         }
     }
 }

@@ -82,6 +82,30 @@ pub enum Call {
         /// The pipe's number.
         pipe: u32,
     },
+    /// Creates a memory pool of applications.
+    PoolCreate {
+        /// Its bytes.
+        bytes: u32,
+    },
+    /// Asks for a grant of a pool's block.
+    PoolGet {
+        /// The pool's number.
+        pool: u32,
+        /// How many bytes the block must have at least.
+        size: u32,
+    },
+    /// Gives a grant back, whichever application it was given to.
+    PoolPut {
+        /// The pool's number.
+        pool: u32,
+        /// The grant's number.
+        grant: u32,
+    },
+    /// Asks for a pool's figures.
+    PoolFigures {
+        /// The pool's number.
+        pool: u32,
+    },
     /// Ends the application.
     End,
 }

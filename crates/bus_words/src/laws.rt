@@ -1,9 +1,9 @@
 //! What holds of every history of the bus, whoever kept it.
-ghost use Rattle.std.specs.Prelude.{◌≡◌, ℕ, List, [], ◌∷◌, ◌++◌, true, IsTrue};
+ghost use Rattle.std.specs.Prelude.{◌≡◌, ℕ, List, [], ◌∷◌, ◌++◌, length, true, IsTrue};
 ghost use Rattle.fsw_base.specs.Limits.{Limits};
 ghost use Rattle.bus_words.specs.declared.history.Call.{Call};
 ghost use Rattle.bus_words.specs.declared.history.Entry.{Entry};
-ghost use Rattle.bus_words.specs.Bus.{opening, standing_of};
+ghost use Rattle.bus_words.specs.Bus.{ArePools, opening, standing_of};
 ghost use Rattle.bus_words.specs.Machine.{reads_after, cause, cause_with, step, state_after, may_call, makes_entry, IsLegal};
 ghost use Rattle.bus_words.specs.Acts.{AreAlike, act, reads_in, whole_after, whole_of};
 ghost use Rattle.bus_words.specs.Runs.{callers, stepped, Follows};
@@ -15,7 +15,7 @@ ghost use Rattle.bus_words.specs.Alone.{Received, Gives, unmade, solo_receipts, 
 pub fn histories_are_runs()
     ensures runs { (limits : Limits) (apps : ℕ) (history : List Entry) → IsLegal limits apps history
         →
-        stepped limits [] (opening apps) (callers history) ≡
+        stepped limits [] (opening limits apps) (callers history) ≡
         (history, state_after limits apps history) }
     ensures goes_on { (limits : Limits) (apps : ℕ) (history : List Entry) (e : Entry) →
         IsLegal limits apps history →
@@ -73,4 +73,12 @@ pub fn states_are_enough()
               } ∷ [])
               ((step limits history (state_after limits apps history) app call).1),
         ) }
+{}
+
+/// The memory pools of the bus have the sizes and the bytes that the limits say, whatever was
+/// called; in each the grants that are out are as many of each block size as its account says, and
+/// no pool gave more grants than there are entries. Does nothing.
+pub fn pools_are_counted()
+    ensures { (limits : Limits) (apps : ℕ) (history : List Entry) →
+        ArePools limits (length history) (state_after limits apps history).pools }
 {}

@@ -21,8 +21,9 @@ mod receipts;
 
 pub use calls::{BusAnswer, BusCall, BusEntry};
 pub use history::{Call, Entry};
-pub use journal::{Allowance, BusJournal};
-pub use laws::{histories_are_runs, pipes_stand_alone, states_are_enough};
+pub use journal::BusJournal;
+pub use journal_store::Allowance;
+pub use laws::{histories_are_runs, pipes_stand_alone, pools_are_counted, states_are_enough};
 pub use pipe_text::{NAME_BYTES, PipeText};
 pub use receipts::{HEAD_BYTES, Head, Receipt, ReceiptList};
 

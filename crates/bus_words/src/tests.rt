@@ -1,19 +1,20 @@
 //! A journal and a list of receipts on their happy path.
 ghost use Rattle.std.specs.Prelude.{◌≡◌, ◌<◌, ◌≤◌, ◌↔◌, IsTrue, length};
 ghost use Rattle.bus_words.specs.Entries.{call_of, call_bytes};
-ghost use Rattle.bus_words.specs.Log.{HasRoom, left_of};
+ghost use Rattle.journal_store.specs.Budgets.{HasRoom};
+ghost use Rattle.bus_words.specs.Log.{left_of};
 
 use crate::{
     Allowance, BusAnswer, BusCall, BusEntry, BusJournal, Head, PipeText, Receipt, ReceiptList,
 };
-use fsw_base::{AppNo, Budget, SbStatus, Scope};
+use fsw_base::{AppNo, Budget, EsStatus, PoolStats, SbStatus, Scope};
 use std::alloc::{AllocError, Global};
 use std::test::Fail;
 
 #[test]
 fn journal_gives_back_each_kind_of_call(rt: HostRuntime) -> Result<(), Fail> {
     let budget = Budget {
-        entries: 14,
+        entries: 19,
         bytes: 24,
         buffers: 0,
     };
@@ -68,6 +69,22 @@ fn journal_gives_back_each_kind_of_call(rt: HostRuntime) -> Result<(), Fail> {
         (BusCall::Pend { pipe: 1 }, BusAnswer::Pending),
         (BusCall::Look { pipe: 1 }, BusAnswer::TimeOut),
         (BusCall::Delete { pipe: 1 }, BusAnswer::Done),
+        (BusCall::PoolCreate { bytes: 512 }, BusAnswer::Number(1)),
+        (BusCall::PoolGet { pool: 1, size: 60 }, BusAnswer::Number(1)),
+        (BusCall::PoolPut { pool: 1, grant: 1 }, BusAnswer::Done),
+        (
+            BusCall::PoolPut { pool: 1, grant: 1 },
+            BusAnswer::Es(EsStatus::PoolBlockInvalid),
+        ),
+        (
+            BusCall::PoolFigures { pool: 1 },
+            BusAnswer::Pool(PoolStats {
+                size: 512,
+                requests: 1,
+                errors: 1,
+                free: 432,
+            }),
+        ),
         (BusCall::End, BusAnswer::Done),
     ];
     for (call, answer) in &rows {
@@ -78,7 +95,7 @@ fn journal_gives_back_each_kind_of_call(rt: HostRuntime) -> Result<(), Fail> {
         };
         assert!(rt; keeps(rt.alloc(), &mut journal, &entry)?, "at {entry:?}");
     }
-    assert_eq!(rt; journal.len(), 14);
+    assert_eq!(rt; journal.len(), 19);
     Ok(())
 }
 
@@ -126,6 +143,10 @@ fn call_len(call: &BusCall<'_>) -> usize
         | BusCall::Receive { .. }
         | BusCall::Pend { .. }
         | BusCall::Look { .. }
+        | BusCall::PoolCreate { .. }
+        | BusCall::PoolGet { .. }
+        | BusCall::PoolPut { .. }
+        | BusCall::PoolFigures { .. }
         | BusCall::End => 0,
     }
 }

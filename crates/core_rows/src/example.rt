@@ -24,13 +24,15 @@ pub enum Limit {
     Depth(u32),
     /// A message id, and the sequence count at which it starts.
     Start(u16, u16),
+    /// The block sizes of every memory pool.
+    Sizes(&'static [u32]),
 }
 
 /// An application's number, and what it does.
 pub type Step = (u32, Act);
 
-/// What an application does: a call of the bus, or a look at a receipt. A pipe stands by its
-/// number.
+/// What an application does: a call of the bus, or a look at a receipt. A pipe, a memory pool and a
+/// grant stand by their numbers.
 pub enum Act {
     /// Makes a pipe of this depth and name.
     Create(u32, &'static [u8]),
@@ -58,6 +60,14 @@ pub enum Act {
     Pend(u32),
     /// Looks again, while it waits on a pipe.
     Look(u32),
+    /// Creates a memory pool of so many bytes.
+    PoolCreate(u32),
+    /// Asks a pool for a grant of so many bytes.
+    PoolGet(u32, u32),
+    /// Gives a pool's grant back.
+    PoolPut(u32, u32),
+    /// Asks for a pool's figures.
+    PoolFigures(u32),
     /// Makes its last call.
     End,
     /// Tells a pipe's last message.

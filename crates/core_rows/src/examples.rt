@@ -1,13 +1,13 @@
 //! The examples.
 use crate::example::Act::{
-    Create, Delete, End, Find, GetOpts, Look, Pend, PipeName, Receive, Send, SendRaw, SetOpts,
-    Show, Subscribe, Unsubscribe,
+    Create, Delete, End, Find, GetOpts, Look, Pend, PipeName, PoolCreate, PoolFigures, PoolGet,
+    PoolPut, Receive, Send, SendRaw, SetOpts, Show, Subscribe, Unsubscribe,
 };
 use crate::example::Example;
-use crate::example::Limit::{Dests, MsgIds, Pipes, Start};
+use crate::example::Limit::{Dests, MsgIds, Pipes, Sizes, Start};
 
 /// The examples, in the order in which they are printed.
-pub static EXAMPLES: [Example; 14] = [
+pub static EXAMPLES: [Example; 16] = [
     Example {
         title: "a message limit",
         limits: &[],
@@ -260,6 +260,56 @@ pub static EXAMPLES: [Example; 14] = [
             (1, End),
             (2, PipeName(1)),
             (2, End),
+        ],
+    },
+    Example {
+        title: "a memory pool",
+        limits: &[Sizes(&[32, 64])],
+        apps: 1,
+        steps: &[
+            (1, PoolCreate(176)),
+            (1, PoolGet(1, 64)),
+            (1, PoolGet(1, 64)),
+            (1, PoolPut(1, 2)),
+            (1, PoolGet(1, 32)),
+            (1, PoolPut(1, 2)),
+            (1, PoolGet(1, 65)),
+            (1, PoolGet(1, 40)),
+            (1, PoolPut(1, 5)),
+            (1, PoolFigures(1)),
+            (1, PoolGet(2, 8)),
+            (1, PoolPut(2, 1)),
+            (1, PoolFigures(2)),
+            (1, End),
+        ],
+    },
+    Example {
+        title: "grants that come back at an end",
+        limits: &[Sizes(&[32, 64])],
+        apps: 2,
+        steps: &[
+            (1, PoolCreate(47)),
+            (1, PoolCreate(65537)),
+            (1, PoolCreate(160)),
+            (2, PoolCreate(48)),
+            (1, PoolGet(1, 64)),
+            (2, PoolGet(1, 64)),
+            (2, PoolGet(1, 8)),
+            (2, PoolGet(2, 32)),
+            (1, PoolPut(2, 1)),
+            (2, End),
+            (1, PoolPut(1, 2)),
+            (1, PoolGet(1, 33)),
+            (1, PoolFigures(1)),
+            (1, PoolFigures(2)),
+            (1, PoolCreate(48)),
+            (1, PoolCreate(48)),
+            (1, PoolCreate(48)),
+            (1, PoolCreate(48)),
+            (1, PoolCreate(48)),
+            (1, PoolCreate(48)),
+            (1, PoolCreate(48)),
+            (1, End),
         ],
     },
 ];

@@ -1,8 +1,8 @@
 //! A bus before the first call.
-ghost use Rattle.bus_words.specs.Log.{AreBudgets};
+ghost use Rattle.journal_store.specs.Budgets.{AreBudgets};
 
 use crate::example::Limit;
-use fsw_base::{Budget, Config, CountStarts};
+use fsw_base::{BlockSizes, Budget, Config, CountStarts};
 
 // What each application may add: more than any example asks for.
 const BUDGET: Budget = Budget {
@@ -40,6 +40,11 @@ fn set_limit(config: &mut Config, limit: &Limit) {
         Limit::Start(id, count) => {
             if let Some(starts) = CountStarts::try_new(&[(*id, *count)]) {
                 config.starts = starts;
+            }
+        }
+        Limit::Sizes(sizes) => {
+            if let Some(sizes) = BlockSizes::try_new(sizes) {
+                config.sizes = sizes;
             }
         }
     }

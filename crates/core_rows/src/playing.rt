@@ -72,6 +72,10 @@ pub fn make<L: Ledger>(
         BusCall::Receive { pipe } => core.receive(app, pipe).is_ok(),
         BusCall::Pend { pipe } => core.pend(app, pipe).is_ok(),
         BusCall::Look { pipe: _ } => core.look(app) != Pended::Pending,
+        BusCall::PoolCreate { bytes } => core.pool_create(app, bytes).is_ok(),
+        BusCall::PoolGet { pool, size } => core.pool_get(app, pool, size, steps).is_ok(),
+        BusCall::PoolPut { pool, grant } => core.pool_put(app, pool, grant, steps).is_ok(),
+        BusCall::PoolFigures { pool } => core.pool_stats(app, pool).is_ok(),
         BusCall::End => {
             core.end(app, steps);
             true
@@ -112,6 +116,16 @@ fn call_of<'b>(act: &Act, buffer: &'b mut [u8]) -> Option<BusCall<'b>> {
         Act::Receive(pipe) => BusCall::Receive { pipe: *pipe },
         Act::Pend(pipe) => BusCall::Pend { pipe: *pipe },
         Act::Look(pipe) => BusCall::Look { pipe: *pipe },
+        Act::PoolCreate(bytes) => BusCall::PoolCreate { bytes: *bytes },
+        Act::PoolGet(pool, size) => BusCall::PoolGet {
+            pool: *pool,
+            size: *size,
+        },
+        Act::PoolPut(pool, grant) => BusCall::PoolPut {
+            pool: *pool,
+            grant: *grant,
+        },
+        Act::PoolFigures(pool) => BusCall::PoolFigures { pool: *pool },
         Act::End => BusCall::End,
         Act::Show(_) => return None,
     })

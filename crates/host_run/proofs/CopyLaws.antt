@@ -1,10 +1,11 @@
 -- Copying a history entry by entry.
-use Rattle.std.proofs.Common.{◌≡◌, ℕ, zero, suc, ◌+◌, ◌-◌, ◌<◌, ◌≤◌, ◌&&◌, nat_le, Bool, true, false, cond, List, [], ◌∷◌, ◌++◌, take, drop, length, Some, slice_get, refl, ap, sym, ◌∙◌, arith, add-one}
+use Rattle.std.proofs.Common.{◌≡◌, ℕ, zero, suc, ◌+◌, ◌-◌, ◌<◌, ◌≤◌, ◌&&◌, nat_le, Bool, true, false, cond, List, [], ◌∷◌, ◌++◌, take, drop, length, map, Some, slice_get, refl, ap, sym, ◌∙◌, arith, add-one}
 use Rattle.std.proofs.lemmas.Bool.Decides.{nat_tests}
 use Rattle.bus_words.specs.declared.history.Entry.{Entry}
-use Rattle.bus_words.specs.declared.journal.Allowance.{Allowance}
+use Rattle.journal_store.specs.declared.allowance.Allowance.{Allowance}
 use Rattle.bus_words.specs.Entries.{call_bytes}
-use Rattle.bus_words.specs.Log.{Log, allowances, charged, left_from, left_of, with_entry}
+use Rattle.journal_store.specs.Budgets.{allowances, charged, left_from}
+use Rattle.bus_words.specs.Log.{Log, charge_of, left_of, with_entry}
 use Rattle.bus_words.proofs.Journals.{left_from-push}
 use Rattle.host_run.specs.Copies.{Copies, has_room, fits, is_within, with_copy, CopiesEntry}
 
@@ -73,4 +74,4 @@ one_more c history some within =
 -- what an empty journal leaves is what its budgets allow
 pub within-empty : (journal : Log) (history : List Entry) → journal.entries ≡ [] → fits (left_of journal) history ≡ is_within journal.budgets history
 unfolding is_within
-within-empty journal history empty = ap (λ es. fits (left_from (allowances journal.budgets) es) history) empty
+within-empty journal history empty = ap (λ es. fits (left_from (allowances journal.budgets) (map charge_of es)) history) empty

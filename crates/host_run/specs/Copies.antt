@@ -2,9 +2,10 @@
 use Rattle.std.specs.Prelude.{ℕ, ◌-◌, ◌≡◌, ◌&&◌, nat_le, Bool, true, false, List, [], ◌∷◌, ◌++◌, length, slice_get, Option, Some, None, if◌then◌else◌}
 use Rattle.fsw_base.specs.declared.config.Budget.{Budget}
 use Rattle.bus_words.specs.declared.history.Entry.{Entry}
-use Rattle.bus_words.specs.declared.journal.Allowance.{Allowance}
+use Rattle.journal_store.specs.declared.allowance.Allowance.{Allowance}
 use Rattle.bus_words.specs.Entries.{call_bytes}
-use Rattle.bus_words.specs.Log.{Log, allowances, allowance_of, charged, left_of, with_entry}
+use Rattle.journal_store.specs.Budgets.{allowances, allowance_of, charged}
+use Rattle.bus_words.specs.Log.{Log, left_of, with_entry}
 
 -- Copies of the histories shown: whether they are all there, how many more fit, and each application's budget in one.
 pub record Copies : Type 0 where

@@ -4,6 +4,8 @@
 mod audit;
 mod fault_line;
 mod mem_audit;
+#[cfg(test)]
+mod pool_tests;
 mod reading;
 mod reporting;
 mod serve;

@@ -1,6 +1,7 @@
 //! An audit in memory: copies of the journals that it is shown.
 ghost use Rattle.std.specs.Prelude.{◌≡◌, ℕ, ◌<◌, List, [], length, slice_get, All, IfOk, IsTrue, Some, vec_len};
-ghost use Rattle.bus_words.specs.Log.{AreBudgets, left_of};
+ghost use Rattle.journal_store.specs.Budgets.{AreBudgets};
+ghost use Rattle.bus_words.specs.Log.{left_of};
 ghost use Rattle.bus_words.specs.Entries.{call_of, call_bytes};
 ghost use Rattle.host_run.specs.Audit.{IsShown};
 ghost use Rattle.host_run.specs.Copies.{shown, no_copies, has_room, is_within, with_copy, CopiesEntry};
@@ -194,6 +195,10 @@ fn byte_count(call: BusCall<'_>) -> usize
         | BusCall::Receive { .. }
         | BusCall::Pend { .. }
         | BusCall::Look { .. }
+        | BusCall::PoolCreate { .. }
+        | BusCall::PoolGet { .. }
+        | BusCall::PoolPut { .. }
+        | BusCall::PoolFigures { .. }
         | BusCall::End => 0,
     }
 }

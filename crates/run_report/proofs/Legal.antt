@@ -2,12 +2,12 @@
 use Rattle.std.proofs.Common.{◌≡◌, ℕ, not, Bool, true, false, if◌then◌else◌, List, [], ◌∷◌, ◌++◌, Option, Some, None, All, IsTrue, refl, ap, ◌∙◌}
 use Rattle.std.proofs.lemmas.List.Elements.{All-cons, All-nil}
 use Rattle.fsw_base.specs.Limits.{Limits}
-use Rattle.fsw_base.specs.declared.statuses.SbStatus.{SbStatus}
-use Rattle.bus_words.specs.declared.calls.BusAnswer.TheVariants.{Got, TimeOut, Pending, Sb}
+use Rattle.bus_words.specs.declared.calls.BusAnswer.TheVariants.{Got, TimeOut, Pending}
 use Rattle.bus_words.specs.declared.history.Call.{Call}
-use Rattle.bus_words.specs.declared.history.Call.TheVariants.{Create, Delete, SetOpts, GetOpts, Find, PipeName, Subscribe, Unsubscribe, Transmit, Receive, Pend, Look, End}
+use Rattle.bus_words.specs.declared.history.Call.TheVariants.{Create, Delete, SetOpts, GetOpts, Find, PipeName, Subscribe, Unsubscribe, Transmit, Receive, Pend, Look, PoolCreate, PoolGet, PoolPut, PoolFigures, End}
 use Rattle.bus_words.specs.declared.history.Entry.{Entry}
 use Rattle.bus_words.specs.Bus.{State, Sending, Subscription, is_empty, others_idle}
+use Rattle.bus_words.specs.Refusals.{Refusal, OfBus, OfPools, refusal_answer}
 use Rattle.bus_words.specs.Machine.{cause, decided, sent_along, step, LegalFrom}
 use Rattle.run_report.specs.ReadBack.{can_answer}
 
@@ -16,20 +16,41 @@ sent_answer bytes inc [] sending s = refl
 sent_answer bytes inc (sub ∷ subs) sending s = refl
 
 -- any call may be refused
-refused_answer : (call : Call) (status : SbStatus) → can_answer call (Sb status) ≡ true
-refused_answer (Create depth name) status = refl
-refused_answer (Delete pipe) status = refl
-refused_answer (SetOpts pipe bits) status = refl
-refused_answer (GetOpts pipe) status = refl
-refused_answer (Find name) status = refl
-refused_answer (PipeName pipe) status = refl
-refused_answer (Subscribe id pipe limit scope) status = refl
-refused_answer (Unsubscribe id pipe) status = refl
-refused_answer (Transmit bytes inc) status = refl
-refused_answer (Receive pipe) status = refl
-refused_answer (Pend pipe) status = refl
-refused_answer (Look pipe) status = refl
-refused_answer End status = refl
+refused_answer : (call : Call) (why : Refusal) → can_answer call (refusal_answer why) ≡ true
+refused_answer (Create depth name) (OfBus status) = refl
+refused_answer (Create depth name) (OfPools status) = refl
+refused_answer (Delete pipe) (OfBus status) = refl
+refused_answer (Delete pipe) (OfPools status) = refl
+refused_answer (SetOpts pipe bits) (OfBus status) = refl
+refused_answer (SetOpts pipe bits) (OfPools status) = refl
+refused_answer (GetOpts pipe) (OfBus status) = refl
+refused_answer (GetOpts pipe) (OfPools status) = refl
+refused_answer (Find name) (OfBus status) = refl
+refused_answer (Find name) (OfPools status) = refl
+refused_answer (PipeName pipe) (OfBus status) = refl
+refused_answer (PipeName pipe) (OfPools status) = refl
+refused_answer (Subscribe id pipe limit scope) (OfBus status) = refl
+refused_answer (Subscribe id pipe limit scope) (OfPools status) = refl
+refused_answer (Unsubscribe id pipe) (OfBus status) = refl
+refused_answer (Unsubscribe id pipe) (OfPools status) = refl
+refused_answer (Transmit bytes inc) (OfBus status) = refl
+refused_answer (Transmit bytes inc) (OfPools status) = refl
+refused_answer (Receive pipe) (OfBus status) = refl
+refused_answer (Receive pipe) (OfPools status) = refl
+refused_answer (Pend pipe) (OfBus status) = refl
+refused_answer (Pend pipe) (OfPools status) = refl
+refused_answer (Look pipe) (OfBus status) = refl
+refused_answer (Look pipe) (OfPools status) = refl
+refused_answer (PoolCreate bytes) (OfBus status) = refl
+refused_answer (PoolCreate bytes) (OfPools status) = refl
+refused_answer (PoolGet pool size) (OfBus status) = refl
+refused_answer (PoolGet pool size) (OfPools status) = refl
+refused_answer (PoolPut pool grant) (OfBus status) = refl
+refused_answer (PoolPut pool grant) (OfPools status) = refl
+refused_answer (PoolFigures pool) (OfBus status) = refl
+refused_answer (PoolFigures pool) (OfPools status) = refl
+refused_answer End (OfBus status) = refl
+refused_answer End (OfPools status) = refl
 
 -- what a receive answers that may wait
 pended_can : (pipe number : ℕ) (there idle : Bool) → can_answer (Pend pipe) (if there then Got number else if idle then TimeOut else Pending) ≡ true
@@ -43,8 +64,8 @@ looked_can pipe number false true = refl
 looked_can pipe number false false = refl
 
 -- a step's answer, whether refused or not
-decided_answer : (limits : Limits) (history : List Entry) (s : State) (app : ℕ) (call : Call) (why : Option SbStatus) → can_answer call (decided limits history s app call why).0 ≡ true
-decided_answer limits history s app call (Some status) = refused_answer call status
+decided_answer : (limits : Limits) (history : List Entry) (s : State) (app : ℕ) (call : Call) (why : Option Refusal) → can_answer call (decided limits history s app call why).0 ≡ true
+decided_answer limits history s app call (Some why) = refused_answer call why
 decided_answer limits history s app (Create depth name) None = refl
 decided_answer limits history s app (Delete pipe) None = refl
 decided_answer limits history s app (SetOpts pipe bits) None = refl
@@ -57,6 +78,10 @@ decided_answer limits history s app (Transmit bytes inc) None = sent_answer byte
 decided_answer limits history s app (Receive pipe) None = refl
 decided_answer limits history s app (Pend pipe) None = pended_can pipe _ (not (is_empty s.pipes pipe)) (others_idle s app)
 decided_answer limits history s app (Look pipe) None = looked_can pipe _ (not (is_empty s.pipes pipe)) (others_idle s app)
+decided_answer limits history s app (PoolCreate bytes) None = refl
+decided_answer limits history s app (PoolGet pool size) None = refl
+decided_answer limits history s app (PoolPut pool grant) None = refl
+decided_answer limits history s app (PoolFigures pool) None = refl
 decided_answer limits history s app End None = refl
 
 pub legal_answers : (limits : Limits) (history : List Entry) (s : State) (es : List Entry) → LegalFrom limits history s es → All (λ e. IsTrue (can_answer e.call e.answer)) es

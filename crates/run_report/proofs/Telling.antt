@@ -1,5 +1,5 @@
 -- What the lines of a report tell.
-use Rattle.std.proofs.Common.{◌≡◌, ℕ, suc, ◌+◌, ◌*◌, ◌<◌, ◌^◌, nat_lt, Bool, true, false, List, [], ◌∷◌, ◌++◌, length, get_or, sum, find, Option, Some, None, All, codes, decimal, refl, ap, sym, ◌∙◌, arith, append_assoc}
+use Rattle.std.proofs.Common.{◌≡◌, ℕ, suc, ◌+◌, ◌*◌, ◌<◌, ◌^◌, ◌==◌, nat_lt, if◌then◌else◌, Bool, true, false, List, [], ◌∷◌, ◌++◌, length, get_or, sum, find, Option, Some, None, All, codes, decimal, refl, ap, sym, ◌∙◌, arith, append_assoc}
 use Rattle.std.specs.List.{list_all}
 use Rattle.std.specs.Str.{bytes_eq}
 use Rattle.std.proofs.lemmas.Bool.{leb-true}
@@ -10,15 +10,18 @@ use Rattle.fsw_base.specs.declared.config.Scope.{Scope}
 use Rattle.fsw_base.specs.declared.config.Scope.TheVariants as scopes
 use Rattle.fsw_base.specs.declared.statuses.SbStatus.{SbStatus}
 use Rattle.fsw_base.specs.declared.statuses.SbStatus.TheVariants.{BadArgument, MaxPipesMet, PipeCrErr, MaxMsgsMet, MaxDestsMet, MsgTooBig, BufAlocErr, NoMessage, BufferInvalid}
-use Rattle.fsw_base.specs.Statuses.{sb_name}
+use Rattle.fsw_base.specs.declared.statuses.EsStatus.{EsStatus}
+use Rattle.fsw_base.specs.declared.statuses.EsStatus.TheVariants.{ErrMemBlockSize, BufferNotInPool, PoolBlockInvalid, NoPool}
+use Rattle.fsw_base.specs.declared.config.PoolStats.{PoolStats}
+use Rattle.fsw_base.specs.Statuses.{sb_name, es_name}
 use Rattle.bus_words.specs.declared.calls.BusAnswer.{BusAnswer}
-use Rattle.bus_words.specs.declared.calls.BusAnswer.TheVariants.{Done, Number, Name, Sent, Got, TimeOut, Pending, Sb}
+use Rattle.bus_words.specs.declared.calls.BusAnswer.TheVariants.{Done, Number, Name, Sent, Got, TimeOut, Pending, Pool, Sb, Es}
 use Rattle.bus_words.specs.declared.history.Call.{Call}
-use Rattle.bus_words.specs.declared.history.Call.TheVariants.{Create, Delete, SetOpts, GetOpts, Find, PipeName, Subscribe, Unsubscribe, Transmit, Receive, Pend, Look, End}
+use Rattle.bus_words.specs.declared.history.Call.TheVariants.{Create, Delete, SetOpts, GetOpts, Find, PipeName, Subscribe, Unsubscribe, Transmit, Receive, Pend, Look, PoolCreate, PoolGet, PoolPut, PoolFigures, End}
 use Rattle.bus_words.specs.declared.history.Entry.{Entry}
 use Rattle.text_page.specs.Texts.{name_text, numbered}
-use Rattle.run_report.specs.BusText.{scope_text, mode_text, call_text, answer_text, entry_text}
-use Rattle.run_report.specs.ReadBack.{is_visible, has_plain_name, can_answer, tells_plain_name, has_short_numbers, IsPlain, TellTheSame}
+use Rattle.run_report.specs.BusText.{scope_text, mode_text, call_text, figures_text, answer_text, entry_text}
+use Rattle.run_report.specs.ReadBack.{is_visible, has_plain_name, can_answer, tells_plain_name, are_short, has_short_numbers, IsPlain, TellTheSame}
 use Rattle.run_report.proofs.Splitting.{above, above-append, above-from_within, and_first, and_second, split_once, split_twice, split_thrice, decimal_above, letter_not_decimal}
 
 -- Answers. --
@@ -34,6 +37,27 @@ name_above BufAlocErr = refl
 name_above NoMessage = refl
 name_above BufferInvalid = refl
 
+pool_name_above : (status : EsStatus) → above 11 (es_name status) ≡ true
+pool_name_above ErrMemBlockSize = refl
+pool_name_above BufferNotInPool = refl
+pool_name_above PoolBlockInvalid = refl
+pool_name_above NoPool = refl
+
+-- nor have figures
+figures_above : (figures : PoolStats) → above 11 (figures_text figures) ≡ true
+figures_above figures = words (decimal figures.size) (decimal figures.requests) (decimal figures.errors) (decimal figures.free)
+    (decimal_above 11 figures.size (omega arith)) (decimal_above 11 figures.requests (omega arith))
+    (decimal_above 11 figures.errors (omega arith)) (decimal_above 11 figures.free (omega arith))
+  where
+    words : (u v w z : List ℕ) → above 11 u ≡ true → above 11 v ≡ true → above 11 w ≡ true → above 11 z ≡ true →
+        above 11 ((((((u ++ 32 ∷ []) ++ v) ++ 32 ∷ []) ++ w) ++ 32 ∷ []) ++ z) ≡ true
+    words u v w z first second third fourth =
+        above-append 11 (((((u ++ 32 ∷ []) ++ v) ++ 32 ∷ []) ++ w) ++ 32 ∷ []) z
+        (above-append 11 ((((u ++ 32 ∷ []) ++ v) ++ 32 ∷ []) ++ w) (32 ∷ [])
+        (above-append 11 (((u ++ 32 ∷ []) ++ v) ++ 32 ∷ []) w
+        (above-append 11 ((u ++ 32 ∷ []) ++ v) (32 ∷ [])
+        (above-append 11 (u ++ 32 ∷ []) v (above-append 11 u (32 ∷ []) first refl) second) refl) third) refl) fourth
+
 -- an answer has no line end
 answer_above : (a : BusAnswer) → tells_plain_name a ≡ true → above 11 (answer_text a) ≡ true
 answer_above Done plain = refl
@@ -45,7 +69,9 @@ answer_above (Sent number reached) plain =
 answer_above (Got number) plain = decimal_above 11 number (omega arith)
 answer_above TimeOut plain = refl
 answer_above Pending plain = refl
+answer_above (Pool figures) plain = figures_above figures
 answer_above (Sb status) plain = name_above status
+answer_above (Es status) plain = pool_name_above status
 
 -- the refusal of a name
 all_refusals : List SbStatus
@@ -69,13 +95,33 @@ refusal_of-name BufferInvalid = refl
 same_name : (s t : SbStatus) → sb_name s ≡ sb_name t → s ≡ t
 same_name s t e = let both : Some s ≡ Some t = sym (refusal_of-name s) ∙ ap refusal_of e ∙ refusal_of-name t in cc both
 
+all_pool_refusals : List EsStatus
+all_pool_refusals = ErrMemBlockSize ∷ BufferNotInPool ∷ PoolBlockInvalid ∷ NoPool ∷ []
+
+pool_refusal_of : List ℕ → Option EsStatus
+pool_refusal_of text = find (λ s. bytes_eq (es_name s) text) all_pool_refusals
+
+pool_refusal_of-name : (s : EsStatus) → pool_refusal_of (es_name s) ≡ Some s
+unfolding pool_refusal_of all_pool_refusals
+pool_refusal_of-name ErrMemBlockSize = refl
+pool_refusal_of-name BufferNotInPool = refl
+pool_refusal_of-name PoolBlockInvalid = refl
+pool_refusal_of-name NoPool = refl
+
+same_pool_name : (s t : EsStatus) → es_name s ≡ es_name t → s ≡ t
+same_pool_name s t e = let both : Some s ≡ Some t = sym (pool_refusal_of-name s) ∙ ap pool_refusal_of e ∙ pool_refusal_of-name t in cc both
+
 -- no refusal is a time-out
 not_time_out : (s : SbStatus) → sb_name s ≡ codes "CFE_SB_TIME_OUT" → ⊥
 unfolding refusal_of all_refusals
 not_time_out s e = let other : Some s ≡ None = sym (refusal_of-name s) ∙ ap refusal_of e in cc other
 
--- the sixth byte of a text, which tells an answer of a call that is done from a refusal, a time-out and a wait
-sixth_name : (s : SbStatus) → get_or (sb_name s) 5 0 ≡ 66
+-- what the sixth byte of a text tells of an answer: 0 of a call that is done, 1 of a refusal by the bus or a time-out, 2 of a
+-- wait, 3 of a refusal by the pools
+abbrev kind_at : List ℕ → ℕ
+kind_at text = let byte = get_or text 5 0 in if byte == 85 then 0 else (if byte == 66 then 1 else (if byte == 78 then 2 else 3))
+
+sixth_name : (s : SbStatus) → kind_at (sb_name s) ≡ 1
 sixth_name BadArgument = refl
 sixth_name MaxPipesMet = refl
 sixth_name PipeCrErr = refl
@@ -86,13 +132,20 @@ sixth_name BufAlocErr = refl
 sixth_name NoMessage = refl
 sixth_name BufferInvalid = refl
 
-abbrev sixth_of : BusAnswer → ℕ
-sixth_of (Sb s) = 66
-sixth_of TimeOut = 66
-sixth_of Pending = 78
-sixth_of a = 85
+sixth_pool_name : (s : EsStatus) → kind_at (es_name s) ≡ 3
+sixth_pool_name ErrMemBlockSize = refl
+sixth_pool_name BufferNotInPool = refl
+sixth_pool_name PoolBlockInvalid = refl
+sixth_pool_name NoPool = refl
 
-sixth : (a : BusAnswer) → get_or (answer_text a) 5 0 ≡ sixth_of a
+abbrev kind_of : BusAnswer → ℕ
+kind_of (Sb s) = 1
+kind_of TimeOut = 1
+kind_of Pending = 2
+kind_of (Es s) = 3
+kind_of a = 0
+
+sixth : (a : BusAnswer) → kind_at (answer_text a) ≡ kind_of a
 sixth Done = refl
 sixth (Number number) = refl
 sixth (Name name) = refl
@@ -100,20 +153,72 @@ sixth (Sent number reached) = refl
 sixth (Got number) = refl
 sixth TimeOut = refl
 sixth Pending = refl
+sixth (Pool figures) = refl
 sixth (Sb s) = sixth_name s
+sixth (Es s) = sixth_pool_name s
 
-same_sixth : (a b : BusAnswer) → answer_text a ≡ answer_text b → sixth_of a ≡ sixth_of b
-same_sixth a b e = sym (sixth a) ∙ ap (λ l. get_or l 5 0) e ∙ sixth b
+same_kind : (a b : BusAnswer) → answer_text a ≡ answer_text b → kind_of a ≡ kind_of b
+same_kind a b e = sym (sixth a) ∙ ap kind_at e ∙ sixth b
 
 short : (n : ℕ) → nat_lt n (2 ^ 32) ≡ true → n < 2 ^ 64
 short n holds = let below : n < 2 ^ 32 = leb-true (suc n) (2 ^ 32) holds in omega arith
 
+abbrev the_figures : ℕ → ℕ → ℕ → ℕ → PoolStats
+the_figures size requests errors free = record { size = size; requests = requests; errors = errors; free = free }
+
+alike_figures : (f g : PoolStats) → f.size ≡ g.size → f.requests ≡ g.requests → f.errors ≡ g.errors → f.free ≡ g.free → f ≡ g
+alike_figures f g size requests errors free =
+    ap (λ n. the_figures n f.requests f.errors f.free) size
+    ∙ ap (λ n. the_figures g.size n f.errors f.free) requests
+    ∙ ap (λ n. the_figures g.size g.requests n f.free) errors
+    ∙ ap (λ n. the_figures g.size g.requests g.errors n) free
+
+-- figures that read the same are the same
+same_figures : (f g : PoolStats) → are_short f ≡ true → are_short g ≡ true → figures_text f ≡ figures_text g → f ≡ g
+same_figures f g one other e =
+    let rest : decimal f.size ++ 32 ∷ (decimal f.requests ++ 32 ∷ (decimal f.errors ++ 32 ∷ decimal f.free))
+    ≡ decimal g.size ++ 32 ∷ (decimal g.requests ++ 32 ∷ (decimal g.errors ++ 32 ∷ decimal g.free)) =
+    sym (blanks (decimal f.size) (decimal f.requests) (decimal f.errors) (decimal f.free)) ∙ e
+    ∙ blanks (decimal g.size) (decimal g.requests) (decimal g.errors) (decimal g.free) in
+    let sizes = numbers f.size g.size _ _ rest in
+    let requests = numbers f.requests g.requests _ _ sizes.1 in
+    let errors = numbers f.errors g.errors _ _ requests.1 in
+    let few = four_short f.size f.requests f.errors f.free one in
+    let small = four_short g.size g.requests g.errors g.free other in
+    alike_figures f g
+    (decimal_injective f.size g.size (short f.size few.0) (short g.size small.0) sizes.0)
+    (decimal_injective f.requests g.requests (short f.requests few.1) (short g.requests small.1) requests.0)
+    (decimal_injective f.errors g.errors (short f.errors few.2) (short g.errors small.2) errors.0)
+    (decimal_injective f.free g.free (short f.free few.3) (short g.free small.3) errors.1)
+  where
+    blanks : (u v w z : List ℕ) → (((((u ++ 32 ∷ []) ++ v) ++ 32 ∷ []) ++ w) ++ 32 ∷ []) ++ z ≡ u ++ 32 ∷ (v ++ 32 ∷ (w ++ 32 ∷ z))
+    blanks u v w z = simp append_assoc
+
+    numbers : (m n : ℕ) (x y : List ℕ) → decimal m ++ 32 ∷ x ≡ decimal n ++ 32 ∷ y → (decimal m ≡ decimal n) × (x ≡ y)
+    numbers m n x y same = split_once 33 32 (decimal m) (decimal n) x y (omega arith) (decimal_above 33 m (omega arith)) (decimal_above 33 n (omega arith)) same
+
+    below : ℕ → Bool
+    below n = nat_lt n (2 ^ 32)
+
+    four_short : (a b c d : ℕ) → list_all below (a ∷ b ∷ c ∷ d ∷ []) ≡ true → (below a ≡ true) × (below b ≡ true) × (below c ≡ true) × (below d ≡ true)
+    four_short a b c d all =
+        let second = and_second (below a) (list_all below (b ∷ c ∷ d ∷ [])) all in
+        let third = and_second (below b) (list_all below (c ∷ d ∷ [])) second in
+        let fourth = and_second (below c) (list_all below (d ∷ [])) third in (
+          and_first (below a) (list_all below (b ∷ c ∷ d ∷ [])) all,
+          and_first (below b) (list_all below (c ∷ d ∷ [])) second,
+          and_first (below c) (list_all below (d ∷ [])) third,
+          and_first (below d) true fourth,
+        )
+
 -- whether two answers tell the same things, or one of them tells nothing of a call that is done
 abbrev alike : BusAnswer → BusAnswer → Bool
 alike (Sb s) b = true
+alike (Es s) b = true
 alike TimeOut b = true
 alike Pending b = true
 alike a (Sb t) = true
+alike a (Es t) = true
 alike a TimeOut = true
 alike a Pending = true
 alike Done Done = true
@@ -121,6 +226,7 @@ alike (Number m) (Number n) = true
 alike (Name name) (Name title) = true
 alike (Sent m r) (Sent n q) = true
 alike (Got m) (Got n) = true
+alike (Pool f) (Pool g) = true
 alike a b = false
 
 -- answers of one kind that read the same are the same
@@ -137,15 +243,19 @@ same_answer (Sent m r) (Sent n q) kind one other e =
     let numbers = decimal_injective m n (short m (and_first (nat_lt m (2 ^ 32)) (nat_lt r (2 ^ 32)) one)) (short n (and_first (nat_lt n (2 ^ 32)) (nat_lt q (2 ^ 32)) other)) parts.0 in
     let reached = decimal_injective r q (short r (and_second (nat_lt m (2 ^ 32)) (nat_lt r (2 ^ 32)) one)) (short q (and_second (nat_lt n (2 ^ 32)) (nat_lt q (2 ^ 32)) other)) parts.1 in
     cc (numbers, reached)
+same_answer (Pool f) (Pool g) kind one other e = ap Pool (same_figures f g one other (cc e))
 same_answer (Sb s) (Sb t) kind one other e = ap Sb (same_name s t e)
+same_answer (Es s) (Es t) kind one other e = ap Es (same_pool_name s t e)
 same_answer (Sb s) TimeOut kind one other e = absurd (not_time_out s e)
 same_answer TimeOut (Sb t) kind one other e = absurd (not_time_out t (sym e))
-same_answer (Sb s) b kind one other e = absurd (omega (arith, same_sixth (Sb s) b e))
-same_answer TimeOut b kind one other e = absurd (omega (arith, same_sixth TimeOut b e))
-same_answer Pending b kind one other e = absurd (omega (arith, same_sixth Pending b e))
-same_answer a (Sb t) kind one other e = absurd (omega (arith, same_sixth a (Sb t) e))
-same_answer a TimeOut kind one other e = absurd (omega (arith, same_sixth a TimeOut e))
-same_answer a Pending kind one other e = absurd (omega (arith, same_sixth a Pending e))
+same_answer (Sb s) b kind one other e = absurd (omega (arith, same_kind (Sb s) b e))
+same_answer (Es s) b kind one other e = absurd (omega (arith, same_kind (Es s) b e))
+same_answer TimeOut b kind one other e = absurd (omega (arith, same_kind TimeOut b e))
+same_answer Pending b kind one other e = absurd (omega (arith, same_kind Pending b e))
+same_answer a (Sb t) kind one other e = absurd (omega (arith, same_kind a (Sb t) e))
+same_answer a (Es t) kind one other e = absurd (omega (arith, same_kind a (Es t) e))
+same_answer a TimeOut kind one other e = absurd (omega (arith, same_kind a TimeOut e))
+same_answer a Pending kind one other e = absurd (omega (arith, same_kind a Pending e))
 same_answer a b kind one other e = absurd (cc kind)
 
 -- Calls: what is behind a call can be read off, and the kind of its answer. --
@@ -157,6 +267,7 @@ data Telling : Type 0 where
   AName : Telling
   ASending : Telling
   AMessage : Telling
+  Figures : Telling
 
 abbrev telling : Call → Telling
 telling (Create depth name) = ANumber
@@ -171,11 +282,16 @@ telling (Transmit bytes inc) = ASending
 telling (Receive pipe) = AMessage
 telling (Pend pipe) = AMessage
 telling (Look pipe) = AMessage
+telling (PoolCreate bytes) = ANumber
+telling (PoolGet pool size) = ANumber
+telling (PoolPut pool grant) = NoMore
+telling (PoolFigures pool) = Figures
 telling End = NoMore
 
 -- whether an answer tells this, or is none of a call that is done
 abbrev tells : BusAnswer → Telling → Bool
 tells (Sb s) what = true
+tells (Es s) what = true
 tells TimeOut what = true
 tells Pending what = true
 tells Done NoMore = true
@@ -183,10 +299,12 @@ tells (Number number) ANumber = true
 tells (Name name) AName = true
 tells (Sent number reached) ASending = true
 tells (Got number) AMessage = true
+tells (Pool figures) Figures = true
 tells a what = false
 
 can_tell : (c : Call) (a : BusAnswer) → can_answer c a ≡ true → tells a (telling c) ≡ true
 can_tell c (Sb s) can = refl
+can_tell c (Es s) can = refl
 can_tell c TimeOut can = refl
 can_tell c Pending can = refl
 can_tell (Create depth name) (Number number) can = refl
@@ -201,14 +319,20 @@ can_tell (Transmit bytes inc) (Sent number reached) can = refl
 can_tell (Receive pipe) (Got number) can = refl
 can_tell (Pend pipe) (Got number) can = refl
 can_tell (Look pipe) (Got number) can = refl
+can_tell (PoolCreate bytes) (Number number) can = refl
+can_tell (PoolGet pool size) (Number number) can = refl
+can_tell (PoolPut pool grant) Done can = refl
+can_tell (PoolFigures pool) (Pool figures) can = refl
 can_tell End Done can = refl
 can_tell c a can = absurd (cc can)
 
 both_tell : (a b : BusAnswer) (what : Telling) → tells a what ≡ true → tells b what ≡ true → alike a b ≡ true
 both_tell (Sb s) b what one other = refl
+both_tell (Es s) b what one other = refl
 both_tell TimeOut b what one other = refl
 both_tell Pending b what one other = refl
 both_tell a (Sb t) what one other = refl
+both_tell a (Es t) what one other = refl
 both_tell a TimeOut what one other = refl
 both_tell a Pending what one other = refl
 both_tell Done Done what one other = refl
@@ -216,11 +340,13 @@ both_tell (Number m) (Number n) what one other = refl
 both_tell (Name name) (Name title) what one other = refl
 both_tell (Sent m r) (Sent n q) what one other = refl
 both_tell (Got m) (Got n) what one other = refl
+both_tell (Pool f) (Pool g) what one other = refl
 both_tell a b NoMore one other = absurd (cc)
 both_tell a b ANumber one other = absurd (cc)
 both_tell a b AName one other = absurd (cc)
 both_tell a b ASending one other = absurd (cc)
 both_tell a b AMessage one other = absurd (cc)
+both_tell a b Figures one other = absurd (cc)
 
 -- what two calls tell that read the same: the kind of their answers, and what is behind them
 record Tells (c d : Call) (x y : List ℕ) : Type 0 where
@@ -251,7 +377,7 @@ behind_number m n x y e = behind_word (decimal m) (decimal n) x y (word m) (word
 
 -- the first two bytes of a text, as a number that tells the words for calls apart
 abbrev beginning : List ℕ → ℕ
-beginning text = get_or text 0 0 + 5 * get_or text 1 0
+beginning text = get_or text 0 0 + 128 * get_or text 1 0
 
 call_tells : (c d : Call) (x y : List ℕ) → has_plain_name c ≡ true → has_plain_name d ≡ true → call_text c ++ 32 ∷ x ≡ call_text d ++ 32 ∷ y → Tells c d x y
 call_tells (Create depth name) (Create height title) x y plain clear e = record {
@@ -283,6 +409,16 @@ call_tells (Transmit bytes inc) (Transmit octets move) x y plain clear e = recor
 call_tells (Receive pipe) (Receive tube) x y plain clear e = record { kind = refl; rest = behind_number pipe tube x y (cc e) }
 call_tells (Pend pipe) (Pend tube) x y plain clear e = record { kind = refl; rest = behind_number pipe tube x y (cc e) }
 call_tells (Look pipe) (Look tube) x y plain clear e = record { kind = refl; rest = behind_number pipe tube x y (cc e) }
+call_tells (PoolCreate bytes) (PoolCreate octets) x y plain clear e = record { kind = refl; rest = behind_number bytes octets x y (cc e) }
+call_tells (PoolGet pool size) (PoolGet store least) x y plain clear e = record {
+  kind = refl;
+  rest = split_twice (decimal pool) (decimal store) (decimal size) (decimal least) x y (word pool) (word store) (word size) (word least) (cc e);
+}
+call_tells (PoolPut pool grant) (PoolPut store block) x y plain clear e = record {
+  kind = refl;
+  rest = split_twice (decimal pool) (decimal store) (decimal grant) (decimal block) x y (word pool) (word store) (word grant) (word block) (cc e);
+}
+call_tells (PoolFigures pool) (PoolFigures store) x y plain clear e = record { kind = refl; rest = behind_number pool store x y (cc e) }
 call_tells End End x y plain clear e = record { kind = refl; rest = cc e }
 call_tells c d x y plain clear e = absurd (omega (arith, ap beginning e))
 

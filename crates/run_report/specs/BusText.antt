@@ -2,11 +2,12 @@
 use Rattle.std.specs.Prelude.{ℕ, Bool, true, false, List, ◌++◌, length, sum, codes, decimal}
 use Rattle.fsw_base.specs.declared.config.Scope.{Scope}
 use Rattle.fsw_base.specs.declared.config.Scope.TheVariants as scopes
-use Rattle.fsw_base.specs.Statuses.{sb_name}
+use Rattle.fsw_base.specs.declared.config.PoolStats.{PoolStats}
+use Rattle.fsw_base.specs.Statuses.{sb_name, es_name}
 use Rattle.bus_words.specs.declared.calls.BusAnswer.{BusAnswer}
-use Rattle.bus_words.specs.declared.calls.BusAnswer.TheVariants.{Done, Number, Name, Sent, Got, TimeOut, Pending, Sb}
+use Rattle.bus_words.specs.declared.calls.BusAnswer.TheVariants.{Done, Number, Name, Sent, Got, TimeOut, Pending, Pool, Sb, Es}
 use Rattle.bus_words.specs.declared.history.Call.{Call}
-use Rattle.bus_words.specs.declared.history.Call.TheVariants.{Create, Delete, SetOpts, GetOpts, Find, PipeName, Subscribe, Unsubscribe, Transmit, Receive, Pend, Look, End}
+use Rattle.bus_words.specs.declared.history.Call.TheVariants.{Create, Delete, SetOpts, GetOpts, Find, PipeName, Subscribe, Unsubscribe, Transmit, Receive, Pend, Look, PoolCreate, PoolGet, PoolPut, PoolFigures, End}
 use Rattle.bus_words.specs.declared.history.Entry.{Entry}
 use Rattle.text_page.specs.Texts.{hex_id, name_text, numbered}
 
@@ -35,7 +36,16 @@ call_text (Transmit bytes inc) =
 call_text (Receive pipe) = codes "recv " ++ decimal pipe
 call_text (Pend pipe) = codes "pend " ++ decimal pipe
 call_text (Look pipe) = codes "look " ++ decimal pipe
+call_text (PoolCreate bytes) = codes "pool " ++ decimal bytes
+call_text (PoolGet pool size) = codes "pget " ++ decimal pool ++ codes " " ++ decimal size
+call_text (PoolPut pool grant) = codes "pput " ++ decimal pool ++ codes " " ++ decimal grant
+call_text (PoolFigures pool) = codes "pstats " ++ decimal pool
 call_text End = codes "end"
+
+-- the figures of a memory pool: its bytes, the blocks drawn, the returns refused and the bytes never cut
+abbrev pub figures_text : PoolStats → List ℕ
+figures_text figures =
+    decimal figures.size ++ codes " " ++ decimal figures.requests ++ codes " " ++ decimal figures.errors ++ codes " " ++ decimal figures.free
 
 -- an answer: the numbers or the name that it tells, that no message came or none is there yet, or why the call was refused
 abbrev pub answer_text : BusAnswer → List ℕ
@@ -46,7 +56,9 @@ answer_text (Sent number reached) = codes "CFE_SUCCESS " ++ decimal number ++ co
 answer_text (Got number) = codes "CFE_SUCCESS " ++ decimal number
 answer_text TimeOut = codes "CFE_SB_TIME_OUT"
 answer_text Pending = codes "PENDING"
+answer_text (Pool figures) = codes "CFE_SUCCESS " ++ figures_text figures
 answer_text (Sb status) = sb_name status
+answer_text (Es status) = es_name status
 
 -- the line of entry number n: its number, its application, its call and its answer
 abbrev pub entry_text : ℕ → Entry → List ℕ

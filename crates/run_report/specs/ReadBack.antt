@@ -1,10 +1,11 @@
 -- What the lines of a report tell: each entry's application and answer.
-use Rattle.std.specs.Prelude.{◌≡◌, ℕ, ◌^◌, ◌<◌, ◌&&◌, nat_le, nat_lt, Bool, true, false, List, map, IsTrue}
+use Rattle.std.specs.Prelude.{◌≡◌, ℕ, ◌^◌, ◌<◌, ◌&&◌, nat_le, nat_lt, Bool, true, false, List, [], ◌∷◌, map, IsTrue}
 use Rattle.std.specs.List.{list_all}
+use Rattle.fsw_base.specs.declared.config.PoolStats.{PoolStats}
 use Rattle.bus_words.specs.declared.calls.BusAnswer.{BusAnswer}
-use Rattle.bus_words.specs.declared.calls.BusAnswer.TheVariants.{Done, Number, Name, Sent, Got, TimeOut, Pending, Sb}
+use Rattle.bus_words.specs.declared.calls.BusAnswer.TheVariants.{Done, Number, Name, Sent, Got, TimeOut, Pending, Pool, Sb, Es}
 use Rattle.bus_words.specs.declared.history.Call.{Call}
-use Rattle.bus_words.specs.declared.history.Call.TheVariants.{Create, Delete, SetOpts, GetOpts, Find, PipeName, Subscribe, Unsubscribe, Transmit, Receive, Pend, Look, End}
+use Rattle.bus_words.specs.declared.history.Call.TheVariants.{Create, Delete, SetOpts, GetOpts, Find, PipeName, Subscribe, Unsubscribe, Transmit, Receive, Pend, Look, PoolCreate, PoolGet, PoolPut, PoolFigures, End}
 use Rattle.bus_words.specs.declared.history.Entry.{Entry}
 
 -- a printed byte that is no blank
@@ -25,12 +26,17 @@ has_plain_name (Transmit bytes inc) = true
 has_plain_name (Receive pipe) = true
 has_plain_name (Pend pipe) = true
 has_plain_name (Look pipe) = true
+has_plain_name (PoolCreate bytes) = true
+has_plain_name (PoolGet pool size) = true
+has_plain_name (PoolPut pool grant) = true
+has_plain_name (PoolFigures pool) = true
 has_plain_name End = true
 
 -- whether a call can be answered so: refused, or with what it tells where it is done; a receive that may wait also that no
 -- message came, or none is there yet
 abbrev pub can_answer : Call → BusAnswer → Bool
 can_answer call (Sb status) = true
+can_answer call (Es status) = true
 can_answer (Create depth name) (Number number) = true
 can_answer (Delete pipe) Done = true
 can_answer (SetOpts pipe bits) Done = true
@@ -47,6 +53,10 @@ can_answer (Pend pipe) Pending = true
 can_answer (Look pipe) (Got number) = true
 can_answer (Look pipe) TimeOut = true
 can_answer (Look pipe) Pending = true
+can_answer (PoolCreate bytes) (Number number) = true
+can_answer (PoolGet pool size) (Number number) = true
+can_answer (PoolPut pool grant) Done = true
+can_answer (PoolFigures pool) (Pool figures) = true
 can_answer End Done = true
 can_answer call answer = false
 
@@ -59,7 +69,13 @@ tells_plain_name (Sent number reached) = true
 tells_plain_name (Got number) = true
 tells_plain_name TimeOut = true
 tells_plain_name Pending = true
+tells_plain_name (Pool figures) = true
 tells_plain_name (Sb status) = true
+tells_plain_name (Es status) = true
+
+-- whether the figures of a pool have 32 bits
+abbrev pub are_short : PoolStats → Bool
+are_short figures = list_all (λ number. nat_lt number (2 ^ 32)) (figures.size ∷ figures.requests ∷ figures.errors ∷ figures.free ∷ [])
 
 -- whether an answer's numbers have 32 bits
 abbrev pub has_short_numbers : BusAnswer → Bool
@@ -70,7 +86,9 @@ has_short_numbers Done = true
 has_short_numbers (Name name) = true
 has_short_numbers TimeOut = true
 has_short_numbers Pending = true
+has_short_numbers (Pool figures) = are_short figures
 has_short_numbers (Sb status) = true
+has_short_numbers (Es status) = true
 
 -- an entry as the applications of a script make them
 pub record IsPlain (e : Entry) : Type 0 where

@@ -1,12 +1,13 @@
 //! The lines on the calls of the software bus.
-ghost use Rattle.std.specs.Prelude.{◌≡◌, ℕ, ◌++◌, sum, decimal};
-ghost use Rattle.bus_words.specs.declared.history.Call.TheVariants.{Create, SetOpts, Find, Subscribe, Unsubscribe, Transmit};
+ghost use Rattle.std.specs.Prelude.{◌≡◌, ℕ, ◌++◌, codes, decimal};
+ghost use Rattle.bus_words.specs.declared.history.Call.TheVariants.{Create, Find, Subscribe, Unsubscribe, Transmit};
 ghost use Rattle.bus_words.specs.Entries.{call_of, entry_of};
 ghost use Rattle.text_page.specs.Pieces.{Puts};
-ghost use Rattle.run_report.specs.BusText.{scope_text, mode_text, call_text, answer_text, entry_text, entries_text};
+ghost use Rattle.run_report.specs.BusText.{scope_text, mode_text, call_text, figures_text, answer_text, entry_text, entries_text};
 
+use crate::sums::sum_of;
 use bus_words::{BusAnswer, BusCall, BusEntry, BusJournal};
-use fsw_base::{Scope, Sink, SinkGuard};
+use fsw_base::{PoolStats, Scope, Sink, SinkGuard};
 use text_page::{Page, put, put_hex_id, put_name, put_number};
 
 /// Puts the lines of a journal, whose entries are numbered from 1.
@@ -44,7 +45,7 @@ fn put_call<K: Sink>(sink: &mut SinkGuard<'_, K>, page: &mut Page, call: &BusCal
     match call {
         BusCall::Create { depth, name } => put_create(sink, page, *depth, name),
         BusCall::Delete { pipe } => put_numbered(sink, page, b"delete ", *pipe),
-        BusCall::SetOpts { pipe, bits } => put_set_opts(sink, page, *pipe, *bits),
+        BusCall::SetOpts { pipe, bits } => put_pair(sink, page, b"opts ", *pipe, u32::from(*bits)),
         BusCall::GetOpts { pipe } => put_numbered(sink, page, b"getopts ", *pipe),
         BusCall::Find { name } => put_find(sink, page, name),
         BusCall::PipeName { pipe } => put_numbered(sink, page, b"pname ", *pipe),
@@ -59,6 +60,10 @@ fn put_call<K: Sink>(sink: &mut SinkGuard<'_, K>, page: &mut Page, call: &BusCal
         BusCall::Receive { pipe } => put_numbered(sink, page, b"recv ", *pipe),
         BusCall::Pend { pipe } => put_numbered(sink, page, b"pend ", *pipe),
         BusCall::Look { pipe } => put_numbered(sink, page, b"look ", *pipe),
+        BusCall::PoolCreate { bytes } => put_numbered(sink, page, b"pool ", *bytes),
+        BusCall::PoolGet { pool, size } => put_pair(sink, page, b"pget ", *pool, *size),
+        BusCall::PoolPut { pool, grant } => put_pair(sink, page, b"pput ", *pool, *grant),
+        BusCall::PoolFigures { pool } => put_numbered(sink, page, b"pstats ", *pool),
         BusCall::End => put(sink, page, b"end"),
     }
 }
@@ -80,13 +85,20 @@ fn put_create<K: Sink>(sink: &mut SinkGuard<'_, K>, page: &mut Page, depth: u32,
     put_name(sink, page, name);
 }
 
-// Puts a call that sets a pipe's option bits.
-fn put_set_opts<K: Sink>(sink: &mut SinkGuard<'_, K>, page: &mut Page, pipe: u32, bits: u8)
-    ensures { Puts sink.old sink.new page.old page.new (call_text (SetOpts pipe bits)) }
+// Puts a word, with the blank behind it, and two numbers.
+fn put_pair<K: Sink>(
+    sink: &mut SinkGuard<'_, K>,
+    page: &mut Page,
+    word: &[u8],
+    one: u32,
+    other: u32,
+)
+    ensures { Puts sink.old sink.new page.old page.new
+        (word.now ++ decimal one ++ codes " " ++ decimal other) }
 {
-    put_numbered(sink, page, b"opts ", pipe);
+    put_numbered(sink, page, word, one);
     put(sink, page, b" ");
-    put_number(sink, page, bits);
+    put_number(sink, page, other);
 }
 
 // Puts a find.
@@ -161,11 +173,17 @@ fn put_mode<K: Sink>(sink: &mut SinkGuard<'_, K>, page: &mut Page, inc: bool)
     }
 }
 
-// The sum of all bytes; 128 bits hold that of any slice.
-fn sum_of(bytes: &[u8]) -> u128
-    ensures { result ≡ sum bytes.now }
+// Puts the figures of a memory pool.
+fn put_figures<K: Sink>(sink: &mut SinkGuard<'_, K>, page: &mut Page, figures: &PoolStats)
+    ensures { Puts sink.old sink.new page.old page.new (figures_text figures.now) }
 {
-    bytes.iter().map(|byte| u128::from(*byte)).sum()
+    put_number(sink, page, figures.size);
+    put(sink, page, b" ");
+    put_number(sink, page, figures.requests);
+    put(sink, page, b" ");
+    put_number(sink, page, figures.errors);
+    put(sink, page, b" ");
+    put_number(sink, page, figures.free);
 }
 
 // Puts an answer.
@@ -188,6 +206,11 @@ fn put_answer<K: Sink>(sink: &mut SinkGuard<'_, K>, page: &mut Page, answer: &Bu
         }
         BusAnswer::TimeOut => put(sink, page, b"CFE_SB_TIME_OUT"),
         BusAnswer::Pending => put(sink, page, b"PENDING"),
+        BusAnswer::Pool(figures) => {
+            put(sink, page, b"CFE_SUCCESS ");
+            put_figures(sink, page, figures);
+        }
         BusAnswer::Sb(status) => put(sink, page, status.name().as_bytes()),
+        BusAnswer::Es(status) => put(sink, page, status.name().as_bytes()),
     }
 }

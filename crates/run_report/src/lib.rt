@@ -15,6 +15,7 @@
 mod entries;
 mod laws;
 mod receipts;
+mod sums;
 mod writer;
 
 pub use laws::reports_tell_applications_and_answers;

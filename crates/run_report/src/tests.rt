@@ -1,13 +1,16 @@
 //! Whole reports, and one that a sink cuts short.
 ghost use Rattle.std.specs.Prelude.{◌≡◌, IsTrue};
 ghost use Rattle.bus_words.specs.Entries.{call_of, call_bytes};
-ghost use Rattle.bus_words.specs.Log.{HasRoom, left_of};
+ghost use Rattle.journal_store.specs.Budgets.{HasRoom};
+ghost use Rattle.bus_words.specs.Log.{left_of};
 
 use crate::write_journal;
 use bus_words::{
     Allowance, BusAnswer, BusCall, BusEntry, BusJournal, Head, PipeText, Receipt, ReceiptList,
 };
-use fsw_base::{AppNo, Budget, MemSink, SbStatus, Scope, SinkGuard, WriteFault};
+use fsw_base::{
+    AppNo, Budget, EsStatus, MemSink, PoolStats, SbStatus, Scope, SinkGuard, WriteFault,
+};
 use std::alloc::{AllocError, Global};
 use std::test::Fail;
 
@@ -114,6 +117,22 @@ a1 none
 end
 ";
 
+// Calls on memory pools, with each of their refusals.
+const POOLS_REPORT: &[u8] = b"fsw 1
+bus
+1 a1 pool 512 -> CFE_SUCCESS 1
+2 a1 pool 23 -> CFE_ES_ERR_MEM_BLOCK_SIZE
+3 a2 pget 1 60 -> CFE_SUCCESS 1
+4 a1 pput 1 1 -> CFE_SUCCESS
+5 a1 pput 1 1 -> CFE_ES_POOL_BLOCK_INVALID
+6 a1 pput 1 9 -> CFE_ES_BUFFER_NOT_IN_POOL
+7 a1 pstats 1 -> CFE_SUCCESS 512 1 2 432
+8 a2 pstats 2 -> NO_SUCH_POOL
+9 a1 end -> CFE_SUCCESS
+receipts
+end
+";
+
 #[test]
 fn message_on_its_path_is_reported(rt: HostRuntime) -> Result<(), Fail> {
     let mut receipts = ReceiptList::new(rt.alloc(), 1)?;
@@ -208,6 +227,59 @@ fn calls_on_pipes_are_reported(rt: HostRuntime) -> Result<(), Fail> {
     Ok(())
 }
 
+#[test]
+fn calls_on_pools_are_reported(rt: HostRuntime) -> Result<(), Fail> {
+    let figures = PoolStats {
+        size: 512,
+        requests: 1,
+        errors: 2,
+        free: 432,
+    };
+    let rows = [
+        (1, BusCall::PoolCreate { bytes: 512 }, BusAnswer::Number(1)),
+        (
+            1,
+            BusCall::PoolCreate { bytes: 23 },
+            BusAnswer::Es(EsStatus::ErrMemBlockSize),
+        ),
+        (
+            2,
+            BusCall::PoolGet { pool: 1, size: 60 },
+            BusAnswer::Number(1),
+        ),
+        (1, BusCall::PoolPut { pool: 1, grant: 1 }, BusAnswer::Done),
+        (
+            1,
+            BusCall::PoolPut { pool: 1, grant: 1 },
+            BusAnswer::Es(EsStatus::PoolBlockInvalid),
+        ),
+        (
+            1,
+            BusCall::PoolPut { pool: 1, grant: 9 },
+            BusAnswer::Es(EsStatus::BufferNotInPool),
+        ),
+        (
+            1,
+            BusCall::PoolFigures { pool: 1 },
+            BusAnswer::Pool(figures),
+        ),
+        (
+            2,
+            BusCall::PoolFigures { pool: 2 },
+            BusAnswer::Es(EsStatus::NoPool),
+        ),
+        (1, BusCall::End, BusAnswer::Done),
+    ];
+    let mut sink = MemSink::new(rt.alloc(), 1000, 1000, &[])?;
+    let journal = journal_of(rt.alloc(), &rows)?;
+    assert_eq!(rt;
+        write_journal(&journal, &[], &mut SinkGuard::new(&mut sink)),
+        Ok(())
+    );
+    assert_eq!(rt; sink.written(), POOLS_REPORT);
+    Ok(())
+}
+
 // The journal with these calls and answers, each of the application of this number.
 fn journal_of(
     alloc: Global,
@@ -269,6 +341,10 @@ fn call_len(call: &BusCall<'_>) -> usize
         | BusCall::Receive { .. }
         | BusCall::Pend { .. }
         | BusCall::Look { .. }
+        | BusCall::PoolCreate { .. }
+        | BusCall::PoolGet { .. }
+        | BusCall::PoolPut { .. }
+        | BusCall::PoolFigures { .. }
         | BusCall::End => 0,
     }
 }

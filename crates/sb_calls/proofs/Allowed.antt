@@ -2,10 +2,11 @@
 use Rattle.std.proofs.Common.{◌≡◌, ◌↔◌, ℕ, ◌≤◌, ◌&&◌, Bool, true, false, leb, length, IsTrue, refl, ap, sym, ◌∙◌, subst, arith}
 use Rattle.std.proofs.lemmas.Bool.Decides.{nat_tests}
 use Rattle.bus_words.specs.declared.history.Call.{Call}
-use Rattle.bus_words.specs.declared.journal.Allowance.{Allowance}
+use Rattle.journal_store.specs.declared.allowance.Allowance.{Allowance}
 use Rattle.bus_words.specs.Bus.{State, standing_of}
 use Rattle.bus_words.specs.Entries.{call_bytes}
-use Rattle.bus_words.specs.Log.{allowance_of, left_of}
+use Rattle.journal_store.specs.Budgets.{allowance_of}
+use Rattle.bus_words.specs.Log.{left_of}
 use Rattle.bus_words.specs.Machine.{may_call}
 use Rattle.bus_words.proofs.Journals.{length-left_of}
 use Rattle.sb_core.specs.Core.{is_within}

@@ -11,7 +11,7 @@ use Rattle.bus_words.specs.Machine.{IsLegal}
 use Rattle.bus_words.proofs.Isolation.{gives_newest, stands_alone}
 use Rattle.sb_core.specs.declared.pending.Pended.{Pended}
 use Rattle.sb_core.specs.declared.pending.Pended.TheVariants as waits
-use Rattle.sb_core.specs.Answers.{waited, got, pended}
+use Rattle.sb_core.specs.Answers.{got, pended}
 use Rattle.sb_calls.specs.Core.{Core, Does, Looks, GotAlone, StandAlone, IsLegalCore, apps_of}
 
 itself : (n : ℕ) → eqb n n ≡ true

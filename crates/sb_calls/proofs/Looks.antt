@@ -1,12 +1,11 @@
 -- Looks: one that found something makes its entry, one that still waits leaves all as it was.
-use Rattle.std.proofs.Common.{◌≡◌, ℕ, ◌≤◌, ◌&&◌, not, Bool, true, false, cond, length, IsTrue, refl, ap, sym, ◌∙◌, subst, arith}
+use Rattle.std.proofs.Common.{◌≡◌, ℕ, ◌&&◌, not, Bool, true, false, cond, length, IsTrue, refl, ap, sym, ◌∙◌, subst, arith}
 use Rattle.fsw_base.specs.Limits.{Limits}
 use Rattle.bus_words.specs.declared.calls.BusAnswer.{BusAnswer}
 use Rattle.bus_words.specs.declared.calls.BusAnswer.TheVariants.{Got, TimeOut, Pending}
 use Rattle.bus_words.specs.declared.history.Call.TheVariants.{Look}
 use Rattle.bus_words.specs.Bus.{State, Active, is_empty, others_idle, with_standing, standing_of, waited_on}
-use Rattle.bus_words.specs.Log.{Log}
-use Rattle.bus_words.specs.Machine.{makes_entry, received, oldest_number, step}
+use Rattle.bus_words.specs.Machine.{makes_entry, received, oldest_number}
 use Rattle.bus_words.specs.Acts.{Whole, act, whole_after}
 use Rattle.bus_words.proofs.Acts.{acts_after}
 use Rattle.sb_core.specs.declared.pending.Pended.{Pended}

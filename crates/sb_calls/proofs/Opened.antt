@@ -1,9 +1,9 @@
 -- What budgets allow in all.
-use Rattle.std.proofs.Common.{◌≡◌, ℕ, ◌+◌, List, [], ◌∷◌, sum_by, refl, ap, sym, ◌∙◌}
+use Rattle.std.proofs.Common.{◌≡◌, ◌+◌, List, [], ◌∷◌, sum_by, refl, ap, sym, ◌∙◌}
 use Rattle.std.proofs.lemmas.List.Sums.{sum_by-cons}
 use Rattle.fsw_base.specs.declared.config.Budget.{Budget}
-use Rattle.bus_words.specs.declared.journal.Allowance.{Allowance}
-use Rattle.bus_words.specs.Log.{allowances, bytes_left, entries_left}
+use Rattle.journal_store.specs.declared.allowance.Allowance.{Allowance}
+use Rattle.journal_store.specs.Budgets.{allowances, bytes_left, entries_left}
 
 -- the allowances' entries are the budgets'
 pub entries_left-allowances : (budgets : List Budget) → entries_left (allowances budgets) ≡ sum_by (λ budget. budget.entries) budgets

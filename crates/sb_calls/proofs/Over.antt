@@ -1,5 +1,5 @@
 -- The one lemma of all calls: what the core's call and the push of its entry leave.
-use Rattle.std.proofs.Common.{◌≡◌, ℕ, ◌+◌, ◌-◌, ◌^◌, ◌<◌, ◌≤◌, List, [], ◌∷◌, ◌++◌, length, IsTrue, refl, ap, sym, ◌∙◌, subst, arith}
+use Rattle.std.proofs.Common.{◌≡◌, ℕ, ◌+◌, ◌^◌, ◌<◌, ◌≤◌, List, [], ◌∷◌, ◌++◌, length, IsTrue, refl, ap, sym, ◌∙◌, subst, arith}
 use Rattle.std.proofs.lemmas.List.{length_push}
 use Rattle.fsw_base.specs.Limits.{Limits}
 use Rattle.bus_words.specs.declared.calls.BusAnswer.{BusAnswer}
@@ -7,18 +7,22 @@ use Rattle.bus_words.specs.declared.history.Call.{Call}
 use Rattle.bus_words.specs.declared.history.Entry.{Entry}
 use Rattle.bus_words.specs.Bus.{State, standing_of}
 use Rattle.bus_words.specs.Entries.{call_bytes}
-use Rattle.bus_words.specs.Log.{Log, HasRoom, allowances, left_of, with_entry, bytes_left, entries_left}
-use Rattle.bus_words.specs.Machine.{IsLegal, makes_entry, may_call, state_after, step}
-use Rattle.bus_words.specs.Acts.{Whole, act, whole_from, whole_after, whole_of, opening_whole}
+use Rattle.journal_store.specs.Budgets.{HasRoom, allowances, bytes_left, entries_left}
+use Rattle.bus_words.specs.Log.{Log, left_of, with_entry}
+use Rattle.bus_words.specs.Machine.{makes_entry, may_call, step}
+use Rattle.bus_words.specs.Acts.{Whole, act, whole_from, whole_after, opening_whole}
 use Rattle.bus_words.specs.Runs.{Follows}
 use Rattle.bus_words.proofs.Acts.{whole_after-legal, acts_after}
-use Rattle.bus_words.proofs.Journals.{entries_left-charged, bytes_left-charged, left_from-push}
+use Rattle.journal_store.proofs.Charges.{entries_left-charged, bytes_left-charged}
+use Rattle.bus_words.proofs.Journals.{left_from-push}
 use Rattle.bus_words.proofs.Replay.{goes_on}
 use Rattle.bus_words.proofs.Steps.{AreCounted-after, length-standings}
-use Rattle.sb_core.specs.Core.{Plain, MayAct, Acts, apps_in}
+use Rattle.bus_words.proofs.PoolGrants.{ArePools-after}
+use Rattle.sb_core.specs.Core.{Plain, MayAct, Acts, apps_in, has_grant_numbers}
 use Rattle.sb_calls.specs.declared.bus_core.BusCore.TheInside.{Inside}
-use Rattle.sb_calls.specs.Core.{Core, MayCall, Does, IsLegalCore, apps_of, state_of}
+use Rattle.sb_calls.specs.Core.{Core, MayCall, Does, IsLegalCore, state_of}
 use Rattle.sb_calls.specs.Inside.{core_of, Stands}
+use Rattle.sb_calls.proofs.Grants.{grants_left}
 
 whole_from-push : (limits : Limits) (w : Whole) (es : List Entry) (e : Entry) → whole_from limits w (es ++ e ∷ []) ≡ (act limits (whole_from limits w es) e.app e.call).1
 whole_from-push limits w [] e = refl
@@ -46,13 +50,14 @@ may_act a old app call is stands may_old =
     let s = state_of (core_of a) in
     let counted = AreCounted-after a.core.limits apps a.journal.entries in
     let left = entries_left-charged (left_of a.journal) app (call_bytes call) may.room in
-    let P : State → Type 0 = λ t. (app ≤ length t.standings) × IsTrue (may_call (standing_of t app) call) × (t.pipes_created + 1 < 2 ^ 32) × (t.subscriptions_made + 1 < 2 ^ 32) × (t.numbers_given < a.core.messages) in
+    let P : State → Type 0 = λ t. (app ≤ length t.standings) × IsTrue (may_call (standing_of t app) call) × (t.pipes_created + 1 < 2 ^ 32) × (t.subscriptions_made + 1 < 2 ^ 32) × (t.numbers_given < a.core.messages) × IsTrue (has_grant_numbers t.pools call) in
     let all : P a.core.whole.bus = subst P (sym (bus_is a stands)) (
       omega (arith, may.known, length-standings a.core.limits apps a.journal.entries),
       may.standing,
       omega (arith, counted.pipes, left, stands.few),
       omega (arith, counted.subscriptions, left, stands.few),
       omega (arith, counted.numbers, left, stands.messages),
+      grants_left a.core.limits (length a.journal.entries) s.pools call (ArePools-after a.core.limits apps a.journal.entries) (omega (arith, left, stands.few)),
     ) in
     let taken = bytes_left-charged (left_of a.journal) app (call_bytes call) may.room in
     record {
@@ -62,6 +67,7 @@ may_act a old app call is stands may_old =
       pipes = all.2;
       subscriptions = all.3;
       sends = all.4;
+      grants = all.5;
       bytes = omega (arith, taken, stands.bytes);
     }
 
@@ -117,7 +123,7 @@ module _ (a : Inside) (core : Plain) (journal : Log) (old : Core) (app : ℕ) (c
   whole_is =
       let e : Entry = record { app = app; call = call; answer = answer } in
       ap (λ (p : BusAnswer × Whole). p.1) (sym made)
-      ∙ sym (whole_from-push a.core.limits (opening_whole (length a.journal.budgets)) a.journal.entries e)
+      ∙ sym (whole_from-push a.core.limits (opening_whole a.core.limits (length a.journal.budgets)) a.journal.entries e)
       ∙ ap (λ (l : Log). whole_after a.core.limits (length l.budgets) l.entries) (sym entered)
       ∙ ap (λ l. whole_after l (length journal.budgets) journal.entries) (sym acts.limits)
 

@@ -8,7 +8,8 @@ use Rattle.bus_words.specs.declared.history.Call.TheVariants.{Look}
 use Rattle.bus_words.specs.Alone.{Received, Gives, receipts, solo_receipts, unmade, cut}
 use Rattle.bus_words.specs.Bus.{State, standing_of}
 use Rattle.bus_words.specs.Entries.{call_bytes}
-use Rattle.bus_words.specs.Log.{Log, HasRoom, left_of, with_entry}
+use Rattle.journal_store.specs.Budgets.{HasRoom}
+use Rattle.bus_words.specs.Log.{Log, left_of, with_entry}
 use Rattle.sb_core.specs.declared.pending.Pended.{Pended}
 use Rattle.sb_core.specs.declared.pending.Pended.TheVariants.{Pending}
 use Rattle.sb_core.specs.Answers.{waited}

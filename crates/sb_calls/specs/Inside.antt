@@ -1,7 +1,8 @@
 -- What the core's fields stand for, and what is always true of them.
 use Rattle.std.specs.Prelude.{◌≡◌, ◌+◌, ◌^◌, ◌<◌, ◌≤◌, length}
 use Rattle.bus_words.specs.Acts.{whole_after}
-use Rattle.bus_words.specs.Log.{bytes_left, entries_left, left_of}
+use Rattle.journal_store.specs.Budgets.{bytes_left, entries_left}
+use Rattle.bus_words.specs.Log.{left_of}
 use Rattle.sb_calls.specs.declared.bus_core.BusCore.TheInside.{Inside}
 use Rattle.sb_calls.specs.Core.{Core, IsLegalCore}
 

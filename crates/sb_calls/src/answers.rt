@@ -1,9 +1,9 @@
 //! The answers of the calls, as the journal has them.
 ghost use Rattle.std.specs.Prelude.{◌≡◌};
-ghost use Rattle.sb_core.specs.Answers.{created, found, bits_told, named, done, sent, got, pended};
+ghost use Rattle.sb_core.specs.Answers.{created, found, bits_told, named, done, sent, got, pended, pool_told, grant_back, figures_told};
 
 use bus_words::{BusAnswer, PipeText};
-use fsw_base::SbStatus;
+use fsw_base::{EsStatus, PoolStats, SbStatus};
 use sb_core::{Pended, Sent};
 
 /// Of the creation of a pipe.
@@ -86,5 +86,35 @@ pub(crate) fn of_pended(told: &Result<Pended, SbStatus>) -> BusAnswer
     match told {
         Ok(it) => it.told(),
         Err(status) => BusAnswer::Sb(*status),
+    }
+}
+
+/// Of the creation of a memory pool, or of a request for a grant.
+pub(crate) fn of_pool(told: &Result<u32, EsStatus>) -> BusAnswer
+    ensures { result ≡ pool_told told.now }
+{
+    match told {
+        Ok(number) => BusAnswer::Number(*number),
+        Err(status) => BusAnswer::Es(*status),
+    }
+}
+
+/// Of the return of a grant.
+pub(crate) fn of_back(told: &Result<(), EsStatus>) -> BusAnswer
+    ensures { result ≡ grant_back told.now }
+{
+    match told {
+        Ok(()) => BusAnswer::Done,
+        Err(status) => BusAnswer::Es(*status),
+    }
+}
+
+/// Of a question for a memory pool's figures.
+pub(crate) fn of_figures(told: &Result<PoolStats, EsStatus>) -> BusAnswer
+    ensures { result ≡ figures_told told.now }
+{
+    match told {
+        Ok(figures) => BusAnswer::Pool(*figures),
+        Err(status) => BusAnswer::Es(*status),
     }
 }

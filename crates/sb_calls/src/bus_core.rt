@@ -1,7 +1,8 @@
 //! The core: what it keeps, how it opens, and what it tells.
 ghost use Rattle.std.specs.Prelude.{◌≡◌, ◌≤◌, [], length, IfOk};
 ghost use Rattle.fsw_base.specs.Limits.{limits_of};
-ghost use Rattle.bus_words.specs.Log.{AreBudgets, allowance_of, left_of};
+ghost use Rattle.journal_store.specs.Budgets.{AreBudgets, allowance_of};
+ghost use Rattle.bus_words.specs.Log.{left_of};
 ghost use Rattle.bus_words.specs.Receipts.{receipt_in};
 ghost use Rattle.sb_calls.specs.Core.{IsLegalCore, StandAlone, apps_of, state_of};
 

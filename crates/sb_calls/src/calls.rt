@@ -152,7 +152,8 @@ impl BusCore {
         result
     }
 
-    /// The caller's last call: its pipes leave with their subscriptions and messages.
+    /// The caller's last call: its pipes leave with their subscriptions and messages, and its
+    /// grants of memory pools are given back.
     pub fn end<L: Ledger>(&mut self, app: AppNo, steps: &mut Steps<L>)
         requires may { MayCall self.old app Call.End }
         ensures { Does self.old self.new app Call.End BusAnswer.Done }

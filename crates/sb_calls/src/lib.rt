@@ -1,6 +1,6 @@
 //! The calls of the software bus (cFE Software Bus): pipes, subscriptions, and messages that are
-//! copied to every pipe subscribed to their id. Each call is that of the bus without a journal, and
-//! one entry of a journal: the call with its answer.
+//! copied to every pipe subscribed to their id; and the memory pools that applications create. Each
+//! call is that of the bus without a journal, and one entry of a journal: the call with its answer.
 //!
 //! It promises that each call answers and changes what the bus of the definitions does after the
 //! journal's history; that what a pipe gives is what that pipe alone gives, whatever befalls the
@@ -23,6 +23,7 @@ mod opening;
 mod pending;
 mod permits;
 mod pipe_calls;
+mod pool_calls;
 
 pub use bus_core::BusCore;
 pub use sb_core::{Pended, Sent};

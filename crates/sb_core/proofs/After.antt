@@ -1,12 +1,13 @@
 -- What a call leaves: the fields stand for what the machine leaves.
-use Rattle.std.proofs.Common.{◌≡◌, ℕ, ◌+◌, ◌≤◌, Option, refl, ap, sym, subst, arith, Vec, Global}
+use Rattle.std.proofs.Common.{◌≡◌, ℕ, ◌+◌, ◌≤◌, Option, None, refl, ap, ◌∙◌, subst, arith, Vec, Global}
 use Rattle.fsw_base.specs.Limits.{Limits, limits_of}
 use Rattle.fsw_base.specs.declared.statuses.SbStatus.{SbStatus}
+use Rattle.pool_words.specs.Grants.{Pools}
 use Rattle.bus_words.specs.declared.calls.BusAnswer.{BusAnswer}
 use Rattle.bus_words.specs.declared.history.Call.{Call}
-use Rattle.bus_words.specs.Bus.{State}
 use Rattle.bus_words.specs.Entries.{call_bytes}
-use Rattle.bus_words.specs.Machine.{cause_with, decided_with}
+use Rattle.bus_words.specs.Refusals.{Refusal}
+use Rattle.bus_words.specs.Machine.{by_bus, cause_with, decided_with, accept_with}
 use Rattle.bus_words.specs.Acts.{Whole, act, completed, reads_in}
 use Rattle.bus_tables.specs.Tables.{Tables}
 use Rattle.sb_core.specs.declared.plain.SbCore.TheInside.{Inside}
@@ -15,9 +16,14 @@ use Rattle.sb_core.specs.declared.activities.Activity.{Activity}
 use Rattle.sb_core.specs.Inside.{plain_of, means}
 
 -- the answer and the state of a call whose cause is known
-pub act_by : (limits : Limits) (w : Whole) (app : ℕ) (call : Call) (why : Option SbStatus) → cause_with (reads_in w) limits w.bus app call ≡ why →
+pub act_by : (limits : Limits) (w : Whole) (app : ℕ) (call : Call) (why : Option Refusal) → cause_with (reads_in w) limits w.bus app call ≡ why →
     act limits w app call ≡ completed limits w call (decided_with (reads_in w) limits w.bus app call why)
 act_by limits w app call why is = ap (λ o. completed limits w call (decided_with (reads_in w) limits w.bus app call o)) is
+
+-- of a call that isn't refused
+pub accepted_by : (limits : Limits) (w : Whole) (app : ℕ) (call : Call) (cause : Option SbStatus) → cause_with (reads_in w) limits w.bus app call ≡ by_bus cause → cause ≡ None →
+    act limits w app call ≡ completed limits w call (accept_with (reads_in w) limits w.bus app call)
+accepted_by limits w app call cause here none = act_by limits w app call None (here ∙ ap by_bus none)
 
 -- the call does what the machine does
 pub acts_from : (a b : Inside) (old : Plain) (app : ℕ) (call : Call) (answer : BusAnswer) → plain_of a ≡ old →
@@ -33,6 +39,11 @@ pub acts_by_tables : (a : Inside) (next : Tables) (acts : Vec Activity Global) (
     Acts old (plain_of (record a { tables = next; activities = acts })) app call answer
 acts_by_tables a next acts old app call answer is made =
     acts_from a (record a { tables = next; activities = acts }) old app call answer is refl refl (omega arith) made
+
+-- where all but the pools stays
+pub acts_by_pools : (a : Inside) (next : Pools) (old : Plain) (app : ℕ) (call : Call) (answer : BusAnswer) → plain_of a ≡ old →
+    act (limits_of a.config) (means a) app call ≡ (answer, means (record a { pools = next })) → Acts old (plain_of (record a { pools = next })) app call answer
+acts_by_pools a next old app call answer is made = acts_from a (record a { pools = next }) old app call answer is refl refl (omega arith) made
 
 -- where nothing changes
 pub acts_still : (a : Inside) (old : Plain) (app : ℕ) (call : Call) (answer : BusAnswer) → plain_of a ≡ old →

@@ -1,5 +1,5 @@
 -- What the rows tell of one pipe is what the bus tells of it.
-use Rattle.std.proofs.Common.{◌≡◌, ℕ, Bool, true, false, ◌||◌, not, cond, eqb, List, [], ◌∷◌, find, Option, Some, None, Result, Ok, Err, is_some, refl, ap, sym, ◌∙◌, subst}
+use Rattle.std.proofs.Common.{◌≡◌, ℕ, Bool, true, false, ◌||◌, not, cond, eqb, List, [], ◌∷◌, find, Option, Some, None, Result, is_some, refl, ap, sym, ◌∙◌, subst}
 use Rattle.std.specs.List.{list_any}
 use Rattle.std.specs.Prelude.{ok_or}
 use Rattle.std.specs.Option.{option_map, option_map_or}
@@ -14,7 +14,7 @@ use Rattle.bus_words.specs.declared.history.Call.{Call}
 use Rattle.bus_words.specs.declared.history.Call.TheVariants.{GetOpts, Find, PipeName}
 use Rattle.bus_words.specs.Acts.{completed, reads_in}
 use Rattle.bus_words.specs.Bus.{Pipe}
-use Rattle.bus_words.specs.Machine.{cause_with, decided_with, refused_if, bits_of, number_of, name_of}
+use Rattle.bus_words.specs.Machine.{by_bus, cause_with, decided_with, refused_if, bits_of, number_of, name_of}
 use Rattle.bus_tables.specs.Rows.{Row, row_of}
 use Rattle.sb_core.specs.declared.plain.SbCore.TheInside.{Inside}
 use Rattle.sb_core.specs.Answers.{bits_told, found, named}
@@ -52,9 +52,9 @@ told answer (Some x) = answer x
 -- a call that asks one thing of the pipe that passes a test, and is refused where none does
 module _ {X : Type 0} (a : Inside) (now : Plain) (app : ℕ) (call : Call) (viewed : plain_of a ≡ now)
     (p : Pipe → Bool) (f : Pipe → X) (other : X) (answer : X → BusAnswer)
-    (why : cause_with (reads_in (means a)) (limits_of a.config) (means a).bus app call ≡ refused_if (not (list_any p (means a).bus.pipes)) BadArgument None)
+    (why : cause_with (reads_in (means a)) (limits_of a.config) (means a).bus app call ≡ by_bus (refused_if (not (list_any p (means a).bus.pipes)) BadArgument None))
     (decides : (b : Bool) →
-    completed (limits_of a.config) (means a) call (decided_with (reads_in (means a)) (limits_of a.config) (means a).bus app call (refused_if b BadArgument None))
+    completed (limits_of a.config) (means a) call (decided_with (reads_in (means a)) (limits_of a.config) (means a).bus app call (by_bus (refused_if b BadArgument None)))
     ≡ (cond {A = BusAnswer} b (Sb BadArgument) (answer (option_map_or f (find p (means a).bus.pipes) other)), means a)) where
   by_pipe : (o : Option Pipe) → cond {A = BusAnswer} (not (is_some o)) (Sb BadArgument) (answer (option_map_or f o other)) ≡ told answer (option_map f o)
   by_pipe None = refl
@@ -82,7 +82,7 @@ module _ (a : Inside) (now : Plain) (app : ℕ) (viewed : plain_of a ≡ now) wh
       let P : BusAnswer → Type 0 = λ x. Acts now now app (GetOpts pipe) x in
       subst P (by_found (option_map (λ row. row.bits) (row_of a.tables.pipes pipe)) ∙ ap bits_told (sym is))
       (asks_acts a now app (GetOpts pipe) viewed (λ p. eqb p.number pipe) (λ p. p.bits) 0 Number refl (λ b. elim b as (λ x.
-      completed (limits_of a.config) (means a) (GetOpts pipe) (decided_with (reads_in (means a)) (limits_of a.config) (means a).bus app (GetOpts pipe) (refused_if x BadArgument None))
+      completed (limits_of a.config) (means a) (GetOpts pipe) (decided_with (reads_in (means a)) (limits_of a.config) (means a).bus app (GetOpts pipe) (by_bus (refused_if x BadArgument None)))
       ≡ (cond {A = BusAnswer} x (Sb BadArgument) (Number (bits_of (means a).bus.pipes pipe)), means a)) [ true ↦ refl | false ↦ refl ]))
     where
       by_found : (o : Option ℕ) → told Number o ≡ bits_told (ok_or o BadArgument)
@@ -95,7 +95,7 @@ module _ (a : Inside) (now : Plain) (app : ℕ) (viewed : plain_of a ≡ now) wh
       let P : BusAnswer → Type 0 = λ x. Acts now now app (Find name) x in
       subst P (by_found (option_map (λ row. row.number) (find (λ row. bytes_eq row.name name) a.tables.pipes)) ∙ ap found (sym is))
       (asks_acts a now app (Find name) viewed (λ p. bytes_eq p.name name) (λ p. p.number) 0 Number refl (λ b. elim b as (λ x.
-      completed (limits_of a.config) (means a) (Find name) (decided_with (reads_in (means a)) (limits_of a.config) (means a).bus app (Find name) (refused_if x BadArgument None))
+      completed (limits_of a.config) (means a) (Find name) (decided_with (reads_in (means a)) (limits_of a.config) (means a).bus app (Find name) (by_bus (refused_if x BadArgument None)))
       ≡ (cond {A = BusAnswer} x (Sb BadArgument) (Number (number_of (means a).bus.pipes name)), means a)) [ true ↦ refl | false ↦ refl ]))
     where
       by_found : (o : Option ℕ) → told Number o ≡ found (ok_or o BadArgument)
@@ -108,7 +108,7 @@ module _ (a : Inside) (now : Plain) (app : ℕ) (viewed : plain_of a ≡ now) wh
       let P : BusAnswer → Type 0 = λ x. Acts now now app (PipeName pipe) x in
       subst P (by_found (option_map (λ row. row.name) (row_of a.tables.pipes pipe)) ∙ ap named (sym is))
       (asks_acts a now app (PipeName pipe) viewed (λ p. eqb p.number pipe) (λ p. p.name) [] Name refl (λ b. elim b as (λ x.
-      completed (limits_of a.config) (means a) (PipeName pipe) (decided_with (reads_in (means a)) (limits_of a.config) (means a).bus app (PipeName pipe) (refused_if x BadArgument None))
+      completed (limits_of a.config) (means a) (PipeName pipe) (decided_with (reads_in (means a)) (limits_of a.config) (means a).bus app (PipeName pipe) (by_bus (refused_if x BadArgument None)))
       ≡ (cond {A = BusAnswer} x (Sb BadArgument) (Name (name_of (means a).bus.pipes pipe)), means a)) [ true ↦ refl | false ↦ refl ]))
     where
       by_found : (o : Option (List ℕ)) → told Name o ≡ named (ok_or o BadArgument)

@@ -1,8 +1,9 @@
 -- Changes of the core's tables and activities that leave what is kept.
-use Rattle.std.proofs.Common.{◌≡◌, ℕ, Bool, true, false, not, cond, eqb, List, length, filter, refl, sym, ◌∙◌, subst, arith, Vec, Global}
+use Rattle.std.proofs.Common.{◌≡◌, ℕ, Bool, true, false, not, cond, eqb, List, length, filter, refl, sym, subst, arith, Vec, Global}
 use Rattle.std.specs.List.{All}
 use Rattle.std.proofs.lemmas.List.Filters.{length-filter_both}
 use Rattle.std.proofs.lemmas.List.Elements.{All-filter, All-map, All-weaker}
+use Rattle.pool_words.specs.Grants.{Pools}
 use Rattle.bus_words.specs.Bus.{Subscription}
 use Rattle.sb_core.specs.declared.plain.SbCore.TheInside.{Inside}
 use Rattle.sb_core.specs.declared.activities.Activity.{Activity}
@@ -14,6 +15,22 @@ use Rattle.bus_tables.specs.Tables.{Tables}
 -- other activities
 pub activities_keep : (a : Inside) (acts : Vec Activity Global) → Keeps a → Keeps (record a { activities = acts })
 activities_keep a acts keeps =
+    record {
+      room = keeps.room;
+      rows = keeps.rows;
+      messages = keeps.messages;
+      ways = keeps.ways;
+      misses = keeps.misses;
+      once = keeps.once;
+      subscriptions_live = keeps.subscriptions_live;
+      subscriptions_made = keeps.subscriptions_made;
+      sends_made = keeps.sends_made;
+      sends_few = keeps.sends_few;
+    }
+
+-- other memory pools
+pub pools_keep : (a : Inside) (pools : Pools) → Keeps a → Keeps (record a { pools = pools })
+pools_keep a pools keeps =
     record {
       room = keeps.room;
       rows = keeps.rows;

@@ -1,5 +1,5 @@
 -- What the end of one pipe leaves.
-use Rattle.std.proofs.Common.{◌≡◌, ℕ, not, eqb, filter, List, None, ap, sym, ◌∙◌, subst}
+use Rattle.std.proofs.Common.{◌≡◌, ℕ, not, eqb, filter, List, None, refl, ap, sym, ◌∙◌, subst}
 use Rattle.fsw_base.proofs.Lists.{filter-map}
 use Rattle.fsw_base.specs.Limits.{limits_of}
 use Rattle.bus_words.specs.declared.calls.BusAnswer.TheVariants.{Done}
@@ -12,7 +12,7 @@ use Rattle.sb_core.specs.declared.plain.SbCore.TheInside.{Inside}
 use Rattle.sb_core.specs.Core.{Plain, Acts}
 use Rattle.sb_core.specs.Inside.{plain_of, means, Keeps}
 use Rattle.sb_core.specs.Rows.{pipe_in}
-use Rattle.sb_core.proofs.After.{act_by, acts_by_tables}
+use Rattle.sb_core.proofs.After.{accepted_by, acts_by_tables}
 use Rattle.sb_core.proofs.Changes.{pipes_leave, subscriptions_leave}
 
 module _ (a : Inside) (next : Tables) (old : Plain) (app pipe : ℕ)
@@ -36,4 +36,4 @@ module _ (a : Inside) (next : Tables) (old : Plain) (app pipe : ℕ)
   pub deleted_acts : plain_of a ≡ old → unowned_cause (means a).bus app pipe ≡ None → Acts old (plain_of (record a { tables = next })) app (Delete pipe) Done
   deleted_acts viewed why =
       acts_by_tables a next a.activities old app (Delete pipe) Done viewed
-      (act_by (limits_of a.config) (means a) app (Delete pipe) None why ∙ ap (λ (w : Whole). (Done, w)) (sym deleted_means))
+      (accepted_by (limits_of a.config) (means a) app (Delete pipe) (unowned_cause (means a).bus app pipe) refl why ∙ ap (λ (w : Whole). (Done, w)) (sym deleted_means))

@@ -10,6 +10,7 @@ pub mod Looks
 pub mod Meaning
 pub mod Opened
 pub mod Options
+pub mod PoolCalls
 pub mod Receipts
 pub mod Receives
 pub mod Releases

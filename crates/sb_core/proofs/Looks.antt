@@ -1,9 +1,9 @@
 -- What a receive that may wait leaves, and a look.
-use Rattle.std.proofs.Common.{◌≡◌, zero-add, ℕ, ◌+◌, ◌-◌, ◌<◌, ◌≤◌, Bool, true, false, ◌&&◌, not, cond, if◌then◌else◌, eqb, List, [], ◌∷◌, length, map, set, get_or, Some, None, is_none, count_by, refl, ap, sym, ◌∙◌, subst, arith, Vec, Global}
+use Rattle.std.proofs.Common.{◌≡◌, zero-add, ℕ, ◌+◌, ◌-◌, ◌<◌, ◌≤◌, Bool, true, false, ◌&&◌, not, cond, if◌then◌else◌, eqb, List, [], ◌∷◌, length, map, set, get_or, Some, None, is_none, count_by, refl, ap, sym, ◌∙◌, arith, Vec, Global}
 use Rattle.std.specs.List.{list_all}
 use Rattle.std.specs.Option.{option_map_or}
 use Rattle.std.proofs.lemmas.Bool.Decides.{nat_tests}
-use Rattle.std.proofs.lemmas.List.{length-set, map-set}
+use Rattle.std.proofs.lemmas.List.{map-set}
 use Rattle.std.proofs.lemmas.List.Sums.{sum_by-set, sum_by-cons}
 use Rattle.std.proofs.Math.ListN.{get_or-map}
 use Rattle.std.proofs.lemmas.List.Folds.{list_all-map}
@@ -13,7 +13,6 @@ use Rattle.bus_words.specs.declared.calls.BusAnswer.TheVariants.{Got, TimeOut, P
 use Rattle.bus_words.specs.declared.history.Call.TheVariants.{Pend, Look}
 use Rattle.bus_words.specs.Bus.{State, Pipe, Standing, Active, Waiting, Ended, standing_of, waited_on, after_receive, is_empty, is_idle, others_idle, with_standing}
 use Rattle.bus_words.specs.Machine.{unowned_cause, received, oldest_number, pended_answer, pended, looked}
-use Rattle.bus_words.specs.Acts.{Whole, act}
 use Rattle.bus_tables.specs.declared.tables.ItemRow.{ItemRow}
 use Rattle.bus_tables.specs.Rows.{Row, with_row, oldest_item, after_take}
 use Rattle.bus_tables.specs.Tables.{Tables}
@@ -26,7 +25,7 @@ use Rattle.sb_core.specs.Answers.{waited, is_pending}
 use Rattle.sb_core.specs.Core.{Plain, Acts}
 use Rattle.sb_core.specs.Inside.{plain_of, means, Keeps}
 use Rattle.sb_core.specs.Rows.{Kept, pipe_in, standing_in, idle_in}
-use Rattle.sb_core.proofs.After.{act_by, acts_by_tables, acts_still}
+use Rattle.sb_core.proofs.After.{accepted_by, acts_by_tables, acts_still}
 use Rattle.sb_core.proofs.Changes.{activities_keep, row_keeps}
 use Rattle.sb_core.proofs.Meaning.{pipes_with_row, pipe_in-after_take, is_empty-rows, oldest_number-rows}
 use Rattle.sb_core.proofs.Receives.{IsRow-after_take}
@@ -155,7 +154,7 @@ module _ (a : Inside) (next : Tables) (acts : Vec Activity Global) (old : Plain)
   pub pend_acts : Acts old (plain_of (record a { tables = next; activities = acts })) app (Pend pipe) (waited answer)
   pend_acts =
       acts_by_tables a next acts old app (Pend pipe) (waited answer) viewed
-      (act_by (limits_of a.config) (means a) app (Pend pipe) None why
+      (accepted_by (limits_of a.config) (means a) app (Pend pipe) (unowned_cause (means a).bus app pipe) refl why
       ∙ ap (λ x. (x, record (means a) { bus = pended (means a).bus app pipe })) (sym answers)
       ∙ ap (λ w. (waited answer, w)) (sym pend_means))
 

@@ -7,11 +7,11 @@ use Rattle.bus_words.specs.Acts.{Whole}
 use Rattle.bus_words.specs.Bus.{Pipe, with_pipe, with_bits}
 use Rattle.bus_words.specs.Machine.{set_opts_cause}
 use Rattle.bus_tables.specs.Rows.{row_with_bits, with_row}
-use Rattle.bus_tables.specs.Tables.{Room, Tables}
+use Rattle.bus_tables.specs.Tables.{Tables}
 use Rattle.sb_core.specs.declared.plain.SbCore.TheInside.{Inside}
 use Rattle.sb_core.specs.Core.{Plain, Acts}
 use Rattle.sb_core.specs.Inside.{plain_of, means, Keeps}
-use Rattle.sb_core.proofs.After.{act_by, acts_by_tables}
+use Rattle.sb_core.proofs.After.{accepted_by, acts_by_tables}
 use Rattle.sb_core.proofs.Changes.{row_keeps}
 use Rattle.sb_core.proofs.Meaning.{pipes_with_row}
 
@@ -29,4 +29,4 @@ module _ (a : Inside) (next : Tables) (old : Plain) (app pipe bits : ℕ)
   pub set_acts : plain_of a ≡ old → set_opts_cause (means a).bus app pipe bits ≡ None → Acts old (plain_of (record a { tables = next })) app (SetOpts pipe bits) Done
   set_acts viewed why =
       acts_by_tables a next a.activities old app (SetOpts pipe bits) Done viewed
-      (act_by (limits_of a.config) (means a) app (SetOpts pipe bits) None why ∙ ap (λ (w : Whole). (Done, w)) (sym set_means))
+      (accepted_by (limits_of a.config) (means a) app (SetOpts pipe bits) (set_opts_cause (means a).bus app pipe bits) refl why ∙ ap (λ (w : Whole). (Done, w)) (sym set_means))

@@ -1,15 +1,15 @@
 -- What a receive leaves.
-use Rattle.std.proofs.Common.{◌≡◌, ℕ, Bool, true, false, not, cond, eqb, List, [], ◌∷◌, length, Some, None, is_none, refl, ap, sym, ◌∙◌, subst}
+use Rattle.std.proofs.Common.{◌≡◌, ℕ, Bool, true, false, not, List, [], ◌∷◌, length, Some, None, is_none, refl, ap, sym, ◌∙◌}
 use Rattle.std.specs.List.{All}
 use Rattle.std.specs.Option.{IfSome, option_map_or}
-use Rattle.std.proofs.lemmas.List.Elements.{All-head, All-drop, All-map, All-weaker}
+use Rattle.std.proofs.lemmas.List.Elements.{All-head, All-drop}
 use Rattle.fsw_base.specs.Limits.{limits_of}
 use Rattle.fsw_base.specs.declared.statuses.SbStatus.TheVariants.{BadArgument, NoMessage}
 use Rattle.bus_words.specs.declared.calls.BusAnswer.TheVariants.{Got, Sb}
 use Rattle.bus_words.specs.declared.history.Call.TheVariants.{Receive}
 use Rattle.bus_words.specs.Bus.{State, Pipe, owns, after_receive, is_empty}
-use Rattle.bus_words.specs.Machine.{receive_cause, refused_if, received}
-use Rattle.bus_words.specs.Acts.{Whole, act}
+use Rattle.bus_words.specs.Refusals.{OfBus}
+use Rattle.bus_words.specs.Machine.{by_bus, receive_cause, refused_if, received}
 use Rattle.bus_tables.specs.declared.tables.ItemRow.{ItemRow}
 use Rattle.bus_tables.specs.Rows.{Row, with_row, first_item, oldest_item, after_take, owns_row}
 use Rattle.bus_tables.specs.Tables.{Tables}
@@ -37,8 +37,8 @@ IsRow-after_take sends row is = record { queue = All-drop (IsItem sends) 1 row.q
 pub bad_acts : (a : Inside) (old : Plain) (app pipe : ℕ) → plain_of a ≡ old → owns_row a.tables.pipes app pipe ≡ false →
     Acts old old app (Receive pipe) (Sb BadArgument)
 bad_acts a old app pipe is own =
-    let made = act_by (limits_of a.config) (means a) app (Receive pipe) (Some BadArgument)
-    (receive_cause_is (means a).bus app pipe false (is_empty (means a).bus.pipes pipe) (owns-rows a.sends.kept a.tables.pipes app pipe ∙ own) refl) in
+    let made = act_by (limits_of a.config) (means a) app (Receive pipe) (Some (OfBus BadArgument))
+    (ap by_bus (receive_cause_is (means a).bus app pipe false (is_empty (means a).bus.pipes pipe) (owns-rows a.sends.kept a.tables.pipes app pipe ∙ own) refl)) in
     acts_still a old app (Receive pipe) (Sb BadArgument) is made
 
 module _ (a : Inside) (next : Tables) (old : Plain) (app pipe : ℕ) (viewed : plain_of a ≡ old)
@@ -58,15 +58,15 @@ module _ (a : Inside) (next : Tables) (old : Plain) (app pipe : ℕ) (viewed : p
   pub none_acts : oldest_item a.tables.pipes pipe ≡ None → Acts old (plain_of (record a { tables = next })) app (Receive pipe) (Sb NoMessage)
   none_acts none =
       acts_by_tables a next a.activities old app (Receive pipe) (Sb NoMessage) viewed
-      (act_by (limits_of a.config) (means a) app (Receive pipe) (Some NoMessage)
-      (receive_cause_is (means a).bus app pipe true true owned (is_empty-rows a.sends.kept a.tables.pipes pipe ∙ ap is_none none))
+      (act_by (limits_of a.config) (means a) app (Receive pipe) (Some (OfBus NoMessage))
+      (ap by_bus (receive_cause_is (means a).bus app pipe true true owned (is_empty-rows a.sends.kept a.tables.pipes pipe ∙ ap is_none none)))
       ∙ ap (λ w. (Sb NoMessage, w)) (sym taken_means))
 
   pub some_acts : (item : ItemRow) → oldest_item a.tables.pipes pipe ≡ Some item → Acts old (plain_of (record a { tables = next })) app (Receive pipe) (Got item.number)
   some_acts item some =
       acts_by_tables a next a.activities old app (Receive pipe) (Got item.number) viewed
       (act_by (limits_of a.config) (means a) app (Receive pipe) None
-      (receive_cause_is (means a).bus app pipe true false owned (is_empty-rows a.sends.kept a.tables.pipes pipe ∙ ap is_none some))
+      (ap by_bus (receive_cause_is (means a).bus app pipe true false owned (is_empty-rows a.sends.kept a.tables.pipes pipe ∙ ap is_none some)))
       ∙ ap (λ n. (Got n, record (means a) { bus = received (means a).bus pipe }))
       (oldest_number-rows a.sends.kept a.tables.pipes pipe ∙ ap (λ o. option_map_or {U = ℕ} (λ i. i.number) o 0) some)
       ∙ ap (λ w. (Got item.number, w)) (sym taken_means))

@@ -24,7 +24,7 @@ use Rattle.sb_core.specs.declared.plain.SbCore.TheInside.{Inside}
 use Rattle.sb_core.specs.Core.{Plain, Acts}
 use Rattle.sb_core.specs.Inside.{plain_of, means, Keeps}
 use Rattle.sb_core.specs.Rows.{next_of, nexts_in, AreOnce}
-use Rattle.sb_core.proofs.After.{act_by, acts_by_tables, acts_still}
+use Rattle.sb_core.proofs.After.{accepted_by, acts_by_tables, acts_still}
 use Rattle.sb_core.proofs.Refusals.{has_route-rows}
 
 -- Routes. --
@@ -214,7 +214,7 @@ module _ (a : Inside) (old : Plain) (app id pipe limit : ℕ) (scope : Scope) (v
         },
       )
   made_by live is =
-      act_by (limits_of a.config) (means a) app (Subscribe id pipe limit scope) None why
+      accepted_by (limits_of a.config) (means a) app (Subscribe id pipe limit scope) (subscribe_cause (limits_of a.config) (means a).bus app id pipe) refl why
       ∙ ap (λ b. (
         Done,
         record {

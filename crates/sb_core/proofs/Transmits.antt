@@ -1,8 +1,8 @@
 -- What a send leaves.
-use Rattle.std.proofs.Common.{◌≡◌, ℕ, zero, suc, ◌+◌, ◌-◌, ◌%◌, ◌<◌, ◌≤◌, Bool, true, false, ◌&&◌, ◌||◌, not, cond, eqb, leb, ltb, List, [], ◌∷◌, ◌++◌, length, map, find, Option, Some, None, is_some, refl, ap, sym, ◌∙◌, subst, arith, take, drop, length-append}
+use Rattle.std.proofs.Common.{◌≡◌, ℕ, zero, suc, ◌+◌, ◌-◌, ◌%◌, ◌<◌, ◌≤◌, Bool, true, false, ◌||◌, cond, eqb, leb, ltb, List, [], ◌∷◌, ◌++◌, length, map, find, Option, Some, None, is_some, refl, ap, sym, ◌∙◌, subst, arith, take, drop, length-append}
 use Rattle.std.specs.List.{All, list_any}
 use Rattle.std.specs.Option.{IfSome, option_map, option_map_or}
-use Rattle.std.proofs.lemmas.Bool.{eqb-true, eq-eqb}
+use Rattle.std.proofs.lemmas.Bool.{eqb-true}
 use Rattle.std.proofs.lemmas.Bool.Decides.{nat_tests}
 use Rattle.std.proofs.lemmas.List.{length_push, get_or_push, get_or_append_left, take-append-drop}
 use Rattle.std.proofs.lemmas.List.Elements.{All-push, All-weaker, All-head, All-tail}
@@ -14,7 +14,6 @@ use Rattle.fsw_base.specs.declared.statuses.SbStatus.TheVariants.{BadArgument, M
 use Rattle.ccsds_msg.specs.declared.packet.MsgFault.{MsgFault}
 use Rattle.ccsds_msg.specs.Message.{fault, message_id, with_count}
 use Rattle.ccsds_msg.proofs.MessageLemmas.{IsMessage-length, length-with_count}
-use Rattle.bus_words.specs.declared.calls.BusAnswer.{BusAnswer}
 use Rattle.bus_words.specs.declared.calls.BusAnswer.TheVariants.{Sent}
 use Rattle.bus_words.specs.declared.history.Call.TheVariants.{Transmit}
 use Rattle.bus_words.specs.Bus.{Item, State, Pipe, Subscription, Sending, route, deliver, reached}
@@ -29,7 +28,7 @@ use Rattle.sb_core.specs.declared.plain.SbCore.TheInside.{Inside}
 use Rattle.sb_core.specs.Core.{Plain, Acts}
 use Rattle.sb_core.specs.Inside.{plain_of, means, Keeps}
 use Rattle.sb_core.specs.Rows.{Kept, Sends, IsKept, IsItem, IsRow, kept_at, item_in, pipe_in, next_of, nexts_in, reads_of, counted_up, AreOnce}
-use Rattle.sb_core.proofs.After.{act_by, acts_from, acts_still}
+use Rattle.sb_core.proofs.After.{accepted_by, acts_from, acts_still}
 use Rattle.sb_core.proofs.Meaning.{IsSending, deliver-rows, reached-rows}
 use Rattle.sb_core.proofs.Changes.{rows_kept}
 
@@ -261,7 +260,7 @@ nobody_acts a old app bytes inc viewed why nobody =
     let w = means a in
     let sending : Sending = record { sender = app; number = w.bus.numbers_given + 1; asked = length bytes; message = stamped (reads_in w) bytes inc } in
     acts_still a old app (Transmit bytes inc) (Sent 0 0) viewed
-    (act_by (limits_of a.config) w app (Transmit bytes inc) None why
+    (accepted_by (limits_of a.config) w app (Transmit bytes inc) (transmit_cause (limits_of a.config) w.bus bytes) refl why
     ∙ ap (λ subs. completed (limits_of a.config) w (Transmit bytes inc) (sent_along subs sending w.bus)) nobody
     ∙ ap (λ (ns : List NextCount). (Sent 0 0, record w { nexts = ns })) (still inc))
   where
@@ -333,7 +332,7 @@ module _ (a : Inside) (next : Tables) (sends : Sends) (misses : Missed) (row : K
       ∙ reached-rows (a.sends.kept ++ row ∷ []) sending as_sent (given - 1) subs a.tables.pipes
       ∙ ap (reached sending subs) still in
       acts_from a (record a { tables = next; sends = sends; misses = misses }) old app (Transmit bytes inc) (Sent number arrived) viewed refl places spare
-      (act_by (limits_of a.config) w app (Transmit bytes inc) None why
+      (accepted_by (limits_of a.config) w app (Transmit bytes inc) (transmit_cause (limits_of a.config) w.bus bytes) refl why
       ∙ ap (completed (limits_of a.config) w (Transmit bytes inc)) (along subs first more sending s someone)
       ∙ ap (λ (ns : List NextCount). (Sent given (reached sending subs s.pipes), record { bus = record s { pipes = deliver sending subs s.pipes; numbers_given = given }; nexts = ns })) (moved keeps.once inc)
       ∙ sym (ap (λ n. (Sent n arrived, means (record a { tables = next; sends = sends; misses = misses }))) numbered

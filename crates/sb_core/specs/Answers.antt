@@ -1,6 +1,8 @@
 -- The answers of the calls, as entries of a history have them.
 use Rattle.std.specs.Prelude.{ℕ, Bool, true, false, List, Result, Ok, Err}
+use Rattle.fsw_base.specs.declared.config.PoolStats.{PoolStats}
 use Rattle.fsw_base.specs.declared.statuses.SbStatus.{SbStatus}
+use Rattle.fsw_base.specs.declared.statuses.EsStatus.{EsStatus}
 use Rattle.bus_words.specs.declared.calls.BusAnswer.{BusAnswer}
 use Rattle.bus_words.specs.declared.calls.BusAnswer.TheVariants as answers
 use Rattle.sb_core.specs.declared.calls.Sent.{Sent}
@@ -58,3 +60,18 @@ abbrev pub is_pending : Pended → Bool
 is_pending (waits.Got number) = false
 is_pending waits.TimeOut = false
 is_pending waits.Pending = true
+
+-- the number of a memory pool or of a grant, or the refusal
+abbrev pub pool_told : Result ℕ EsStatus → BusAnswer
+pool_told (Ok number) = answers.Number number
+pool_told (Err status) = answers.Es status
+
+-- the grant is back, or the refusal
+abbrev pub grant_back : Result (Unit {0}) EsStatus → BusAnswer
+grant_back (Ok nothing) = answers.Done
+grant_back (Err status) = answers.Es status
+
+-- the figures of a memory pool, or the refusal
+abbrev pub figures_told : Result PoolStats EsStatus → BusAnswer
+figures_told (Ok figures) = answers.Pool figures
+figures_told (Err status) = answers.Es status

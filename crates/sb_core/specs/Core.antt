@@ -1,9 +1,10 @@
 -- The core as its callers see it: its limits, what it may still give, and the state.
 use Rattle.std.specs.Prelude.{◌≡◌, ℕ, ◌+◌, ◌^◌, ◌<◌, ◌≤◌, nat_le, Bool, true, length, IsTrue}
 use Rattle.fsw_base.specs.Limits.{Limits}
+use Rattle.pool_words.specs.Grants.{Pools, has_numbers}
 use Rattle.bus_words.specs.declared.calls.BusAnswer.{BusAnswer}
 use Rattle.bus_words.specs.declared.history.Call.{Call}
-use Rattle.bus_words.specs.declared.history.Call.TheVariants.{Create, Delete, SetOpts, GetOpts, Find, PipeName, Subscribe, Unsubscribe, Transmit, Receive, Pend, Look, End}
+use Rattle.bus_words.specs.declared.history.Call.TheVariants.{Create, Delete, SetOpts, GetOpts, Find, PipeName, Subscribe, Unsubscribe, Transmit, Receive, Pend, Look, PoolCreate, PoolGet, PoolPut, PoolFigures, End}
 use Rattle.bus_words.specs.Bus.{standing_of}
 use Rattle.bus_words.specs.Entries.{call_bytes}
 use Rattle.bus_words.specs.Machine.{may_call}
@@ -35,7 +36,16 @@ is_within (Transmit bytes inc) = nat_le (length bytes) 65542
 is_within (Receive pipe) = true
 is_within (Pend pipe) = true
 is_within (Look pipe) = true
+is_within (PoolCreate bytes) = true
+is_within (PoolGet pool size) = true
+is_within (PoolPut pool grant) = true
+is_within (PoolFigures pool) = true
 is_within End = true
+
+-- the pool that a grant is asked of, if there is one, has a number left for it
+abbrev pub has_grant_numbers : Pools → Call → Bool
+has_grant_numbers pools (PoolGet pool size) = has_numbers pools pool
+has_grant_numbers pools call = true
 
 -- the application may make this call now
 pub record MayAct (core : Plain) (app : ℕ) (call : Call) : Type 0 where
@@ -47,6 +57,7 @@ pub record MayAct (core : Plain) (app : ℕ) (call : Call) : Type 0 where
   pub subscriptions : core.whole.bus.subscriptions_made + 1 < 2 ^ 32
   pub sends : core.whole.bus.numbers_given < core.messages
   pub bytes : call_bytes call ≤ core.spare
+  pub grants : IsTrue (has_grant_numbers core.whole.bus.pools call)
 
 -- the call was answered, and left the state, as the machine does by the state alone; of the bytes that may still be sent it
 -- took no more than its own

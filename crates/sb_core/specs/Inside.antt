@@ -1,7 +1,6 @@
 -- What the core's fields stand for, and what is always true of them.
-use Rattle.std.specs.Prelude.{◌≡◌, ℕ, ◌^◌, ◌<◌, ◌≤◌, true, length, map, All}
+use Rattle.std.specs.Prelude.{◌≡◌, ◌^◌, ◌<◌, ◌≤◌, true, length, map, All}
 use Rattle.fsw_base.specs.Limits.{limits_of}
-use Rattle.bus_words.specs.Bus.{State}
 use Rattle.bus_words.specs.Acts.{Whole}
 use Rattle.sb_core.specs.declared.plain.SbCore.TheInside.{Inside}
 use Rattle.sb_core.specs.Core.{Plain}
@@ -20,6 +19,7 @@ means a = record {
     routed = ids_of a.tables.routes;
     numbers_given = length a.sends.kept;
     standings = map standing_in a.activities.items;
+    pools = a.pools;
   };
   nexts = nexts_in a.tables;
 }

@@ -1,5 +1,5 @@
 -- How the core keeps what was sent and what applications do, and what its rows stand for.
-use Rattle.std.specs.Prelude.{true, is_none, ◌≡◌, false, ◌∷◌, ℕ, ◌≤◌, All, IfSome, ◌+◌, ◌-◌, ◌%◌, Bool, List, [], length, map, slice_index_or, Option, if◌then◌else◌}
+use Rattle.std.specs.Prelude.{true, is_none, ◌≡◌, false, ◌∷◌, ℕ, ◌≤◌, All, IfSome, ◌+◌, ◌-◌, ◌%◌, Bool, List, [], length, map, slice_index_or, if◌then◌else◌}
 use Rattle.std.specs.Option.{option_map}
 use Rattle.fsw_base.specs.Starts.{start_of}
 use Rattle.bus_words.specs.Bus.{Item, Pipe, Standing, Active, Waiting, Ended}

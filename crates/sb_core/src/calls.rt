@@ -169,12 +169,14 @@ impl SbCore {
         Ok(item.number)
     }
 
-    /// The caller's last call: its pipes leave with their subscriptions and messages.
+    /// The caller's last call: its pipes leave with their subscriptions and messages, and its
+    /// grants of memory pools are given back.
     pub fn end<L: Ledger>(&mut self, app: AppNo, steps: &mut Steps<L>)
         requires may { MayAct self.old app End }
         ensures { Acts self.old self.new app End Done }
     {
         self.activities[(app.get() - 1) as usize] = Activity::Ended;
         release(&mut self.tables, app, steps);
+        self.pools.end(app, steps);
     }
 }

@@ -1,10 +1,10 @@
 //! The software bus without a journal (cFE Software Bus): pipes, subscriptions, and messages that
-//! are copied to every pipe subscribed to their id.
+//! are copied to every pipe subscribed to their id; and the memory pools that applications create.
 //!
 //! It promises that each call answers and changes what the bus of the definitions does by its state
 //! alone, whatever came before; and that a send's steps grow with the subscriptions of its id
 //! alone. No call but [`SbCore::new`] has an allocator, and none takes memory by its code. Pipes,
-//! subscriptions and messages are numbered as long as their numbers have 32 bits.
+//! subscriptions, messages and grants are numbered as long as their numbers have 32 bits.
 //!
 //! Messages stand in an interim form: every accepted message is kept for good, in room that was
 //! taken at opening. Blocks of a pool, given back once nothing waits for them, are to take its
@@ -29,6 +29,7 @@ mod permits;
 mod pipe_calls;
 mod pipe_ends;
 mod plain;
+mod pool_calls;
 
 pub use calls::Sent;
 pub use pending::Pended;

@@ -5,6 +5,7 @@ ghost use Rattle.bus_words.specs.Acts.{opening_whole};
 
 use crate::activities::{Activity, all_active};
 use crate::messages::Messages;
+use app_pools::AppPools;
 use bus_tables::{BusTables, Misses};
 use fsw_base::Config;
 use std::alloc::{AllocError, Global};
@@ -26,6 +27,8 @@ pub struct SbCore {
     // The pipes that missed the message sent last; room for as many as an id may have
     // destinations.
     pub(crate) misses: Misses,
+    // The memory pools that applications created; room for all that may be.
+    pub(crate) pools: AppPools,
 }
 
 impl Model for SbCore {
@@ -60,7 +63,7 @@ impl SbCore {
               limits = limits_of cfg.now;
               messages = messages;
               spare = bytes;
-              whole = opening_whole apps;
+              whole = opening_whole (limits_of cfg.now) apps;
             }) }
     {
         Ok(SbCore {
@@ -69,6 +72,7 @@ impl SbCore {
             tables: BusTables::new(alloc, cfg)?,
             sends: Messages::new(alloc, messages, bytes)?,
             misses: Misses::new(alloc, cfg.dests)?,
+            pools: AppPools::new(alloc, cfg)?,
         })
     }
 }

@@ -52,8 +52,8 @@ legal-last limits history s (x ∷ es) e legal =
 pub last_stays : (limits : Limits) (apps app pipe : ℕ) (history : List Entry) (e : Entry) → IsLegal limits apps (history ++ e ∷ []) → ¬ (e.app ≡ app) →
     receipt_in (state_after limits apps (history ++ e ∷ [])) app pipe ≡ receipt_in (state_after limits apps history) app pipe
 last_stays limits apps app pipe history e legal other =
-    let parts = legal-last limits [] (opening apps) history e legal in
-    ap (λ t. receipt_in t app pipe) (state_from-push limits [] (opening apps) history e)
+    let parts = legal-last limits [] (opening limits apps) history e legal in
+    ap (λ t. receipt_in t app pipe) (state_from-push limits [] (opening limits apps) history e)
     ∙ receipt-step limits apps history (state_after limits apps history) e.app app pipe e.call parts.0 refl parts.1 (same-sym app e.app ∙ ne_eqb e.app app other)
 
 -- a call of another application, made after a legal history, leaves the receipt

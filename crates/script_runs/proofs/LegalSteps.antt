@@ -7,13 +7,15 @@ use Rattle.fsw_base.specs.declared.config.Scope.{Scope}
 use Rattle.fsw_base.specs.declared.statuses.SbStatus.{SbStatus}
 use Rattle.fsw_base.specs.declared.statuses.SbStatus.TheVariants.{BadArgument, MaxPipesMet, PipeCrErr, MaxMsgsMet, MaxDestsMet, MsgTooBig, BufAlocErr, NoMessage, BufferInvalid}
 use Rattle.fsw_base.specs.Limits.{Limits}
+use Rattle.pool_words.specs.Grants.{Pools, pool_in, with_pool, after_create, after_get, after_put}
 use Rattle.bus_words.specs.declared.history.Call.{Call}
-use Rattle.bus_words.specs.declared.history.Call.TheVariants.{Create, Delete, SetOpts, GetOpts, Find, PipeName, Subscribe, Unsubscribe, Transmit, Receive, Pend, Look, End}
+use Rattle.bus_words.specs.declared.history.Call.TheVariants.{Create, Delete, SetOpts, GetOpts, Find, PipeName, Subscribe, Unsubscribe, Transmit, Receive, Pend, Look, PoolCreate, PoolGet, PoolPut, PoolFigures, End}
 use Rattle.bus_words.specs.declared.history.Entry.{Entry}
 use Rattle.bus_words.specs.Bus.{Pipe, Subscription, State, Standing, Active, Waiting, Ended, Sending, opening, standing_of, with_pipe, with_bits, with_standing, is_empty, others_idle, route, is_subscribed, after_receive, owns}
-use Rattle.bus_words.specs.Machine.{delivered, created, deleted, unsubscribed, sent_along, received, ended, cause, unowned_cause, receive_cause, refused_if, accept, refused_state, decided, step, may_call, state_from, state_after, LegalFrom, IsLegal}
+use Rattle.bus_words.specs.Refusals.{Refusal, OfBus, OfPools}
+use Rattle.bus_words.specs.Machine.{by_bus, delivered, created, deleted, unsubscribed, sent_along, received, ended, cause, unowned_cause, receive_cause, refused_if, accept, refused_state, decided, step, may_call, state_from, state_after, LegalFrom, IsLegal}
 use Rattle.bus_words.proofs.Finds.{neither, not_false}
-use Rattle.bus_words.proofs.Steps.{with_subscription, with_sent, AreNumbered, AreNumbered-step}
+use Rattle.bus_words.proofs.Steps.{by_bus-none, by_bus-some, with_subscription, with_sent, AreNumbered, AreNumbered-step}
 use Rattle.bus_words.proofs.Ties.{refused_none}
 use Rattle.script_runs.proofs.Owners.{single-rising, owns-one, owns-with_pipe, IsKept, kept-same, kept-push, kept-change, kept-deliver, kept-receive, kept-delete, kept-end}
 
@@ -32,6 +34,7 @@ pub record KeepsLegal (F : State → Type 0) (limits : Limits) (s : State) (app 
   pub waits : (pipe : ℕ) → owns s.pipes app pipe ≡ true → F (with_standing (received s pipe) app (Waiting pipe))
   pub looks : (pipe : ℕ) → standing_of s app ≡ Waiting pipe → F (with_standing (received s pipe) app Active)
   pub ends : F (ended s app)
+  pub pools : (pools : Pools) → F (record s { pools = pools })
 
 after_subscribe : (F : State → Type 0) (s next : State) (live : Bool) → F s → F next → F (cond {A = State} live s next)
 after_subscribe F s next true same other = same
@@ -67,38 +70,43 @@ waits_on Active pipe may = absurd (true≢false (sym may))
 waits_on (Waiting other) pipe may = ap (λ n. Waiting n) (eqb-true other pipe may)
 waits_on Ended pipe may = absurd (true≢false (sym may))
 
-legal-refused_receive : (F : State → Type 0) (limits : Limits) (s : State) (app pipe : ℕ) (status : SbStatus) → receive_cause s app pipe ≡ Some status →
-    KeepsLegal F limits s app → F (refused_state s (Receive pipe) status)
-legal-refused_receive F limits s app pipe BadArgument is keeps = keeps.same
-legal-refused_receive F limits s app pipe MaxPipesMet is keeps = keeps.same
-legal-refused_receive F limits s app pipe PipeCrErr is keeps = keeps.same
-legal-refused_receive F limits s app pipe MaxMsgsMet is keeps = keeps.same
-legal-refused_receive F limits s app pipe MaxDestsMet is keeps = keeps.same
-legal-refused_receive F limits s app pipe MsgTooBig is keeps = keeps.same
-legal-refused_receive F limits s app pipe BufAlocErr is keeps = keeps.same
-legal-refused_receive F limits s app pipe NoMessage is keeps = keeps.receives pipe (no_message-owns s app pipe is)
-legal-refused_receive F limits s app pipe BufferInvalid is keeps = keeps.same
+legal-refused_receive : (F : State → Type 0) (limits : Limits) (s : State) (app pipe : ℕ) (why : Refusal) → by_bus (receive_cause s app pipe) ≡ Some why →
+    KeepsLegal F limits s app → F (refused_state s (Receive pipe) why)
+legal-refused_receive F limits s app pipe (OfBus BadArgument) is keeps = keeps.same
+legal-refused_receive F limits s app pipe (OfBus MaxPipesMet) is keeps = keeps.same
+legal-refused_receive F limits s app pipe (OfBus PipeCrErr) is keeps = keeps.same
+legal-refused_receive F limits s app pipe (OfBus MaxMsgsMet) is keeps = keeps.same
+legal-refused_receive F limits s app pipe (OfBus MaxDestsMet) is keeps = keeps.same
+legal-refused_receive F limits s app pipe (OfBus MsgTooBig) is keeps = keeps.same
+legal-refused_receive F limits s app pipe (OfBus BufAlocErr) is keeps = keeps.same
+legal-refused_receive F limits s app pipe (OfBus NoMessage) is keeps = keeps.receives pipe (no_message-owns s app pipe (by_bus-some (receive_cause s app pipe) NoMessage is))
+legal-refused_receive F limits s app pipe (OfBus BufferInvalid) is keeps = keeps.same
+legal-refused_receive F limits s app pipe (OfPools status) is keeps = keeps.same
 
-legal-refused : (F : State → Type 0) (limits : Limits) (history : List Entry) (s : State) (app : ℕ) (call : Call) (status : SbStatus) → cause limits history s app call ≡ Some status →
-    KeepsLegal F limits s app → F (refused_state s call status)
-legal-refused F limits history s app (Create depth name) status is keeps = keeps.same
-legal-refused F limits history s app (Delete pipe) status is keeps = keeps.same
-legal-refused F limits history s app (SetOpts pipe bits) status is keeps = keeps.same
-legal-refused F limits history s app (GetOpts pipe) status is keeps = keeps.same
-legal-refused F limits history s app (Find name) status is keeps = keeps.same
-legal-refused F limits history s app (PipeName pipe) status is keeps = keeps.same
-legal-refused F limits history s app (Subscribe id pipe limit scope) status is keeps = keeps.same
-legal-refused F limits history s app (Unsubscribe id pipe) status is keeps = keeps.same
-legal-refused F limits history s app (Transmit bytes inc) status is keeps = keeps.same
-legal-refused F limits history s app (Receive pipe) status is keeps = legal-refused_receive F limits s app pipe status is keeps
-legal-refused F limits history s app (Pend pipe) status is keeps = keeps.same
-legal-refused F limits history s app (Look pipe) status is keeps = keeps.same
-legal-refused F limits history s app End status is keeps = keeps.same
+legal-refused : (F : State → Type 0) (limits : Limits) (history : List Entry) (s : State) (app : ℕ) (call : Call) (why : Refusal) → cause limits history s app call ≡ Some why →
+    KeepsLegal F limits s app → F (refused_state s call why)
+legal-refused F limits history s app (Create depth name) why is keeps = keeps.same
+legal-refused F limits history s app (Delete pipe) why is keeps = keeps.same
+legal-refused F limits history s app (SetOpts pipe bits) why is keeps = keeps.same
+legal-refused F limits history s app (GetOpts pipe) why is keeps = keeps.same
+legal-refused F limits history s app (Find name) why is keeps = keeps.same
+legal-refused F limits history s app (PipeName pipe) why is keeps = keeps.same
+legal-refused F limits history s app (Subscribe id pipe limit scope) why is keeps = keeps.same
+legal-refused F limits history s app (Unsubscribe id pipe) why is keeps = keeps.same
+legal-refused F limits history s app (Transmit bytes inc) why is keeps = keeps.same
+legal-refused F limits history s app (Receive pipe) why is keeps = legal-refused_receive F limits s app pipe why is keeps
+legal-refused F limits history s app (Pend pipe) why is keeps = keeps.same
+legal-refused F limits history s app (Look pipe) why is keeps = keeps.same
+legal-refused F limits history s app (PoolCreate bytes) why is keeps = keeps.same
+legal-refused F limits history s app (PoolGet pool size) why is keeps = keeps.same
+legal-refused F limits history s app (PoolPut pool grant) why is keeps = keeps.pools (with_pool s.pools pool (after_put (pool_in s.pools pool) grant))
+legal-refused F limits history s app (PoolFigures pool) why is keeps = keeps.same
+legal-refused F limits history s app End why is keeps = keeps.same
 
 legal-accepted : (F : State → Type 0) (limits : Limits) (history : List Entry) (s : State) (app : ℕ) (call : Call) →
     cause limits history s app call ≡ None → IsTrue (may_call (standing_of s app) call) → KeepsLegal F limits s app → F ((accept limits history s app call).1)
 legal-accepted F limits history s app (Create depth name) none may keeps = keeps.creates depth name
-legal-accepted F limits history s app (Delete pipe) none may keeps = keeps.deletes pipe (accepted-owns s app pipe none)
+legal-accepted F limits history s app (Delete pipe) none may keeps = keeps.deletes pipe (accepted-owns s app pipe (by_bus-none (unowned_cause s app pipe) none))
 legal-accepted F limits history s app (SetOpts pipe bits) none may keeps = keeps.sets pipe bits
 legal-accepted F limits history s app (GetOpts pipe) none may keeps = keeps.same
 legal-accepted F limits history s app (Find name) none may keeps = keeps.same
@@ -109,18 +117,23 @@ legal-accepted F limits history s app (Unsubscribe id pipe) none may keeps = kee
 legal-accepted F limits history s app (Transmit bytes inc) none may keeps =
     let sending : Sending = record { sender = app; number = s.numbers_given + 1; asked = length bytes; message = delivered limits history bytes inc } in
     after_send F s sending (route s.subscriptions (message_id bytes)) keeps.same (keeps.sends sending (message_id bytes))
-legal-accepted F limits history s app (Receive pipe) none may keeps = keeps.receives pipe (received-owns s app pipe none)
+legal-accepted F limits history s app (Receive pipe) none may keeps = keeps.receives pipe (received-owns s app pipe (by_bus-none (receive_cause s app pipe) none))
 legal-accepted F limits history s app (Pend pipe) none may keeps =
     after_choice F (is_empty s.pipes pipe && not (others_idle s app)) (with_standing (received s pipe) app (Waiting pipe)) (received s pipe)
-    (keeps.waits pipe (accepted-owns s app pipe none)) (keeps.receives pipe (accepted-owns s app pipe none))
+    (keeps.waits pipe (accepted-owns s app pipe (by_bus-none (unowned_cause s app pipe) none)))
+    (keeps.receives pipe (accepted-owns s app pipe (by_bus-none (unowned_cause s app pipe) none)))
 legal-accepted F limits history s app (Look pipe) none may keeps =
     after_choice F (is_empty s.pipes pipe && not (others_idle s app)) s (with_standing (received s pipe) app Active)
     keeps.same (keeps.looks pipe (waits_on (standing_of s app) pipe may))
+legal-accepted F limits history s app (PoolCreate bytes) none may keeps = keeps.pools (after_create s.pools bytes)
+legal-accepted F limits history s app (PoolGet pool size) none may keeps = keeps.pools (with_pool s.pools pool (after_get (pool_in s.pools pool) app size))
+legal-accepted F limits history s app (PoolPut pool grant) none may keeps = keeps.pools (with_pool s.pools pool (after_put (pool_in s.pools pool) grant))
+legal-accepted F limits history s app (PoolFigures pool) none may keeps = keeps.same
 legal-accepted F limits history s app End none may keeps = keeps.ends
 
-legal-decided : (F : State → Type 0) (limits : Limits) (history : List Entry) (s : State) (app : ℕ) (call : Call) (why : Option SbStatus) →
+legal-decided : (F : State → Type 0) (limits : Limits) (history : List Entry) (s : State) (app : ℕ) (call : Call) (why : Option Refusal) →
     cause limits history s app call ≡ why → IsTrue (may_call (standing_of s app) call) → KeepsLegal F limits s app → F ((decided limits history s app call why).1)
-legal-decided F limits history s app call (Some status) is may keeps = legal-refused F limits history s app call status is keeps
+legal-decided F limits history s app call (Some why) is may keeps = legal-refused F limits history s app call why is keeps
 legal-decided F limits history s app call None is may keeps = legal-accepted F limits history s app call is may keeps
 
 -- what each change keeps holds after a step that the application may make
@@ -169,6 +182,7 @@ standing-step limits history s app other call may differ =
       waits = λ pipe own. standing-other s app other (Waiting pipe) first differ;
       looks = λ pipe own. standing-other s app other Active first differ;
       ends = standing-other s app other Ended first differ;
+      pools = λ pools. refl;
     })
 
 -- a fact of the new standing and of the old one is one of an application's standing once it is set
@@ -241,6 +255,7 @@ kept-step limits history s who app pipe call waiters may differ =
       waits = takes;
       looks = λ at is. takes at (subst (WaitsOwn s.pipes who) is (waiters.waits who));
       ends = kept-end s.pipes app who pipe single differ;
+      pools = λ pools. kept-same s.pipes app pipe;
     })
 
 -- an active application's step
@@ -263,6 +278,7 @@ waits-from_active limits history s who call is may =
           (waits-active taken who (standing_of s who) is);
       looks = λ pipe on. standing-set (WaitsOwn _ who) (received s pipe) who Active tt (waits-active _ who (standing_of s who) is);
       ends = waits-ended s who;
+      pools = λ pools. waits-active s.pipes who (standing_of s who) is;
     })
 
 -- the step of one that waits
@@ -280,6 +296,10 @@ waits-from_waiting limits history s who at (Unsubscribe id pipe) is own may = ab
 waits-from_waiting limits history s who at (Transmit bytes inc) is own may = absurd (true≢false (sym may))
 waits-from_waiting limits history s who at (Receive pipe) is own may = absurd (true≢false (sym may))
 waits-from_waiting limits history s who at (Pend pipe) is own may = absurd (true≢false (sym may))
+waits-from_waiting limits history s who at (PoolCreate bytes) is own may = absurd (true≢false (sym may))
+waits-from_waiting limits history s who at (PoolGet pool size) is own may = absurd (true≢false (sym may))
+waits-from_waiting limits history s who at (PoolPut pool grant) is own may = absurd (true≢false (sym may))
+waits-from_waiting limits history s who at (PoolFigures pool) is own may = absurd (true≢false (sym may))
 waits-from_waiting limits history s who at (Look pipe) is own may =
     let before : WaitsOwn s.pipes who (standing_of s who) = subst (WaitsOwn s.pipes who) (sym is) own in
     let taken = with_pipe after_receive pipe s.pipes in
@@ -314,8 +334,8 @@ AreWaiters-step limits history s who call waiters may = record {
     next = (step limits history s who call).1
 
 -- at the opening nobody waits
-pub AreWaiters-opening : (apps : ℕ) → AreWaiters (opening apps)
-AreWaiters-opening apps = record {
+pub AreWaiters-opening : (limits : Limits) (apps : ℕ) → AreWaiters (opening limits apps)
+AreWaiters-opening limits apps = record {
   numbered = record { pipes = omega arith; subscriptions = omega arith };
   waits = at_first;
 }
@@ -325,9 +345,9 @@ AreWaiters-opening apps = record {
     nobody (suc n) zero app = tt
     nobody (suc n) (suc i) app = nobody n i app
 
-    at_first : (app : ℕ) → WaitsOwn [] app (standing_of (opening apps) app)
+    at_first : (app : ℕ) → WaitsOwn [] app (standing_of (opening limits apps) app)
     at_first zero = tt
-    at_first (suc app) = subst (WaitsOwn [] (suc app)) (sym (standing_at (opening apps) app)) (nobody apps app (suc app))
+    at_first (suc app) = subst (WaitsOwn [] (suc app)) (sym (standing_at (opening limits apps) app)) (nobody apps app (suc app))
 
 waiters-from : (limits : Limits) (history : List Entry) (s : State) (es : List Entry) → AreWaiters s → LegalFrom limits history s es → AreWaiters (state_from limits history s es)
 waiters-from limits history s [] waiters legal = waiters
@@ -336,4 +356,4 @@ waiters-from limits history s (e ∷ es) waiters legal =
 
 -- after every legal history
 pub AreWaiters-after : (limits : Limits) (apps : ℕ) (history : List Entry) → IsLegal limits apps history → AreWaiters (state_after limits apps history)
-AreWaiters-after limits apps history legal = waiters-from limits [] (opening apps) history (AreWaiters-opening apps) legal
+AreWaiters-after limits apps history legal = waiters-from limits [] (opening limits apps) history (AreWaiters-opening limits apps) legal

@@ -70,24 +70,24 @@ lines-starting from (a ∷ apps) (suc i) d few =
 first-plus : (i : ℕ) → suc i ≡ 1 + i
 first-plus i = omega arith
 
-fits-opening : (apps : List Application) (k : ℕ) → is_some (left_of (starting 1 apps) k) ≡ not (is_ended (standing_of (opening (length apps)) k))
-fits-opening apps zero = ap is_some (left-starting 1 apps 0 (omega arith))
-fits-opening apps (suc i) =
+fits-opening : (limits : Limits) (apps : List Application) (k : ℕ) → is_some (left_of (starting 1 apps) k) ≡ not (is_ended (standing_of (opening limits (length apps)) k))
+fits-opening limits apps zero = ap is_some (left-starting 1 apps 0 (omega arith))
+fits-opening limits apps (suc i) =
     ap (λ n. is_some (left_of (starting 1 apps) n)) (first-plus i)
     ∙ fits-starting 1 apps i
-    ∙ ap (λ st. not (is_ended st)) (sym (standing_at (opening (length apps)) i))
+    ∙ ap (λ st. not (is_ended st)) (sym (standing_at (opening limits (length apps)) i))
 
 fit-opening : (script : ScriptText) → IsFit script.limits (length script.apps) (before_all script).0 (before_all script).1
 fit-opening script = record {
   sound = record { legal = tt; state = refl };
   apart = apart-starting 1 script.apps;
-  fits = fits-opening script.apps;
+  fits = fits-opening script.limits script.apps;
 }
 
 -- at the opening nobody waits
-opening-waits : (n k : ℕ) → waits (standing_of (opening n) k) ≡ 0
-opening-waits n zero = refl
-opening-waits n (suc i) = ap waits (standing_at (opening n) i) ∙ none n i
+opening-waits : (limits : Limits) (n k : ℕ) → waits (standing_of (opening limits n) k) ≡ 0
+opening-waits limits n zero = refl
+opening-waits limits n (suc i) = ap waits (standing_at (opening limits n) i) ∙ none n i
   where
     none : (n i : ℕ) → waits (slice_index_or (replicate n Active) i Ended) ≡ 0
     none zero i = refl
@@ -107,7 +107,7 @@ weights-starting s calm from (a ∷ apps) =
 all-rotated : (script : ScriptText) → HasRotated script.limits (length script.apps) (before_all script).0 (before_all script).1 (rotations (enough script) script.limits (before_all script))
 all-rotated script =
     rotations-end (enough script) script.limits (length script.apps) (before_all script).0 (before_all script).1 (fit-opening script)
-    (enough-turns (weights-starting (opening (length script.apps)) (opening-waits (length script.apps)) 1 script.apps))
+    (enough-turns (weights-starting (opening script.limits (length script.apps)) (opening-waits script.limits (length script.apps)) 1 script.apps))
   where
     enough-turns : {a b : ℕ} → a ≡ b → a ≤ b
     enough-turns same = omega (arith, same)
@@ -147,12 +147,12 @@ legal-known limits apps history s (e ∷ es) many legal =
 
 -- what an application owes at the opening are its lines' entries
 opening-owed : (script : ScriptText) (app : ℕ) (es : List Entry) → 1 ≤ app → app ≤ length script.apps →
-    Owes (standing_of (opening (length script.apps)) app) (left_of (starting 1 script.apps) app) es → Trace first_registers (app_at script app).lines es
+    Owes (standing_of (opening script.limits (length script.apps)) app) (left_of (starting 1 script.apps) app) es → Trace first_registers (app_at script app).lines es
 opening-owed script zero es first last owed = absurd (omega (arith, first))
 opening-owed script (suc i) es first last owed =
     let d : Application = record { name = []; lines = [] } in
     let few : i < length script.apps = omega (arith, last) in
-    let stands : standing_of (opening (length script.apps)) (suc i) ≡ Active = standing_at (opening (length script.apps)) i ∙ active (length script.apps) i few in
+    let stands : standing_of (opening script.limits (length script.apps)) (suc i) ≡ Active = standing_at (opening script.limits (length script.apps)) i ∙ active (length script.apps) i few in
     let left : left_of (starting 1 script.apps) (suc i) ≡ Some (first_of (1 + i) (slice_index_or script.apps i d)) =
     ap (left_of (starting 1 script.apps)) (first-plus i) ∙ lines-starting 1 script.apps i d few in
     subst (λ n. Trace first_registers (slice_index_or script.apps n d).lines es) (sym (minus i))
@@ -183,5 +183,5 @@ rotation-merges script =
       each = λ app first few.
           subst (λ h. Trace first_registers (app_at script app).lines (own_entries app h)) (sym owed.history)
           (opening-owed script app (own_entries app owed.entries) first few (owed.owes app));
-      nobody_else = legal-known script.limits (length script.apps) [] (opening (length script.apps)) (rotation script) (length-replicate (length script.apps) _) (rotation-legal script);
+      nobody_else = legal-known script.limits (length script.apps) [] (opening script.limits (length script.apps)) (rotation script) (length-replicate (length script.apps) _) (rotation-legal script);
     }

@@ -2,16 +2,16 @@
 -- that finds nothing.
 use Rattle.std.proofs.Common.{◌≡◌, ◌⊎◌, inl, inr, ℕ, zero, suc, ◌+◌, ◌-◌, ◌*◌, ◌<◌, ◌≤◌, ◌==◌, ◌&&◌, not, Bool, true, false, cond, true≢false, IsTrue, List, [], ◌∷◌, ◌++◌, append-nil, length, slice_index_or, slice_set, Option, Some, None, refl, ap, sym, ◌∙◌, subst, arith}
 use Rattle.std.specs.Option.{is_some}
-use Rattle.fsw_base.specs.declared.statuses.SbStatus.{SbStatus}
 use Rattle.fsw_base.specs.declared.statuses.SbStatus.TheVariants.{BadArgument, MaxPipesMet, PipeCrErr, MaxMsgsMet, MaxDestsMet, MsgTooBig, BufAlocErr, NoMessage, BufferInvalid}
 use Rattle.fsw_base.specs.Limits.{Limits}
 use Rattle.ccsds_msg.specs.Message.{message_id}
 use Rattle.bus_words.specs.declared.calls.BusAnswer.{BusAnswer}
-use Rattle.bus_words.specs.declared.calls.BusAnswer.TheVariants.{Done, Number, Name, Sent, Got, TimeOut, Pending, Sb}
+use Rattle.bus_words.specs.declared.calls.BusAnswer.TheVariants.{Done, Number, Name, Sent, Got, TimeOut, Pending, Pool, Sb, Es}
 use Rattle.bus_words.specs.declared.history.Call.{Call}
 use Rattle.bus_words.specs.declared.history.Call.TheVariants as calls
 use Rattle.bus_words.specs.declared.history.Entry.{Entry}
 use Rattle.bus_words.specs.Bus.{State, Standing, Active, Waiting, Ended, Sending, Subscription, standing_of, with_standing, is_empty, others_idle, route, is_subscribed}
+use Rattle.bus_words.specs.Refusals.{Refusal, OfBus, OfPools, refusal_answer}
 use Rattle.bus_words.specs.Machine.{step, state_after, may_call, makes_entry, IsLegal, cause, accept, decided, refused_state, received, looked, pended, pended_answer, sent_along, oldest_number}
 use Rattle.bus_words.proofs.Finds.{Each}
 use Rattle.bus_words.proofs.Replay.{goes_on}
@@ -19,7 +19,7 @@ use Rattle.bus_words.proofs.Steps.{with_subscription}
 use Rattle.script_lines.specs.declared.line.Line.{Line}
 use Rattle.script_lines.specs.declared.line.Line.TheVariants as lines
 use Rattle.script_runs.specs.Rotation.{Running, SoFar, answer_to, after_call, after_look, behind, line_turn, active_turn, turn_in}
-use Rattle.script_runs.specs.Trace.{call_of, registers_after, AfterAnswer, LineEntries, IsEnd, Trace}
+use Rattle.script_runs.specs.Trace.{Registers, call_of, registers_after, AfterAnswer, LineEntries, IsEnd, Trace}
 use Rattle.script_runs.proofs.LegalSteps.{standing_at, standing-ended, standing-step}
 
 -- The calls of lines. --
@@ -34,49 +34,49 @@ abbrev is_line_option : Option Call → Bool
 is_line_option None = true
 is_line_option (Some call) = is_line_call call
 
-line_calls : (pipes : List ℕ) (line : Line) → is_line_option (call_of pipes line) ≡ true
+line_calls : (registers : Registers) (line : Line) → is_line_option (call_of registers line) ≡ true
 unfolding call_of
-line_calls pipes (lines.Create pipe depth name) = refl
-line_calls pipes (lines.Delete pipe) = refl
-line_calls pipes (lines.SetOpts pipe bits) = refl
-line_calls pipes (lines.GetOpts pipe) = refl
-line_calls pipes (lines.Find pipe name) = refl
-line_calls pipes (lines.PipeName pipe) = refl
-line_calls pipes (lines.Subscribe id pipe limit scope) = refl
-line_calls pipes (lines.Unsubscribe id pipe) = refl
-line_calls pipes (lines.Send id size fill inc) = refl
-line_calls pipes (lines.SendRaw bytes inc) = refl
-line_calls pipes (lines.Receive pipe) = refl
-line_calls pipes (lines.Pend pipe) = refl
-line_calls pipes (lines.Allocate buf size) = refl
-line_calls pipes (lines.TransmitBuffer buf inc) = refl
-line_calls pipes (lines.Release buf) = refl
-line_calls pipes (lines.PoolCreate pool bytes) = refl
-line_calls pipes (lines.PoolGet grant pool size) = refl
-line_calls pipes (lines.PoolPut pool grant) = refl
-line_calls pipes (lines.PoolFigures pool) = refl
-line_calls pipes (lines.Register filters) = refl
-line_calls pipes (lines.SendEvent id kind text) = refl
-line_calls pipes (lines.ResetFilter id) = refl
-line_calls pipes (lines.LogMode mode) = refl
-line_calls pipes lines.ClearLog = refl
-line_calls pipes lines.Housekeeping = refl
-line_calls pipes lines.Figures = refl
-line_calls pipes (lines.TableRegister handle name size option rules) = refl
-line_calls pipes (lines.TableShare handle name) = refl
-line_calls pipes (lines.TableUnregister handle) = refl
-line_calls pipes (lines.Stage handle offset content) = refl
-line_calls pipes (lines.Validate handle) = refl
-line_calls pipes (lines.Update handle) = refl
-line_calls pipes (lines.Abort handle) = refl
-line_calls pipes (lines.Load handle offset content) = refl
-line_calls pipes (lines.GetAddress handle) = refl
-line_calls pipes (lines.ReleaseAddress handle) = refl
-line_calls pipes (lines.Status handle) = refl
-line_calls pipes (lines.Form buf id fill) = refl
-line_calls pipes (lines.Put buf offset bytes) = refl
-line_calls pipes (lines.ShowPipe pipe) = refl
-line_calls pipes (lines.ShowTable handle) = refl
+line_calls registers (lines.Create pipe depth name) = refl
+line_calls registers (lines.Delete pipe) = refl
+line_calls registers (lines.SetOpts pipe bits) = refl
+line_calls registers (lines.GetOpts pipe) = refl
+line_calls registers (lines.Find pipe name) = refl
+line_calls registers (lines.PipeName pipe) = refl
+line_calls registers (lines.Subscribe id pipe limit scope) = refl
+line_calls registers (lines.Unsubscribe id pipe) = refl
+line_calls registers (lines.Send id size fill inc) = refl
+line_calls registers (lines.SendRaw bytes inc) = refl
+line_calls registers (lines.Receive pipe) = refl
+line_calls registers (lines.Pend pipe) = refl
+line_calls registers (lines.Allocate buf size) = refl
+line_calls registers (lines.TransmitBuffer buf inc) = refl
+line_calls registers (lines.Release buf) = refl
+line_calls registers (lines.PoolCreate pool bytes) = refl
+line_calls registers (lines.PoolGet grant pool size) = refl
+line_calls registers (lines.PoolPut pool grant) = refl
+line_calls registers (lines.PoolFigures pool) = refl
+line_calls registers (lines.Register filters) = refl
+line_calls registers (lines.SendEvent id kind text) = refl
+line_calls registers (lines.ResetFilter id) = refl
+line_calls registers (lines.LogMode mode) = refl
+line_calls registers lines.ClearLog = refl
+line_calls registers lines.Housekeeping = refl
+line_calls registers lines.Figures = refl
+line_calls registers (lines.TableRegister handle name size option rules) = refl
+line_calls registers (lines.TableShare handle name) = refl
+line_calls registers (lines.TableUnregister handle) = refl
+line_calls registers (lines.Stage handle offset content) = refl
+line_calls registers (lines.Validate handle) = refl
+line_calls registers (lines.Update handle) = refl
+line_calls registers (lines.Abort handle) = refl
+line_calls registers (lines.Load handle offset content) = refl
+line_calls registers (lines.GetAddress handle) = refl
+line_calls registers (lines.ReleaseAddress handle) = refl
+line_calls registers (lines.Status handle) = refl
+line_calls registers (lines.Form buf id fill) = refl
+line_calls registers (lines.Put buf offset bytes) = refl
+line_calls registers (lines.ShowPipe pipe) = refl
+line_calls registers (lines.ShowTable handle) = refl
 
 line_may : (call : Call) → is_line_call call ≡ true → IsTrue (may_call Active call)
 line_may (calls.Create depth name) is = refl
@@ -91,6 +91,10 @@ line_may (calls.Transmit bytes inc) is = refl
 line_may (calls.Receive pipe) is = refl
 line_may (calls.Pend pipe) is = refl
 line_may (calls.Look pipe) is = absurd (true≢false (sym is))
+line_may (calls.PoolCreate bytes) is = refl
+line_may (calls.PoolGet pool size) is = refl
+line_may (calls.PoolPut pool grant) is = refl
+line_may (calls.PoolFigures pool) is = refl
 line_may calls.End is = refl
 
 line_enters : (call : Call) (answer : BusAnswer) → is_line_call call ≡ true → IsTrue (makes_entry call answer)
@@ -106,6 +110,10 @@ line_enters (calls.Transmit bytes inc) answer is = refl
 line_enters (calls.Receive pipe) answer is = refl
 line_enters (calls.Pend pipe) answer is = refl
 line_enters (calls.Look pipe) answer is = absurd (true≢false (sym is))
+line_enters (calls.PoolCreate bytes) answer is = refl
+line_enters (calls.PoolGet pool size) answer is = refl
+line_enters (calls.PoolPut pool grant) answer is = refl
+line_enters (calls.PoolFigures pool) answer is = refl
 line_enters calls.End answer is = refl
 
 -- Standings after a call of one's own. --
@@ -123,7 +131,9 @@ is_pending (Sent number reached) = false
 is_pending (Got number) = false
 is_pending TimeOut = false
 is_pending Pending = true
+is_pending (Pool figures) = false
 is_pending (Sb status) = false
+is_pending (Es status) = false
 
 -- one that hasn't ended stands as it is set
 standing-here : (s : State) (app : ℕ) (standing : Standing) → is_ended (standing_of s app) ≡ false → standing_of (with_standing s app standing) app ≡ standing
@@ -141,16 +151,17 @@ standing-here s (suc app) standing live =
     set_here (x ∷ xs) zero live = refl
     set_here (x ∷ xs) (suc i) live = set_here xs i live
 
-refused_receive-standings : (s : State) (pipe : ℕ) (status : SbStatus) → (refused_state s (calls.Receive pipe) status).standings ≡ s.standings
-refused_receive-standings s pipe BadArgument = refl
-refused_receive-standings s pipe MaxPipesMet = refl
-refused_receive-standings s pipe PipeCrErr = refl
-refused_receive-standings s pipe MaxMsgsMet = refl
-refused_receive-standings s pipe MaxDestsMet = refl
-refused_receive-standings s pipe MsgTooBig = refl
-refused_receive-standings s pipe BufAlocErr = refl
-refused_receive-standings s pipe NoMessage = refl
-refused_receive-standings s pipe BufferInvalid = refl
+refused_receive-standings : (s : State) (pipe : ℕ) (why : Refusal) → (refused_state s (calls.Receive pipe) why).standings ≡ s.standings
+refused_receive-standings s pipe (OfBus BadArgument) = refl
+refused_receive-standings s pipe (OfBus MaxPipesMet) = refl
+refused_receive-standings s pipe (OfBus PipeCrErr) = refl
+refused_receive-standings s pipe (OfBus MaxMsgsMet) = refl
+refused_receive-standings s pipe (OfBus MaxDestsMet) = refl
+refused_receive-standings s pipe (OfBus MsgTooBig) = refl
+refused_receive-standings s pipe (OfBus BufAlocErr) = refl
+refused_receive-standings s pipe (OfBus NoMessage) = refl
+refused_receive-standings s pipe (OfBus BufferInvalid) = refl
+refused_receive-standings s pipe (OfPools status) = refl
 
 -- the standing of an active application after this call, so answered
 abbrev pub now_after : Call → BusAnswer → Standing
@@ -198,28 +209,37 @@ accepted_stands limits history s app (calls.Transmit bytes inc) line is = sent_s
 accepted_stands limits history s app (calls.Receive pipe) line is = is
 accepted_stands limits history s app (calls.Pend pipe) line is = pend_stands s app pipe is
 accepted_stands limits history s app (calls.Look pipe) line is = absurd (true≢false (sym line))
+accepted_stands limits history s app (calls.PoolCreate bytes) line is = is
+accepted_stands limits history s app (calls.PoolGet pool size) line is = is
+accepted_stands limits history s app (calls.PoolPut pool grant) line is = is
+accepted_stands limits history s app (calls.PoolFigures pool) line is = is
 accepted_stands limits history s app calls.End line is = absurd (true≢false (sym line))
 
-refused_stands : (s : State) (app : ℕ) (call : Call) (status : SbStatus) → is_line_call call ≡ true → standing_of s app ≡ Active →
-    Stands app call (Sb status, refused_state s call status)
-refused_stands s app (calls.Create depth name) status line is = is
-refused_stands s app (calls.Delete pipe) status line is = is
-refused_stands s app (calls.SetOpts pipe bits) status line is = is
-refused_stands s app (calls.GetOpts pipe) status line is = is
-refused_stands s app (calls.Find name) status line is = is
-refused_stands s app (calls.PipeName pipe) status line is = is
-refused_stands s app (calls.Subscribe id pipe limit scope) status line is = is
-refused_stands s app (calls.Unsubscribe id pipe) status line is = is
-refused_stands s app (calls.Transmit bytes inc) status line is = is
-refused_stands s app (calls.Receive pipe) status line is =
-    ap (λ (ss : List Standing). cond {A = Standing} (app == 0) Ended (slice_index_or ss (app - 1) Ended)) (refused_receive-standings s pipe status) ∙ is
-refused_stands s app (calls.Pend pipe) status line is = is
-refused_stands s app (calls.Look pipe) status line is = absurd (true≢false (sym line))
-refused_stands s app calls.End status line is = absurd (true≢false (sym line))
+refused_stands : (s : State) (app : ℕ) (call : Call) (why : Refusal) → is_line_call call ≡ true → standing_of s app ≡ Active →
+    Stands app call (refusal_answer why, refused_state s call why)
+refused_stands s app (calls.Create depth name) why line is = is
+refused_stands s app (calls.Delete pipe) why line is = is
+refused_stands s app (calls.SetOpts pipe bits) why line is = is
+refused_stands s app (calls.GetOpts pipe) why line is = is
+refused_stands s app (calls.Find name) why line is = is
+refused_stands s app (calls.PipeName pipe) why line is = is
+refused_stands s app (calls.Subscribe id pipe limit scope) why line is = is
+refused_stands s app (calls.Unsubscribe id pipe) why line is = is
+refused_stands s app (calls.Transmit bytes inc) why line is = is
+refused_stands s app (calls.Receive pipe) why line is =
+    ap (λ (ss : List Standing). cond {A = Standing} (app == 0) Ended (slice_index_or ss (app - 1) Ended)) (refused_receive-standings s pipe why) ∙ is
+refused_stands s app (calls.Pend pipe) (OfBus status) line is = is
+refused_stands s app (calls.Pend pipe) (OfPools status) line is = is
+refused_stands s app (calls.Look pipe) why line is = absurd (true≢false (sym line))
+refused_stands s app (calls.PoolCreate bytes) why line is = is
+refused_stands s app (calls.PoolGet pool size) why line is = is
+refused_stands s app (calls.PoolPut pool grant) why line is = is
+refused_stands s app (calls.PoolFigures pool) why line is = is
+refused_stands s app calls.End why line is = absurd (true≢false (sym line))
 
-decided_stands : (limits : Limits) (history : List Entry) (s : State) (app : ℕ) (call : Call) (why : Option SbStatus) → is_line_call call ≡ true → standing_of s app ≡ Active →
+decided_stands : (limits : Limits) (history : List Entry) (s : State) (app : ℕ) (call : Call) (why : Option Refusal) → is_line_call call ≡ true → standing_of s app ≡ Active →
     Stands app call (decided limits history s app call why)
-decided_stands limits history s app call (Some status) line is = refused_stands s app call status line is
+decided_stands limits history s app call (Some why) line is = refused_stands s app call why line is
 decided_stands limits history s app call None line is = accepted_stands limits history s app call line is
 
 -- a look that is answered makes its caller active
@@ -371,8 +391,14 @@ answer-owed (calls.Pend pipe) (Got number) r es owed = owed
 answer-owed (calls.Pend pipe) TimeOut r es owed = owed
 answer-owed (calls.Pend pipe) Pending r [] owed = owed
 answer-owed (calls.Pend pipe) Pending r (e ∷ es) owed = owed
+answer-owed (calls.Pend pipe) (Pool figures) r es owed = owed
 answer-owed (calls.Pend pipe) (Sb status) r es owed = owed
+answer-owed (calls.Pend pipe) (Es status) r es owed = owed
 answer-owed (calls.Look pipe) answer r es owed = owed
+answer-owed (calls.PoolCreate bytes) answer r es owed = owed
+answer-owed (calls.PoolGet pool size) answer r es owed = owed
+answer-owed (calls.PoolPut pool grant) answer r es owed = owed
+answer-owed (calls.PoolFigures pool) answer r es owed = owed
 answer-owed calls.End answer r es owed = owed
 
 now-facts : (call : Call) (answer : BusAnswer) → (is_ended (now_after call answer) ≡ false) × (waits (now_after call answer) ≤ 1)
@@ -393,8 +419,14 @@ now-facts (calls.Pend pipe) (Sent number reached) = (refl, omega arith)
 now-facts (calls.Pend pipe) (Got number) = (refl, omega arith)
 now-facts (calls.Pend pipe) TimeOut = (refl, omega arith)
 now-facts (calls.Pend pipe) Pending = (refl, omega arith)
+now-facts (calls.Pend pipe) (Pool figures) = (refl, omega arith)
 now-facts (calls.Pend pipe) (Sb status) = (refl, omega arith)
+now-facts (calls.Pend pipe) (Es status) = (refl, omega arith)
 now-facts (calls.Look pipe) answer = (refl, omega arith)
+now-facts (calls.PoolCreate bytes) answer = (refl, omega arith)
+now-facts (calls.PoolGet pool size) answer = (refl, omega arith)
+now-facts (calls.PoolPut pool grant) answer = (refl, omega arith)
+now-facts (calls.PoolFigures pool) answer = (refl, omega arith)
 now-facts calls.End answer = (refl, omega arith)
 
 -- a line that makes a call
@@ -483,7 +515,9 @@ turn-waiting limits apps sofar running pipe (Name name) sound is answers = turn-
 turn-waiting limits apps sofar running pipe (Sent number reached) sound is answers = turn-look limits apps sofar running pipe sound is (ap is_pending answers) (ap (makes_entry (calls.Look pipe)) answers)
 turn-waiting limits apps sofar running pipe (Got number) sound is answers = turn-look limits apps sofar running pipe sound is (ap is_pending answers) (ap (makes_entry (calls.Look pipe)) answers)
 turn-waiting limits apps sofar running pipe TimeOut sound is answers = turn-look limits apps sofar running pipe sound is (ap is_pending answers) (ap (makes_entry (calls.Look pipe)) answers)
+turn-waiting limits apps sofar running pipe (Pool figures) sound is answers = turn-look limits apps sofar running pipe sound is (ap is_pending answers) (ap (makes_entry (calls.Look pipe)) answers)
 turn-waiting limits apps sofar running pipe (Sb status) sound is answers = turn-look limits apps sofar running pipe sound is (ap is_pending answers) (ap (makes_entry (calls.Look pipe)) answers)
+turn-waiting limits apps sofar running pipe (Es status) sound is answers = turn-look limits apps sofar running pipe sound is (ap is_pending answers) (ap (makes_entry (calls.Look pipe)) answers)
 
 turn-line : (limits : Limits) (apps : ℕ) (sofar : SoFar) (running : Running) (line : Line) (others : List Line) (made : Option Call) → IsSound limits apps sofar →
     standing_of sofar.state running.app ≡ Active → running.lines ≡ line ∷ others → call_of running.registers line ≡ made →

@@ -11,13 +11,13 @@ use Rattle.bus_words.specs.Bus.{State, Standing, Active, Waiting, Ended, opening
 use Rattle.bus_words.specs.Machine.{step}
 use Rattle.script_lines.specs.declared.line.Line.{Line}
 use Rattle.app_script.specs.Script.{Application, ScriptText}
-use Rattle.script_runs.specs.Trace.{first_registers, call_of, registers_after}
+use Rattle.script_runs.specs.Trace.{Registers, first_registers, call_of, registers_after}
 
 -- An application that has not ended: its number, the lines left and its registers.
 pub record Running : Type 0 where
   pub app : ℕ
   pub lines : List Line
-  pub registers : List ℕ
+  pub registers : Registers
 
 -- The bus so far: the history and the state after it.
 pub record SoFar : Type 0 where
@@ -41,7 +41,7 @@ after_look limits sofar app pipe Pending = sofar
 after_look limits sofar app pipe answer = after_call limits sofar app (Look pipe)
 
 -- the application behind its line
-abbrev pub behind : Running → List Line → List ℕ → Running
+abbrev pub behind : Running → List Line → Registers → Running
 behind running lines registers = record running { lines = lines; registers = registers }
 
 -- a turn that runs a line: its call, where a service sees it
@@ -91,7 +91,7 @@ enough script = sum_by (λ a. 2 * length a.lines + 1) script.apps
 
 -- the bus before the first rotation
 abbrev pub before_all : ScriptText → SoFar × List Running
-before_all script = (record { history = []; state = opening (length script.apps) }, starting 1 script.apps)
+before_all script = (record { history = []; state = opening script.limits (length script.apps) }, starting 1 script.apps)
 
 -- the history that rotation makes of a script
 abbrev pub rotation : ScriptText → List Entry

@@ -15,7 +15,7 @@ use Rattle.bus_words.specs.Receipts.{receipt_in}
 use Rattle.script_lines.specs.declared.line.Line.{Line}
 use Rattle.script_lines.specs.declared.line.Line.TheVariants.{ShowPipe}
 use Rattle.app_script.specs.Script.{ScriptText, app_at}
-use Rattle.script_runs.specs.Trace.{first_registers, call_of, registers_after}
+use Rattle.script_runs.specs.Trace.{Registers, first_registers, call_of, registers_after}
 
 -- An entry of an application, and the bus after it.
 pub record Seen : Type 0 where
@@ -40,9 +40,9 @@ abbrev pub receipts_of : ℕ → Seen → List Receipt
 receipts_of app seen = got_in app seen.after seen.entry.call seen.entry.answer
 
 -- what a line tells that no service sees: `show` the pipe's last message, or nothing where the application has none there
-unfoldable pub shown : ℕ → State → List ℕ → Line → List Receipt
-shown app s pipes (ShowPipe pipe) = unwrap_or (receipt_in s app (slice_index pipes pipe)) Nothing ∷ []
-shown app s pipes line = []
+unfoldable pub shown : ℕ → State → Registers → Line → List Receipt
+shown app s registers (ShowPipe pipe) = unwrap_or (receipt_in s app (slice_index registers.pipes pipe)) Nothing ∷ []
+shown app s registers line = []
 
 -- what follows an entry so answered: where it waits, its look's receipts first
 abbrev pub told_after : ℕ → BusAnswer → Seen → List Seen → (State → List Seen → List Receipt) → List Receipt
@@ -57,15 +57,15 @@ line_told app (Some call) local [] same next s = []
 line_told app (Some call) local (first ∷ others) same next s = told_after app first.entry.answer first others (next first.entry.answer)
 
 -- What the lines tell, with the bus as it is after the application's latest entry, and its entries to come.
-abbrev pub told : ℕ → List ℕ → State → List Line → List Seen → List Receipt
-told app pipes s [] seen = []
-told app pipes s (line ∷ lines) seen =
-    line_told app (call_of pipes line) (shown app s pipes line) seen
-    (λ after rest. told app pipes after lines rest)
-    (λ answer after rest. told app (registers_after pipes line answer) after lines rest) s
+abbrev pub told : ℕ → Registers → State → List Line → List Seen → List Receipt
+told app registers s [] seen = []
+told app registers s (line ∷ lines) seen =
+    line_told app (call_of registers line) (shown app s registers line) seen
+    (λ after rest. told app registers after lines rest)
+    (λ answer after rest. told app (registers_after registers line answer) after lines rest) s
 
 -- the receipts of one application of a script in a history
 abbrev pub receipts_told : ScriptText → List Entry → ℕ → List Receipt
 receipts_told script history app =
-    let s = opening (length script.apps) in
+    let s = opening script.limits (length script.apps) in
     told app first_registers s (app_at script app).lines (seen_from script.limits [] s app history)

@@ -6,29 +6,39 @@ use Rattle.bus_words.specs.declared.history.Call.{Call}
 use Rattle.bus_words.specs.declared.history.Call.TheVariants as calls
 use Rattle.bus_words.specs.declared.history.Entry.{Entry}
 use Rattle.script_lines.specs.declared.line.Line.{Line}
-use Rattle.script_lines.specs.declared.line.Line.TheVariants.{Create, Delete, SetOpts, GetOpts, Find, PipeName, Subscribe, Unsubscribe, Send, SendRaw, Receive, Pend}
+use Rattle.script_lines.specs.declared.line.Line.TheVariants.{Create, Delete, SetOpts, GetOpts, Find, PipeName, Subscribe, Unsubscribe, Send, SendRaw, Receive, Pend, PoolCreate, PoolGet, PoolPut, PoolFigures}
 use Rattle.script_runs.specs.Messages.{sent_message}
 use Rattle.app_script.specs.Script.{ScriptText, app_at}
 
--- an application's 64 pipe registers, at first
-abbrev pub first_registers : List ℕ
-first_registers = replicate 64 0
+-- An application's registers: of pipes, of memory pools and of their grants.
+pub record Registers : Type 0 where
+  pub pipes : List ℕ
+  pub pools : List ℕ
+  pub grants : List ℕ
+
+-- at first all are 0: 64 of pipes, 8 of pools and 64 of grants
+abbrev pub first_registers : Registers
+first_registers = record { pipes = replicate 64 0; pools = replicate 8 0; grants = replicate 64 0 }
 
 -- The call that a line makes, its registers filled in; None for a line that no service sees.
-unfoldable pub call_of : List ℕ → Line → Option Call
-call_of pipes (Create pipe depth name) = Some (calls.Create depth name)
-call_of pipes (Delete pipe) = Some (calls.Delete (slice_index pipes pipe))
-call_of pipes (SetOpts pipe bits) = Some (calls.SetOpts (slice_index pipes pipe) bits)
-call_of pipes (GetOpts pipe) = Some (calls.GetOpts (slice_index pipes pipe))
-call_of pipes (Find pipe name) = Some (calls.Find name)
-call_of pipes (PipeName pipe) = Some (calls.PipeName (slice_index pipes pipe))
-call_of pipes (Subscribe id pipe limit scope) = Some (calls.Subscribe id (slice_index pipes pipe) limit scope)
-call_of pipes (Unsubscribe id pipe) = Some (calls.Unsubscribe id (slice_index pipes pipe))
-call_of pipes (Send id size fill inc) = Some (calls.Transmit (sent_message id size fill) inc)
-call_of pipes (SendRaw bytes inc) = Some (calls.Transmit bytes inc)
-call_of pipes (Receive pipe) = Some (calls.Receive (slice_index pipes pipe))
-call_of pipes (Pend pipe) = Some (calls.Pend (slice_index pipes pipe))
-call_of pipes line = None
+unfoldable pub call_of : Registers → Line → Option Call
+call_of registers (Create pipe depth name) = Some (calls.Create depth name)
+call_of registers (Delete pipe) = Some (calls.Delete (slice_index registers.pipes pipe))
+call_of registers (SetOpts pipe bits) = Some (calls.SetOpts (slice_index registers.pipes pipe) bits)
+call_of registers (GetOpts pipe) = Some (calls.GetOpts (slice_index registers.pipes pipe))
+call_of registers (Find pipe name) = Some (calls.Find name)
+call_of registers (PipeName pipe) = Some (calls.PipeName (slice_index registers.pipes pipe))
+call_of registers (Subscribe id pipe limit scope) = Some (calls.Subscribe id (slice_index registers.pipes pipe) limit scope)
+call_of registers (Unsubscribe id pipe) = Some (calls.Unsubscribe id (slice_index registers.pipes pipe))
+call_of registers (Send id size fill inc) = Some (calls.Transmit (sent_message id size fill) inc)
+call_of registers (SendRaw bytes inc) = Some (calls.Transmit bytes inc)
+call_of registers (Receive pipe) = Some (calls.Receive (slice_index registers.pipes pipe))
+call_of registers (Pend pipe) = Some (calls.Pend (slice_index registers.pipes pipe))
+call_of registers (PoolCreate pool bytes) = Some (calls.PoolCreate bytes)
+call_of registers (PoolGet grant pool size) = Some (calls.PoolGet (slice_index registers.pools pool) size)
+call_of registers (PoolPut pool grant) = Some (calls.PoolPut (slice_index registers.pools pool) (slice_index registers.grants grant))
+call_of registers (PoolFigures pool) = Some (calls.PoolFigures (slice_index registers.pools pool))
+call_of registers line = None
 
 -- the number of a successful answer, 0 of a refusal
 abbrev pub number_of : BusAnswer → ℕ
@@ -36,10 +46,12 @@ number_of (Number n) = n
 number_of answer = 0
 
 -- the registers once the line's call was answered
-unfoldable pub registers_after : List ℕ → Line → BusAnswer → List ℕ
-registers_after pipes (Create pipe depth name) answer = slice_set pipes pipe (number_of answer)
-registers_after pipes (Find pipe name) answer = slice_set pipes pipe (number_of answer)
-registers_after pipes line answer = pipes
+unfoldable pub registers_after : Registers → Line → BusAnswer → Registers
+registers_after registers (Create pipe depth name) answer = record registers { pipes = slice_set registers.pipes pipe (number_of answer) }
+registers_after registers (Find pipe name) answer = record registers { pipes = slice_set registers.pipes pipe (number_of answer) }
+registers_after registers (PoolCreate pool bytes) answer = record registers { pools = slice_set registers.pools pool (number_of answer) }
+registers_after registers (PoolGet grant pool size) answer = record registers { grants = slice_set registers.grants grant (number_of answer) }
+registers_after registers line answer = registers
 
 -- the entries are, where the call was so answered: one look where it waits, and then what follows
 abbrev pub AfterAnswer : Call → BusAnswer → (List Entry → Type 0) → List Entry → Type 0
@@ -61,10 +73,10 @@ IsEnd (e ∷ f ∷ es) = ⊥
 
 -- One entry for each line that a service sees, with that line's call, and a look after one that waits; the application's
 -- end after them all.
-abbrev pub Trace : List ℕ → List Line → List Entry → Type 0
-Trace pipes [] es = IsEnd es
-Trace pipes (line ∷ lines) es =
-    LineEntries (call_of pipes line) (λ answer rest. Trace (registers_after pipes line answer) lines rest) (λ rest. Trace pipes lines rest) es
+abbrev pub Trace : Registers → List Line → List Entry → Type 0
+Trace registers [] es = IsEnd es
+Trace registers (line ∷ lines) es =
+    LineEntries (call_of registers line) (λ answer rest. Trace (registers_after registers line answer) lines rest) (λ rest. Trace registers lines rest) es
 
 -- the entries of one application
 abbrev pub own_entries : ℕ → List Entry → List Entry

@@ -315,9 +315,21 @@ pub fn version(rest: &[u8]) -> Result<u32, FaultKind>
     within(1, 1, version)
 }
 
-/// Whether the program runs with this limit already: those from `msgids` to `msgmax`.
+/// Whether the program runs with this limit already: `apppool` and those from `msgids` to `msgmax`.
 pub fn is_built_limit(name: LimitName) -> bool
     ensures { result ≡ is_built_limit name }
 {
-    name.number() <= 4
+    match name {
+        LimitName::MsgIds => true,
+        LimitName::Pipes => true,
+        LimitName::Dests => true,
+        LimitName::Depth => true,
+        LimitName::MsgMax => true,
+        LimitName::Pool => false,
+        LimitName::AppPool => true,
+        LimitName::Tables => false,
+        LimitName::Handles => false,
+        LimitName::TableMax => false,
+        LimitName::TablePool => false,
+    }
 }

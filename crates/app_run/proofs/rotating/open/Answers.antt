@@ -1,7 +1,7 @@
 use Rattle.std.proofs.Common.{◌∙◌, sym, subst, List}
 use Rattle.fsw_base.specs.declared.config.Budget.{Budget}
 use Rattle.fsw_base.specs.Limits.{limits_of}
-use Rattle.bus_words.specs.Log.{AreBudgets}
+use Rattle.journal_store.specs.Budgets.{AreBudgets}
 use Rattle.app_run.proofs.OpenLaws.{are-budgets, opened-is}
 use Rattle.app_run.proofs.rotating.open.Goals as goal
 

@@ -16,5 +16,9 @@ returns-in_default c = built_default c.args.line.now (record {
   sendraw = λ bytes inc e. grind arith;
   recv = λ pipe e. grind arith;
   pend = λ pipe e. grind arith;
+  pool = λ pool bytes e. grind arith;
+  pget = λ grant pool size e. grind arith;
+  pput = λ pool grant e. grind arith;
+  pstats = λ pool e. grind arith;
   show = λ pipe e. grind arith;
 })

@@ -5,6 +5,6 @@ use Rattle.bus_words.proofs.laws.histories_are_runs.Goals as goal
 
 pub returns : goal.returns
 returns c = record {
-  runs = λ limits apps history legal. stepped-legal limits [] (opening apps) history legal;
+  runs = λ limits apps history legal. stepped-legal limits [] (opening limits apps) history legal;
   goes_on = goes_on;
 }

@@ -1,7 +1,8 @@
 use Rattle.std.proofs.Common.{◌≡◌, ◌<◌, ◌&&◌, nat_le, false, length, sym, ap, arith}
 use Rattle.std.proofs.lemmas.Bool.Decides.{nat_tests}
 use Rattle.bus_words.specs.Entries.{call_of, call_bytes}
-use Rattle.bus_words.specs.Log.{allowance_of, left_of}
+use Rattle.journal_store.specs.Budgets.{allowance_of}
+use Rattle.bus_words.specs.Log.{left_of}
 use Rattle.bus_words.proofs.Journals.{length-left_of}
 use Rattle.host_run.proofs.mem_audit.has_room.Goals as goal
 

@@ -15,3 +15,6 @@ returns-in-Name g c =
 pub returns-in-Sent : goal.returns-in-Sent
 returns-in-Sent g c =
     puts_as (answer_text c.args.answer.now) (ap answer_text (sym c.in-Sent.is)) (c.put_numbered.ensures ▸ c.put-in-Sent.ensures ▸ c.put_number.ensures)
+
+pub returns-in-Pool : goal.returns-in-Pool
+returns-in-Pool g c = puts_as (answer_text c.args.answer.now) (ap answer_text (sym c.in-Pool.is)) (c.put-in-Pool.ensures ▸ c.put_figures.ensures)

@@ -13,4 +13,4 @@ returns-clause-reports c = λ one other receipts others plain clear same.
     reports_tell one other (receipts_text receipts) (receipts_text others) plain clear (ap (drop 10) same)
 
 pub returns-clause-legal : goal.returns-clause-legal
-returns-clause-legal c = λ limits apps history legal. legal_answers limits [] (opening apps) history legal
+returns-clause-legal c = λ limits apps history legal. legal_answers limits [] (opening limits apps) history legal

@@ -1,6 +1,6 @@
 use Rattle.std.proofs.Common.{All, subst}
 use Rattle.std.proofs.lemmas.List.Elements.{All-take}
-use Rattle.app_pools.specs.Grants.{Pools, IsCounted}
+use Rattle.pool_words.specs.Grants.{Pools, IsCounted}
 use Rattle.app_pools.proofs.pools.AppPools.recall_counted.Goals as goal
 
 pub returns : goal.returns

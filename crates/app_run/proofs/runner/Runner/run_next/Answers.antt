@@ -57,7 +57,7 @@ returns-in-Some-clause-turn g c =
     let line = c.line-line.result.now in
     let next : drop a.next all ≡ line ∷ drop (a.next + 1) all = drop-next all a.next line c.line-line.ensures ∙ ap (λ n. line ∷ drop n all) (sym (add-one a.next)) in
     ran-line (progress_in a) c.args.self.now (caller c.args.calls.now) (caller c.run_line.new.calls) (caller c.receive.new.calls) line (drop (a.next + 1) all) c.in-Some.answer
-    c.note.new.registers c.pipe_waited_for-self-inside.result c.receive.new.receipts.receipts (call_of a.registers line)
+    c.note.new.self c.pipe_waited_for-self-inside.result c.receive.new.receipts.receipts (call_of a.registers line)
     c.self.view_is c.requires.may c.requires.active next
     (get_at IsLineInRange all a.next line c.line-line.ensures c.self.invariant.ranges)
     refl c.in-Some.ensures.call c.receive.ensures.same c.receive.ensures.receipts c.note.ensures c.pipe_waited_for-self-inside.ensures

@@ -1,4 +1,4 @@
-use Rattle.std.proofs.Common.{◌≡◌, length, ap, sym, ◌∙◌, subst, arith}
+use Rattle.std.proofs.Common.{sym, ◌∙◌, subst}
 use Rattle.bus_words.specs.Bus.{standing_of, waited_on}
 use Rattle.bus_words.specs.declared.history.Call.TheVariants.{Look}
 use Rattle.sb_core.specs.Answers.{waited}

@@ -1,7 +1,8 @@
 use Rattle.std.proofs.Common.{◌≡◌, length, ap, sym, ◌∙◌, subst, arith}
 use Rattle.fsw_base.specs.Limits.{limits_of}
 use Rattle.bus_words.specs.Acts.{opening_whole, whole_after}
-use Rattle.bus_words.specs.Log.{Log, bytes_left, entries_left, left_of}
+use Rattle.journal_store.specs.Budgets.{bytes_left, entries_left}
+use Rattle.bus_words.specs.Log.{Log, left_of}
 use Rattle.sb_core.specs.Core.{Plain}
 use Rattle.sb_calls.specs.Core.{IsLegalCore}
 use Rattle.sb_calls.proofs.Opened.{bytes_left-allowances, entries_left-allowances}
@@ -19,7 +20,8 @@ invariant_of-result c =
     let bytes = ap (λ (l : Log). bytes_left (left_of l)) log ∙ bytes_left-allowances budgets in
     record {
       legal = subst (λ (l : Log). IsLegalCore (record { limits = core.limits; log = l })) (sym log) tt;
-      whole = ap (λ (p : Plain). p.whole) c.in_ok-new.ensures ∙ ap opening_whole (sym apps)
+      whole = ap (λ (p : Plain). p.whole) c.in_ok-new.ensures ∙ ap (opening_whole (limits_of c.args.cfg.now)) (sym apps)
+          ∙ ap (λ limits. opening_whole limits (length journal.budgets)) (sym (ap (λ (p : Plain). p.limits) c.in_ok-new.ensures))
           ∙ ap (λ (l : Log). whole_after core.limits (length journal.budgets) l.entries) (sym log);
       messages = omega (arith, no_entry, entries, c.total_entries-entries.ensures, ap (λ (p : Plain). p.messages) c.in_ok-new.ensures);
       few = omega (arith, no_entry, entries, c.requires.entries);

@@ -1,4 +1,4 @@
-use Rattle.std.proofs.Common.{◌≤◌, length, ap, arith, refl}
+use Rattle.std.proofs.Common.{length, ap, arith, refl}
 use Rattle.bus_words.specs.declared.history.Call.TheVariants.{Unsubscribe}
 use Rattle.bus_words.specs.Bus.{State, route}
 use Rattle.sb_calls.proofs.Over.{may_act, stands_over, does_over, bus_now}

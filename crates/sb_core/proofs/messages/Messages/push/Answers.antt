@@ -1,5 +1,4 @@
 use Rattle.std.proofs.Common.{◌≡◌, ◌+◌, List, [], ◌∷◌, ◌++◌, length, length-append, append_assoc, ap, sym, ◌∙◌, arith}
-use Rattle.sb_core.specs.declared.messages.Span.{Span}
 use Rattle.sb_core.specs.Rows.{Kept, Sends}
 use Rattle.sb_core.proofs.Laid.{kept_in, kept_in-push}
 use Rattle.sb_core.proofs.messages.Messages.push.Goals as goal

@@ -1,6 +1,5 @@
-use Rattle.std.proofs.Common.{Some, ap, sym, ◌∙◌, arith, length, subst}
+use Rattle.std.proofs.Common.{Some, ap, ◌∙◌, arith, length}
 use Rattle.bus_words.specs.Receipts.{message_receipt}
-use Rattle.sb_core.specs.Rows.{IsKept}
 use Rattle.sb_core.proofs.Receipts.{none_told, some_told, some_named, some_short}
 use Rattle.sb_core.proofs.plain.SbCore.last_receipt.Goals as goal
 

@@ -3,7 +3,7 @@ use Rattle.std.specs.Vec.{with_item}
 use Rattle.bus_words.specs.Machine.{pended_answer}
 use Rattle.sb_core.specs.declared.activities.Activity.TheVariants as activities
 use Rattle.sb_core.specs.Core.{Plain}
-use Rattle.sb_core.proofs.Looks.{still_acts, took_keeps, look_acts}
+use Rattle.sb_core.proofs.Looks.{took_keeps, look_acts}
 use Rattle.sb_core.proofs.plain.SbCore.look.Goals as goal
 
 pub invariant_of-self : goal.invariant_of-self

@@ -1,0 +1,79 @@
+//! What the bus of a run has in its memory pools once every application has ended.
+
+use crate::audit::Audit;
+use crate::serve::serve;
+use crate::status::HostStatus;
+use crate::words::Words;
+use es_pool::ClassStats;
+use fsw_base::{MemSink, MemSource, OpenGate};
+use sb_calls::BusCore;
+use std::test::Fail;
+
+/// Two blocks of 64 bytes go out, one of them twice; both come back, the last at the end.
+const SCRIPT: &[u8] = b"sizes 32 64\napp A\npool q0 176\npget m0 q0 64\npget m1 q0 64\n\
+    pput q0 m1\npget m2 q0 32\npput q0 m1\npget m2 q0 65\npget m2 q0 40\npput q0 m5\npstats q0\n\
+    pget m3 q1 8\n";
+
+const REPORT: &[u8] = b"fsw 1\nbus\n\
+    1 a1 pool 176 -> CFE_SUCCESS 1\n\
+    2 a1 pget 1 64 -> CFE_SUCCESS 1\n\
+    3 a1 pget 1 64 -> CFE_SUCCESS 2\n\
+    4 a1 pput 1 2 -> CFE_SUCCESS\n\
+    5 a1 pget 1 32 -> CFE_ES_ERR_MEM_BLOCK_SIZE\n\
+    6 a1 pput 1 2 -> CFE_ES_POOL_BLOCK_INVALID\n\
+    7 a1 pget 1 65 -> CFE_ES_ERR_MEM_BLOCK_SIZE\n\
+    8 a1 pget 1 40 -> CFE_SUCCESS 3\n\
+    9 a1 pput 1 0 -> CFE_ES_BUFFER_NOT_IN_POOL\n\
+    10 a1 pstats 1 -> CFE_SUCCESS 176 3 2 16\n\
+    11 a1 pget 0 8 -> NO_SUCH_POOL\n\
+    12 a1 end -> CFE_SUCCESS\n\
+    receipts\n\
+    end\n";
+
+// The second block size of the first pool, on the bus that was shown.
+#[derive(Drop)]
+struct SecondSize {
+    found: Option<ClassStats>,
+}
+
+impl Audit for SecondSize {
+    ghost use Rattle.std.specs.Prelude.{None};
+
+    ghost shown = { λ _. None };
+
+    fn closed(&mut self, bus: &BusCore) {
+        if 1 <= bus.app_pools() {
+            let pool = bus.app_pool(1);
+            if 2 <= pool.classes() {
+                self.found = Some(pool.class(1));
+            }
+        }
+    }
+}
+
+#[test]
+fn blocks_are_free_once_their_application_has_ended(rt: HostRuntime) -> Result<(), Fail> {
+    let mut words = Words::new();
+    words.add("lockstep");
+    let mut source = MemSource::new(SCRIPT, 1000, &[]);
+    let mut sink = MemSink::new(rt.alloc(), 10_000, 1000, &[])?;
+    let mut audit = SecondSize { found: None };
+    let status = serve(
+        &rt,
+        rt.alloc(),
+        &words,
+        &mut source,
+        &mut sink,
+        &OpenGate,
+        &mut audit,
+    );
+    assert_eq!(rt; status, HostStatus::Done);
+    assert_eq!(rt; sink.written(), REPORT);
+    let wanted = ClassStats {
+        size: 64,
+        made: 2,
+        free: 2,
+    };
+    assert_eq!(rt; audit.found, Some(wanted));
+    Ok(())
+}

@@ -1,0 +1,4 @@
+pub mod Counted
+pub mod Following
+pub mod Present
+pub mod Tests

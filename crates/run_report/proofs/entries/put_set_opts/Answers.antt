@@ -1,5 +1,0 @@
-use Rattle.text_page.proofs.Putting.{◌▸◌}
-use Rattle.run_report.proofs.entries.put_set_opts.Goals as goal
-
-pub returns : goal.returns
-returns g c = c.put_numbered.ensures ▸ c.put.ensures ▸ c.put_number.ensures

@@ -1,0 +1,14 @@
+use Rattle.std.proofs.Common.{IsTrue, sym, subst}
+use Rattle.es_pool.specs.Account.{IsAccountOf}
+use Rattle.pool_words.specs.Grants.{is_pool, pool_in}
+use Rattle.bus_words.specs.Bus.{State}
+use Rattle.sb_calls.proofs.Over.{bus_now}
+use Rattle.sb_calls.proofs.bus_core.BusCore.app_pool.Goals as goal
+
+pub app_pool-requires : goal.app_pool-requires
+app_pool-requires c =
+    subst (λ (s : State). IsTrue (is_pool s.pools c.args.pool)) (sym (bus_now c.self.inside c.args.self.now c.self.view_is c.self.invariant)) c.requires
+
+pub returns : goal.returns
+returns c =
+    subst (λ (s : State). IsAccountOf c.app_pool.result.now (pool_in s.pools c.args.pool).account) (bus_now c.self.inside c.args.self.now c.self.view_is c.self.invariant) c.app_pool.ensures

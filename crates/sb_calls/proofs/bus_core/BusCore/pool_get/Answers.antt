@@ -1,0 +1,17 @@
+use Rattle.std.proofs.Common.{refl}
+use Rattle.bus_words.specs.declared.history.Call.TheVariants.{PoolGet}
+use Rattle.sb_calls.proofs.Over.{may_act, stands_over, does_over}
+use Rattle.sb_calls.proofs.bus_core.BusCore.pool_get.Goals as goal
+
+pub pool_get-result-requires : goal.pool_get-result-requires
+pool_get-result-requires g c = record { may = may_act c.self.inside c.args.self.now c.args.app (PoolGet c.args.pool c.args.size) c.self.view_is c.self.invariant c.requires.may }
+
+pub invariant_of-self : goal.invariant_of-self
+invariant_of-self g c =
+    stands_over c.self.inside c.pool_get-result.new.self c.push.new.self c.args.self.now c.args.app (PoolGet c.args.pool c.args.size) _ c.of_pool.result c.self.view_is c.self.invariant c.requires.may
+    c.pool_get-result.ensures.does c.of_pool.ensures refl c.push.ensures
+
+pub returns-clause-does : goal.returns-clause-does
+returns-clause-does g c =
+    does_over c.self.inside c.pool_get-result.new.self c.push.new.self c.args.self.now c.args.app (PoolGet c.args.pool c.args.size) _ c.of_pool.result c.self.view_is c.self.invariant c.requires.may
+    c.pool_get-result.ensures.does c.of_pool.ensures refl c.push.ensures

@@ -1,0 +1,123 @@
+//! The calls of memory pools, which any application may create and use (cFE Executive Services,
+//! memory pools). They lend no bytes: what a pool hands out are numbered grants of its blocks. Each
+//! call is the core's and one entry of the journal.
+ghost use Rattle.std.specs.Prelude.{◌≡◌, ◌+◌, ◌≤◌, length, IsTrue};
+ghost use Rattle.es_pool.specs.Account.{IsAccountOf};
+ghost use Rattle.pool_words.specs.Grants.{is_pool, pool_in};
+ghost use Rattle.sb_calls.specs.Core.{MayCall, Does, state_of};
+ghost use Rattle.sb_core.specs.Answers.{pool_told, grant_back, figures_told};
+
+use crate::answers::{of_back, of_figures, of_pool};
+use crate::bus_core::BusCore;
+use bucket_list::{Ledger, Steps};
+use bus_words::{BusCall, BusEntry, Call};
+use es_pool::Pool;
+use fsw_base::{AppNo, EsStatus, PoolStats};
+
+impl BusCore {
+    /// Creates a memory pool of `bytes` bytes with the configured block sizes, and answers its
+    /// number. Pools are numbered 1, 2, 3 and so on, up to 8, and none is ever deleted.
+    ///
+    /// # Errors
+    /// `ErrMemBlockSize` where 8 pools exist, and where `bytes` is more than the configuration
+    /// allows, or too few for a block of the smallest size.
+    pub fn pool_create(&mut self, app: AppNo, bytes: u32) -> Result<u32, EsStatus>
+        requires may { MayCall self.old app (Call.PoolCreate bytes) }
+        ensures { Does self.old self.new app (Call.PoolCreate bytes) (pool_told result) }
+    {
+        let result = self.core.pool_create(app, bytes);
+        self.journal.push(&BusEntry {
+            app,
+            call: BusCall::PoolCreate { bytes },
+            answer: of_pool(&result),
+        });
+        result
+    }
+
+    /// Gives the caller a grant of a pool's block that has at least `size` bytes, of the smallest
+    /// block size that is large enough, and answers the grant's number. The grants of a pool are
+    /// numbered 1, 2, 3 and so on, and no number is used again. At most 8 steps.
+    ///
+    /// # Errors
+    /// `NoPool` where no pool of this number was created; `ErrMemBlockSize` where no block size is
+    /// large enough, or the pool has no room for one more block of the smallest that is. The first
+    /// that applies.
+    pub fn pool_get<L: Ledger>(
+        &mut self,
+        app: AppNo,
+        pool: u32,
+        size: u32,
+        steps: &mut Steps<L>,
+    ) -> Result<u32, EsStatus>
+        requires may { MayCall self.old app (Call.PoolGet pool size) }
+        ensures does { Does self.old self.new app (Call.PoolGet pool size) (pool_told result) }
+        ensures cost { steps.new ≤ steps.old + 8 }
+    {
+        let result = self.core.pool_get(app, pool, size, steps);
+        self.journal.push(&BusEntry {
+            app,
+            call: BusCall::PoolGet { pool, size },
+            answer: of_pool(&result),
+        });
+        result
+    }
+
+    /// Gives a grant of a pool back, whichever application it was given to: its block is free then.
+    /// The pool counts a return that it refuses. At most 8 steps.
+    ///
+    /// # Errors
+    /// `NoPool` where no pool of this number was created; `BufferNotInPool` where the pool never
+    /// gave the grant; `PoolBlockInvalid` where the grant came back before. The first that applies.
+    pub fn pool_put<L: Ledger>(
+        &mut self,
+        app: AppNo,
+        pool: u32,
+        grant: u32,
+        steps: &mut Steps<L>,
+    ) -> Result<(), EsStatus>
+        requires may { MayCall self.old app (Call.PoolPut pool grant) }
+        ensures does { Does self.old self.new app (Call.PoolPut pool grant) (grant_back result) }
+        ensures cost { steps.new ≤ steps.old + 8 }
+    {
+        let result = self.core.pool_put(app, pool, grant, steps);
+        self.journal.push(&BusEntry {
+            app,
+            call: BusCall::PoolPut { pool, grant },
+            answer: of_back(&result),
+        });
+        result
+    }
+
+    /// Answers a pool's figures: its bytes, the blocks drawn, the returns refused, and the bytes
+    /// never cut.
+    ///
+    /// # Errors
+    /// `NoPool` where no pool of this number was created.
+    pub fn pool_stats(&mut self, app: AppNo, pool: u32) -> Result<PoolStats, EsStatus>
+        requires may { MayCall self.old app (Call.PoolFigures pool) }
+        ensures { Does self.old self.new app (Call.PoolFigures pool) (figures_told result) }
+    {
+        let result = self.core.pool_stats(pool);
+        self.journal.push(&BusEntry {
+            app,
+            call: BusCall::PoolFigures { pool },
+            answer: of_figures(&result),
+        });
+        result
+    }
+
+    /// How many memory pools were created.
+    pub fn app_pools(&self) -> u32
+        ensures { result ≡ length (state_of self.now).pools.pools }
+    {
+        self.core.app_pools()
+    }
+
+    /// A memory pool that was created, to be read.
+    pub fn app_pool(&self, pool: u32) -> &Pool
+        requires { IsTrue (is_pool (state_of self.now).pools pool) }
+        ensures { IsAccountOf result.now (pool_in (state_of self.now).pools pool).account }
+    {
+        self.core.app_pool(pool)
+    }
+}
