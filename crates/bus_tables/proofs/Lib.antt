@@ -13,5 +13,5 @@ mod Counting
 mod Makings
 mod MakingsRouted
 mod Readers
-mod UsesCounted
+pub mod UsesCounted
 mod FirstOf

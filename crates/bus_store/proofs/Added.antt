@@ -1,0 +1,74 @@
+-- A block that is drawn, written and sealed.
+use Rattle.std.proofs.Common.{◌≡◌, ℕ, ◌+◌, ◌≤◌, ◌%◌, ◌||◌, zero, suc, Bool, true, false, cond, eqb, List, [], ◌∷◌, length, map, set, take, find, Option, Some, None, refl, ap, sym, ◌∙◌, subst, arith}
+use Rattle.std.specs.Option.{option_map_or}
+use Rattle.std.proofs.lemmas.Bool.{eqb-true}
+use Rattle.ccsds_msg.specs.Message.{with_count}
+use Rattle.ccsds_msg.proofs.MessageLemmas.{length-with_count}
+use Rattle.fsw_base.specs.Starts.{start_of}
+use Rattle.es_pool.specs.Pool.{DrawsFor}
+use Rattle.buf_desc.specs.Block.{Unsent as UnsentBlock, Sealed as SealedBlock}
+use Rattle.buf_desc.specs.Slots.{slot_at, sealed_in, is_sealed, is_live, number_in}
+use Rattle.buf_desc.specs.Desk.{Buffers, Takes, IsOf, sealed}
+use Rattle.buf_desc.specs.declared.slot.Slot.TheVariants.{Unsent, Sealed}
+use Rattle.buf_desc.proofs.Others.{slot_drawn, numbers_drawn, numbers_changed}
+use Rattle.bus_words.specs.Acts.{NextCount, next_in}
+use Rattle.bus_tables.specs.Rows.{RouteRow, has_way, counted_in}
+use Rattle.bus_store.specs.Words.{next_of}
+use Rattle.bus_store.specs.Inside.{Adds}
+use Rattle.bus_store.proofs.Tied.{here_set, others_set, eqb_other}
+
+take_all : (xs : List ℕ) (n : ℕ) → n ≡ length xs → take n xs ≡ xs
+take_all [] zero e = refl
+take_all [] (suc n) e = refl
+take_all (x ∷ xs) zero e = absurd (omega (arith, e))
+take_all (x ∷ xs) (suc n) e = ap (λ l. x ∷ l) (take_all xs n (omega (arith, e)))
+
+pub added : (old mid new : Buffers) (size number len loan : ℕ) (block sent : UnsentBlock) (message : List ℕ) →
+    Takes old mid size number block → IsOf mid block → sent ≡ record block { bytes = message } → len ≡ length message → size ≡ length message →
+    new ≡ sealed mid sent len loan → Adds old new number message sent.desc
+added old mid new size number len loan block sent message taken own is long same after =
+    let placed : new ≡ sealed mid (record block { bytes = message }) len loan = after ∙ ap (λ b. sealed mid b len loan) is in
+    subst (λ d. Adds old new number message d) (sym (ap (λ (b : UnsentBlock). b.desc) is))
+    (subst (λ b. Adds old b number message block.desc) (sym placed) there)
+  where
+    what : SealedBlock
+    what = record { number = block.number; size = block.size; bytes = take len message; uses = 0; loan = loan; views = 0 }
+
+    live : is_live (slot_at mid.slots block.desc) ≡ true
+    live = ap is_live own.0
+
+    here : slot_at (set mid.slots block.desc (Sealed what)) block.desc ≡ Sealed what
+    here = here_set mid.slots block.desc (Sealed what) live
+
+    there : Adds old (sealed mid (record block { bytes = message }) len loan) number message block.desc
+    there = record {
+      fresh = taken.was_not_live;
+      drawn = subst (λ n. DrawsFor old.pool mid.pool n block.desc) same taken.drawn;
+      sealed = ap is_sealed here;
+      sent = subst (λ s. sealed_in s ≡ record (sealed_in s) { number = number; bytes = message; uses = 0; views = 0 }) (sym here)
+          (ap (λ n. record what { number = n }) taken.sent_as ∙ ap (λ l. record what { number = number; bytes = l }) (take_all message len long));
+      others = λ other apart.
+          others_set mid.slots block.desc (Sealed what) live other apart
+          ∙ slot_drawn old mid size number block taken own other
+          ∙ ap (λ c. cond c (Unsent number) (slot_at old.slots other)) (eqb_other block.desc other apart);
+      numbers = λ kept new_there.
+          numbers_changed mid.slots block.desc (Sealed what) live (λ _. sym (ap number_in own.0)) (numbers_drawn old mid size number block taken own kept new_there);
+    }
+
+-- the next count that the routes tell
+pub next_in-rows : (starts : List (ℕ × ℕ)) (routes : List RouteRow) (id : ℕ) → has_way routes id ≡ true →
+    next_in (map (next_of starts) routes) id ≡ (start_of starts id + counted_in routes id + 1) % 16384
+next_in-rows starts [] id there = absurd (cc (there))
+next_in-rows starts (way ∷ routes) id there = by_test (eqb way.id id) refl there (next_in-rows starts routes id)
+  where
+    by_test : (b : Bool) → eqb way.id id ≡ b → (b || has_way routes id) ≡ true →
+        (has_way routes id ≡ true → next_in (map (next_of starts) routes) id ≡ (start_of starts id + counted_in routes id + 1) % 16384) →
+        option_map_or {U = ℕ} (λ (n : NextCount). n.next) (cond {A = Option NextCount} b (Some (next_of starts way)) (find (λ (n : NextCount). eqb n.id id) (map (next_of starts) routes))) 0
+        ≡ (start_of starts id + option_map_or {U = ℕ} (λ (r : RouteRow). r.counted) (cond {A = Option RouteRow} b (Some way) (find (λ (r : RouteRow). eqb r.id id) routes)) 0 + 1) % 16384
+    by_test true is some ih = ap (λ n. (start_of starts n + way.counted + 1) % 16384) (eqb-true way.id id is)
+    by_test false is some ih = ih some
+
+-- a message with a count is as long
+pub length-counted : (bytes : List ℕ) (count : Option ℕ) → 6 ≤ length bytes → length (option_map_or (with_count bytes) count bytes) ≡ length bytes
+length-counted bytes None long = refl
+length-counted bytes (Some count) long = length-with_count bytes count (omega (arith, long))

@@ -1,0 +1,263 @@
+-- What a send leaves of the blocks, the pipes and the account.
+use Rattle.std.proofs.Common.{◌≡◌, ℕ, ◌+◌, ◌≤◌, ◌⊎◌, inl, inr, Bool, true, false, cond, eqb, leb, List, [], ◌∷◌, ◌++◌, length, map, refl, ap, sym, ◌∙◌, subst, arith}
+use Rattle.std.proofs.lemmas.Bool.{cases_eq}
+use Rattle.std.proofs.lemmas.Bool.Decides.{nat_tests}
+use Rattle.fsw_base.specs.Blocks.{class_of}
+use Rattle.fsw_base.specs.PoolAccounts.{Account, has_room, after_request}
+use Rattle.es_pool.specs.Pool.{is_out, size_at}
+use Rattle.buf_desc.specs.Block.{Sealed as SealedBlock}
+use Rattle.buf_desc.specs.Slots.{slot_at, sealed_at, sealed_in, is_sealed, is_live, number_in}
+use Rattle.buf_desc.specs.Desk.{Buffers, resealed, freed, after_settle}
+use Rattle.buf_desc.specs.declared.slot.Slot.{Slot}
+use Rattle.buf_desc.specs.declared.slot.Slot.TheVariants.{Free, Sealed}
+use Rattle.buf_desc.proofs.Others.{numbers_changed}
+use Rattle.bus_words.specs.Bus.{Subscription, Sending, deliver, reached}
+use Rattle.bus_tables.specs.declared.message.Message.{Message}
+use Rattle.bus_tables.specs.Rows.{Row, with_row, takes, item_of, offered_row, deliver_rows, reached_rows, missed_rows}
+use Rattle.bus_tables.specs.Tables.{IsRising}
+use Rattle.bus_tables.specs.Uses.{uses_of}
+use Rattle.bus_tables.proofs.UsesCounted.{delivered_uses}
+use Rattle.bus_store.specs.Store.{LastLoan}
+use Rattle.bus_store.specs.Words.{missed}
+use Rattle.bus_store.specs.Inside.{pipes_in, loan_in, account_in, AllItems, IsNamed, lasts_of, IsGiven, AreTied, Backed, Adds, returned, after_send}
+use Rattle.bus_store.proofs.Items.{items_weaker, items_both, items_delivered, no_uses, unused, lasts_few, lasts_delivered}
+use Rattle.bus_store.proofs.Meaning.{IsSending, message_of, deliver-rows, reached-rows, missed-rows}
+use Rattle.bus_store.proofs.Pool.{IsDrawn, drawn_for, returned_for}
+use Rattle.bus_store.proofs.Tied.{Stays, Moves, sealed_live, sealed_number, here_set, others_set, stays_apart, stays_freed, added_apart, pipes_stay, named_stay, loans_stay, tied_moved, tied_freed}
+
+-- a delivery changes no last message
+loans_delivered : (slots : List Slot) (message : Message) (subs : List Subscription) (rows : List Row) → map (loan_in slots) (deliver_rows message subs rows) ≡ map (loan_in slots) rows
+loans_delivered slots message [] rows = refl
+loans_delivered slots message (sub ∷ subs) rows =
+    loans_delivered slots message subs (with_row (offered_row message sub) sub.pipe rows) ∙ one_offer rows
+  where
+    offer : (row : Row) (mine take : Bool) → loan_in slots (cond {A = Row} mine (cond {A = Row} take (record row { queue = row.queue ++ item_of message sub ∷ [] }) row) row) ≡ loan_in slots row
+    offer row true true = refl
+    offer row true false = refl
+    offer row false take = refl
+
+    one_offer : (xs : List Row) → map (loan_in slots) (with_row (offered_row message sub) sub.pipe xs) ≡ map (loan_in slots) xs
+    one_offer [] = refl
+    one_offer (row ∷ xs) =
+        ap (λ (l : LastLoan). l ∷ map (loan_in slots) (with_row (offered_row message sub) sub.pipe xs)) (offer row (eqb row.number sub.pipe) (takes row sub message.sender))
+        ∙ ap (λ (l : List LastLoan). loan_in slots row ∷ l) (one_offer xs)
+
+-- what a send leaves
+pub record IsSent (b final : Buffers) (rows : List Row) (subs : List Subscription) (sending : Sending) (given desc count : ℕ) : Type 0 where
+  pub backed : Backed final (deliver_rows (message_of sending desc) subs rows) (given + 1)
+  pub pipes : pipes_in final.slots (deliver_rows (message_of sending desc) subs rows) ≡ deliver sending subs (pipes_in b.slots rows)
+  pub loans : map (loan_in final.slots) (deliver_rows (message_of sending desc) subs rows) ≡ map (loan_in b.slots) rows
+  pub account : account_in final.pool ≡ after_send (account_in b.pool) (length sending.message) count
+  pub arrived : count ≡ reached sending subs (pipes_in b.slots rows)
+  pub misses : missed_rows (message_of sending desc) subs rows ≡ missed sending subs (pipes_in b.slots rows)
+
+module _ (b mid : Buffers) (rows : List Row) (subs : List Subscription) (sending : Sending) (given desc count : ℕ)
+    (backed : Backed b rows given) (adds : Adds b mid sending.number sending.message desc) (rises : IsRising 0 rows)
+    (next : sending.number ≡ given + 1) (size : sending.asked ≡ length sending.message) (room : has_room (account_in b.pool) (length sending.message) ≡ true)
+    (out : is_out mid.pool desc ≡ true) (live_out : (d : ℕ) → is_live (slot_at b.slots d) ≡ is_out b.pool d)
+    (took : count ≡ reached_rows (message_of sending desc) subs rows) where
+  abbrev message : Message
+  message = message_of sending desc
+
+  abbrev after : List Row
+  after = deliver_rows message subs rows
+
+  abbrev sent : SealedBlock
+  sent = record (sealed_at mid.slots desc) { uses = count }
+
+  abbrev counted : Buffers
+  counted = resealed mid desc sent
+
+  drawn : IsDrawn b.pool mid.pool (length sending.message) desc
+  drawn = drawn_for b.pool mid.pool (length sending.message) desc backed.tied.account room adds.drawn
+
+  live : is_live (slot_at mid.slots desc) ≡ true
+  live = sealed_live (slot_at mid.slots desc) adds.sealed
+
+  here : slot_at counted.slots desc ≡ Sealed sent
+  here = here_set mid.slots desc (Sealed sent) live
+
+  others : (other : ℕ) → (desc ≡ other → ⊥) → slot_at counted.slots other ≡ slot_at b.slots other
+  others other apart = others_set mid.slots desc (Sealed sent) live other apart ∙ adds.others other apart
+
+  numbered : sent.number ≡ sending.number
+  numbered = ap (λ (s : SealedBlock). s.number) adds.sent
+
+  filled : sent.bytes ≡ sending.message
+  filled = ap (λ (s : SealedBlock). s.bytes) adds.sent
+
+  -- the number is new
+  given_number : (d : ℕ) → is_sealed (slot_at b.slots d) ≡ true → (sealed_at b.slots d).number ≤ given
+  given_number d is = let one = backed.tied.given d (sealed_live (slot_at b.slots d) is) in omega (arith, one.last, sealed_number (slot_at b.slots d) is)
+
+  is_new : (d : ℕ) → is_sealed (slot_at b.slots d) ≡ true → sending.number ≡ (sealed_at b.slots d).number → ⊥
+  is_new d is same = absurd (omega (arith, given_number d is, same, next))
+
+  not_used : uses_of sending.number rows ≡ 0
+  not_used = no_uses sending.number rows
+      (items_weaker (IsNamed b.slots) (λ i. i.number ≡ sending.number → ⊥) (λ i is e. is_new i.desc is.sealed (sym (is.number ∙ e))) rows backed.tied.items)
+
+  eqb_same : (n : ℕ) → eqb n n ≡ true
+  eqb_same n = grind (arith, nat_tests)
+
+  eqb_new : (n : ℕ) → (sending.number ≡ n → ⊥) → eqb sending.number n ≡ false
+  eqb_new n apart = at (eqb sending.number n) refl
+    where
+      at : (c : Bool) → eqb sending.number n ≡ c → c ≡ false
+      at false e = refl
+      at true e = absurd (apart (grind (arith, nat_tests)))
+
+  uses_here : uses_of sending.number after ≡ count
+  uses_here =
+      delivered_uses sending.number message 0 subs rows rises
+      ∙ ap (λ c. uses_of sending.number rows + cond {A = ℕ} c (reached_rows message subs rows) 0) (eqb_same sending.number)
+      ∙ omega (arith, not_used, took)
+
+  uses_there : (n : ℕ) → (sending.number ≡ n → ⊥) → uses_of n after ≡ uses_of n rows
+  uses_there n apart =
+      let e = delivered_uses n message 0 subs rows rises in
+      let off = ap (λ c. cond {A = ℕ} c (reached_rows message subs rows) 0) (eqb_new n apart) in
+      omega (arith, e, off)
+
+  lasts_here : lasts_of sending.number after ≡ 0
+  lasts_here = omega (arith, lasts_delivered sending.number message subs rows, lasts_few sending.number rows, not_used)
+
+  stay : AllItems (Stays b.slots counted.slots) rows
+  stay = items_weaker (IsNamed b.slots) (Stays b.slots counted.slots)
+      (λ i is. stays_apart b.slots counted.slots desc others i (added_apart b mid sending.number sending.message desc adds i is) is) rows backed.tied.items
+
+  named : AllItems (IsNamed counted.slots) after
+  named = items_delivered (IsNamed counted.slots) message
+      (λ sub. record { sealed = ap is_sealed here; number = ap (λ s. (sealed_in s).number) here ∙ numbered }) subs rows
+      (named_stay b.slots counted.slots rows stay)
+
+  moves : Moves b counted desc (λ n. uses_of n rows) (λ n. lasts_of n rows) (λ n. uses_of n after) (λ n. lasts_of n after) given (given + 1)
+  moves = record {
+    others = others;
+    sealed = λ _. ap is_sealed here;
+    uses_here = λ _. ap (λ s. (sealed_in s).uses) here ∙ sym uses_here ∙ sym (ap (λ n. uses_of n after) (ap (λ s. (sealed_in s).number) here ∙ numbered));
+    views_here = λ _. ap (λ s. (sealed_in s).views) here ∙ ap (λ (s : SealedBlock). s.views) adds.sent ∙ sym lasts_here ∙ sym (ap (λ n. lasts_of n after) (ap (λ s. (sealed_in s).number) here ∙ numbered));
+    number = λ _. subst (IsGiven (given + 1)) (sym (ap number_in here ∙ numbered)) (record { first = omega (arith, next); last = omega (arith, next) });
+    size = λ _.
+        ap (λ s. class_of (length (sealed_in s).bytes) mid.pool.sizes) here
+        ∙ ap (λ (l : List ℕ). class_of (length l) mid.pool.sizes) filled
+        ∙ drawn.here;
+    numbers = numbers_changed mid.slots desc (Sealed sent) live (λ _. sym (sealed_number (slot_at mid.slots desc) adds.sealed)) (adds.numbers backed.tied.numbers new_there);
+    uses_same = λ other apart is. uses_there (sealed_at b.slots other).number (is_new other is);
+    views_same = λ other apart is. lasts_delivered (sealed_at b.slots other).number message subs rows;
+    more = omega arith;
+    sizes_same = drawn.sizes;
+    class_same = λ other apart is. drawn.others other (sym (live_out other) ∙ sealed_live (slot_at b.slots other) is);
+    account = drawn.is;
+  }
+    where
+      new_there : (other : ℕ) → is_live (slot_at b.slots other) ≡ true → number_in (slot_at b.slots other) ≡ sending.number → ⊥
+      new_there other is same = absurd (omega (arith, (backed.tied.given other is).last, same, next))
+
+  tied : AreTied counted after (λ n. uses_of n after) (λ n. lasts_of n after) (given + 1)
+  tied = tied_moved b counted desc rows after (λ n. uses_of n rows) (λ n. lasts_of n rows) (λ n. uses_of n after) (λ n. lasts_of n after) given (given + 1) backed.tied moves named
+
+  is_sending : IsSending counted.slots sending desc
+  is_sending = record {
+    item = λ sub.
+        ap (λ s. record { number = sending.number; asked = length (sealed_in s).bytes; subscription = sub.number; message = (sealed_in s).bytes }) here
+        ∙ ap (λ (l : List ℕ). record { number = sending.number; asked = length l; subscription = sub.number; message = l }) filled
+        ∙ ap (λ n. record { number = sending.number; asked = n; subscription = sub.number; message = sending.message }) (sym size);
+  }
+
+  was : pipes_in counted.slots rows ≡ pipes_in b.slots rows
+  was = pipes_stay b.slots counted.slots rows stay
+
+  pipes_are : pipes_in counted.slots after ≡ deliver sending subs (pipes_in b.slots rows)
+  pipes_are = deliver-rows counted.slots sending desc is_sending subs rows ∙ ap (deliver sending subs) was
+
+  loans_are : map (loan_in counted.slots) after ≡ map (loan_in b.slots) rows
+  loans_are = loans_delivered counted.slots message subs rows ∙ loans_stay b.slots counted.slots rows stay
+
+  arrived_is : count ≡ reached sending subs (pipes_in b.slots rows)
+  arrived_is = took ∙ reached-rows counted.slots sending desc is_sending subs rows ∙ ap (reached sending subs) was
+
+  missed_is : missed_rows message subs rows ≡ missed sending subs (pipes_in b.slots rows)
+  missed_is = missed-rows counted.slots sending desc is_sending subs rows ∙ ap (missed sending subs) was
+
+  some : (m n : ℕ) → leb m n ≡ true → m ≤ n
+  some m n e = grind (arith, nat_tests)
+
+  none : (n : ℕ) → leb 1 n ≡ false → n ≡ 0
+  none n e = grind (arith, nat_tests)
+
+  used_there : (other : ℕ) → (desc ≡ other → ⊥) → is_sealed (slot_at counted.slots other) ≡ true → 1 ≤ (sealed_at counted.slots other).uses
+  used_there other apart is =
+      let e = others other apart in
+      subst (λ s. 1 ≤ (sealed_in s).uses) (sym e) (backed.used other (sym (ap is_sealed e) ∙ is))
+
+  -- where some pipe took it
+  sent_some : leb 1 count ≡ true → IsSent b counted rows subs sending given desc count
+  sent_some is = record {
+    backed = record { tied = tied; used = λ other sealed. used other sealed (cases_eq desc other) };
+    pipes = pipes_are;
+    loans = loans_are;
+    account = drawn.account ∙ sym (ap (λ c. cond {A = Account} c (after_request (account_in b.pool) (length sending.message)) (returned (after_request (account_in b.pool) (length sending.message)) (length sending.message))) is);
+    arrived = arrived_is;
+    misses = missed_is;
+  }
+    where
+      used : (other : ℕ) → is_sealed (slot_at counted.slots other) ≡ true → (desc ≡ other) ⊎ (desc ≡ other → ⊥) → 1 ≤ (sealed_at counted.slots other).uses
+      used other sealed (inl same) = subst (λ x. 1 ≤ (sealed_at counted.slots x).uses) same (subst (λ s. 1 ≤ (sealed_in s).uses) (sym here) (some 1 count is))
+      used other sealed (inr apart) = used_there other apart sealed
+
+  -- where none did
+  abbrev gone : Buffers
+  gone = freed counted desc
+
+  is_sealed_here : is_sealed (slot_at counted.slots desc) ≡ true
+  is_sealed_here = ap is_sealed here
+
+  sent_none : leb 1 count ≡ false → IsSent b gone rows subs sending given desc count
+  sent_none is = record {
+    backed = record {
+      tied = tied_freed counted desc after after (λ n. uses_of n after) (λ n. lasts_of n after) (λ n. uses_of n after) (λ n. lasts_of n after) (given + 1)
+          tied is_sealed_here out (λ n apart. refl) (λ n apart. refl) (named_stay counted.slots gone.slots after stay_gone);
+      used = λ other sealed. used other sealed (cases_eq desc other);
+    };
+    pipes = pipes_stay counted.slots gone.slots after stay_gone ∙ pipes_are;
+    loans = loans_stay counted.slots gone.slots after stay_gone ∙ loans_are;
+    account =
+        (returned_for mid.pool (length sending.message) desc drawn.is out drawn.here).account
+        ∙ ap (λ a. returned a (length sending.message)) drawn.account
+        ∙ sym (ap (λ c. cond {A = Account} c (after_request (account_in b.pool) (length sending.message)) (returned (after_request (account_in b.pool) (length sending.message)) (length sending.message))) is);
+    arrived = arrived_is;
+    misses = missed_is;
+  }
+    where
+      slot : Slot
+      slot = Free (size_at mid.pool desc)
+
+      stay_gone : AllItems (Stays counted.slots gone.slots) after
+      stay_gone =
+          items_weaker (λ i. IsNamed counted.slots i × (i.number ≡ sending.number → ⊥)) (Stays counted.slots gone.slots)
+          (λ i both. stays_freed counted.slots desc slot is_sealed_here i (λ e. both.1 (e ∙ ap (λ s. (sealed_in s).number) here ∙ numbered)) both.0) after
+          (items_both (IsNamed counted.slots) (λ i. i.number ≡ sending.number → ⊥) after named (unused sending.number after (uses_here ∙ none count is)))
+
+      off : (c : Bool) → c ≡ false → c ≡ true → ⊥
+      off c x y = cc
+
+      clear : slot_at gone.slots desc ≡ slot
+      clear = here_set counted.slots desc slot (sealed_live (slot_at counted.slots desc) is_sealed_here)
+
+      used : (other : ℕ) → is_sealed (slot_at gone.slots other) ≡ true → (desc ≡ other) ⊎ (desc ≡ other → ⊥) → 1 ≤ (sealed_at gone.slots other).uses
+      used other sealed (inl same) = absurd (off (is_sealed (slot_at gone.slots other)) (ap (λ x. is_sealed (slot_at gone.slots x)) (sym same) ∙ ap is_sealed clear) sealed)
+      used other sealed (inr apart) =
+          let e = others_set counted.slots desc slot (sealed_live (slot_at counted.slots desc) is_sealed_here) other apart in
+          subst (λ s. 1 ≤ (sealed_in s).uses) (sym e) (used_there other apart (sym (ap is_sealed e) ∙ sealed))
+
+  -- the block is settled
+  pub is_sent : (final : Buffers) → final ≡ after_settle counted desc → IsSent b final rows subs sending given desc count
+  is_sent final is = at (leb 1 count) refl
+    where
+      uses_are : (sealed_at counted.slots desc).uses ≡ count
+      uses_are = ap (λ s. (sealed_in s).uses) here
+
+      at : (c : Bool) → leb 1 count ≡ c → IsSent b final rows subs sending given desc count
+      at true e = subst (λ f. IsSent b f rows subs sending given desc count) (sym (is ∙ ap (λ n. cond {A = Buffers} (leb 1 n) counted gone) uses_are ∙ ap (λ c. cond {A = Buffers} c counted gone) e)) (sent_some e)
+      at false e = subst (λ f. IsSent b f rows subs sending given desc count) (sym (is ∙ ap (λ n. cond {A = Buffers} (leb 1 n) counted gone) uses_are ∙ ap (λ c. cond {A = Buffers} c counted gone) e)) (sent_none e)

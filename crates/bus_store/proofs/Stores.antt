@@ -1,0 +1,194 @@
+-- What calls leave of the store, and what keeps the next ones safe.
+use Rattle.std.proofs.Common.{◌≡◌, ℕ, ◌+◌, ◌≤◌, Bool, true, false, cond, eqb, List, [], ◌∷◌, length, map, Option, Some, None, refl, ap, sym, ◌∙◌, subst, arith}
+use Rattle.std.specs.Option.{option_map_or}
+use Rattle.std.proofs.lemmas.List.{length-map}
+use Rattle.fsw_base.specs.PoolAccounts.{Account, has_room, after_request}
+use Rattle.ccsds_msg.specs.Message.{message_id, with_count}
+use Rattle.es_pool.specs.Pool.{is_out}
+use Rattle.buf_desc.specs.Slots.{slot_at, sealed_at, is_live}
+use Rattle.buf_desc.specs.Desk.{Buffers, resealed, after_settle}
+use Rattle.bus_words.specs.Bus.{Pipe, Subscription, Sending, route, deliver, reached}
+use Rattle.bus_words.specs.Machine.{stamped}
+use Rattle.bus_words.specs.Acts.{next_in}
+use Rattle.bus_tables.specs.declared.message.Message.{Message}
+use Rattle.bus_tables.specs.declared.misses.Miss.{Miss}
+use Rattle.bus_tables.specs.Missed.{Missed}
+use Rattle.bus_tables.specs.Rows.{Row, with_row, offered_row, deliver_rows, reached_rows, missed_rows}
+use Rattle.bus_tables.specs.Tables.{Tables, IsRising}
+use Rattle.bus_store.specs.declared.store.BusStore.TheInside.{Inside}
+use Rattle.bus_store.specs.Store.{Store, LastLoan}
+use Rattle.bus_store.specs.Words.{next_of, reads_of, sending_of, missed, counted_up, with_held}
+use Rattle.bus_store.specs.Inside.{store_of, Keeps, Backed, Adds, account_in, pipes_in, loan_in, after_send}
+use Rattle.bus_store.proofs.Added.{length-counted}
+use Rattle.lend_block.specs.Loan.{LentBytes}
+use Rattle.buf_desc.specs.Held.{Holding}
+use Rattle.bus_store.proofs.Accounts.{held_law, held_now, alone_as, sent_alone}
+use Rattle.bus_store.proofs.Lasts.{AreLike, HasDue, holds_like, like_delivered}
+use Rattle.bus_store.proofs.Meaning.{message_of}
+use Rattle.bus_store.proofs.Sends.{IsSent, is_sent}
+
+-- Lengths. --
+
+pub length-with_row : (change : Row → Row) (number : ℕ) (rows : List Row) → length (with_row change number rows) ≡ length rows
+length-with_row change number rows = length-map rows (λ row. cond {A = Row} (eqb row.number number) (change row) row)
+
+length-deliver : (message : Message) (subs : List Subscription) (rows : List Row) → length (deliver_rows message subs rows) ≡ length rows
+length-deliver message [] rows = refl
+length-deliver message (sub ∷ subs) rows =
+    length-deliver message subs (with_row (offered_row message sub) sub.pipe rows) ∙ length-with_row (offered_row message sub) sub.pipe rows
+
+-- A send. --
+
+-- the message as it is sent is the copy with the count that was told
+as_sent : (a : Inside) (bytes : List ℕ) (inc : Bool) (id : ℕ) (count : Option ℕ) → id ≡ message_id bytes →
+    count ≡ cond {A = Option ℕ} inc (Some (next_in (map (next_of a.tables.room.starts) a.tables.routes) id)) None →
+    option_map_or (with_count bytes) count bytes ≡ stamped (reads_of (store_of a)) bytes inc
+as_sent a bytes inc id count same told = ap (λ o. option_map_or (with_count bytes) o bytes) told ∙ by_test inc
+  where
+    by_test : (b : Bool) → option_map_or (with_count bytes) (cond {A = Option ℕ} b (Some (next_in (map (next_of a.tables.room.starts) a.tables.routes) id)) None) bytes ≡ stamped (reads_of (store_of a)) bytes b
+    by_test true = ap (λ i. with_count bytes (next_in (map (next_of a.tables.room.starts) a.tables.routes) i)) same
+    by_test false = refl
+
+module _ (a : Inside) (old : Store) (sender : ℕ) (bytes : List ℕ) (inc : Bool) (id number desc arrived : ℕ) (count : Option ℕ)
+    (mid final : Buffers) (counting next : Tables) (misses : Missed)
+    (viewed : store_of a ≡ old) (keeps : Keeps a) (rises : IsRising 0 a.tables.pipes)
+    (long : 7 ≤ length bytes) (room : has_room old.account (length bytes) ≡ true)
+    (same : id ≡ message_id bytes) (told : count ≡ cond {A = Option ℕ} inc (Some (next_in (map (next_of a.tables.room.starts) a.tables.routes) id)) None)
+    (counts : counting ≡ record a.tables { routes = counted_up a.tables.routes id inc })
+    (numbered : number ≡ a.given + 1)
+    (adds : Adds a.desk mid number (option_map_or (with_count bytes) count bytes) desc)
+    (live_out : (d : ℕ) → is_live (slot_at a.desk.slots d) ≡ is_out a.desk.pool d)
+    (now_out : (d : ℕ) → is_live (slot_at mid.slots d) ≡ is_out mid.pool d)
+    (delivered : next ≡ record counting { pipes = deliver_rows (record { sender = sender; number = number; desc = desc }) (route counting.subscriptions id) counting.pipes })
+    (took : arrived ≡ reached_rows (record { sender = sender; number = number; desc = desc }) (route counting.subscriptions id) counting.pipes)
+    (missing : misses ≡ record a.misses { items = missed_rows (record { sender = sender; number = number; desc = desc }) (route counting.subscriptions id) counting.pipes })
+    (settled : final ≡ after_settle (resealed mid desc (record (sealed_at mid.slots desc) { uses = arrived })) desc)
+    (live : is_live (slot_at mid.slots desc) ≡ true) where
+  abbrev sending : Sending
+  sending = sending_of (store_of a) sender bytes inc
+
+  abbrev subs : List Subscription
+  subs = route a.tables.subscriptions (message_id bytes)
+
+  is_message : option_map_or (with_count bytes) count bytes ≡ sending.message
+  is_message = as_sent a bytes inc id count same told
+
+  size : sending.asked ≡ length sending.message
+  size = sym (length-counted bytes count (omega (arith, long))) ∙ ap length is_message
+
+  -- the tables, once the id and the number are known
+  abbrev rows_for : ℕ → ℕ → Tables → List Row
+  rows_for n i t = deliver_rows (record { sender = sender; number = n; desc = desc }) (route t.subscriptions i) t.pipes
+
+  sent : IsSent a.desk final a.tables.pipes subs sending a.given desc arrived
+  sent =
+      is_sent a.desk mid a.tables.pipes subs sending a.given desc arrived keeps.backed
+      (subst (λ l. Adds a.desk mid (a.given + 1) l desc) is_message (subst (λ n. Adds a.desk mid n (option_map_or (with_count bytes) count bytes) desc) numbered adds))
+      rises refl size
+      (ap (has_room (account_in a.desk.pool)) (sym size) ∙ ap (λ (o : Store). has_room o.account (length bytes)) viewed ∙ room)
+      (sym (now_out desc) ∙ live) live_out
+      (took
+      ∙ ap (λ (t : Tables). reached_rows (record { sender = sender; number = number; desc = desc }) (route t.subscriptions id) t.pipes) counts
+      ∙ ap (λ i. reached_rows (record { sender = sender; number = number; desc = desc }) (route a.tables.subscriptions i) a.tables.pipes) same
+      ∙ ap (λ n. reached_rows (record { sender = sender; number = n; desc = desc }) subs a.tables.pipes) numbered)
+      final settled
+
+  abbrev after : List Row
+  after = deliver_rows (message_of sending desc) subs a.tables.pipes
+
+  next_is : next ≡ record a.tables { routes = counted_up a.tables.routes (message_id bytes) inc; pipes = after }
+  next_is =
+      delivered
+      ∙ ap (λ (t : Tables). let v : Tables = record t { pipes = rows_for number id t } in v) counts
+      ∙ ap (λ i. let v : Tables = record a.tables { routes = counted_up a.tables.routes i inc; pipes = rows_for number i a.tables } in v) same
+      ∙ ap (λ n. let v : Tables = record a.tables { routes = counted_up a.tables.routes (message_id bytes) inc; pipes = rows_for n (message_id bytes) a.tables } in v) numbered
+
+  misses_are : misses ≡ record a.misses { items = missed_rows (message_of sending desc) subs a.tables.pipes }
+  misses_are =
+      missing
+      ∙ ap (λ (t : Tables). let v : Missed = record a.misses { items = missed_rows (record { sender = sender; number = number; desc = desc }) (route t.subscriptions id) t.pipes } in v) counts
+      ∙ ap (λ i. let v : Missed = record a.misses { items = missed_rows (record { sender = sender; number = number; desc = desc }) (route a.tables.subscriptions i) a.tables.pipes } in v) same
+      ∙ ap (λ n. let v : Missed = record a.misses { items = missed_rows (record { sender = sender; number = n; desc = desc }) subs a.tables.pipes } in v) numbered
+
+  pub sent_keeps : Keeps (record a { tables = next; desk = final; misses = misses; given = number })
+  sent_keeps =
+      subst (λ t. Keeps (record a { tables = t; desk = final; misses = misses; given = number })) (sym next_is)
+      (subst (λ m. Keeps (record a { tables = record a.tables { routes = counted_up a.tables.routes (message_id bytes) inc; pipes = after }; desk = final; misses = m; given = number })) (sym misses_are)
+      (record {
+        backed = subst (Backed final after) (sym numbered) sent.backed;
+        misses = keeps.misses;
+        pipes_live = omega (arith, length-deliver (message_of sending desc) subs a.tables.pipes, keeps.pipes_live);
+        pipes_few = keeps.pipes_few;
+        subscriptions_live = keeps.subscriptions_live;
+        subscriptions_made = keeps.subscriptions_made;
+      }))
+
+  reached_as : arrived ≡ reached sending subs (pipes_in a.desk.slots a.tables.pipes)
+  reached_as = sent.arrived
+
+  pub sent_reached : arrived ≡ reached (sending_of old sender bytes inc) (route old.subscriptions (message_id bytes)) old.pipes
+  sent_reached = reached_as ∙ ap (λ (o : Store). reached (sending_of o sender bytes inc) (route o.subscriptions (message_id bytes)) o.pipes) viewed
+
+  -- what the fields stand for then
+  abbrev to : List Pipe → List Miss → ℕ → Account → List LastLoan → Store
+  to pipes items given account loans = record (store_of a) {
+    pipes = pipes;
+    routes = counted_up a.tables.routes (message_id bytes) inc;
+    missed = items;
+    numbers_given = given;
+    account = account;
+    loans = loans;
+  }
+
+  sent_store : store_of (record a { tables = next; desk = final; misses = misses; given = number }) ≡ record old {
+    pipes = deliver (sending_of old sender bytes inc) (route old.subscriptions (message_id bytes)) old.pipes;
+    routes = counted_up old.routes (message_id bytes) inc;
+    missed = missed (sending_of old sender bytes inc) (route old.subscriptions (message_id bytes)) old.pipes;
+    numbers_given = old.numbers_given + 1;
+    account = after_send old.account (length bytes) arrived;
+  }
+  sent_store =
+      ap (λ t. store_of (record a { tables = t; desk = final; misses = misses; given = number })) next_is
+      ∙ ap (λ m. store_of (record a { tables = record a.tables { routes = counted_up a.tables.routes (message_id bytes) inc; pipes = after }; desk = final; misses = m; given = number })) misses_are
+      ∙ ap (λ l. to l (missed_rows (message_of sending desc) subs a.tables.pipes) number (account_in final.pool) (map (loan_in final.slots) after)) sent.pipes
+      ∙ ap (λ l. to (deliver sending subs (pipes_in a.desk.slots a.tables.pipes)) l number (account_in final.pool) (map (loan_in final.slots) after)) sent.misses
+      ∙ ap (λ n. to (deliver sending subs (pipes_in a.desk.slots a.tables.pipes)) (missed sending subs (pipes_in a.desk.slots a.tables.pipes)) n (account_in final.pool) (map (loan_in final.slots) after)) numbered
+      ∙ ap (λ c. to (deliver sending subs (pipes_in a.desk.slots a.tables.pipes)) (missed sending subs (pipes_in a.desk.slots a.tables.pipes)) (a.given + 1) c (map (loan_in final.slots) after))
+      (sent.account ∙ ap (λ n. after_send (account_in a.desk.pool) n arrived) (sym size))
+      ∙ ap (λ l. to (deliver sending subs (pipes_in a.desk.slots a.tables.pipes)) (missed sending subs (pipes_in a.desk.slots a.tables.pipes)) (a.given + 1) (after_send (account_in a.desk.pool) (length bytes) arrived) l) sent.loans
+      ∙ ap (λ (o : Store). let v : Store = record o {
+        pipes = deliver (sending_of o sender bytes inc) (route o.subscriptions (message_id bytes)) o.pipes;
+        routes = counted_up o.routes (message_id bytes) inc;
+        missed = missed (sending_of o sender bytes inc) (route o.subscriptions (message_id bytes)) o.pipes;
+        numbers_given = o.numbers_given + 1;
+        account = after_send o.account (length bytes) arrived;
+      } in v) viewed
+
+  pub sent_held : ((d : ℕ) → is_live (slot_at final.slots d) ≡ is_out final.pool d) →
+      store_of (record a { tables = next; desk = final; misses = misses; given = number }) ≡ record old {
+        pipes = deliver (sending_of old sender bytes inc) (route old.subscriptions (message_id bytes)) old.pipes;
+        routes = counted_up old.routes (message_id bytes) inc;
+        missed = missed (sending_of old sender bytes inc) (route old.subscriptions (message_id bytes)) old.pipes;
+        numbers_given = old.numbers_given + 1;
+        account = with_held (after_request old.account (length bytes)) (pipes_in final.slots next.pipes) number;
+      }
+  sent_held still_out =
+      let new : Store = store_of (record a { tables = next; desk = final; misses = misses; given = number }) in
+      let drawn : Account = after_request old.account (length bytes) in
+      let is = ap (λ (o : Store). o.account) sent_store in
+      let alone = alone_as drawn (after_send old.account (length bytes) arrived) new.account (sent_alone old.account (length bytes) arrived) is in
+      let law = held_law (record a { tables = next; desk = final; misses = misses; given = number }) sent_keeps still_out in
+      sent_store
+      ∙ ap (λ (c : Account). let v : Store = record old {
+        pipes = deliver (sending_of old sender bytes inc) (route old.subscriptions (message_id bytes)) old.pipes;
+        routes = counted_up old.routes (message_id bytes) inc;
+        missed = missed (sending_of old sender bytes inc) (route old.subscriptions (message_id bytes)) old.pipes;
+        numbers_given = old.numbers_given + 1;
+        account = c;
+      } in v) (sym is ∙ held_now drawn new.account new.pipes number alone law)
+
+  pub sent_bags : (app : ℕ) (bag : Holding LentBytes) → HasDue old app bag → HasDue (store_of (record a { tables = next; desk = final; misses = misses; given = number })) app bag
+  sent_bags app bag =
+      let like = like_delivered (sending_of old sender bytes inc) (route old.subscriptions (message_id bytes)) old.pipes in
+      holds_like old (store_of (record a { tables = next; desk = final; misses = misses; given = number })) app bag
+      (subst (AreLike old.pipes) (sym (ap (λ (o : Store). o.pipes) sent_store)) like) (ap (λ (o : Store). o.loans) sent_store) (ap (λ (o : Store). o.room) sent_store)

@@ -1,0 +1,10 @@
+use Rattle.std.proofs.Common.{length, ap, sym, ◌∙◌}
+use Rattle.std.proofs.lemmas.List.{length-map}
+use Rattle.bus_store.specs.Store.{Store}
+use Rattle.bus_store.specs.Inside.{item_in, pipe_by}
+use Rattle.bus_store.proofs.store.BusStore.pipes_len.Goals as goal
+
+pub returns : goal.returns
+returns c =
+    let a = c.self.inside in
+    c.pipes_len.ensures ∙ sym (length-map a.tables.pipes (pipe_by (item_in a.desk.slots))) ∙ ap (λ (o : Store). length o.pipes) c.self.view_is

@@ -1,0 +1,175 @@
+-- How the pipes' items and the blocks belong together, and what the fields stand for.
+use Rattle.std.specs.Prelude.{◌≡◌, ℕ, ◌+◌, ◌-◌, ◌^◌, ◌<◌, ◌≤◌, nat_le, true, false, List, length, map, sum_by, Option, Some, None, IfSome, if◌then◌else◌}
+use Rattle.std.specs.List.{All}
+use Rattle.std.specs.Option.{option_map, option_map_or}
+use Rattle.fsw_base.specs.Blocks.{class_of}
+use Rattle.fsw_base.specs.PoolAccounts.{Account, after_request, after_return}
+use Rattle.es_pool.specs.Pool.{PoolState, DrawsFor, made_in, out_in, class_at}
+use Rattle.es_pool.specs.Account.{IsAccountOf}
+use Rattle.lend_block.specs.Loan.{LentBytes}
+use Rattle.buf_desc.specs.Slots.{slot_at, sealed_at, is_sealed, is_live, number_in, HaveOwnNumbers}
+use Rattle.buf_desc.specs.Desk.{Buffers, resealed, after_drop}
+use Rattle.buf_desc.specs.declared.slot.Slot.{Slot}
+use Rattle.bus_words.specs.Bus.{Item, Pipe}
+use Rattle.bus_tables.specs.declared.tables.ItemRow.{ItemRow}
+use Rattle.bus_tables.specs.Rows.{Row}
+use Rattle.bus_tables.specs.Uses.{item_use, uses_of}
+use Rattle.bus_store.specs.declared.store.BusStore.TheInside.{Inside}
+use Rattle.bus_store.specs.Store.{Store, LastLoan}
+use Rattle.bus_store.specs.Words.{is_held, each_below}
+
+-- What rows stand for. --
+
+-- the item that a row's item stands for: its message are the bytes of the block. A copying send asks for as many bytes as its
+-- message has.
+abbrev pub item_in : List Slot → ItemRow → Item
+item_in slots item = record {
+  number = item.number;
+  asked = length (sealed_at slots item.desc).bytes;
+  subscription = item.subscription;
+  message = (sealed_at slots item.desc).bytes;
+}
+
+-- a row as a pipe, its items read in this way
+abbrev pub pipe_by : (ItemRow → Item) → Row → Pipe
+pipe_by read row = record {
+  number = row.number;
+  name = row.name;
+  owner = row.owner;
+  depth = row.depth;
+  bits = row.bits;
+  queue = map read row.queue;
+  last = option_map read row.last;
+}
+
+abbrev pub pipes_in : List Slot → List Row → List Pipe
+pipes_in slots rows = map (pipe_by (item_in slots)) rows
+
+-- the loan of an item's block
+abbrev pub loan_at : List Slot → Option ItemRow → ℕ
+loan_at slots None = 0
+loan_at slots (Some item) = (sealed_at slots item.desc).loan
+
+abbrev pub loan_in : List Slot → Row → LastLoan
+loan_in slots row = record { pipe = row.number; loan = loan_at slots row.last }
+
+-- the view that an item's block gives
+abbrev pub view_in : List Slot → ItemRow → LentBytes
+view_in slots item = record { loan = (sealed_at slots item.desc).loan; bytes = (sealed_at slots item.desc).bytes }
+
+-- The pool. --
+
+-- the account of a pool, counted anew
+abbrev pub account_in : PoolState → Account
+account_in pool = record {
+  bytes = pool.bytes;
+  sizes = pool.sizes;
+  made = each_below (made_in pool.blocks) (length pool.sizes);
+  out = each_below (out_in pool.blocks) (length pool.sizes);
+  requests = pool.requests;
+  errors = pool.errors;
+}
+
+-- a block for this size came back
+abbrev pub returned : Account → ℕ → Account
+returned account size = option_map_or (after_return account) (class_of size account.sizes) account
+
+-- a send that so many pipes took drew a block for its size; where none took it, the block came back
+abbrev pub after_send : Account → ℕ → ℕ → Account
+after_send account size reached = if nat_le 1 reached then after_request account size else returned (after_request account size) size
+
+-- an item of a pipe was let go: where that was the last use of its send, the block came back
+abbrev pub after_release : Account → Option Item → List Pipe → Account
+after_release account None pipes = account
+after_release account (Some item) pipes = if is_held pipes item.number then account else returned account item.asked
+
+-- Blocks and items. --
+
+-- true of each item of a pipe
+pub record OfItems (P : ItemRow → Type 0) (row : Row) : Type 0 where
+  pub queue : All P row.queue
+  pub last : IfSome row.last P
+
+-- true of each item of each pipe
+abbrev pub AllItems : (ItemRow → Type 0) → List Row → Type 0
+AllItems P rows = All (OfItems P) rows
+
+-- an item's block was sealed for its send
+pub record IsNamed (slots : List Slot) (item : ItemRow) : Type 0 where
+  pub sealed : is_sealed (slot_at slots item.desc) ≡ true
+  pub number : (sealed_at slots item.desc).number ≡ item.number
+
+-- how many pipes received the send last
+abbrev pub lasts_of : ℕ → List Row → ℕ
+lasts_of number rows = sum_by (λ row. item_use number row.last) rows
+
+-- a number is one of those given
+pub record IsGiven (given number : ℕ) : Type 0 where
+  pub first : 1 ≤ number
+  pub last : number ≤ given
+
+-- The items name blocks that were sealed for them; each live block is sealed, has so many uses and so many views out as its
+-- send counts, a number of its own, one of those given, and the size for its message.
+pub record AreTied (buffers : Buffers) (rows : List Row) (uses_due views_due : ℕ → ℕ) (last : ℕ) : Type 0 where
+  pub items : AllItems (IsNamed buffers.slots) rows
+  pub sealed : (desc : ℕ) → is_live (slot_at buffers.slots desc) ≡ true → is_sealed (slot_at buffers.slots desc) ≡ true
+  pub uses : (desc : ℕ) → is_sealed (slot_at buffers.slots desc) ≡ true → (sealed_at buffers.slots desc).uses ≡ uses_due (sealed_at buffers.slots desc).number
+  pub views : (desc : ℕ) → is_sealed (slot_at buffers.slots desc) ≡ true → (sealed_at buffers.slots desc).views ≡ views_due (sealed_at buffers.slots desc).number
+  pub numbers : HaveOwnNumbers buffers.slots
+  pub given : (desc : ℕ) → is_live (slot_at buffers.slots desc) ≡ true → IsGiven last (number_in (slot_at buffers.slots desc))
+  pub sizes : (desc : ℕ) → is_sealed (slot_at buffers.slots desc) ≡ true → class_of (length (sealed_at buffers.slots desc).bytes) buffers.pool.sizes ≡ Some (class_at buffers.pool desc)
+  pub account : IsAccountOf buffers.pool (account_in buffers.pool)
+
+-- Each block that is out has a use: so many as the pipes name its send; and so many views are out as pipes received it last.
+pub record Backed (buffers : Buffers) (rows : List Row) (given : ℕ) : Type 0 where
+  pub tied : AreTied buffers rows (λ n. uses_of n rows) (λ n. lasts_of n rows) given
+  pub used : (desc : ℕ) → is_sealed (slot_at buffers.slots desc) ≡ true → 1 ≤ (sealed_at buffers.slots desc).uses
+
+-- The store. --
+
+abbrev pub store_of : Inside → Store
+store_of a = record {
+  pipes = pipes_in a.desk.slots a.tables.pipes;
+  pipes_created = a.tables.pipes_created;
+  subscriptions = a.tables.subscriptions;
+  subscriptions_made = a.tables.subscriptions_made;
+  routes = a.tables.routes;
+  room = a.tables.room;
+  missed = a.misses.items;
+  numbers_given = a.given;
+  account = account_in a.desk.pool;
+  loans = map (loan_in a.desk.slots) a.tables.pipes;
+}
+
+pub record Keeps (a : Inside) : Type 0 where
+  pub backed : Backed a.desk a.tables.pipes a.given
+  -- there is room for all that may miss a message
+  pub misses : a.tables.room.dests ≤ a.misses.room
+  -- numbers
+  pub pipes_live : length a.tables.pipes ≤ a.tables.room.pipes
+  pub pipes_few : a.tables.room.pipes ≤ 256
+  pub subscriptions_live : length a.tables.subscriptions ≤ a.tables.subscriptions_made
+  pub subscriptions_made : a.tables.subscriptions_made < 2 ^ 32
+
+-- Steps. --
+
+-- a message's block was drawn, written and sealed, and is one more than before
+pub record Adds (old new : Buffers) (number : ℕ) (message : List ℕ) (desc : ℕ) : Type 0 where
+  pub fresh : is_live (slot_at old.slots desc) ≡ false
+  pub drawn : DrawsFor old.pool new.pool (length message) desc
+  pub sealed : is_sealed (slot_at new.slots desc) ≡ true
+  pub sent : sealed_at new.slots desc ≡ record (sealed_at new.slots desc) { number = number; bytes = message; uses = 0; views = 0 }
+  pub others : (other : ℕ) → (desc ≡ other → ⊥) → slot_at new.slots other ≡ slot_at old.slots other
+  pub numbers : HaveOwnNumbers old.slots → ((other : ℕ) → is_live (slot_at old.slots other) ≡ true → number_in (slot_at old.slots other) ≡ number → ⊥) → HaveOwnNumbers new.slots
+
+-- a view of an item came back, and the use of its block that the item was
+abbrev pub let_go : Buffers → Option ItemRow → Buffers
+let_go buffers None = buffers
+let_go buffers (Some item) =
+    after_drop (resealed buffers item.desc (record (sealed_at buffers.slots item.desc) { views = (sealed_at buffers.slots item.desc).views - 1 })) item.desc
+
+-- one more view of an item is out
+abbrev pub shown : Buffers → Option ItemRow → Buffers
+shown buffers None = buffers
+shown buffers (Some item) =
+    resealed buffers item.desc (record (sealed_at buffers.slots item.desc) { views = (sealed_at buffers.slots item.desc).views + 1 })

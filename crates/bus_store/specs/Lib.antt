@@ -1,0 +1,4 @@
+pub mod Bag
+pub mod Inside
+pub mod Store
+pub mod Words

@@ -1,0 +1,162 @@
+//! What becomes of the block of one message.
+ghost use Rattle.std.specs.Prelude.{◌≡◌, ℕ, ◌+◌, ◌-◌, ◌<◌, ◌≤◌, true, Some, None, length, if◌then◌else◌, ◌==◌, is_some, IfSome};
+ghost use Rattle.std.specs.Option.{option_map, option_map_or};
+ghost use Rattle.ccsds_msg.specs.Message.{message_id, with_count};
+ghost use Rattle.es_pool.specs.Pool.{fits};
+ghost use Rattle.buf_desc.specs.Desk.{Takes, IsOf, resealed, after_settle};
+ghost use Rattle.buf_desc.specs.Held.{view_at};
+ghost use Rattle.buf_desc.specs.Slots.{slot_at, sealed_at, is_sealed};
+ghost use Rattle.bus_store.specs.Inside.{Adds, let_go, shown, view_in};
+
+use bucket_list::{Ledger, Steps};
+use buf_desc::{Block, Desk, Held};
+use bus_tables::ItemRow;
+use ccsds_msg::set_count;
+
+// The block with this sequence count in its message.
+fn with_count<'r>(block: Block<'r>, count: u16) -> Block<'r>
+    requires header { 6 ≤ length block.bytes }
+    requires count { count < 16384 }
+    ensures { result ≡ record block.entry { bytes = with_count block.entry.bytes count } }
+{
+    let mut block = block;
+    set_count(block.bytes_mut(), count);
+    block
+}
+
+// The block as it is sent: with the count, where there is one.
+fn with_its_count<'r>(block: Block<'r>, count: Option<u16>) -> Block<'r>
+    requires header { 6 ≤ length block.bytes }
+    requires count { IfSome count (λ n. n < 16384) }
+    ensures { result ≡
+        record block.entry {
+          bytes = option_map_or (with_count block.entry.bytes) count block.entry.bytes;
+        } }
+{
+    match count {
+        Some(count) => with_count(block, count),
+        None => block,
+    }
+}
+
+// Draws a block with a copy of the bytes.
+fn drawn<'r, L: Ledger>(
+    desk: &mut Desk<'r>,
+    bytes: &[u8],
+    number: u32,
+    steps: &mut Steps<L>,
+) -> Block<'r>
+    requires most { length bytes.now < 4294967296 }
+    requires room { fits desk.old.pool (length bytes.now) 1 ≡ true }
+    ensures taken { Takes desk.old desk.new (length bytes.now) number result }
+    ensures own { IsOf desk.new result }
+    ensures copied { result.bytes ≡ bytes.now }
+    ensures cost { steps.new ≤ steps.old + 8 }
+{
+    desk.take_copy(bytes, number, steps).unwrap()
+}
+
+/// Draws a block for the message, writes it once, with the count where there is one, and seals it.
+/// Answers its descriptor, which has no use yet. At most 8 steps.
+pub(crate) fn put_message<L: Ledger>(
+    desk: &mut Desk<'_>,
+    bytes: &[u8],
+    count: Option<u16>,
+    number: u32,
+    steps: &mut Steps<L>,
+) -> u32
+    requires header { 6 ≤ length bytes.now }
+    requires most { length bytes.now < 4294967296 }
+    requires count { IfSome count (λ n. n < 16384) }
+    requires room { fits desk.old.pool (length bytes.now) 1 ≡ true }
+    ensures added { Adds desk.old desk.new number
+        (option_map_or (with_count bytes.now) count bytes.now) result }
+    ensures cost { steps.new ≤ steps.old + 8 }
+{
+    let copy = drawn(desk, bytes, number, steps);
+    let message = with_its_count(copy, count);
+    desk.seal(message, bytes.len() as u32)
+}
+
+/// Counts a use of the block for each pipe that took the message. Where none did, the block goes
+/// back. At most 8 steps.
+pub(crate) fn settle_message<L: Ledger>(
+    desk: &mut Desk<'_>,
+    desc: u32,
+    reached: u32,
+    steps: &mut Steps<L>,
+)
+    requires sealed { is_sealed (slot_at desk.old.slots desc) ≡ true }
+    requires no_use { (sealed_at desk.old.slots desc).uses ≡ 0 }
+    requires no_view { (sealed_at desk.old.slots desc).views ≡ 0 }
+    ensures after { desk.new ≡
+        after_settle
+        (resealed desk.old desc (record (sealed_at desk.old.slots desc) { uses = reached })) desc }
+    ensures cost { steps.new ≤ steps.old + 8 }
+{
+    desk.add_uses(desc, reached);
+    desk.settle(desc, steps);
+}
+
+/// Gives the view of a pipe's last message back, and then drops that use of its block; no effect
+/// where there is none. At most 8 steps.
+pub(crate) fn put_back<'r, L: Ledger>(
+    desk: &mut Desk<'r>,
+    held: &mut Held<'r>,
+    pipe: u32,
+    last: Option<ItemRow>,
+    steps: &mut Steps<L>,
+)
+    requires seen { view_at held.old pipe ≡ option_map (view_in desk.old.slots) last }
+    requires sealed { IfSome last (λ item. is_sealed (slot_at desk.old.slots item.desc) ≡ true) }
+    requires used { IfSome last (λ item. 1 ≤ (sealed_at desk.old.slots item.desc).uses) }
+    requires viewed { IfSome last
+        (λ item. (sealed_at desk.old.slots item.desc).views ≤
+        (sealed_at desk.old.slots item.desc).uses) }
+    ensures desk { desk.new ≡ let_go desk.old last }
+    ensures gone { (other : ℕ) →
+        view_at held.new other ≡ (if pipe == other then None else view_at held.old other) }
+    ensures fewer { length held.new.views + (if is_some last then 1 else 0) ≡
+        length held.old.views }
+    ensures same { held.new ≡ record held.old { views = held.new.views } }
+    ensures cost { steps.new ≤ steps.old + 8 }
+{
+    let Some(item) = last else {
+        return;
+    };
+    let view = held.take_view(pipe).unwrap();
+    desk.give_back(item.desc, view);
+    desk.drop_use(item.desc, steps);
+}
+
+/// Puts a view of the item's message into the bag, for a pipe that has none there, and answers the
+/// item's number; None where there is no item.
+pub(crate) fn show<'r>(
+    desk: &mut Desk<'r>,
+    held: &mut Held<'r>,
+    pipe: u32,
+    item: Option<ItemRow>,
+) -> Option<u32>
+    requires none { view_at held.old pipe ≡ None }
+    requires room { length held.old.views < held.old.view_room }
+    requires sealed { IfSome item (λ i. is_sealed (slot_at desk.old.slots i.desc) ≡ true) }
+    requires few { IfSome item
+        (λ i. (sealed_at desk.old.slots i.desc).views < 4294967295) }
+    ensures number { result ≡ option_map (λ i. i.number) item }
+    ensures desk { desk.new ≡ shown desk.old item }
+    ensures seen { (other : ℕ) →
+        view_at held.new other ≡
+        (if pipe == other then option_map (view_in desk.old.slots) item
+        else view_at held.old other) }
+    ensures more { length held.new.views ≡ length held.old.views + (if is_some item then 1 else 0) }
+    ensures same { held.new ≡ record held.old { views = held.new.views } }
+{
+    match item {
+        Some(item) => {
+            let view = desk.view(item.desc);
+            held.put_view(pipe, view);
+            Some(item.number)
+        }
+        None => None,
+    }
+}

@@ -1,0 +1,56 @@
+//! Receives.
+ghost use Rattle.std.specs.Prelude.{◌≡◌, ◌≢◌, ℕ, ◌+◌, ◌≤◌, true};
+ghost use Rattle.std.specs.Option.{option_map};
+ghost use Rattle.bus_words.specs.Bus.{owns, with_pipe, after_receive};
+ghost use Rattle.buf_desc.specs.Held.{Holding};
+ghost use Rattle.lend_block.specs.Loan.{LentBytes};
+ghost use Rattle.bus_store.specs.Bag.{Holds};
+ghost use Rattle.bus_store.specs.Words.{oldest_of, loan_of, with_held};
+
+use crate::blocks::{put_back, show};
+use crate::store::BusStore;
+use bucket_list::{Ledger, Steps};
+use buf_desc::Held;
+use fsw_base::AppNo;
+
+impl<'r> BusStore<'r> {
+    /// Lets the last message of the application's pipe go, and takes the one that waits longest, if
+    /// any, in its place: answers its number, and puts a view of it into the application's bag. The
+    /// view of the message that is let go is taken out, and where that was its last use, its block
+    /// goes back to the pool. At most 8 steps.
+    pub fn receive<L: Ledger>(
+        &mut self,
+        app: AppNo,
+        pipe: u32,
+        held: &mut Held<'r>,
+        steps: &mut Steps<L>,
+    ) -> Option<u32>
+        requires own { owns self.old.pipes app pipe ≡ true }
+        requires bag { Holds self.old.pipes self.old.loans self.old.room.pipes app held.old }
+        ensures number { result ≡
+            option_map (λ item. item.number) (oldest_of self.old.pipes pipe) }
+        ensures after { self.new ≡ record self.old {
+          pipes = with_pipe after_receive pipe self.old.pipes;
+          account = with_held self.old.account self.new.pipes self.old.numbers_given;
+          loans = self.new.loans;
+        } }
+        ensures loans { (other : ℕ) → pipe ≢ other →
+            loan_of self.new.loans other ≡ loan_of self.old.loans other }
+        ensures bag { Holds self.new.pipes self.new.loans self.new.room.pipes app held.new }
+        ensures other_bags { (other : ℕ) (bag : Holding LentBytes) → other ≢ app →
+            Holds self.old.pipes self.old.loans self.old.room.pipes other bag →
+            Holds self.new.pipes self.new.loans self.new.room.pipes other bag }
+        ensures buffers { held.new ≡ record held.old { views = held.new.views } }
+        ensures cost { steps.new ≤ steps.old + 8 }
+    {
+        // Do nothing; the proof learns of them that the pipes stand in order, and, here and below,
+        // which blocks are out.
+        self.tables.recall_order();
+        self.desk.recall_live();
+        let items = self.tables.take(pipe);
+        put_back(&mut self.desk, held, pipe, items.before, steps);
+        let number = show(&mut self.desk, held, pipe, items.after);
+        self.desk.recall_live();
+        number
+    }
+}
