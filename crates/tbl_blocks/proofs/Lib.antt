@@ -1,0 +1,4 @@
+mod Keeps
+mod Opening
+mod Sets
+mod Store
