@@ -1,0 +1,10 @@
+pub mod Access
+pub mod After
+pub mod Figures
+pub mod Meaning
+pub mod Opened
+pub mod Pools
+pub mod RegisterCalls
+pub mod Registered
+pub mod Registers
+pub mod Shares
