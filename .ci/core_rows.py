@@ -12,7 +12,7 @@ sys.dont_write_bytecode = True  # nothing is left beside the scripts
 
 from model_answers import compared, model_of
 
-STAGE = "memory-pools"
+STAGE = "one-buffer-per-send"
 
 # A title, the limits that aren't the usual ones, the sequence counts at which ids start, and how many applications there are,
 # each with its steps.

@@ -26,7 +26,5 @@
 
 mod pool;
 mod pools;
-#[cfg(test)]
-mod tests;
 
 pub use pools::{AppPools, MAX_APP_POOLS};

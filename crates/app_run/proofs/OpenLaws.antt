@@ -126,6 +126,7 @@ stands-opened script k first last =
       standing = active-opening script.limits (apps_of (opened script)) k first (omega (arith, last, apps-opened script));
       entries = subst (λ (a : Allowance). entries_due lines + 0 ≤ a.entries) (sym allowed) (omega (arith, budget-entries lines));
       bytes = subst (λ (a : Allowance). bytes_due lines ≤ a.bytes) (sym allowed) (budget-bytes lines);
+      remember = λ pipe. tt;
     }
 
 told-opened : (script : ScriptText) (k : ℕ) → 1 ≤ k → k ≤ length script.apps → HasTold script (opened script) (beginning script k)
@@ -314,11 +315,11 @@ are-budgets script range some few =
     }
 
 abbrev core_with : Limits → List Budget → Core
-core_with limits budgets = record { limits = limits; log = record { budgets = budgets; entries = [] } }
+core_with limits budgets = record { limits = limits; log = record { budgets = budgets; entries = [] }; notes = [] }
 
 -- the bus that was opened with these limits and budgets
 pub opened-is : (script : ScriptText) (bus : Core) (limits : Limits) (budgets given : List Budget) →
-    bus ≡ record { limits = limits; log = record { budgets = given; entries = [] } } → limits ≡ script.limits → given ≡ budgets → budgets ≡ budgets_for script →
+    bus ≡ record { limits = limits; log = record { budgets = given; entries = [] }; notes = [] } → limits ≡ script.limits → given ≡ budgets → budgets ≡ budgets_for script →
     bus ≡ opened script
 opened-is script bus limits budgets given is same deref found =
     is

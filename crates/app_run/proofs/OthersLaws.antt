@@ -1,24 +1,27 @@
 -- Calls of other applications leave an application as it stands.
-use Rattle.std.proofs.Common.{◌≡◌, ◌≢◌, ℕ, ◌-◌, ◌≤◌, true, List, [], ◌∷◌, ◌++◌, IsTrue, refl, ap, sym, ◌∙◌, subst, append-nil, append_assoc, inl, inr, ne_eqb, arith}
+use Rattle.std.proofs.Common.{◌≡◌, ◌≢◌, ℕ, ◌-◌, ◌≤◌, true, List, [], ◌∷◌, ◌++◌, Some, IfSome, IsTrue, refl, ap, sym, ◌∙◌, subst, append-nil, append_assoc, inl, inr, ne_eqb, arith}
 use Rattle.std.specs.List.{All}
 use Rattle.std.proofs.lemmas.List.{get_or-set_other}
 use Rattle.std.proofs.lemmas.List.Elements.{All-head, All-tail}
-use Rattle.fsw_base.specs.Limits.{Limits}
 use Rattle.bus_words.specs.declared.calls.BusAnswer.{BusAnswer}
 use Rattle.bus_words.specs.declared.history.Call.{Call}
 use Rattle.bus_words.specs.declared.history.Entry.{Entry}
-use Rattle.bus_words.specs.Bus.{State, standing_of, opening}
+use Rattle.bus_words.specs.Bus.{Item, State, standing_of, opening}
 use Rattle.bus_words.specs.Entries.{call_bytes}
 use Rattle.journal_store.specs.Budgets.{allowances, allowance_of, charged}
 use Rattle.bus_words.specs.Log.{left_of}
-use Rattle.bus_words.specs.Machine.{IsLegal, LegalFrom, step, may_call}
+use Rattle.bus_words.specs.Machine.{IsLegal, step, may_call}
 use Rattle.bus_words.proofs.Journals.{left_from-push}
 use Rattle.bus_words.proofs.Replay.{state_from-push}
+use Rattle.lend_block.specs.declared.note.Note.{Note}
+use Rattle.sb_calls.specs.Bags.{CalledByOthers}
 use Rattle.sb_calls.specs.Core.{Core, IsLegalCore, apps_of, state_of}
-use Rattle.script_runs.proofs.LastMessages.{legal-last}
-use Rattle.script_runs.proofs.LegalSteps.{caller-first, standing-step}
-use Rattle.app_run.specs.Callers.{Caller, Meets, OthersActed}
+use Rattle.script_runs.specs.Told.{own_last}
+use Rattle.script_runs.proofs.LastMessages.{own_last-other}
+use Rattle.bus_words.proofs.LegalSteps.{caller-first, standing-step, legal-last, legal-front}
+use Rattle.app_run.specs.Callers.{Caller, Meets}
 use Rattle.app_run.specs.Lines.{bytes_due}
+use Rattle.app_run.specs.Received.{newest_number}
 use Rattle.app_run.specs.Runners.{Progress}
 use Rattle.app_run.specs.Turns.{Stands, TakesTurn, TakesTurnBy, entries_to_come}
 
@@ -49,17 +52,16 @@ stands-called progress before after who call answer c apps other some stands =
           ∙ stands.standing;
       entries = subst (λ a. entries_to_come progress ≤ a.entries) (sym left) stands.entries;
       bytes = subst (λ a. bytes_due progress.running.lines ≤ a.bytes) (sym left) stands.bytes;
+      remember = λ pipe.
+          subst (λ o. IfSome o (λ (item : Item). newest_number progress.receipts pipe ≡ Some item.number))
+          (sym (ap (λ (s : State). own_last s.pipes app pipe) c.state
+          ∙ own_last-other before.limits (apps_of before) app pipe before.log.entries who call c.legal c.may other))
+          (stands.remember pipe);
     }
-
--- The first entries of a legal history are one.
-legal-front : (limits : Limits) (history : List Entry) (s : State) (es rest : List Entry) → LegalFrom limits history s (es ++ rest) → LegalFrom limits history s es
-legal-front limits history s [] rest legal = tt
-legal-front limits history s (e ∷ es) rest legal =
-    (legal.0, legal.1, legal.2, legal-front limits (history ++ e ∷ []) ((step limits history s e.app e.call).1) es rest legal.3)
 
 -- the bus with these entries
 abbrev with_entries : Core → List Entry → Core
-with_entries core entries = record { limits = core.limits; log = record { budgets = core.log.budgets; entries = entries } }
+with_entries core entries = record core { log = record { budgets = core.log.budgets; entries = entries } }
 
 -- the first of the entries behind those seen
 called-front : (core : Core) (e : Entry) (rest : List Entry) → IsLegalCore (with_entries core ((core.log.entries ++ e ∷ []) ++ rest)) →
@@ -90,18 +92,29 @@ stands-behind progress core (e ∷ es) some others legal stands =
     (stands-behind progress next es some (All-tail other e es others) legal-next
     (stands-called progress core next e.app e.call e.answer (called-front core e es legal-next) refl (All-head other e es others) some stands))
 
+-- what is noted says nothing of how an application stands
+stands-noted : (progress : Progress) (core : Core) (notes : List Note) → Stands progress core → Stands progress (record core { notes = notes })
+stands-noted progress core notes stands = record {
+  known = stands.known;
+  standing = stands.standing;
+  entries = stands.entries;
+  bytes = stands.bytes;
+  remember = stands.remember;
+}
+
 -- others' calls leave an application as it stands
-pub stands-others : (progress : Progress) (old new : Core) → OthersActed old new progress.running.app → 1 ≤ progress.running.app → Stands progress old → Stands progress new
+pub stands-others : (progress : Progress) (old new : Core) → CalledByOthers old new progress.running.app → 1 ≤ progress.running.app → Stands progress old → Stands progress new
 stands-others progress old new others some stands =
     subst (λ core. Stands progress core) (sym others.grown)
-    (stands-behind progress old others.between some others.by_others (subst (λ core. IsLegalCore core) others.grown others.legal) stands)
+    (stands-noted progress (with_entries old (old.log.entries ++ others.entries)) (old.notes ++ others.notes)
+    (stands-behind progress old others.entries some others.by_others (subst (λ core. IsLegalCore core) others.grown others.legal) stands))
 
 -- the bus that the calls meet knows the application as the one last seen did
 pub stands-met : (progress : Progress) (caller : Caller) (now : Core) → Meets caller now → caller.app ≡ progress.running.app → 1 ≤ progress.running.app →
     Stands progress caller.core → Stands progress now
 stands-met progress caller now (inl same) own some stands = subst (λ core. Stands progress core) (sym same) stands
 stands-met progress caller now (inr others) own some stands =
-    stands-others progress caller.core now (subst (λ app. OthersActed caller.core now app) own others.1) some stands
+    stands-others progress caller.core now (subst (λ app. CalledByOthers caller.core now app) own others.1) some stands
 
 -- calls that are alone meet the bus last seen
 pub met-alone : (caller : Caller) (now : Core) → caller.alone ≡ true → Meets caller now → now ≡ caller.core

@@ -1,5 +1,5 @@
 -- One application's turn among all of a rotation.
-use Rattle.std.proofs.Common.{◌≡◌, ℕ, zero, suc, ◌+◌, ◌-◌, ◌<◌, ◌≤◌, Bool, true, false, cond, ne_eqb, List, [], ◌∷◌, ◌++◌, length, take, drop, slice_set, get_or, refl, ap, sym, ◌∙◌, subst, append_assoc, append-nil, inl, inr, arith}
+use Rattle.std.proofs.Common.{◌≡◌, ℕ, zero, suc, ◌+◌, ◌<◌, ◌≤◌, Bool, true, false, cond, ne_eqb, List, [], ◌∷◌, ◌++◌, length, take, drop, slice_set, get_or, refl, ap, sym, ◌∙◌, subst, append_assoc, append-nil, inl, inr, arith}
 use Rattle.std.specs.List.{All}
 use Rattle.std.proofs.lemmas.List.{length-set, drop_more, drop-set-lt, take_more_set, take_all, drop_all}
 use Rattle.std.proofs.lemmas.List.Elements.{All-nil, All-cons, All-head, All-tail, All-get_or}
@@ -13,8 +13,8 @@ use Rattle.sb_calls.specs.Core.{Core, Does, IsLegalCore, apps_of, state_of}
 use Rattle.script_runs.specs.Rotation.{Running, SoFar, turn, rotated}
 use Rattle.app_script.specs.Script.{ScriptText}
 use Rattle.script_runs.specs.Told.{receipts_told, seen_from}
-use Rattle.script_runs.proofs.LastMessages.{legal-last, receipt-other}
-use Rattle.script_runs.proofs.LegalSteps.{standing-step}
+use Rattle.bus_words.proofs.LegalSteps.{standing-step, legal-last}
+use Rattle.script_runs.proofs.LastMessages.{receipt-other}
 use Rattle.app_run.specs.Rounds.{all_going, AreNumbered, AllStand, AllTold, AreTurned, HasTold, Rotates, MovesOn, StepsIf, to_come, told_on}
 use Rattle.app_run.specs.Runners.{Progress, going}
 use Rattle.app_run.specs.Turns.{so_far, Stands, TakesTurn, Moved, tells}
@@ -152,7 +152,7 @@ each-set P Q n k (suc i) (p ∷ ps) new at first numbered within each on q =
     All-cons Q p (slice_set ps i new) (on p (λ is. omega (arith, is, numbered.0, at)) (omega (arith, numbered.0, first)) (All-head P p ps each))
     (each-set P Q (n + 1) k i ps new (omega (arith, at)) (omega arith) numbered.1 (omega (arith, within)) (All-tail P p ps each) on q)
 
-numbered-at : (n i : ℕ) (all : List Progress) (d : Progress) → AreNumbered n all → i < length all → (get_or all i d).running.app ≡ n + i
+pub numbered-at : (n i : ℕ) (all : List Progress) (d : Progress) → AreNumbered n all → i < length all → (get_or all i d).running.app ≡ n + i
 numbered-at n i [] d numbered within = absurd (omega (arith, within))
 numbered-at n zero (p ∷ ps) d numbered within = omega (arith, numbered.0)
 numbered-at n (suc i) (p ∷ ps) d numbered within = omega (arith, numbered-at (n + 1) i ps d numbered.1 (omega (arith, within)))

@@ -96,19 +96,19 @@ either : (b : Bool) (s t : State) → t.standings ≡ s.standings → (cond {A =
 either true s t same = refl
 either false s t same = same
 
-along : (subs : List Subscription) (sending : Sending) (s : State) → ((sent_along subs sending s).1).standings ≡ s.standings
-along [] sending s = refl
-along (sub ∷ subs) sending s = refl
+along : (limits : Limits) (subs : List Subscription) (sending : Sending) (s : State) → ((sent_along limits subs sending s).1).standings ≡ s.standings
+along limits [] sending s = refl
+along limits (sub ∷ subs) sending s = refl
 
-along-told : (subs : List Subscription) (sending : Sending) (s : State) → is_pending (sent_along subs sending s).0 ≡ false
-along-told [] sending s = refl
-along-told (sub ∷ subs) sending s = refl
+along-told : (limits : Limits) (subs : List Subscription) (sending : Sending) (s : State) → is_pending (sent_along limits subs sending s).0 ≡ false
+along-told limits [] sending s = refl
+along-told limits (sub ∷ subs) sending s = refl
 
 settles-transmit : (limits : Limits) (history : List Entry) (s : State) (app : ℕ) (bytes : List ℕ) (inc : Bool) → standing_of s app ≡ Active →
     Settles app (step limits history s app (calls.Transmit bytes inc)).0 (step limits history s app (calls.Transmit bytes inc)).1 None
 settles-transmit limits history s app bytes inc active =
     settles-decided limits history s app (calls.Transmit bytes inc) (cause limits history s app (calls.Transmit bytes inc)) (λ why. refl)
-    (along (route s.subscriptions (message_id bytes)) _ s) (along-told (route s.subscriptions (message_id bytes)) _ s) active
+    (along limits (route s.subscriptions (message_id bytes)) _ s) (along-told limits (route s.subscriptions (message_id bytes)) _ s) active
 
 -- a receive that may wait
 settles-pended : (e o : Bool) (n : ℕ) (s t : State) (app r : ℕ) (registers : Registers) → t.standings ≡ s.standings → standing_of s app ≡ Active →

@@ -17,7 +17,7 @@ use Rattle.script_lines.specs.declared.line.Line.TheVariants.{ShowPipe}
 use Rattle.script_runs.specs.Rotation.{Running, SoFar, after_call, after_look, answer_to, turn, turn_in, active_turn, line_turn, behind}
 use Rattle.script_runs.specs.Told.{Seen, seen_from, got_in, receipts_of, shown, told_after, line_told, told}
 use Rattle.script_runs.specs.Trace.{Registers, call_of, registers_after}
-use Rattle.script_runs.proofs.LegalSteps.{standing-ended}
+use Rattle.bus_words.proofs.LegalSteps.{standing-ended}
 use Rattle.app_run.specs.Lines.{pipe_waited_for}
 use Rattle.app_run.specs.Runners.{standing_for}
 use Rattle.app_run.specs.Rounds.{told_waiting, told_on, to_come}

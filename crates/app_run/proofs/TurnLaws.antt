@@ -1,6 +1,6 @@
 -- What one turn leaves.
 use Rattle.std.proofs.Common.{◌≡◌, ℕ, zero, suc, ◌+◌, ◌-◌, ◌≤◌, Bool, true, false, cond, List, [], ◌∷◌, ◌++◌, length, map, drop, Option, Some, None, refl, ap, sym, ◌∙◌, subst, inl, inr, arith, append-nil}
-use Rattle.std.specs.Option.{is_some, option_to_list}
+use Rattle.std.specs.Option.{is_some}
 use Rattle.std.specs.List.{range_with_len}
 use Rattle.std.proofs.lemmas.List.{get_or-set_same, length-append}
 use Rattle.std.proofs.lemmas.List.FromFn.{length-map-range_with_len}
@@ -8,14 +8,15 @@ use Rattle.std.proofs.lemmas.List.Sums.{sum_by-cons}
 use Rattle.std.specs.List.{slice_get, All}
 use Rattle.std.proofs.lemmas.Option.{slice_get_within, get_or_from_slice_get}
 use Rattle.std.proofs.lemmas.List.Elements.{All-get_or}
-use Rattle.bus_words.specs.Receipts.{receipt_in}
 use Rattle.bus_words.specs.Bus.{waited_on}
 use Rattle.sb_core.specs.declared.pending.Pended.TheVariants as waits
-use Rattle.app_run.specs.Callers.{Answers, AnswersLook, Meets, SameBus, pipe_waited_on}
+use Rattle.app_run.specs.Callers.{Answers, AnswersLook, HasOwnBag, Meets, SameBus, pipe_waited_on}
 use Rattle.app_run.specs.Lines.{IsRun, most_receipts}
-use Rattle.app_run.specs.Received.{got_of}
+use Rattle.app_run.specs.Received.{Remember, taken_from, taken_by}
 use Rattle.app_run.specs.Turns.{MayTurn, TakesTurnBy}
+use Rattle.app_run.proofs.Newest.{remember-step, remember-shown}
 use Rattle.app_run.proofs.OthersLaws.{stands-met}
+use Rattle.app_run.proofs.Taken.{taken-told}
 use Rattle.std.proofs.lemmas.Bool.{le-leb}
 use Rattle.ccsds_msg.specs.Message.{header_bytes}
 use Rattle.ccsds_msg.proofs.MessageLemmas.{length-header_bytes}
@@ -27,13 +28,14 @@ use Rattle.bus_words.specs.declared.history.Call.TheVariants as calls
 use Rattle.bus_words.specs.declared.history.Entry.{Entry}
 use Rattle.journal_store.specs.declared.allowance.Allowance.{Allowance}
 use Rattle.bus_words.specs.declared.receipts.Receipt.{Receipt}
-use Rattle.bus_words.specs.Bus.{State, Standing, Active, Waiting, Ended, standing_of}
+use Rattle.bus_words.specs.Bus.{State, Standing, Active, Waiting, Ended, opening, standing_of}
 use Rattle.bus_words.specs.Entries.{call_bytes}
 use Rattle.journal_store.specs.Budgets.{allowances, allowance_of, charged}
 use Rattle.bus_words.specs.Log.{left_of}
 use Rattle.bus_words.proofs.Journals.{left_from-push, length-left_of}
-use Rattle.bus_words.specs.Machine.{may_call}
-use Rattle.sb_calls.specs.Core.{Core, Does, MayCall, apps_of, state_of, is_within}
+use Rattle.bus_words.specs.Machine.{IsLegal, may_call}
+use Rattle.bus_words.proofs.LegalSteps.{AreWaiters-after, legal-last}
+use Rattle.sb_calls.specs.Core.{Core, Does, IsLegalCore, MayCall, apps_of, state_of, is_within}
 use Rattle.script_lines.specs.declared.line.Line.{Line}
 use Rattle.script_lines.specs.declared.line.Line.TheVariants.{Create, Delete, SetOpts, GetOpts, Find, PipeName, Subscribe, Unsubscribe, Send, SendRaw, Receive, Pend, PoolCreate, PoolGet, PoolPut, PoolFigures}
 use Rattle.script_settings.specs.Accounts.{waits_of}
@@ -63,6 +65,20 @@ pub so_far-does : (before after : Core) (app : ℕ) (call : Call) → Does befor
 so_far-does before after app call does =
     ap (λ (core : Core). so core.log.entries (state_of after)) does.entry
     ∙ ap (λ s. so (before.log.entries ++ record { app = app; call = call; answer = answer_to before.limits (so_far before) app call } ∷ []) s) does.state
+
+-- the receipts of a call are remembered
+remember-does : (before after : Core) (app : ℕ) (call : Call) (receipts : List Receipt) → Does before after app call (answer_to before.limits (so_far before) app call) →
+    Remember receipts (state_of before) app → Remember (receipts ++ got_in app (state_of after) call (answer_to before.limits (so_far before) app call)) (state_of after) app
+remember-does before after app call receipts does remembers =
+    let limits = before.limits in
+    let apps = apps_of before in
+    let history = before.log.entries in
+    let answer = answer_to limits (so_far before) app call in
+    let e : Entry = record { app = app; call = call; answer = answer } in
+    let legal : IsLegal limits apps (history ++ e ∷ []) = subst (λ (core : Core). IsLegalCore core) does.entry does.legal in
+    let parts = legal-last limits [] (opening limits apps) history e legal in
+    subst (λ s. Remember (receipts ++ got_in app s call answer) s app) (sym does.state)
+    (remember-step limits history (state_of before) app call receipts (AreWaiters-after limits apps history parts.0) parts.1 remembers)
 
 -- who isn't ended has a number
 pub first-known : (s : State) (app : ℕ) (standing : Standing) → standing_of s app ≡ standing → (standing ≡ Ended → ⊥) → 1 ≤ app
@@ -160,6 +176,7 @@ look-exact old before after pipe stands goes waits does told =
         standing = ap (λ s. standing_of s app) does.state ∙ settles-look limits before.log.entries (state_of before) app pipe standing told;
         entries = subst (λ (a : Allowance). entries_due old.running.lines + 0 ≤ a.entries) (sym left) (omega (arith, due));
         bytes = subst (λ (a : Allowance). bytes_due old.running.lines ≤ a.bytes) (sym left) (omega (arith, stands.bytes));
+        remember = remember-does before after app (calls.Look pipe) old.receipts does stands.remember;
       };
       moved = inr (calls.Look pipe, answer, does);
     }
@@ -217,24 +234,29 @@ allowed-line registers (PoolFigures pool) range = record { bytes = refl; within 
 allowed-line registers line range = tt
 
 -- the application may run its next line
-pub may-run : (progress : Progress) (caller : Caller) (line : Line) (lines : List Line) (o : Option Call) → Stands progress caller.core → caller.app ≡ progress.running.app →
-    progress.ended ≡ false → progress.waits_on ≡ None → progress.running.lines ≡ line ∷ lines → AllowedLine line o → MayRun caller o
-may-run progress caller line lines None stands own goes active next allowed = tt
-may-run progress caller line lines (Some call) stands own goes active next allowed =
+pub may-run : (progress : Progress) (caller : Caller) (line : Line) (lines : List Line) (o : Option Call) → MayTurn progress caller →
+    progress.waits_on ≡ None → progress.running.lines ≡ line ∷ lines → AllowedLine line o → MayRun caller o
+may-run progress caller line lines None may active next allowed = tt
+may-run progress caller line lines (Some call) may active next allowed =
+    let stands = may.stands in
+    let goes = may.goes_on in
     let app = progress.running.app in
     let core = caller.core in
     let due = subst (λ ls. entries_due ls + cond (is_some progress.waits_on) 1 0 ≤ (allowance_of (left_of core.log) app).entries) next (entries-going progress core stands goes) in
     let bytes = subst (λ ls. bytes_due ls ≤ (allowance_of (left_of core.log) app).bytes) next stands.bytes in
-    subst (λ a. MayCall core a call) (sym own) (record {
-      known = stands.known;
-      standing = ap (λ s. may_call s call) (standing-going progress core stands goes ∙ ap standing_for active) ∙ allowed.active;
-      room = record {
-        known = omega (arith, stands.known, length-left_of core.log);
-        one_entry = omega (arith, due);
-        its_bytes = omega (arith, bytes, allowed.bytes, sum_by-cons line_bytes line lines);
-      };
-      within = allowed.within;
-    })
+    record {
+      may = subst (λ a. MayCall core a call) (sym may.own) (record {
+        known = stands.known;
+        standing = ap (λ s. may_call s call) (standing-going progress core stands goes ∙ ap standing_for active) ∙ allowed.active;
+        room = record {
+          known = omega (arith, stands.known, length-left_of core.log);
+          one_entry = omega (arith, due);
+          its_bytes = omega (arith, bytes, allowed.bytes, sum_by-cons line_bytes line lines);
+        };
+        within = allowed.within;
+      });
+      bag = may.bag;
+    }
 
 -- a progress of these parts
 abbrev the_progress : Running → Option ℕ → Bool → List Receipt → Progress
@@ -311,6 +333,7 @@ line-exact old before after line lines call stands goes active next calls allowe
         entries = subst (λ (a : Allowance). entries_due lines + cond (is_some waits_on) 1 0 ≤ a.entries) (sym left)
             (omega (arith, due, few, sum_by-cons waits_of line lines));
         bytes = subst (λ (a : Allowance). bytes_due lines ≤ a.bytes) (sym left) (omega (arith, bytes, allowed.bytes, sum_by-cons line_bytes line lines));
+        remember = remember-does before after app call old.receipts does stands.remember;
       };
       moved = inr (call, answer, does);
     }
@@ -346,6 +369,7 @@ takes-local old new core line lines stands goes active next none is =
         standing = standing;
         entries = omega (arith, due, sum_by-cons waits_of line lines);
         bytes = omega (arith, bytes, sum_by-cons line_bytes line lines);
+        remember = remember-shown (state_of core) app old.running.registers line old.receipts stands.remember;
       };
       moved = inl refl;
     })
@@ -399,22 +423,23 @@ met old before now may meets =
     (first-known (state_of before.core) old.running.app (standing_for old.waits_on) (standing-going old before.core may.stands may.goes_on) (going_lives old.waits_on)) may.stands
 
 -- a look that found a message
-pub looked-got : (p old : Progress) (before mid after : Caller) (pipe n : ℕ) (r : List Receipt) → p ≡ old → MayTurn old before → old.waits_on ≡ Some pipe →
-    AnswersLook before mid (pipe_waited_on before) (waits.Got n) → after ≡ mid →
-    r ≡ p.receipts ++ option_to_list (receipt_in (state_of mid.core) mid.app pipe) →
+pub looked-got : (p old : Progress) (before after : Caller) (pipe n : ℕ) (r : List Receipt) → p ≡ old → MayTurn old before → old.waits_on ≡ Some pipe →
+    AnswersLook before after (pipe_waited_on before) (waits.Got n) → r ≡ p.receipts ++ taken_from after pipe n →
     TakesTurnBy old (record { running = p.running; waits_on = None; ended = p.ended; receipts = r }) before after
-looked-got p old before mid after pipe n r is may waits answered same got =
+looked-got p old before after pipe n r is may waits answered got =
     let new : Progress = record { running = p.running; waits_on = None; ended = p.ended; receipts = r } in
+    let does : Does answered.now after.core old.running.app (calls.Look pipe) (Got n) = looks-own old before answered.now after.core pipe (Got n) may waits answered.does in
+    let own : after.app ≡ old.running.app = answered.same.app ∙ may.own in
     record {
       now = answered.now;
       meets = answered.meets;
-      turn = subst (λ caller. TakesTurn old new answered.now caller.core) (sym same)
-          (takes-look old new answered.now mid.core pipe (Got n) (met old before answered.now may answered.meets) may.goes_on waits
-          (looks-own old before answered.now mid.core pipe (Got n) may waits answered.does) refl
+      turn = takes-look old new answered.now after.core pipe (Got n) (met old before answered.now may answered.meets) may.goes_on waits does refl
           (progress-looked p old r _ is may.goes_on
           (got
-          ∙ ap (λ (q : Progress). q.receipts ++ option_to_list (receipt_in (state_of mid.core) mid.app pipe)) is
-          ∙ ap (λ app. old.receipts ++ option_to_list (receipt_in (state_of mid.core) app pipe)) (answered.same.app ∙ may.own))));
+          ∙ ap (λ (q : Progress). q.receipts ++ taken_from after pipe n) is
+          ∙ ap (λ t. old.receipts ++ t) (taken-told answered.now after (calls.Look pipe) (Got n) (subst (λ app. Does answered.now after.core app (calls.Look pipe) (Got n)) (sym own) does))
+          ∙ ap (λ app. old.receipts ++ got_in app (state_of after.core) (calls.Look pipe) (Got n)) own));
+      bag = answered.bag;
     }
 
 -- a look to which no message can come any more
@@ -429,6 +454,7 @@ looked-time_out p old before after pipe is may waits answered =
       turn = takes-look old new answered.now after.core pipe TimeOut (met old before answered.now may answered.meets) may.goes_on waits
           (looks-own old before answered.now after.core pipe TimeOut may waits answered.does) refl
           (progress-looked p old p.receipts _ is may.goes_on (ap (λ (q : Progress). q.receipts) is ∙ sym (append-nil old.receipts)));
+      bag = answered.bag;
     }
 
 -- a look that finds the application still waiting
@@ -462,6 +488,7 @@ looked-pending old before after pipe may waits answered =
           (sym (ap (λ app. answer_to now.limits (so_far now) app (calls.Look pipe)) may.own)
           ∙ sym (ap (λ w. answer_to now.limits (so_far now) before.app (calls.Look w)) (pipe-own old before pipe may waits))
           ∙ answered.does.1));
+      bag = answered.bag;
     }
 
 -- The end. --
@@ -490,6 +517,7 @@ end-exact old before after stands goes active through does =
             ∙ standing-set (state_of before) (state_of before) app Active Ended refl standing active_lives;
         entries = omega arith;
         bytes = subst (λ ls. bytes_due ls ≤ (allowance_of (left_of after.log) app).bytes) (sym through) (omega arith);
+        remember = subst (λ rs. Remember rs (state_of after) app) (append-nil old.receipts) (remember-does before after app calls.End old.receipts does stands.remember);
       };
       moved = inr (calls.End, answer_to limits (so_far before) app calls.End, does);
     }
@@ -505,6 +533,7 @@ ran-end p old before after is may active through answered =
       turn = subst (λ q. TakesTurn old (ended_on q) now after.core) (sym is)
           (end-exact old now after.core (met old before now may answered.meets) may.goes_on active through
           (subst (λ app. Does now after.core app calls.End Done) may.own answered.does));
+      bag = answered.bag;
     }
 
 -- the next line
@@ -518,59 +547,77 @@ pub get_at : {X : Type 0} (P : X → Type 0) (xs : List X) (i : ℕ) (x : X) →
 get_at P xs i x there all = subst P (get_or_from_slice_get xs i x x there) (All-get_or P xs i x (slice_get_within xs i x there) all)
 
 -- a line that was run
-pub ran-line : (p old : Progress) (before mid after : Caller) (line : Line) (lines : List Line) (answer : BusAnswer) (registers : Registers) (waits_on : Option ℕ) (r : List Receipt) (o : Option Call) →
+pub ran-line : (p old : Progress) (before after : Caller) (line : Line) (lines : List Line) (answer : BusAnswer) (registers : Registers) (waits_on : Option ℕ) (r : List Receipt) (o : Option Call) →
     p ≡ old → MayTurn old before → old.waits_on ≡ None → p.running.lines ≡ line ∷ lines → IsLineInRange line →
-    call_of p.running.registers line ≡ o → IsRun before mid o (Some answer) → after ≡ mid →
-    r ≡ p.receipts ++ got_of mid o answer → registers ≡ registers_after p.running.registers line answer →
+    call_of p.running.registers line ≡ o → IsRun before after o (Some answer) →
+    r ≡ p.receipts ++ taken_by after o answer → registers ≡ registers_after p.running.registers line answer →
     waits_on ≡ pipe_waited_for p.running.registers line answer →
     TakesTurnBy old (record { running = record { app = p.running.app; lines = lines; registers = registers }; waits_on = waits_on; ended = p.ended; receipts = r }) before after
-ran-line p old before mid after line lines answer registers waits_on r None is may active next range calls run same got noted waiting = absurd run
-ran-line p old before mid after line lines answer registers waits_on r (Some call) is may active next range calls run same got noted waiting =
+ran-line p old before after line lines answer registers waits_on r None is may active next range calls run got noted waiting = absurd run
+ran-line p old before after line lines answer registers waits_on r (Some call) is may active next range calls run got noted waiting =
     let new : Progress = record { running = record { app = p.running.app; lines = lines; registers = registers }; waits_on = waits_on; ended = p.ended; receipts = r } in
     let calls-old : call_of old.running.registers line ≡ Some call = subst (λ (q : Progress). call_of q.running.registers line ≡ Some call) is calls in
     let next-old : old.running.lines ≡ line ∷ lines = subst (λ (q : Progress). q.running.lines ≡ line ∷ lines) is next in
-    let does : Does run.now mid.core old.running.app call answer = subst (λ app. Does run.now mid.core app call answer) may.own run.does in
+    let does : Does run.now after.core old.running.app call answer = subst (λ app. Does run.now after.core app call answer) may.own run.does in
     let allowed : Allowed line call = subst (λ o. AllowedLine line o) calls-old (allowed-line old.running.registers line range) in
+    let own : after.app ≡ old.running.app = run.same.app ∙ may.own in
     record {
       now = run.now;
       meets = run.meets;
-      turn = subst (λ caller. TakesTurn old new run.now caller.core) (sym same)
-          (takes-line old new run.now mid.core line lines call answer (met old before run.now may run.meets) may.goes_on active next-old calls-old allowed does
-          (progress-behind p old line lines answer registers waits_on r (old.receipts ++ got_in old.running.app (state_of mid.core) call answer) is may.goes_on noted waiting
+      turn = takes-line old new run.now after.core line lines call answer (met old before run.now may run.meets) may.goes_on active next-old calls-old allowed does
+          (progress-behind p old line lines answer registers waits_on r (old.receipts ++ got_in old.running.app (state_of after.core) call answer) is may.goes_on noted waiting
           (got
-          ∙ ap (λ (q : Progress). q.receipts ++ got_in mid.app (state_of mid.core) call answer) is
-          ∙ ap (λ app. old.receipts ++ got_in app (state_of mid.core) call answer) (run.same.app ∙ may.own))));
+          ∙ ap (λ (q : Progress). q.receipts ++ taken_by after (Some call) answer) is
+          ∙ ap (λ t. old.receipts ++ t) (taken-told run.now after call answer (subst (λ app. Does run.now after.core app call answer) (sym own) does))
+          ∙ ap (λ app. old.receipts ++ got_in app (state_of after.core) call answer) own));
+      bag = run.bag;
     }
 
 -- a line that no service sees
-pub ran-local : (p old : Progress) (before mid after : Caller) (line : Line) (lines : List Line) (r : List Receipt) (o : Option Call) →
+pub ran-local : (p old : Progress) (before after : Caller) (line : Line) (lines : List Line) (r : List Receipt) (o : Option Call) →
     p ≡ old → MayTurn old before → old.waits_on ≡ None → p.running.lines ≡ line ∷ lines →
-    call_of p.running.registers line ≡ o → IsRun before mid o None → after ≡ mid →
-    r ≡ p.receipts ++ shown mid.app (state_of mid.core) p.running.registers line →
+    call_of p.running.registers line ≡ o → IsRun before after o None →
+    r ≡ p.receipts ++ shown after.app (state_of after.core) p.running.registers line →
     TakesTurnBy old (record { running = record { app = p.running.app; lines = lines; registers = p.running.registers }; waits_on = p.waits_on; ended = p.ended; receipts = r }) before after
-ran-local p old before mid after line lines r (Some call) is may active next calls run same told = absurd run
-ran-local p old before mid after line lines r None is may active next calls run same told =
+ran-local p old before after line lines r (Some call) is may active next calls run told = absurd run
+ran-local p old before after line lines r None is may active next calls run told =
     let new : Progress = record { running = record { app = p.running.app; lines = lines; registers = p.running.registers }; waits_on = p.waits_on; ended = p.ended; receipts = r } in
     let calls-old : call_of old.running.registers line ≡ None = subst (λ (q : Progress). call_of q.running.registers line ≡ None) is calls in
     let next-old : old.running.lines ≡ line ∷ lines = subst (λ (q : Progress). q.running.lines ≡ line ∷ lines) is next in
     record {
       now = before.core;
       meets = inl refl;
-      turn = subst (λ caller. TakesTurn old new before.core caller.core) (sym (same ∙ run))
+      turn = subst (λ caller. TakesTurn old new before.core caller.core) (sym run)
           (takes-local old new before.core line lines may.stands may.goes_on active next-old calls-old
           (progress-local p old lines r (old.receipts ++ shown old.running.app (state_of before.core) old.running.registers line) is may.goes_on active
           (told
           ∙ ap (λ (caller : Caller). p.receipts ++ shown caller.app (state_of caller.core) p.running.registers line) run
           ∙ ap (λ (q : Progress). q.receipts ++ shown before.app (state_of before.core) q.running.registers line) is
           ∙ ap (λ app. old.receipts ++ shown app (state_of before.core) old.running.registers line) may.own)));
+      bag = subst (λ caller. HasOwnBag caller) (sym run) may.bag;
     }
 
--- a line's call leaves the application and its bus the same
-pub run-same : (before mid after : Caller) (o : Option Call) (answer : Option BusAnswer) → IsRun before mid o answer → after ≡ mid → SameBus before after
-run-same before mid after None None run same = subst (λ caller. SameBus before caller) (sym (same ∙ run)) (record { app = refl; bus = refl; alone = refl })
-run-same before mid after None (Some answer) run same = absurd run
-run-same before mid after (Some call) None run same = absurd run
-run-same before mid after (Some call) (Some answer) run same = subst (λ caller. SameBus before caller) (sym same) run.same
+-- a line's call leaves the application and its bus the same, and the bag its own
+pub run-same : (before after : Caller) (o : Option Call) (answer : Option BusAnswer) → IsRun before after o answer → SameBus before after
+run-same before after None None run = subst (λ caller. SameBus before caller) (sym run) (record { app = refl; bus = refl; bag = refl; alone = refl })
+run-same before after None (Some answer) run = absurd run
+run-same before after (Some call) None run = absurd run
+run-same before after (Some call) (Some answer) run = run.same
+
+pub run-bag : (before after : Caller) (o : Option Call) (answer : Option BusAnswer) → IsRun before after o answer → HasOwnBag before → HasOwnBag after
+run-bag before after None None run bag = subst (λ caller. HasOwnBag caller) (sym run) bag
+run-bag before after None (Some answer) run bag = absurd run
+run-bag before after (Some call) None run bag = absurd run
+run-bag before after (Some call) (Some answer) run bag = run.bag
+
+-- behind a line that no service sees the receipts still tell what was received last
+pub run-remember : (p old : Progress) (before after : Caller) (o : Option Call) → p ≡ old → MayTurn old before → IsRun before after o None →
+    Remember p.receipts (state_of after.core) after.app
+run-remember p old before after None is may run =
+    subst (λ (caller : Caller). Remember p.receipts (state_of caller.core) caller.app) (sym run)
+    (subst (λ (q : Progress). Remember q.receipts (state_of before.core) before.app) (sym is)
+    (subst (λ app. Remember old.receipts (state_of before.core) app) (sym may.own) may.stands.remember))
+run-remember p old before after (Some call) is may run = absurd run
 
 -- a line that waits got nothing yet
 pub waits-or-got : (registers : Registers) (line : Line) (answer : BusAnswer) → cond (is_some (pipe_waited_for registers line answer)) 1 0 + most_receipts answer ≤ 1

@@ -1,5 +1,7 @@
--- The bus of a run before the first call.
-use Rattle.std.specs.Prelude.{List, [], map}
+-- A run before the first call.
+use Rattle.std.specs.Prelude.{ℕ, List, [], map}
+use Rattle.lend_block.specs.Loan.{LentBytes}
+use Rattle.buf_desc.specs.Held.{Holding}
 use Rattle.fsw_base.specs.declared.config.Budget.{Budget}
 use Rattle.sb_calls.specs.Core.{Core}
 use Rattle.script_settings.specs.Accounts.{budget_of}
@@ -11,4 +13,12 @@ budgets_for script = map (λ a. budget_of a.lines) script.apps
 
 -- the bus before the first call
 abbrev pub opened : ScriptText → Core
-opened script = record { limits = script.limits; log = record { budgets = budgets_for script; entries = [] } }
+opened script = record { limits = script.limits; log = record { budgets = budgets_for script; entries = [] }; notes = [] }
+
+-- a bag with nothing in it, and room for so many views
+abbrev pub empty_bag : ℕ → Holding LentBytes
+empty_bag room = record { views = []; buffers = []; view_room = room; buffer_room = 0 }
+
+-- the sizes of a run's regions, in bytes: that of the bus's pool
+pub record RegionSizes : Type 0 where
+  pub pool : ℕ

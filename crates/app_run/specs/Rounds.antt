@@ -1,10 +1,13 @@
 -- All applications of a run.
 use Rattle.std.specs.Prelude.{◌≡◌, ℕ, ◌+◌, ◌++◌, Bool, true, false, List, [], ◌∷◌, length, map, take, drop, All}
 use Rattle.std.specs.List.{range_with_len}
+use Rattle.lend_block.specs.Loan.{LentBytes}
+use Rattle.buf_desc.specs.Held.{Holding}
 use Rattle.bus_words.specs.declared.history.Entry.{Entry}
 use Rattle.bus_words.specs.declared.receipts.Receipt.{Receipt}
 use Rattle.fsw_base.specs.Limits.{Limits}
 use Rattle.bus_words.specs.Bus.{State, Standing, Active, Waiting, Ended, standing_of}
+use Rattle.sb_calls.specs.Bags.{HasBag}
 use Rattle.sb_calls.specs.Core.{Core, apps_of}
 use Rattle.script_lines.specs.declared.line.Line.{Line}
 use Rattle.script_runs.specs.Trace.{Registers}
@@ -32,6 +35,11 @@ AreNumbered number (progress ∷ others) = (progress.running.app ≡ number) × 
 pub record AllStand (core : Core) (all : List Progress) : Type 0 where
   pub numbered : AreNumbered 1 all
   pub each : All (λ progress. Stands progress core) all
+
+-- the bags are those of the applications, from this number on
+abbrev pub AllHold : Core → ℕ → List (Holding LentBytes) → Type 0
+AllHold core number [] = Unit {0}
+AllHold core number (bag ∷ bags) = HasBag core number bag × AllHold core (number + 1) bags
 
 -- What is still to be told. --
 

@@ -15,8 +15,9 @@ use Rattle.script_runs.specs.Rotation.{Running, SoFar, after_call, after_look, a
 use Rattle.script_runs.specs.Told.{got_in, shown}
 use Rattle.app_run.specs.declared.runner.Turned.{Turned}
 use Rattle.app_run.specs.declared.runner.Turned.TheVariants as turned
-use Rattle.app_run.specs.Callers.{Caller, Meets, SameBus}
+use Rattle.app_run.specs.Callers.{Caller, Meets, SameBus, HasOwnBag}
 use Rattle.app_run.specs.Lines.{entries_due, bytes_due}
+use Rattle.app_run.specs.Received.{Remember}
 use Rattle.app_run.specs.Runners.{Progress, standing_in, going}
 
 -- the bus so far
@@ -55,18 +56,21 @@ abbrev pub entries_to_come : Progress → ℕ
 entries_to_come progress =
     if progress.ended then 0 else entries_due progress.running.lines + (if is_some progress.waits_on then 1 else 0)
 
--- The bus knows the application as it is, and has room for all that it may still do.
+-- The bus knows the application as it is, and has room for all that it may still do; and the application's receipts tell which
+-- messages it received last.
 pub record Stands (progress : Progress) (core : Core) : Type 0 where
   pub known : progress.running.app ≤ apps_of core
   pub standing : standing_of (state_of core) progress.running.app ≡ standing_in progress
   pub entries : entries_to_come progress ≤ (allowance_of (left_of core.log) progress.running.app).entries
   pub bytes : bytes_due progress.running.lines ≤ (allowance_of (left_of core.log) progress.running.app).bytes
+  pub remember : Remember progress.receipts (state_of core) progress.running.app
 
--- the application may take a turn by these calls: they are its own, and it has not ended
+-- the application may take a turn by these calls: they are its own, with its own bag, and it has not ended
 pub record MayTurn (progress : Progress) (caller : Caller) : Type 0 where
   pub own : caller.app ≡ progress.running.app
   pub goes_on : progress.ended ≡ false
   pub stands : Stands progress caller.core
+  pub bag : HasOwnBag caller
 
 -- the bus made one entry of the application, or none
 abbrev pub Moved : Core → Core → ℕ → Type 0
@@ -85,11 +89,12 @@ pub record TakesTurn (old new : Progress) (before after : Core) : Type 0 where
 abbrev pub turned_of : Progress → Turned
 turned_of progress = if progress.ended then turned.Ended else if is_some progress.waits_on then turned.Waits else turned.Went
 
--- The application took one turn by these calls, at the bus that they met.
+-- The application took one turn by these calls, at the bus that they met. The bag is still its own.
 pub record TakesTurnBy (old new : Progress) (before after : Caller) : Type 0 where
   pub now : Core
   pub meets : Meets before now
   pub turn : TakesTurn old new now after.core
+  pub bag : HasOwnBag after
 
 -- The application took one turn by these calls, and that is how it stands.
 pub record Turns (old new : Progress) (before after : Caller) (now : Turned) : Type 0 where

@@ -1,22 +1,23 @@
 //! The calls of one application.
 ghost use Rattle.std.specs.Prelude.{◌≡◌};
-ghost use Rattle.bus_words.specs.Receipts.{receipt_in};
+ghost use Rattle.std.specs.Option.{option_map};
 ghost use Rattle.sb_core.specs.Answers.{created, found, done, bits_told, named, sent, got, pended, pool_told, grant_back, figures_told};
-ghost use Rattle.sb_calls.specs.Core.{state_of};
+ghost use Rattle.sb_calls.specs.Views.{bytes_seen};
 ghost use Rattle.app_run.specs.Callers.{Caller, MayCallBus, Answers, AnswersLook, pipe_waited_on};
 
-use bus_words::{BusAnswer, Call, PipeText, Receipt};
+use bus_words::{BusAnswer, Call, PipeText};
 use fsw_base::{EsStatus, PoolStats, SbStatus, Scope};
 use sb_calls::{Pended, Sent};
 
 /// The calls of the software bus that one application makes.
 ///
 /// Each call has the condition, the answer and the refusals of the core's call of the same name
-/// (`bus_end` those of its `end`), on the bus as it is then: as the calls before left it or, where
-/// they aren't alone with it, with what other applications did meanwhile. By the code, no call
-/// takes memory.
+/// (`bus_end` those of its `end`), with the application's bag, on the bus as it is then: as the
+/// calls before left it or, where they aren't alone with it, with what other applications did
+/// meanwhile. By the code, no call takes memory.
 pub trait Calls {
-    /// The application, the bus as its calls saw it last, and whether they are alone with it.
+    /// The application with its bag, the bus as its calls saw it last, and whether they are alone
+    /// with it.
     ghost caller: { Self → Caller };
 
     /// Makes a pipe that holds up to `depth` messages, and answers its number.
@@ -161,11 +162,8 @@ pub trait Calls {
         requires { MayCallBus (caller self.old) Call.End }
         ensures { Answers (caller self.old) (caller self.new) Call.End BusAnswer.Done };
 
-    /// The receipt of the message that the application received last from its live pipe of this
-    /// number; None exactly where it has no such pipe, or the pipe has no last message. It is no
-    /// call of the bus, and changes nothing.
-    fn last_receipt(&mut self, pipe: u32) -> Option<Receipt>
-        ensures receipt { result ≡
-            receipt_in (state_of (caller self.old).core) (caller self.old).app pipe }
-        ensures same { caller self.new ≡ caller self.old };
+    /// The message that the application received last from its live pipe of this number, as its
+    /// bag shows it; None exactly where the bag has no view of that pipe. It is no call of the bus.
+    fn last(&self, pipe: u32) -> Option<&[u8]>
+        ensures { option_map (λ bytes. bytes.now) result ≡ bytes_seen (caller self.now).bag pipe };
 }

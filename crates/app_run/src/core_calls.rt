@@ -3,41 +3,62 @@ ghost use Rattle.std.specs.Prelude.{◌≡◌, true};
 
 use crate::calls::Calls;
 use bucket_list::{Ledger, Steps};
-use bus_words::{PipeText, Receipt};
+use buf_desc::Held;
+use bus_words::PipeText;
 use fsw_base::{AppNo, EsStatus, PoolStats, SbStatus, Scope};
 use sb_calls::{BusCore, Pended, Sent};
 
 /// The calls of one application straight on the bus's core.
 #[derive(Drop)]
-pub struct CoreCalls<'c, L: Ledger> {
+pub struct CoreCalls<'c, 'r, L: Ledger> {
     // The core that answers.
-    core: &'c mut BusCore,
+    pub(crate) core: &'c mut BusCore<'r>,
     // Who calls.
-    app: AppNo,
+    pub(crate) app: AppNo,
+    // The caller's bag.
+    pub(crate) held: &'c mut Held<'r>,
     // The steps that its calls take; told to nobody here.
-    steps: &'c mut Steps<L>,
+    pub(crate) steps: &'c mut Steps<L>,
 }
 
-impl<'c, L: Ledger> CoreCalls<'c, L> {
-    /// The calls of this application. Their steps are added to `steps`.
-    pub fn new(core: &'c mut BusCore, app: AppNo, steps: &'c mut Steps<L>) -> CoreCalls<'c, L>
+impl<'c, 'r, L: Ledger> CoreCalls<'c, 'r, L> {
+    /// The calls of this application, with this bag. Their steps are added to `steps`.
+    pub fn new(
+        core: &'c mut BusCore<'r>,
+        app: AppNo,
+        held: &'c mut Held<'r>,
+        steps: &'c mut Steps<L>,
+    ) -> CoreCalls<'c, 'r, L>
         ensures app { result.app ≡ app }
         ensures core { result.core ≡ core.entry }
+        ensures held { result.held ≡ held.entry }
     {
-        CoreCalls { core, app, steps }
+        CoreCalls {
+            core,
+            app,
+            held,
+            steps,
+        }
     }
 }
 
-impl<L: Ledger> Calls for CoreCalls<'_, L> {
+impl<L: Ledger> Calls for CoreCalls<'_, '_, L> {
     ghost caller = { λ s.
-        record { app = s.app; core = s.core.now; name = s.core.ghost_name; alone = true } };
+        record {
+          app = s.app;
+          core = s.core.now;
+          bag = s.held.now;
+          bus_name = s.core.ghost_name;
+          bag_name = s.held.ghost_name;
+          alone = true;
+        } };
 
     fn create_pipe(&mut self, depth: u32, name: &[u8]) -> Result<u32, SbStatus> {
         self.core.create_pipe(self.app, depth, name)
     }
 
     fn delete_pipe(&mut self, pipe: u32) -> Result<(), SbStatus> {
-        self.core.delete_pipe(self.app, pipe, self.steps)
+        self.core.delete_pipe(self.app, pipe, self.held, self.steps)
     }
 
     fn set_opts(&mut self, pipe: u32, bits: u8) -> Result<(), SbStatus> {
@@ -70,15 +91,15 @@ impl<L: Ledger> Calls for CoreCalls<'_, L> {
     }
 
     fn receive(&mut self, pipe: u32) -> Result<u32, SbStatus> {
-        self.core.receive(self.app, pipe)
+        self.core.receive(self.app, pipe, self.held, self.steps)
     }
 
     fn pend(&mut self, pipe: u32) -> Result<Pended, SbStatus> {
-        self.core.pend(self.app, pipe)
+        self.core.pend(self.app, pipe, self.held, self.steps)
     }
 
     fn look(&mut self) -> Pended {
-        self.core.look(self.app)
+        self.core.look(self.app, self.held)
     }
 
     fn pool_create(&mut self, bytes: u32) -> Result<u32, EsStatus> {
@@ -98,10 +119,13 @@ impl<L: Ledger> Calls for CoreCalls<'_, L> {
     }
 
     fn bus_end(&mut self) {
-        self.core.end(self.app, self.steps)
+        self.core.end(self.app, self.held, self.steps)
     }
 
-    fn last_receipt(&mut self, pipe: u32) -> Option<Receipt> {
-        self.core.last_receipt(self.app, pipe)
+    fn last(&self, pipe: u32) -> Option<&[u8]> {
+        match self.held.view_of(pipe) {
+            Some(view) => Some(view.bytes()),
+            None => None,
+        }
     }
 }

@@ -7,7 +7,8 @@
 //! ```text
 //! let text = b"app A\ncreate p0 4 A\nsub 0x0801 p0\nsend 0x0801 7 1\nrecv p0\n";
 //! let script = read_script(alloc, text)?;
-//! let finished = lockstep(alloc, &script)?;
+//! let mut regions = Regions::new(alloc, script.config())?;
+//! let finished = lockstep(alloc, &script, &mut regions)?;
 //! finished.bus.journal().len()         // 5: an entry a call, and one for the end
 //! finished.receipts[0].len()           // 1: the message received
 //! ```
@@ -18,11 +19,14 @@ mod calls;
 mod core_calls;
 mod line_calls;
 mod messages;
+mod receipts;
+mod regions;
 mod registers;
 mod rotating;
 mod runner;
 
 pub use calls::Calls;
 pub use core_calls::CoreCalls;
+pub use regions::Regions;
 pub use rotating::{Finished, lockstep};
 pub use runner::{Runner, Turned};

@@ -1,42 +1,51 @@
 //! A whole script in strict rotation, on one thread.
-ghost use Rattle.std.specs.Prelude.{◌≡◌, ◌+◌, ◌*◌, ◌<◌, ◌≤◌, ◌-◌, length, map, sum_by, All, IfOk, false, true, vec_len, vec_capacity, [], ◌++◌};
+ghost use Rattle.std.specs.Prelude.{◌≡◌, ◌+◌, ◌*◌, ◌<◌, ◌≤◌, ◌-◌, length, map, replicate, sum_by, All, IfOk, false, true, vec_len, vec_capacity, [], ◌++◌};
 ghost use Rattle.std.specs.List.{range_with_len};
+ghost use Rattle.sb_calls.specs.Bags.{HasBag};
 ghost use Rattle.sb_calls.specs.Core.{apps_of};
 ghost use Rattle.script_settings.specs.Accounts.{budget_of};
 ghost use Rattle.script_runs.specs.Rotation.{rotation, rotations, enough};
 ghost use Rattle.script_runs.specs.Told.{receipts_told};
 ghost use Rattle.app_script.specs.Script.{ScriptText};
-ghost use Rattle.app_run.specs.Openings.{opened};
+ghost use Rattle.app_run.specs.Openings.{opened, empty_bag};
 ghost use Rattle.app_run.specs.Turns.{so_far, Stands};
-ghost use Rattle.app_run.specs.Rounds.{all_beginning, all_going, AllStand, AllTold, MovesOn, Rotates, RotatesTimes};
+ghost use Rattle.app_run.specs.Rounds.{all_beginning, all_going, AllStand, AllTold, AllHold, MovesOn, Rotates, RotatesTimes};
 
 use crate::core_calls::CoreCalls;
+use crate::regions::Regions;
 use crate::runner::Runner;
 use app_script::Script;
 use bucket_list::{Blank, Ledger, Steps};
+use buf_desc::Held;
 use bus_words::ReceiptList;
 use fsw_base::{AppNo, Budget};
-use sb_calls::BusCore;
+use sb_calls::{BusCore, bags_stay};
 use std::alloc::{AllocError, Global};
 use std::marker::Brand;
 
 /// What a run leaves: the bus after all applications have ended, and the receipts of each, in order
 /// of number.
 #[derive(Drop)]
-pub struct Finished {
+pub struct Finished<'r> {
     /// The bus, with every call and answer in its journal.
-    pub bus: BusCore,
+    pub bus: BusCore<'r>,
     /// The receipts of application 1, 2, 3 and so on.
     pub receipts: Vec<ReceiptList>,
 }
 
 /// Runs a script: each application that has not ended takes a turn, in order of number, again and
 /// again. A turn is its next line; or one look, while it waits; or its end, once its lines are
-/// through. By the code, all memory is taken before the first call.
+/// through. The messages lie in the regions, which are at least as large as the script's
+/// configuration says. By the code, all memory is taken before the first call.
 ///
 /// # Errors
 /// Where memory runs out; by the code, no application ran then.
-pub fn lockstep(alloc: Global, script: &Script) -> Result<Finished, AllocError>
+pub fn lockstep<'r>(
+    alloc: Global,
+    script: &Script,
+    regions: &'r mut Regions,
+) -> Result<Finished<'r>, AllocError>
+    requires { script.now.limits.pool ≤ regions.old.pool }
     ensures history { IfOk result (λ finished. finished.bus.log.entries ≡ rotation script.now) }
     ensures limits { IfOk result (λ finished. finished.bus.limits ≡ script.now.limits) }
     ensures apps { IfOk result (λ finished. apps_of finished.bus ≡ length script.now.apps) }
@@ -45,47 +54,60 @@ pub fn lockstep(alloc: Global, script: &Script) -> Result<Finished, AllocError>
         map (receipts_told script.now (rotation script.now))
         (range_with_len 1 (length script.now.apps))) }
 {
-    Ok(run(open(alloc, script)?))
+    Ok(run(open(alloc, script, regions)?))
 }
 
 // A run before its first call. It holds all memory that it takes.
-struct OpenedRun<'s> {
+struct OpenedRun<'s, 'r> {
     script: &'s Script,
     // Nothing was asked of it yet.
-    bus: BusCore,
+    bus: BusCore<'r>,
     // Each before its first line.
     runners: Vec<Runner<'s>>,
+    // The bag of each application, empty.
+    bags: Vec<Held<'r>>,
     // Empty, with room for the receipts of each application.
     receipts: Vec<ReceiptList>,
 }
 
 // Takes all memory of a run.
-fn open(alloc: Global, script: &Script) -> Result<OpenedRun<'_>, AllocError>
+fn open<'s, 'r>(
+    alloc: Global,
+    script: &'s Script,
+    regions: &'r mut Regions,
+) -> Result<OpenedRun<'s, 'r>, AllocError>
+    requires { script.now.limits.pool ≤ regions.old.pool }
     ensures script { IfOk result (λ run. run.script.now ≡ script.now) }
     ensures bus { IfOk result (λ run. run.bus ≡ opened script.now) }
     ensures runners { IfOk result (λ run. run.runners.items ≡ all_beginning script.now) }
+    ensures bags { IfOk result (λ run. run.bags.items ≡
+        replicate (length script.now.apps) (empty_bag script.now.limits.pipes)) }
     ensures receipts { IfOk result (λ run. run.receipts.items ≡ []) }
     ensures room { IfOk result (λ run. length script.now.apps ≤ vec_capacity run.receipts) }
 {
     script.recall_ranges();
     let apps = script.apps() as usize;
     let budgets = budgets_of(alloc, script)?;
-    let bus = BusCore::new(alloc, script.config(), &budgets)?;
+    let bus = BusCore::new(alloc, script.config(), &budgets, regions.pool_mut())?;
     let runners = runners_of(alloc, script)?;
+    let bags = bags_of(alloc, script)?;
     let receipts = Vec::with_capacity(alloc, apps)?;
     Ok(OpenedRun {
         script,
         bus,
         runners,
+        bags,
         receipts,
     })
 }
 
 // Makes all calls of a run. It has no allocator among its parameters, and takes no memory by its
 // code.
-fn run(run: OpenedRun<'_>) -> Finished
+fn run<'r>(run: OpenedRun<'_, 'r>) -> Finished<'r>
     requires bus { run.bus ≡ opened run.script.now }
     requires runners { run.runners.items ≡ all_beginning run.script.now }
+    requires bags { run.bags.items ≡
+        replicate (length run.script.now.apps) (empty_bag run.script.now.limits.pipes) }
     requires receipts { run.receipts.items ≡ [] }
     requires room { length run.script.now.apps ≤ vec_capacity run.receipts }
     ensures history { result.bus.log.entries ≡ rotation run.entry.script.now }
@@ -99,9 +121,11 @@ fn run(run: OpenedRun<'_>) -> Finished
         script,
         mut bus,
         mut runners,
+        mut bags,
         receipts,
     } = run;
-    run_counted::<Brand>(&mut bus, &mut runners, rotations_of(script), Blank::new(1));
+    let turns = rotations_of(script);
+    run_counted::<Brand>(&mut bus, &mut runners, &mut bags, turns, Blank::new(1));
     Finished {
         bus,
         receipts: receipts_of(runners, receipts),
@@ -131,6 +155,19 @@ fn runners_of(alloc: Global, script: &Script) -> Result<Vec<Runner<'_>>, AllocEr
     Ok(runners)
 }
 
+// The bag of each application, empty, with room for a view of each pipe that there may be.
+fn bags_of<'r>(alloc: Global, script: &Script) -> Result<Vec<Held<'r>>, AllocError>
+    ensures { IfOk result (λ bags. bags.items ≡
+        replicate (length script.now.apps) (empty_bag script.now.limits.pipes)) }
+{
+    let mut bags = Vec::with_capacity(alloc, script.apps() as usize)?;
+    for _app in 0..script.apps() {
+        let bag: Held<'r> = Held::new(alloc, script.config().pipes, 0)?;
+        bags.push_reserved(bag);
+    }
+    Ok(bags)
+}
+
 // How many rotations are enough: each application has a turn for each line, one more for each that
 // waits, and one for its end.
 fn rotations_of(script: &Script) -> u32
@@ -152,9 +189,10 @@ fn app_at(i: u32) -> AppNo
 }
 
 // So many rotations, with a count of steps of their own.
-fn run_counted<L: Ledger>(
-    bus: &mut BusCore,
+fn run_counted<'r, L: Ledger>(
+    bus: &mut BusCore<'r>,
     runners: &mut Vec<Runner<'_>>,
+    bags: &mut Vec<Held<'r>>,
     turns: u32,
     blank: Blank,
 )
@@ -162,45 +200,75 @@ fn run_counted<L: Ledger>(
     requires parts { blank.parts ≡ L.parts }
     requires some_part { 0 < blank.parts }
     requires stand { AllStand bus.old runners.old.items }
+    requires bags { AllHold bus.old 1 bags.old.items }
+    requires as_many { length bags.old.items ≡ length runners.old.items }
     ensures { RotatesTimes turns bus.old runners.old.items bus.new runners.new.items }
 {
     let mut steps = Steps::<L>::new(blank);
-    run_all(bus, runners, turns, &mut steps);
+    run_all(bus, runners, bags, turns, &mut steps);
 }
 
 // So many rotations.
-fn run_all<L: Ledger>(
-    bus: &mut BusCore,
+fn run_all<'r, L: Ledger>(
+    bus: &mut BusCore<'r>,
     runners: &mut Vec<Runner<'_>>,
+    bags: &mut Vec<Held<'r>>,
     turns: u32,
     steps: &mut Steps<L>,
 )
-    requires { AllStand bus.old runners.old.items }
+    requires stand { AllStand bus.old runners.old.items }
+    requires bags { AllHold bus.old 1 bags.old.items }
+    requires as_many { length bags.old.items ≡ length runners.old.items }
     ensures { RotatesTimes turns bus.old runners.old.items bus.new runners.new.items }
 {
     for _round in 0..turns {
-        rotate(bus, runners, steps);
+        rotate(bus, runners, bags, steps);
     }
 }
 
 // One rotation: a turn of each application that has not ended, in order of number.
-fn rotate<L: Ledger>(bus: &mut BusCore, runners: &mut Vec<Runner<'_>>, steps: &mut Steps<L>)
-    requires { AllStand bus.old runners.old.items }
-    ensures { Rotates bus.old runners.old.items bus.new runners.new.items }
+fn rotate<'r, L: Ledger>(
+    bus: &mut BusCore<'r>,
+    runners: &mut Vec<Runner<'_>>,
+    bags: &mut Vec<Held<'r>>,
+    steps: &mut Steps<L>,
+)
+    requires stand { AllStand bus.old runners.old.items }
+    requires bags { AllHold bus.old 1 bags.old.items }
+    requires as_many { length bags.old.items ≡ length runners.old.items }
+    ensures rotates { Rotates bus.old runners.old.items bus.new runners.new.items }
+    ensures bags { AllHold bus.new 1 bags.new.items }
+    ensures as_many { length bags.new.items ≡ length bags.old.items }
 {
+    // Does nothing; the proof learns of it that the others' bags stay theirs.
+    bags_stay();
     for i in 0..runners.len() {
-        take_turn(bus, &mut runners[i], steps);
+        take_turn(bus, &mut runners[i], &mut bags[i], steps);
     }
 }
 
 // A turn of the application, where it has not ended.
-fn take_turn<L: Ledger>(bus: &mut BusCore, runner: &mut Runner<'_>, steps: &mut Steps<L>)
-    requires { Stands runner.old bus.old }
-    ensures { MovesOn runner.old runner.new bus.old bus.new }
+fn take_turn<'r, L: Ledger>(
+    bus: &mut BusCore<'r>,
+    runner: &mut Runner<'_>,
+    held: &mut Held<'r>,
+    steps: &mut Steps<L>,
+)
+    requires stands { Stands runner.old bus.old }
+    requires bag { HasBag bus.old runner.old.running.app held.old }
+    ensures moves { MovesOn runner.old runner.new bus.old bus.new }
+    ensures bag { HasBag bus.new runner.old.running.app held.new }
 {
     if !runner.has_ended() {
         let app = runner.app();
-        let _ = runner.turn(&mut CoreCalls::new(bus, app, steps));
+        // Made in place and not by `new`: so the proof knows what the bus and the bag are after it.
+        let mut calls = CoreCalls {
+            core: bus,
+            app,
+            held,
+            steps,
+        };
+        let _ = runner.turn(&mut calls);
     }
 }
 

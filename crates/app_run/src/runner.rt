@@ -1,20 +1,15 @@
 //! One application of a script.
-ghost use Rattle.std.specs.Prelude.{◌≡◌, ◌<◌, ◌≤◌, ◌-◌, ◌+◌, ◌++◌, length, true, false, [], Some, None, All, IfOk};
-ghost use Rattle.std.specs.Option.{option_to_list};
+ghost use Rattle.std.specs.Prelude.{◌≡◌, ◌<◌, ◌≤◌, ◌-◌, ◌+◌, length, true, false, [], Some, None, All, IfOk};
 ghost use Rattle.app_script.specs.Script.{app_at};
-ghost use Rattle.bus_words.specs.Receipts.{receipt_in};
-ghost use Rattle.script_runs.specs.Trace.{call_of};
-ghost use Rattle.script_runs.specs.Told.{shown};
-ghost use Rattle.sb_calls.specs.Core.{state_of};
-ghost use Rattle.app_run.specs.Lines.{message_size, pipe_waited_for, most_receipts};
-ghost use Rattle.app_run.specs.Received.{got_of};
+ghost use Rattle.app_run.specs.Lines.{message_size, pipe_waited_for};
 ghost use Rattle.app_run.specs.Runners.{beginning};
 
 use crate::calls::Calls;
 use crate::line_calls::run_line;
+use crate::receipts::{show, take_got, take_receipt};
 use crate::registers::Registers;
 use app_script::Script;
-use bus_words::{BusAnswer, Receipt, ReceiptList};
+use bus_words::{BusAnswer, ReceiptList};
 use fsw_base::AppNo;
 use sb_calls::Pended;
 use script_lines::Line;
@@ -138,8 +133,8 @@ impl<'s> Runner<'s> {
         ensures same { SameBus (C.caller calls.old) (C.caller calls.new) }
     {
         match calls.look() {
-            Pended::Got(_) => {
-                take_receipt(calls, pipe, &mut self.receipts);
+            Pended::Got(number) => {
+                take_receipt(calls, pipe, number, &mut self.receipts);
                 self.waits_on = None;
             }
             Pended::TimeOut => self.waits_on = None,
@@ -159,7 +154,7 @@ impl<'s> Runner<'s> {
         self.next += 1;
         match run_line(calls, &self.registers, &mut self.message, line) {
             Some(answer) => {
-                receive(calls, &self.registers, line, &answer, &mut self.receipts);
+                take_got(calls, &self.registers, line, &answer, &mut self.receipts);
                 self.waits_on = pipe_waited_for(&self.registers, line, &answer);
                 self.registers.note(line, &answer);
             }
@@ -222,62 +217,6 @@ fn message_size(line: &Line) -> u32
     match line {
         Line::Send { size, .. } => *size,
         _ => 0,
-    }
-}
-
-// Adds the receipt of the pipe's last message, where there is one.
-fn take_receipt<C: Calls>(calls: &mut C, pipe: u32, receipts: &mut ReceiptList)
-    requires { 1 ≤ receipts.old.room }
-    ensures receipts { receipts.new.receipts ≡ receipts.old.receipts ++
-        option_to_list
-        (receipt_in (state_of (C.caller calls.old).core) (C.caller calls.old).app pipe) }
-    ensures room { receipts.old.room ≤ receipts.new.room + 1 }
-    ensures same { C.caller calls.new ≡ C.caller calls.old }
-{
-    if let Some(receipt) = calls.last_receipt(pipe) {
-        receipts.push(receipt);
-    }
-}
-
-// Adds the receipt of a line that was so answered: one where it got a message.
-#[tactic(auto, unfolding(script_runs::specs::Trace::call_of))]
-fn receive<C: Calls>(
-    calls: &mut C,
-    registers: &Registers,
-    line: &Line,
-    answer: &BusAnswer,
-    receipts: &mut ReceiptList,
-)
-    requires { 1 ≤ receipts.old.room }
-    ensures receipts { receipts.new.receipts ≡ receipts.old.receipts ++
-        got_of (C.caller calls.old) (call_of registers.now line.now) answer.now }
-    ensures room { receipts.old.room ≤ receipts.new.room + most_receipts answer.now }
-    ensures same { C.caller calls.new ≡ C.caller calls.old }
-{
-    let BusAnswer::Got(_) = answer else {
-        return;
-    };
-    match line {
-        Line::Receive { pipe } => take_receipt(calls, registers.pipe(*pipe), receipts),
-        Line::Pend { pipe } => take_receipt(calls, registers.pipe(*pipe), receipts),
-        _ => {}
-    }
-}
-
-// Adds the receipts of a line that makes no call.
-#[tactic(auto, unfolding(script_runs::specs::Told::shown))]
-fn show<C: Calls>(calls: &mut C, registers: &Registers, line: &Line, receipts: &mut ReceiptList)
-    requires { 1 ≤ receipts.old.room }
-    ensures receipts { receipts.new.receipts ≡ receipts.old.receipts ++
-        shown (C.caller calls.old).app (state_of (C.caller calls.old).core) registers.now line.now }
-    ensures room { receipts.old.room ≤ receipts.new.room + 1 }
-    ensures same { C.caller calls.new ≡ C.caller calls.old }
-{
-    if let Line::ShowPipe { pipe } = line {
-        match calls.last_receipt(registers.pipe(*pipe)) {
-            Some(receipt) => receipts.push(receipt),
-            None => receipts.push(Receipt::Nothing),
-        }
     }
 }
 

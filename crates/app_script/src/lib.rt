@@ -28,6 +28,3 @@ pub use forms::Form;
 pub use laws::{read_scripts_are_in_range, texts_are_scripts};
 pub use script::{Script, read_script};
 pub use script_lines::{BoxedRules, ByteText, Content, Line, MAX_RULES, Rule, RuleList};
-
-#[cfg(test)]
-mod tests;

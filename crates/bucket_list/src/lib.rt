@@ -23,8 +23,6 @@
 mod links;
 mod lists;
 mod steps;
-#[cfg(test)]
-mod tests;
 
 pub use links::Links;
 pub use lists::Lists;

@@ -7,7 +7,8 @@ use Rattle.es_pool.specs.Pool.{is_out, out_in}
 use Rattle.buf_desc.specs.Slots.{slot_at, is_live}
 use Rattle.bus_words.specs.Bus.{Item, Pipe}
 use Rattle.bus_store.specs.declared.store.BusStore.TheInside.{Inside}
-use Rattle.bus_store.specs.Words.{is_held, held, has_class, each_below, with_held}
+use Rattle.bus_words.specs.Held.{is_held, held, has_class, each_below}
+use Rattle.bus_store.specs.Words.{with_held}
 use Rattle.bus_store.specs.Inside.{store_of, Keeps, pipes_in, account_in, returned, after_send, after_release}
 use Rattle.bus_store.proofs.Blocked.{out_held}
 
@@ -23,7 +24,7 @@ pub held_law : (a : Inside) → Keeps a → ((d : ℕ) → is_live (slot_at a.de
 held_law a keeps live_out =
     ap (λ (l : List ℕ). let v : Account = record (account_in a.desk.pool) { out = l } in v)
     (each-same (out_in a.desk.pool.blocks) (λ class. count_by (has_class (pipes_in a.desk.slots a.tables.pipes) a.desk.pool.sizes class) (held (pipes_in a.desk.slots a.tables.pipes) a.given))
-    (λ class. out_held a.desk a.tables.pipes a.given class keeps.backed live_out) (length a.desk.pool.sizes))
+    (λ class. out_held a.desk a.tables.pipes a.given keeps.backed live_out class) (length a.desk.pool.sizes))
 
 -- What changes in the number of blocks that are out alone. --
 

@@ -8,7 +8,7 @@ use Rattle.std.proofs.lemmas.List.{get_or_default, get_or_past}
 use Rattle.std.proofs.lemmas.List.Elements.{All-head, All-tail}
 use Rattle.std.proofs.lemmas.List.Sums.{sum_by-cons, sum_by_push}
 use Rattle.fsw_base.specs.Blocks.{class_of}
-use Rattle.es_pool.specs.Pool.{is_out, class_at, out_in}
+use Rattle.es_pool.specs.Pool.{is_out, class_at, size_at, out_in, in_use_by}
 use Rattle.es_pool.specs.declared.blocks.CutBlock.{CutBlock}
 use Rattle.buf_desc.specs.Slots.{slot_at, sealed_at, is_sealed, is_live, number_in}
 use Rattle.buf_desc.specs.Desk.{Buffers}
@@ -17,7 +17,7 @@ use Rattle.bus_words.specs.Bus.{Item, Pipe}
 use Rattle.bus_tables.specs.declared.tables.ItemRow.{ItemRow}
 use Rattle.bus_tables.specs.Rows.{Row}
 use Rattle.bus_tables.specs.Uses.{item_use, uses_in, uses_of}
-use Rattle.bus_store.specs.Words.{is_held, numbers_to, held, items_of, asked_of}
+use Rattle.bus_words.specs.Held.{is_held, numbers_to, held, items_of, asked_of, has_class, block_of}
 use Rattle.bus_store.specs.Inside.{item_in, pipes_in, OfItems, AllItems, IsNamed, Backed}
 use Rattle.bus_store.proofs.Counted.{is_held-rows}
 use Rattle.bus_store.proofs.Tied.{sealed_live, sealed_number}
@@ -27,7 +27,7 @@ use Rattle.bus_store.proofs.Tied.{sealed_live, sealed_number}
 abbrev of_number : ℕ → Item → Bool
 of_number n item = eqb item.number n
 
-record IsFound (slots : List Slot) (P : ItemRow → Type 0) (n : ℕ) (items : List Item) : Type 0 where
+pub record IsFound (slots : List Slot) (P : ItemRow → Type 0) (n : ℕ) (items : List Item) : Type 0 where
   pub item : ItemRow
   pub is : find (of_number n) items ≡ Some (item_in slots item)
   pub number : item.number ≡ n
@@ -59,7 +59,7 @@ module _ (slots : List Slot) (P : ItemRow → Type 0) (n : ℕ) where
       at true e = here i rest e p
       at false e = past i rest e (later (let none = ap (λ b. cond {A = ℕ} b 1 0) e in omega (arith, some, none)))
 
-  found : (rows : List Row) → AllItems P rows → 1 ≤ uses_of n rows → IsFound slots P n (items_of (pipes_in slots rows))
+  pub found : (rows : List Row) → AllItems P rows → 1 ≤ uses_of n rows → IsFound slots P n (items_of (pipes_in slots rows))
   found [] all some = absurd (omega (arith, some))
   found (row ∷ rows) all some =
       let one = All-head (OfItems P) row rows all in
@@ -105,172 +105,203 @@ below-one (suc n) (suc d) f h none =
 
 -- Blocks. --
 
-module _ (b : Buffers) (rows : List Row) (given class : ℕ) (backed : Backed b rows given) (live_out : (d : ℕ) → is_live (slot_at b.slots d) ≡ is_out b.pool d) where
+module _ (b : Buffers) (rows : List Row) (given : ℕ) (backed : Backed b rows given) where
   abbrev pipes : List Pipe
   pipes = pipes_in b.slots rows
-
-  abbrev counts : ℕ → Bool
-  counts d = eqb (class_at b.pool d) class && is_out b.pool d
 
   abbrev number : ℕ → ℕ
   number d = number_in (slot_at b.slots d)
 
-  abbrev for_class : ℕ → Bool
-  for_class n = option_map_or (λ other. eqb other class) (class_of (asked_of pipes n) b.pool.sizes) false
-
   abbrev all : ℕ
   all = length b.pool.blocks
 
-  off : (c : Bool) → c ≡ false → c ≡ true → ⊥
-  off c x y = cc
+  -- an item of a block's send lies in this block
+  pub lies : (d : ℕ) → is_sealed (slot_at b.slots d) ≡ true → (i : ItemRow) → IsNamed b.slots i → i.number ≡ (sealed_at b.slots d).number → i.desc ≡ d
+  lies d sealed i named same =
+      backed.tied.numbers i.desc d (sealed_live (slot_at b.slots i.desc) named.sealed) (sealed_live (slot_at b.slots d) sealed)
+      (sealed_number (slot_at b.slots i.desc) named.sealed ∙ named.number ∙ same ∙ sym (sealed_number (slot_at b.slots d) sealed))
 
-  -- a block that is out is sealed for a number that was given and is used
-  sealed_out : (d : ℕ) → is_out b.pool d ≡ true → is_sealed (slot_at b.slots d) ≡ true
-  sealed_out d out = backed.tied.sealed d (live_out d ∙ out)
+  some_use : (n : ℕ) → 1 ≤ n → leb 1 n ≡ true
+  some_use n h = grind (arith, nat_tests)
 
-  used_out : (d : ℕ) → is_out b.pool d ≡ true → 1 ≤ uses_of (number d) rows
-  used_out d out =
-      let is = sealed_out d out in
-      omega (arith, backed.used d is, backed.tied.uses d is, ap (λ n. uses_of n rows) (sealed_number (slot_at b.slots d) is))
+  used : (n : ℕ) → leb 1 n ≡ true → 1 ≤ n
+  used n h = grind (arith, nat_tests)
 
-  both : (x y : Bool) → x ≡ true → y ≡ true → (x && y) ≡ true
-  both x y e f = cc
+  -- a send that is held has an item, and so a block
+  pub item_found : (n : ℕ) → is_held pipes n ≡ true → IsFound b.slots (IsNamed b.slots) n (items_of pipes)
+  item_found n is = found b.slots (IsNamed b.slots) n rows backed.tied.items (used (uses_of n rows) (sym (is_held-rows b.slots rows n) ∙ is))
 
-  at_zero : (d : ℕ) (x : Bool) → (is_out b.pool d ≡ true → x ≡ false) → cond {A = ℕ} (counts d && x) 1 0 ≡ 0
-  at_zero d x never = by_test (eqb (class_at b.pool d) class) (is_out b.pool d) refl
-    where
-      by_test : (m o : Bool) → is_out b.pool d ≡ o → cond {A = ℕ} ((m && o) && x) 1 0 ≡ 0
-      by_test false o e = refl
-      by_test true false e = refl
-      by_test true true e = ap (λ c. cond {A = ℕ} c 1 0) (never e)
+  -- the send of a block is held
+  pub block_held : (d : ℕ) → is_sealed (slot_at b.slots d) ≡ true → is_held pipes (sealed_at b.slots d).number ≡ true
+  block_held d sealed =
+      is_held-rows b.slots rows (sealed_at b.slots d).number
+      ∙ some_use (uses_of (sealed_at b.slots d).number rows) (omega (arith, backed.used d sealed, backed.tied.uses d sealed))
 
-  -- those of one number
-  of_one : ℕ → ℕ
-  of_one n = sum_below all (λ d. cond (counts d && eqb (number d) n) 1 0)
+  -- and the size asked for it has the block's class
+  pub block_class : (d : ℕ) → is_sealed (slot_at b.slots d) ≡ true → class_of (asked_of pipes (sealed_at b.slots d).number) b.pool.sizes ≡ Some (class_at b.pool d)
+  block_class d sealed =
+      let it = item_found (sealed_at b.slots d).number (block_held d sealed) in
+      ap (λ o. class_of (option_map_or {U = ℕ} (λ (i : Item). i.asked) o 0) b.pool.sizes) it.is
+      ∙ ap (λ e. class_of (length (sealed_at b.slots e).bytes) b.pool.sizes) (lies d sealed it.item it.fact it.number)
+      ∙ backed.tied.sizes d sealed
 
-  eqb_same : (n : ℕ) → eqb n n ≡ true
-  eqb_same n = grind (arith, nat_tests)
+  -- Where each block weighs as much as its send is worth, the blocks that are out weigh as much as the sends that are held are worth.
+  module _ (live_out : (d : ℕ) → is_live (slot_at b.slots d) ≡ is_out b.pool d) (weight worth : ℕ → ℕ) (fair : (d : ℕ) → is_sealed (slot_at b.slots d) ≡ true → weight d ≡ worth (sealed_at b.slots d).number) where
+    abbrev counted : ℕ → Bool → ℕ
+    counted d x = cond {A = ℕ} (is_out b.pool d && x) (weight d) 0
 
-  some : (m n : ℕ) → leb m n ≡ true → m ≤ n
-  some m n e = grind (arith, nat_tests)
+    off : (c : Bool) → c ≡ false → c ≡ true → ⊥
+    off c x y = cc
 
-  none_of : (n : ℕ) → leb 1 n ≡ false → n ≡ 0
-  none_of n e = grind (arith, nat_tests)
+    -- a block that is out is sealed for a send that is held
+    held_out : (d : ℕ) → is_out b.pool d ≡ true → is_held pipes (number d) ≡ true
+    held_out d out =
+        let sealed = backed.tied.sealed d (live_out d ∙ out) in
+        ap (is_held pipes) (sealed_number (slot_at b.slots d) sealed) ∙ block_held d sealed
 
-  out_within : (d : ℕ) → is_out b.pool d ≡ true → d < all
-  out_within d e = at (cases_lt d all)
-    where
-      at : (d < all) ⊎ (all ≤ d) → d < all
-      at (inl h) = h
-      at (inr h) = absurd (off (is_out b.pool d) (ap (λ (x : CutBlock). x.out) (get_or_past b.pool.blocks d (record { class = 0; out = false }) h)) e)
+    at_zero : (d : ℕ) (x : Bool) → (is_out b.pool d ≡ true → x ≡ false) → counted d x ≡ 0
+    at_zero d x never = by_test (is_out b.pool d) refl
+      where
+        by_test : (o : Bool) → is_out b.pool d ≡ o → cond {A = ℕ} (o && x) (weight d) 0 ≡ 0
+        by_test false e = refl
+        by_test true e = ap (λ c. cond {A = ℕ} c (weight d) 0) (never e)
 
-  one_is : (n : ℕ) → of_one n ≡ cond {A = ℕ} (is_held pipes n) (cond {A = ℕ} (for_class n) 1 0) 0
-  unfolding of_one
-  one_is n = at (leb 1 (uses_of n rows)) refl
-    where
-      held_is : (c : Bool) → leb 1 (uses_of n rows) ≡ c → cond {A = ℕ} (is_held pipes n) (cond {A = ℕ} (for_class n) 1 0) 0 ≡ cond {A = ℕ} c (cond {A = ℕ} (for_class n) 1 0) 0
-      held_is c e = ap (λ t. cond {A = ℕ} t (cond {A = ℕ} (for_class n) 1 0) 0) (is_held-rows b.slots rows n ∙ e)
+    at_one : (d : ℕ) (x : Bool) → is_out b.pool d ≡ true → x ≡ true → counted d x ≡ weight d
+    at_one d x out is = ap (λ c. cond {A = ℕ} c (weight d) 0) (both (is_out b.pool d) x out is)
+      where
+        both : (c e : Bool) → c ≡ true → e ≡ true → (c && e) ≡ true
+        both c e f g = cc
 
-      at : (c : Bool) → leb 1 (uses_of n rows) ≡ c → sum_below all (λ d. cond (counts d && eqb (number d) n) 1 0) ≡ cond {A = ℕ} (is_held pipes n) (cond {A = ℕ} (for_class n) 1 0) 0
-      at false e =
-          below-none all (λ d. cond (counts d && eqb (number d) n) 1 0)
-          (λ d h. at_zero d (eqb (number d) n) (λ out. not_it d out (eqb (number d) n) refl))
-          ∙ sym (held_is false e)
-        where
-          not_it : (d : ℕ) → is_out b.pool d ≡ true → (c : Bool) → eqb (number d) n ≡ c → eqb (number d) n ≡ false
-          not_it d out false f = f
-          not_it d out true f = absurd (omega (arith, used_out d out, none_of (uses_of n rows) e, ap (λ k. uses_of k rows) (eqb-true (number d) n f)))
-      at true e =
-          let it = found b.slots (IsNamed b.slots) n rows backed.tied.items (some 1 (uses_of n rows) e) in
-          let d = it.item.desc in
-          let sealed = it.fact.sealed in
-          let live = sealed_live (slot_at b.slots d) sealed in
-          let out : is_out b.pool d ≡ true = sym (live_out d) ∙ live in
-          let named : number d ≡ n = sealed_number (slot_at b.slots d) sealed ∙ it.fact.number ∙ it.number in
-          let asked : asked_of pipes n ≡ length (sealed_at b.slots d).bytes = ap (λ o. option_map_or {U = ℕ} (λ (i : Item). i.asked) o 0) it.is in
-          let its_class : for_class n ≡ eqb (class_at b.pool d) class =
-          ap (λ k. option_map_or (λ other. eqb other class) (class_of k b.pool.sizes) false) asked ∙ ap (λ o. option_map_or (λ other. eqb other class) o false) (backed.tied.sizes d sealed) in
-          below-one all d (λ i. cond (counts i && eqb (number i) n) 1 0) (out_within d out)
-          (λ i h apart. at_zero i (eqb (number i) n) (λ o. not_it i o d apart live named (eqb (number i) n) refl))
-          ∙ here_is d (eqb (class_at b.pool d) class) out (ap (λ k. eqb k n) named ∙ eqb_same n)
-          ∙ ap (λ c. cond {A = ℕ} c 1 0) (sym its_class)
-          ∙ sym (held_is true e)
-        where
-          here_is : (d : ℕ) (m : Bool) → is_out b.pool d ≡ true → eqb (number d) n ≡ true → cond {A = ℕ} ((m && is_out b.pool d) && eqb (number d) n) 1 0 ≡ cond {A = ℕ} m 1 0
-          here_is d true out f = ap (λ c. cond {A = ℕ} c 1 0) (both (is_out b.pool d) (eqb (number d) n) out f)
-          here_is d false out f = refl
+    -- those of one number
+    of_one : ℕ → ℕ
+    of_one n = sum_below all (λ d. counted d (eqb (number d) n))
 
-          not_it : (i : ℕ) → is_out b.pool i ≡ true → (d : ℕ) → (d ≡ i → ⊥) → is_live (slot_at b.slots d) ≡ true → number d ≡ n → (c : Bool) → eqb (number i) n ≡ c → eqb (number i) n ≡ false
-          not_it i o d apart live named false f = f
-          not_it i o d apart live named true f = absurd (apart (backed.tied.numbers d i live (live_out i ∙ o) (named ∙ sym (eqb-true (number i) n f))))
+    eqb_same : (n : ℕ) → eqb n n ≡ true
+    eqb_same n = grind (arith, nat_tests)
 
-  -- those of numbers up to one
-  up_to : ℕ → ℕ
-  up_to m = sum_below all (λ d. cond (counts d && leb (number d) m) 1 0)
+    out_within : (d : ℕ) → is_out b.pool d ≡ true → d < all
+    out_within d e = at (cases_lt d all)
+      where
+        at : (d < all) ⊎ (all ≤ d) → d < all
+        at (inl h) = h
+        at (inr h) = absurd (off (is_out b.pool d) (ap (λ (x : CutBlock). x.out) (get_or_past b.pool.blocks d (record { class = 0; out = false }) h)) e)
 
-  up_is : (m : ℕ) → up_to m ≡ count_by for_class (held pipes m)
-  unfolding up_to of_one
-  up_is zero = below-none all (λ d. cond (counts d && leb (number d) 0) 1 0) (λ d h. at_zero d (leb (number d) 0) (λ out. above d out))
-    where
-      low : (n : ℕ) → 1 ≤ n → leb n 0 ≡ false
-      low n h = grind (arith, nat_tests)
+    one_is : (n : ℕ) → of_one n ≡ cond {A = ℕ} (is_held pipes n) (worth n) 0
+    unfolding of_one
+    one_is n = at (is_held pipes n) refl
+      where
+        at : (c : Bool) → is_held pipes n ≡ c → sum_below all (λ d. counted d (eqb (number d) n)) ≡ cond {A = ℕ} c (worth n) 0
+        at false e = below-none all (λ d. counted d (eqb (number d) n)) (λ d h. at_zero d (eqb (number d) n) (λ out. not_it d out (eqb (number d) n) refl))
+          where
+            not_it : (d : ℕ) → is_out b.pool d ≡ true → (c : Bool) → eqb (number d) n ≡ c → eqb (number d) n ≡ false
+            not_it d out false f = f
+            not_it d out true f = absurd (off (is_held pipes n) e (ap (is_held pipes) (sym (eqb-true (number d) n f)) ∙ held_out d out))
+        at true e =
+            let it = item_found n e in
+            let d = it.item.desc in
+            let sealed = it.fact.sealed in
+            let live = sealed_live (slot_at b.slots d) sealed in
+            let out : is_out b.pool d ≡ true = sym (live_out d) ∙ live in
+            let named : number d ≡ n = sealed_number (slot_at b.slots d) sealed ∙ it.fact.number ∙ it.number in
+            below-one all d (λ i. counted i (eqb (number i) n)) (out_within d out)
+            (λ i h apart. at_zero i (eqb (number i) n) (λ o. not_it i o d apart live named (eqb (number i) n) refl))
+            ∙ at_one d (eqb (number d) n) out (ap (λ k. eqb k n) named ∙ eqb_same n)
+            ∙ fair d sealed
+            ∙ ap worth (it.fact.number ∙ it.number)
+          where
+            not_it : (i : ℕ) → is_out b.pool i ≡ true → (d : ℕ) → (d ≡ i → ⊥) → is_live (slot_at b.slots d) ≡ true → number d ≡ n → (c : Bool) → eqb (number i) n ≡ c → eqb (number i) n ≡ false
+            not_it i o d apart live named false f = f
+            not_it i o d apart live named true f = absurd (apart (backed.tied.numbers d i live (live_out i ∙ o) (named ∙ sym (eqb-true (number i) n f))))
 
-      above : (d : ℕ) → is_out b.pool d ≡ true → leb (number d) 0 ≡ false
-      above d out = low (number d) ((backed.tied.given d (live_out d ∙ out)).first)
-  up_is (suc m) =
-      below-same all (λ d. cond (counts d && leb (number d) (suc m)) 1 0) (λ d. cond (counts d && leb (number d) m) 1 0 + cond (counts d && eqb (number d) (suc m)) 1 0) (λ d h. split (counts d) (number d))
-      ∙ below-sum all (λ d. cond (counts d && leb (number d) m) 1 0) (λ d. cond (counts d && eqb (number d) (suc m)) 1 0)
-      ∙ ap (λ k. k + of_one (suc m)) (up_is m)
-      ∙ ap (λ k. count_by for_class (held pipes m) + k) (one_is (suc m))
-      ∙ sym (pushed (numbers_to m))
-    where
-      split : (c : Bool) (n : ℕ) → cond {A = ℕ} (c && leb n (suc m)) 1 0 ≡ cond (c && leb n m) 1 0 + cond (c && eqb n (suc m)) 1 0
-      split true n = grind (arith, nat_tests)
-      split false n = refl
+    -- those of numbers up to one
+    up_to : ℕ → ℕ
+    up_to m = sum_below all (λ d. counted d (leb (number d) m))
 
-      pushed : (xs : List ℕ) → count_by for_class (filter (is_held pipes) (xs ++ suc m ∷ [])) ≡ count_by for_class (filter (is_held pipes) xs) + cond {A = ℕ} (is_held pipes (suc m)) (cond {A = ℕ} (for_class (suc m)) 1 0) 0
-      pushed [] = by_test (is_held pipes (suc m))
-        where
-          by_test : (t : Bool) → count_by for_class (cond {A = List ℕ} t (suc m ∷ []) []) ≡ 0 + cond {A = ℕ} t (cond {A = ℕ} (for_class (suc m)) 1 0) 0
-          by_test true = sum_by_push (λ n. cond {A = ℕ} (for_class n) 1 0) [] (suc m)
-          by_test false = refl
-      pushed (x ∷ xs) = by_test (is_held pipes x) (pushed xs)
-        where
-          more : ℕ
-          more = cond {A = ℕ} (is_held pipes (suc m)) (cond {A = ℕ} (for_class (suc m)) 1 0) 0
+    up_is : (m : ℕ) → up_to m ≡ sum_by worth (held pipes m)
+    unfolding up_to of_one
+    up_is zero = below-none all (λ d. counted d (leb (number d) 0)) (λ d h. at_zero d (leb (number d) 0) (λ out. above d out))
+      where
+        low : (n : ℕ) → 1 ≤ n → leb n 0 ≡ false
+        low n h = grind (arith, nat_tests)
 
-          by_test : (t : Bool) → count_by for_class (filter (is_held pipes) (xs ++ suc m ∷ [])) ≡ count_by for_class (filter (is_held pipes) xs) + more →
-              count_by for_class (cond {A = List ℕ} t (x ∷ filter (is_held pipes) (xs ++ suc m ∷ [])) (filter (is_held pipes) (xs ++ suc m ∷ []))) ≡ count_by for_class (cond {A = List ℕ} t (x ∷ filter (is_held pipes) xs) (filter (is_held pipes) xs)) + more
-          by_test false ih = ih
-          by_test true ih =
-              let one = sum_by-cons (λ n. cond {A = ℕ} (for_class n) 1 0) x (filter (is_held pipes) (xs ++ suc m ∷ [])) in
-              let other = sum_by-cons (λ n. cond {A = ℕ} (for_class n) 1 0) x (filter (is_held pipes) xs) in
-              omega (arith, one, other, ih)
+        above : (d : ℕ) → is_out b.pool d ≡ true → leb (number d) 0 ≡ false
+        above d out = low (number d) ((backed.tied.given d (live_out d ∙ out)).first)
+    up_is (suc m) =
+        below-same all (λ d. counted d (leb (number d) (suc m))) (λ d. counted d (leb (number d) m) + counted d (eqb (number d) (suc m))) (λ d h. split (is_out b.pool d) (number d) (weight d))
+        ∙ below-sum all (λ d. counted d (leb (number d) m)) (λ d. counted d (eqb (number d) (suc m)))
+        ∙ ap (λ k. k + of_one (suc m)) (up_is m)
+        ∙ ap (λ k. sum_by worth (held pipes m) + k) (one_is (suc m))
+        ∙ sym (pushed (numbers_to m))
+      where
+        split : (c : Bool) (n w : ℕ) → cond {A = ℕ} (c && leb n (suc m)) w 0 ≡ cond (c && leb n m) w 0 + cond (c && eqb n (suc m)) w 0
+        split true n w = grind (arith, nat_tests)
+        split false n w = refl
 
+        pushed : (xs : List ℕ) → sum_by worth (filter (is_held pipes) (xs ++ suc m ∷ [])) ≡ sum_by worth (filter (is_held pipes) xs) + cond {A = ℕ} (is_held pipes (suc m)) (worth (suc m)) 0
+        pushed [] = by_test (is_held pipes (suc m))
+          where
+            by_test : (t : Bool) → sum_by worth (cond {A = List ℕ} t (suc m ∷ []) []) ≡ 0 + cond {A = ℕ} t (worth (suc m)) 0
+            by_test true = sum_by_push worth [] (suc m)
+            by_test false = refl
+        pushed (x ∷ xs) = by_test (is_held pipes x) (pushed xs)
+          where
+            more : ℕ
+            more = cond {A = ℕ} (is_held pipes (suc m)) (worth (suc m)) 0
+
+            by_test : (t : Bool) → sum_by worth (filter (is_held pipes) (xs ++ suc m ∷ [])) ≡ sum_by worth (filter (is_held pipes) xs) + more →
+                sum_by worth (cond {A = List ℕ} t (x ∷ filter (is_held pipes) (xs ++ suc m ∷ [])) (filter (is_held pipes) (xs ++ suc m ∷ []))) ≡ sum_by worth (cond {A = List ℕ} t (x ∷ filter (is_held pipes) xs) (filter (is_held pipes) xs)) + more
+            by_test false ih = ih
+            by_test true ih =
+                let one = sum_by-cons worth x (filter (is_held pipes) (xs ++ suc m ∷ [])) in
+                let other = sum_by-cons worth x (filter (is_held pipes) xs) in
+                omega (arith, one, other, ih)
+
+    abbrev cut : ℕ → CutBlock
+    cut d = get_or b.pool.blocks d (record { class = 0; out = true })
+
+    -- all of them: f tells what a block weighs by what the pool keeps of it
+    pub weighed : (f : CutBlock → ℕ) → ((x : CutBlock) → x.out ≡ false → f x ≡ 0) → ((d : ℕ) → f (record { class = class_at b.pool d; out = true }) ≡ weight d) →
+        sum_by f b.pool.blocks ≡ sum_by worth (held pipes given)
+    unfolding up_to
+    weighed f none some =
+        below-list f b.pool.blocks (record { class = 0; out = true })
+        ∙ below-same all (λ d. f (cut d)) (λ d. counted d (leb (number d) given)) (λ d h. by_out d (get_or_default b.pool.blocks d (record { class = 0; out = true }) (record { class = 0; out = false }) h) (is_out b.pool d) refl)
+        ∙ up_is given
+      where
+        low : (m n : ℕ) → m ≤ n → leb m n ≡ true
+        low m n h = grind (arith, nat_tests)
+
+        by_out : (d : ℕ) → cut d ≡ get_or b.pool.blocks d (record { class = 0; out = false }) → (o : Bool) → is_out b.pool d ≡ o → f (cut d) ≡ counted d (leb (number d) given)
+        by_out d same true e =
+            let out : (cut d).out ≡ true = ap (λ (x : CutBlock). x.out) same ∙ e in
+            ap (λ o. f (record { class = (cut d).class; out = o })) out
+            ∙ some d
+            ∙ sym (at_one d (leb (number d) given) e (low (number d) given ((backed.tied.given d (live_out d ∙ e)).last)))
+        by_out d same false e =
+            none (cut d) (ap (λ (x : CutBlock). x.out) same ∙ e)
+            ∙ sym (at_zero d (leb (number d) given) (λ out. absurd (off (is_out b.pool d) e out)))
+
+module _ (b : Buffers) (rows : List Row) (given : ℕ) (backed : Backed b rows given) (live_out : (d : ℕ) → is_live (slot_at b.slots d) ≡ is_out b.pool d) where
   -- as many blocks of a class are out as sends of that class are held
-  pub out_held : out_in b.pool.blocks class ≡ count_by for_class (held pipes given)
-  unfolding up_to
-  out_held =
-      below-list (λ x. cond {A = ℕ} (eqb x.class class && x.out) 1 0) b.pool.blocks (record { class = 0; out = false })
-      ∙ below-same all (λ i. cond {A = ℕ} (eqb (get_or b.pool.blocks i (record { class = 0; out = false })).class class && is_out b.pool i) 1 0) (λ d. cond (counts d && leb (number d) given) 1 0)
-      (λ d h. ap (λ (x : CutBlock). cond {A = ℕ} (eqb x.class class && is_out b.pool d) 1 0) (get_or_default b.pool.blocks d (record { class = 0; out = false }) (record { class = 0; out = true }) h) ∙ sym (by_out d (is_out b.pool d) refl))
-      ∙ up_is given
+  pub out_held : (class : ℕ) → out_in b.pool.blocks class ≡ count_by (has_class (pipes_in b.slots rows) b.pool.sizes class) (held (pipes_in b.slots rows) given)
+  out_held class =
+      weighed b rows given backed live_out
+      (λ d. cond {A = ℕ} (eqb (class_at b.pool d) class) 1 0)
+      (λ n. cond {A = ℕ} (has_class (pipes_in b.slots rows) b.pool.sizes class n) 1 0)
+      (λ d sealed. sym (ap (λ o. cond {A = ℕ} (option_map_or (λ other. eqb other class) o false) 1 0) (block_class b rows given backed d sealed)))
+      (λ x. cond {A = ℕ} (eqb x.class class && x.out) 1 0) (λ x out. not_out (eqb x.class class) x.out out) (λ d. is_out_too (eqb (class_at b.pool d) class))
     where
-      by_out : (d : ℕ) (o : Bool) → is_out b.pool d ≡ o → cond {A = ℕ} (counts d && leb (number d) given) 1 0 ≡ cond {A = ℕ} (eqb (class_at b.pool d) class && is_out b.pool d) 1 0
-      by_out d true e =
-          let last = (backed.tied.given d (live_out d ∙ e)).last in
-          ap (λ t. cond {A = ℕ} (counts d && t) 1 0) (low (number d) given last) ∙ ap (λ t. cond {A = ℕ} t 1 0) (and_true (counts d))
-        where
-          low : (m n : ℕ) → m ≤ n → leb m n ≡ true
-          low m n h = grind (arith, nat_tests)
+      not_out : (c o : Bool) → o ≡ false → cond {A = ℕ} (c && o) 1 0 ≡ 0
+      not_out true o e = ap (λ t. cond {A = ℕ} t 1 0) e
+      not_out false o e = refl
 
-          and_true : (t : Bool) → (t && true) ≡ t
-          and_true true = refl
-          and_true false = refl
-      by_out d false e =
-          at_zero d (leb (number d) given) (λ out. absurd (off (is_out b.pool d) e out))
-          ∙ sym (by_class (eqb (class_at b.pool d) class) (is_out b.pool d) e)
-        where
-          by_class : (m o : Bool) → o ≡ false → cond {A = ℕ} (m && o) 1 0 ≡ 0
-          by_class true o f = ap (λ t. cond {A = ℕ} t 1 0) f
-          by_class false o f = refl
+      is_out_too : (c : Bool) → cond {A = ℕ} (c && true) 1 0 ≡ cond {A = ℕ} c 1 0
+      is_out_too true = refl
+      is_out_too false = refl
+
+  -- and they have the bytes of the blocks for the sends that are held
+  pub in_use_held : in_use_by b.pool.sizes b.pool.blocks ≡ sum_by (block_of b.pool.sizes (pipes_in b.slots rows)) (held (pipes_in b.slots rows) given)
+  in_use_held =
+      weighed b rows given backed live_out (size_at b.pool) (block_of b.pool.sizes (pipes_in b.slots rows))
+      (λ d sealed. sym (ap (λ (o : Option ℕ). option_map_or {U = ℕ} (λ c. get_or b.pool.sizes c 0) o 0) (block_class b rows given backed d sealed)))
+      (λ x. cond {A = ℕ} x.out (get_or b.pool.sizes x.class 0) 0) (λ x out. ap (λ t. cond {A = ℕ} t (get_or b.pool.sizes x.class 0) 0) out) (λ d. refl)

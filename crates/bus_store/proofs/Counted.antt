@@ -9,9 +9,9 @@ use Rattle.bus_tables.specs.declared.tables.ItemRow.{ItemRow}
 use Rattle.bus_tables.specs.Rows.{Row}
 use Rattle.bus_tables.specs.Uses.{item_use, uses_in, uses_of}
 use Rattle.bus_store.specs.Inside.{item_in, pipe_by, pipes_in}
-use Rattle.bus_store.specs.Words.{names, named_by, is_held}
+use Rattle.bus_words.specs.Held.{names, named_by, is_held}
 
-names-row : (slots : List Slot) (n : ℕ) (o : Option ItemRow) → names n (option_map (item_in slots) o) ≡ item_use n o
+pub names-row : (slots : List Slot) (n : ℕ) (o : Option ItemRow) → names n (option_map (item_in slots) o) ≡ item_use n o
 names-row slots n None = refl
 names-row slots n (Some i) = refl
 

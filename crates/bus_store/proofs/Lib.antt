@@ -2,10 +2,12 @@ pub mod Accounts
 pub mod Added
 pub mod Bags
 pub mod Blocked
+pub mod BlocksShown
 pub mod Changes
 pub mod Counted
 pub mod Created
 pub mod Emptied
+pub mod FirstReceives
 pub mod Items
 pub mod Lasts
 pub mod Meaning
@@ -17,5 +19,6 @@ pub mod Received
 pub mod Receives
 pub mod Removed
 pub mod Sends
+pub mod Shared
 pub mod Stores
 pub mod Tied

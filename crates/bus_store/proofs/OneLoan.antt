@@ -17,7 +17,7 @@ use Rattle.bus_store.proofs.Tied.{sealed_live, sealed_number}
 
 module _ (slots : List Slot) (numbers : HaveOwnNumbers slots) where
   -- they lie in one block
-  one_block : (x y : ItemRow) → IsNamed slots x → IsNamed slots y → x.number ≡ y.number → x.desc ≡ y.desc
+  pub one_block : (x y : ItemRow) → IsNamed slots x → IsNamed slots y → x.number ≡ y.number → x.desc ≡ y.desc
   one_block x y is also same =
       numbers x.desc y.desc (sealed_live (slot_at slots x.desc) is.sealed) (sealed_live (slot_at slots y.desc) also.sealed)
       (sealed_number (slot_at slots x.desc) is.sealed ∙ is.number ∙ same ∙ sym (sealed_number (slot_at slots y.desc) also.sealed ∙ also.number))

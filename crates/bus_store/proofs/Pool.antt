@@ -11,7 +11,7 @@ use Rattle.es_pool.specs.Account.{IsAccountOf}
 use Rattle.es_pool.specs.declared.blocks.CutBlock.{CutBlock}
 use Rattle.es_pool.proofs.Law.{room_alike, draws_alike, returns_alike, account_new, moved_drawn}
 use Rattle.bus_store.specs.Inside.{account_in, returned}
-use Rattle.bus_store.specs.Words.{each_below}
+use Rattle.bus_words.specs.Held.{each_below}
 use Rattle.bus_store.specs.Store.{unused}
 
 -- Lists told place by place. --

@@ -1,5 +1,5 @@
 -- What is asked of one pipe.
-use Rattle.std.proofs.Common.{◌≡◌, ℕ, Bool, true, false, cond, eqb, List, map, find, Option, Some, None, refl, ap, ◌∙◌}
+use Rattle.std.proofs.Common.{◌≡◌, ℕ, Bool, true, false, cond, eqb, List, [], ◌∷◌, map, find, Option, Some, None, refl, ap, ◌∙◌}
 use Rattle.std.specs.Option.{option_map}
 use Rattle.std.specs.Str.{bytes_eq}
 use Rattle.fsw_base.proofs.Lists.{find-map}
@@ -8,7 +8,9 @@ use Rattle.bus_tables.specs.declared.tables.ItemRow.{ItemRow}
 use Rattle.buf_desc.specs.declared.slot.Slot.{Slot}
 use Rattle.bus_tables.specs.Rows.{Row, row_of, oldest_item, last_item, last_row_item, owns_row}
 use Rattle.bus_store.specs.Inside.{item_in, pipe_by, pipes_in}
+use Rattle.bus_tables.specs.Tables.{IsRising}
 use Rattle.bus_store.specs.Words.{oldest_of, last_of}
+use Rattle.bus_store.specs.Words as words
 use Rattle.bus_store.proofs.Meaning.{oldest_of-rows, last_of-rows, owns-rows}
 
 twice : {X : Type 0} (read : ItemRow → Item) (f : Pipe → X) (o : Option Row) → option_map f (option_map (pipe_by read) o) ≡ option_map (λ row. f (pipe_by read row)) o
@@ -53,3 +55,8 @@ last_number slots rows app number =
     by_test true None = refl
     by_test true (Some i) = refl
     by_test false o = refl
+
+-- the pipes stand in order as their rows do
+pub rising-rows : (read : ItemRow → Item) (below : ℕ) (rows : List Row) → IsRising below rows → words.IsRising below (map (pipe_by read) rows)
+rising-rows read below [] rises = tt
+rising-rows read below (row ∷ rows) rises = (rises.0, rising-rows read row.number rows rises.1)

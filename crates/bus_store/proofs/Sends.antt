@@ -19,7 +19,8 @@ use Rattle.bus_tables.specs.Uses.{uses_of}
 use Rattle.bus_tables.proofs.UsesCounted.{delivered_uses}
 use Rattle.bus_store.specs.Store.{LastLoan}
 use Rattle.bus_store.specs.Words.{missed}
-use Rattle.bus_store.specs.Inside.{pipes_in, loan_in, account_in, AllItems, IsNamed, lasts_of, IsGiven, AreTied, Backed, Adds, returned, after_send}
+use Rattle.bus_store.specs.Blocks.{IsGiven}
+use Rattle.bus_store.specs.Inside.{pipes_in, loan_in, account_in, AllItems, IsNamed, lasts_of, AreTied, Backed, Adds, returned, after_send}
 use Rattle.bus_store.proofs.Items.{items_weaker, items_both, items_delivered, no_uses, unused, lasts_few, lasts_delivered}
 use Rattle.bus_store.proofs.Meaning.{IsSending, message_of, deliver-rows, reached-rows, missed-rows}
 use Rattle.bus_store.proofs.Pool.{IsDrawn, drawn_for, returned_for}

@@ -15,7 +15,8 @@ use Rattle.buf_desc.specs.declared.slot.Slot.TheVariants.{Free, Unsent, Sealed}
 use Rattle.buf_desc.proofs.Others.{slot_changed, numbers_changed}
 use Rattle.bus_tables.specs.declared.tables.ItemRow.{ItemRow}
 use Rattle.bus_tables.specs.Rows.{Row}
-use Rattle.bus_store.specs.Inside.{item_in, pipes_in, loan_at, loan_in, account_in, OfItems, AllItems, IsNamed, IsGiven, AreTied, Adds}
+use Rattle.bus_store.specs.Blocks.{IsGiven}
+use Rattle.bus_store.specs.Inside.{item_in, pipes_in, loan_at, loan_in, account_in, OfItems, AllItems, IsNamed, AreTied, Adds}
 use Rattle.bus_store.proofs.Items.{items_weaker}
 use Rattle.bus_store.proofs.Meaning.{pipes_alike}
 use Rattle.bus_store.proofs.Pool.{returned_for, class_given_back}

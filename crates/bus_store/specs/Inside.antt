@@ -15,8 +15,9 @@ use Rattle.bus_tables.specs.declared.tables.ItemRow.{ItemRow}
 use Rattle.bus_tables.specs.Rows.{Row}
 use Rattle.bus_tables.specs.Uses.{item_use, uses_of}
 use Rattle.bus_store.specs.declared.store.BusStore.TheInside.{Inside}
+use Rattle.bus_store.specs.Blocks.{IsGiven}
 use Rattle.bus_store.specs.Store.{Store, LastLoan}
-use Rattle.bus_store.specs.Words.{is_held, each_below}
+use Rattle.bus_words.specs.Held.{is_held, each_below}
 
 -- What rows stand for. --
 
@@ -102,11 +103,6 @@ pub record IsNamed (slots : List Slot) (item : ItemRow) : Type 0 where
 -- how many pipes received the send last
 abbrev pub lasts_of : ℕ → List Row → ℕ
 lasts_of number rows = sum_by (λ row. item_use number row.last) rows
-
--- a number is one of those given
-pub record IsGiven (given number : ℕ) : Type 0 where
-  pub first : 1 ≤ number
-  pub last : number ≤ given
 
 -- The items name blocks that were sealed for them; each live block is sealed, has so many uses and so many views out as its
 -- send counts, a number of its own, one of those given, and the size for its message.

@@ -1,11 +1,11 @@
--- What is sent, who misses it, which sends are held, and what that does to the pool.
-use Rattle.std.specs.Prelude.{ℕ, zero, suc, ◌+◌, ◌%◌, ◌==◌, nat_le, Bool, List, [], ◌∷◌, ◌++◌, length, map, find, filter, count_by, sum_by, false, Option, Some, None, if◌then◌else◌}
-use Rattle.std.specs.Option.{option_map_or, option_and_then, option_to_list}
-use Rattle.fsw_base.specs.Blocks.{class_of}
+-- What is sent, who misses it, and what the sends that are held do to the pool.
+use Rattle.std.specs.Prelude.{ℕ, ◌+◌, ◌%◌, ◌<◌, ◌==◌, Bool, List, [], ◌∷◌, ◌++◌, length, map, find, Option, Some, None, if◌then◌else◌}
+use Rattle.std.specs.Option.{option_map_or, option_and_then}
 use Rattle.fsw_base.specs.Starts.{start_of}
 use Rattle.fsw_base.specs.PoolAccounts.{Account}
 use Rattle.bus_words.specs.Bus.{Item, Pipe, Subscription, Sending, Verdict, Skip, In, verdict, pipe_at, with_pipe, offered, oldest}
 use Rattle.bus_words.specs.Bus as bus
+use Rattle.bus_words.specs.Held.{blocks_held}
 use Rattle.bus_words.specs.Machine.{Reads, stamped}
 use Rattle.bus_words.specs.Acts.{NextCount, next_in}
 use Rattle.bus_tables.specs.declared.misses.Miss.{Miss}
@@ -23,6 +23,11 @@ oldest_of pipes number = option_and_then (λ pipe. oldest pipe.queue) (pipe_at p
 -- the last item of the pipe of this number
 abbrev pub last_of : List Pipe → ℕ → Option Item
 last_of pipes number = option_and_then (λ pipe. pipe.last) (pipe_at pipes number)
+
+-- the pipes' numbers rise, all of them above this one
+abbrev pub IsRising : ℕ → List Pipe → Type 0
+IsRising below [] = Unit {0}
+IsRising below (pipe ∷ pipes) = (below < pipe.number) × IsRising pipe.number pipes
 
 -- how many messages wait on the pipe of this number
 abbrev pub waiting_on : List Pipe → ℕ → ℕ
@@ -78,51 +83,8 @@ abbrev pub missed : Sending → List Subscription → List Pipe → List Miss
 missed sending [] pipes = []
 missed sending (sub ∷ subs) pipes = missed_by sending sub pipes ++ missed sending subs (with_pipe (offered sending sub) sub.pipe pipes)
 
--- What is held. --
-
--- 1 where there is an item, and it is of this send
-abbrev pub names : ℕ → Option Item → ℕ
-names number None = 0
-names number (Some item) = if item.number == number then 1 else 0
-
--- how often a pipe names the send: once for each of its messages that waits, and once where it was received last
-abbrev pub named_by : ℕ → Pipe → ℕ
-named_by number pipe = count_by (λ item. item.number == number) pipe.queue + names number pipe.last
-
--- a send is held as long as a pipe names it
-abbrev pub is_held : List Pipe → ℕ → Bool
-is_held pipes number = nat_le 1 (sum_by (named_by number) pipes)
-
--- the numbers from 1 to this one
-abbrev pub numbers_to : ℕ → List ℕ
-numbers_to zero = []
-numbers_to (suc n) = numbers_to n ++ suc n ∷ []
-
--- the sends that are held, of so many
-abbrev pub held : List Pipe → ℕ → List ℕ
-held pipes given = filter (is_held pipes) (numbers_to given)
-
--- all items of the pipes: of each the one received last, then those that wait
-abbrev pub items_of : List Pipe → List Item
-items_of [] = []
-items_of (pipe ∷ pipes) = option_to_list pipe.last ++ (pipe.queue ++ items_of pipes)
-
--- the size first asked for under a number that is held
-abbrev pub asked_of : List Pipe → ℕ → ℕ
-asked_of pipes number = option_map_or (λ item. item.asked) (find (λ item. item.number == number) (items_of pipes)) 0
-
 -- The pool. --
-
--- whether the block for a send that is held is of this class of the sizes
-abbrev pub has_class : List Pipe → List ℕ → ℕ → ℕ → Bool
-has_class pipes sizes class number = option_map_or (λ other. other == class) (class_of (asked_of pipes number) sizes) false
-
--- what is told of each place below so many
-abbrev pub each_below : (ℕ → ℕ) → ℕ → List ℕ
-each_below f zero = []
-each_below f (suc n) = f 0 ∷ each_below (λ i. f (suc i)) n
 
 -- this account, with as many blocks of each size out as sends are held by these pipes, of so many given
 abbrev pub with_held : Account → List Pipe → ℕ → Account
-with_held account pipes given =
-    record account { out = each_below (λ class. count_by (has_class pipes account.sizes class) (held pipes given)) (length account.sizes) }
+with_held account pipes given = record account { out = blocks_held account.sizes pipes given }

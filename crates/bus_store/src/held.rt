@@ -1,11 +1,32 @@
 //! Which sends are held, and which blocks that takes.
-ghost use Rattle.std.specs.Prelude.{◌≡◌, ℕ, Some};
-ghost use Rattle.bus_words.specs.Bus.{Item};
+ghost use Rattle.std.specs.Prelude.{◌≡◌, ℕ, true, List, Some, All, AllPairs, sum_by};
+ghost use Rattle.bus_words.specs.Bus.{Item, Pipe, owns};
+ghost use Rattle.bus_words.specs.Held.{items_of, held, block_of};
 ghost use Rattle.es_pool.specs.Account.{IsAccountOf};
+ghost use Rattle.es_pool.specs.Pool.{in_use_by};
+ghost use Rattle.lend_block.specs.Loan.{LentBytes};
+ghost use Rattle.buf_desc.specs.Desk.{Buffers};
+ghost use Rattle.buf_desc.specs.Held.{Holding, view_at};
+ghost use Rattle.bus_store.specs.Bag.{Holds};
+ghost use Rattle.bus_store.specs.Store.{LastLoan};
+ghost use Rattle.bus_store.specs.Blocks.{IsGiven, AreOfOneSend, AreBlocks};
 ghost use Rattle.bus_store.specs.Words.{last_of, loan_of, with_held};
 
 use crate::store::BusStore;
+use buf_desc::Desk;
 use es_pool::Pool;
+
+/// Two applications whose pipes received one send last have the same view of it in their bags: the
+/// same bytes by the same loan. Does nothing.
+pub fn receivers_share_views()
+    ensures { (buffers : Buffers) (pipes : List Pipe) (loans : List LastLoan)
+        (most app other pipe its : ℕ) (bag another : Holding LentBytes) (item same : Item) →
+        AreBlocks buffers pipes loans → Holds pipes loans most app bag →
+        Holds pipes loans most other another → owns pipes app pipe ≡ true →
+        owns pipes other its ≡ true → last_of pipes pipe ≡ Some item →
+        last_of pipes its ≡ Some same → item.number ≡ same.number →
+        view_at bag pipe ≡ view_at another its }
+{}
 
 impl<'r> BusStore<'r> {
     /// As many blocks of each size are out as sends are held whose block has that size: each send
@@ -27,10 +48,36 @@ impl<'r> BusStore<'r> {
         let _ = &self.desk;
     }
 
-    /// The pool that the messages' blocks are drawn from.
-    pub fn pool(&self) -> &Pool
-        ensures { IsAccountOf result.now self.now.account }
+    /// Each message on the pipes, waiting or received last, has one of the send numbers that were
+    /// given; and two of one number are copies of one send. Does nothing.
+    pub fn recall_sends(&self)
+        ensures given { All (λ item. IsGiven self.now.numbers_given item.number)
+            (items_of self.now.pipes) }
+        ensures alike { AllPairs AreOfOneSend (items_of self.now.pipes) }
     {
+        let _ = &self.desk;
+    }
+
+    /// The blocks that messages lie in: one for each send that is held, and no others.
+    pub fn desk(&self) -> &Desk<'r>
+        ensures blocks { AreBlocks result.now self.now.pipes self.now.loans }
+        ensures account { IsAccountOf result.now.pool self.now.account }
+    {
+        // Does nothing; the proof learns of it that each sealed block has the pool's size for it.
+        self.desk.recall_live();
+        &self.desk
+    }
+
+    /// The pool that the messages' blocks are drawn from: its bytes in use are those of the blocks
+    /// for the sends that are held, one for each.
+    pub fn pool(&self) -> &Pool
+        ensures account { IsAccountOf result.now self.now.account }
+        ensures in_use { in_use_by result.now.sizes result.now.blocks ≡
+            sum_by (block_of self.now.account.sizes self.now.pipes)
+            (held self.now.pipes self.now.numbers_given) }
+    {
+        // Does nothing; the proof learns of it which blocks are out.
+        self.desk.recall_live();
         self.desk.pool()
     }
 }

@@ -46,5 +46,6 @@ mod sending;
 mod store;
 mod subscribing;
 
+pub use held::receivers_share_views;
 pub use sending::Sent;
 pub use store::BusStore;

@@ -5,7 +5,7 @@ ghost use Rattle.bus_words.specs.Bus.{owns, pipe_at, pipe_named, with_pipe, with
 ghost use Rattle.buf_desc.specs.Held.{Holding};
 ghost use Rattle.lend_block.specs.Loan.{LentBytes};
 ghost use Rattle.bus_store.specs.Bag.{Holds};
-ghost use Rattle.bus_store.specs.Words.{oldest_of, last_of};
+ghost use Rattle.bus_store.specs.Words.{IsRising, oldest_of, last_of};
 
 use crate::store::BusStore;
 use bus_words::PipeText;
@@ -73,6 +73,13 @@ impl<'r> BusStore<'r> {
             option_map (λ pipe. pipe.number) (find (λ pipe. pipe.owner == app) self.now.pipes) }
     {
         self.tables.first_of(app)
+    }
+
+    /// The live pipes stand in order of number. Does nothing.
+    pub fn recall_order(&self)
+        ensures { IsRising 0 self.now.pipes }
+    {
+        self.tables.recall_order();
     }
 
     /// Creates a pipe that holds up to `depth` messages, and answers its number: one more than were

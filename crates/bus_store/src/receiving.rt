@@ -1,11 +1,11 @@
 //! Receives.
-ghost use Rattle.std.specs.Prelude.{◌≡◌, ◌≢◌, ℕ, ◌+◌, ◌≤◌, true};
+ghost use Rattle.std.specs.Prelude.{◌≡◌, ◌≢◌, ℕ, ◌+◌, ◌≤◌, true, None};
 ghost use Rattle.std.specs.Option.{option_map};
 ghost use Rattle.bus_words.specs.Bus.{owns, with_pipe, after_receive};
 ghost use Rattle.buf_desc.specs.Held.{Holding};
 ghost use Rattle.lend_block.specs.Loan.{LentBytes};
 ghost use Rattle.bus_store.specs.Bag.{Holds};
-ghost use Rattle.bus_store.specs.Words.{oldest_of, loan_of, with_held};
+ghost use Rattle.bus_store.specs.Words.{oldest_of, last_of, loan_of, with_held};
 
 use crate::blocks::{put_back, show};
 use crate::store::BusStore;
@@ -50,6 +50,36 @@ impl<'r> BusStore<'r> {
         let items = self.tables.take(pipe);
         put_back(&mut self.desk, held, pipe, items.before, steps);
         let number = show(&mut self.desk, held, pipe, items.after);
+        self.desk.recall_live();
+        number
+    }
+
+    /// Takes the message that waits longest on the application's pipe, which has no last message,
+    /// if any: answers its number, and puts a view of it into the application's bag.
+    pub fn receive_first(&mut self, app: AppNo, pipe: u32, held: &mut Held<'r>) -> Option<u32>
+        requires own { owns self.old.pipes app pipe ≡ true }
+        requires none { last_of self.old.pipes pipe ≡ None }
+        requires bag { Holds self.old.pipes self.old.loans self.old.room.pipes app held.old }
+        ensures number { result ≡
+            option_map (λ item. item.number) (oldest_of self.old.pipes pipe) }
+        ensures after { self.new ≡ record self.old {
+          pipes = with_pipe after_receive pipe self.old.pipes;
+          account = with_held self.old.account self.new.pipes self.old.numbers_given;
+          loans = self.new.loans;
+        } }
+        ensures loans { (other : ℕ) → pipe ≢ other →
+            loan_of self.new.loans other ≡ loan_of self.old.loans other }
+        ensures bag { Holds self.new.pipes self.new.loans self.new.room.pipes app held.new }
+        ensures other_bags { (other : ℕ) (bag : Holding LentBytes) → other ≢ app →
+            Holds self.old.pipes self.old.loans self.old.room.pipes other bag →
+            Holds self.new.pipes self.new.loans self.new.room.pipes other bag }
+        ensures buffers { held.new ≡ record held.old { views = held.new.views } }
+    {
+        // Do nothing, as above.
+        self.tables.recall_order();
+        self.desk.recall_live();
+        let oldest = self.tables.take(pipe).after;
+        let number = show(&mut self.desk, held, pipe, oldest);
         self.desk.recall_live();
         number
     }

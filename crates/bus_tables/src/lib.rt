@@ -36,8 +36,6 @@ mod message;
 mod misses;
 mod pairs;
 mod tables;
-#[cfg(test)]
-mod tests;
 mod uses;
 
 pub use message::Message;

@@ -56,12 +56,12 @@ HaveWays-step limits history s app call ways =
       subscribes = λ id pipe limit scope none other.
           let more : Subscription → Type 0 = λ sub. has_route (with_id s.routed id) sub.id ≡ true in
           Each-push more s.subscriptions _ (Each-drop Way more s.subscriptions (λ sub is. has_route-kept s.routed id sub.id is) ways) (has_route-here s.routed id);
-      sends = λ sending id who number. ways;
+      sends = λ sending id who number room. ways;
       receives = λ pipe. ways;
       deletes = λ pipe none. Each-filter Way (λ x. not (x.pipe == pipe)) s.subscriptions ways;
       sets = λ pipe bits none. ways;
       unsubscribes = λ id pipe none. Each-filter Way (λ x. not (x.id == id && x.pipe == pipe)) s.subscriptions ways;
-      stands = λ pipe standing. ways;
+      stands = λ pipe standing going. ways;
       ends = Each-filter Way _ s.subscriptions ways;
       pools = λ next follows. ways;
     })
@@ -88,20 +88,20 @@ way_of routed id (sub ∷ subs) first more ways is =
 
 -- Readings that are alike give one cause and one step. --
 
-sends_alike : (reads other : Reads) (s : State) (app : ℕ) (bytes : List ℕ) (inc : Bool) → AreAlike reads other s → HaveWays s →
-    transmitted reads s app bytes inc ≡ transmitted other s app bytes inc
-sends_alike reads other s app bytes inc same ways = by_route (route s.subscriptions (message_id bytes)) refl
+sends_alike : (reads other : Reads) (limits : Limits) (s : State) (app : ℕ) (bytes : List ℕ) (inc : Bool) → AreAlike reads other s → HaveWays s →
+    transmitted reads limits s app bytes inc ≡ transmitted other limits s app bytes inc
+sends_alike reads other limits s app bytes inc same ways = by_route (route s.subscriptions (message_id bytes)) refl
   where
     stamp : (counts : Bool) → has_route s.routed (message_id bytes) ≡ true → stamped reads bytes counts ≡ stamped other bytes counts
     stamp true there = ap (with_count bytes) (same.next (message_id bytes) there)
     stamp false there = refl
 
     by_route : (subs : List Subscription) → route s.subscriptions (message_id bytes) ≡ subs →
-        sent_along subs (record { sender = app; number = s.numbers_given + 1; asked = length bytes; message = stamped reads bytes inc }) s
-        ≡ sent_along subs (record { sender = app; number = s.numbers_given + 1; asked = length bytes; message = stamped other bytes inc }) s
+        sent_along limits subs (record { sender = app; number = s.numbers_given + 1; asked = length bytes; message = stamped reads bytes inc }) s
+        ≡ sent_along limits subs (record { sender = app; number = s.numbers_given + 1; asked = length bytes; message = stamped other bytes inc }) s
     by_route [] is = refl
     by_route (first ∷ more) is =
-        ap (λ m. sent_along (first ∷ more) (record { sender = app; number = s.numbers_given + 1; asked = length bytes; message = m }) s)
+        ap (λ m. sent_along limits (first ∷ more) (record { sender = app; number = s.numbers_given + 1; asked = length bytes; message = m }) s)
         (stamp inc (way_of s.routed (message_id bytes) s.subscriptions first more ways is))
 
 accepts_alike : (reads other : Reads) (limits : Limits) (s : State) (app : ℕ) (call : Call) → AreAlike reads other s → HaveWays s →
@@ -114,7 +114,7 @@ accepts_alike reads other limits s app (Find name) same ways = refl
 accepts_alike reads other limits s app (PipeName pipe) same ways = refl
 accepts_alike reads other limits s app (Subscribe id pipe limit scope) same ways = refl
 accepts_alike reads other limits s app (Unsubscribe id pipe) same ways = refl
-accepts_alike reads other limits s app (Transmit bytes inc) same ways = sends_alike reads other s app bytes inc same ways
+accepts_alike reads other limits s app (Transmit bytes inc) same ways = sends_alike reads other limits s app bytes inc same ways
 accepts_alike reads other limits s app (Receive pipe) same ways = refl
 accepts_alike reads other limits s app (Pend pipe) same ways = refl
 accepts_alike reads other limits s app (Look pipe) same ways = refl
@@ -372,11 +372,11 @@ module _ (limits : Limits) (history : List Entry) (s : State) (app : ℕ) (ways 
 
       by_route : (subs : List Subscription) → route s.subscriptions (message_id bytes) ≡ subs →
           Moves limits history s app (Transmit bytes inc)
-          (sent_along subs (record { sender = app; number = s.numbers_given + 1; asked = length bytes; message = delivered limits history bytes inc }) s)
+          (sent_along limits subs (record { sender = app; number = s.numbers_given + 1; asked = length bytes; message = delivered limits history bytes inc }) s)
       by_route [] is = stays (Transmit bytes inc) (Sent 0 0, s) refl (λ n. nobody n inc) (unmoved inc)
       by_route (first ∷ more) is =
           let sending : Sending = record { sender = app; number = s.numbers_given + 1; asked = length bytes; message = delivered limits history bytes inc } in
-          counted s.numbers_given (reached sending (first ∷ more) s.pipes) (with_sent s sending (first ∷ more)) refl (way_of s.routed (message_id bytes) s.subscriptions first more ways is) inc
+          counted s.numbers_given (reached sending (first ∷ more) s.pipes) (with_sent limits s sending (first ∷ more)) refl (way_of s.routed (message_id bytes) s.subscriptions first more ways is) inc
 
   accepts : (call : Call) → Moves limits history s app call (accept limits history s app call)
   accepts (Create depth name) = stays (Create depth name) (accept limits history s app (Create depth name)) refl (λ id. refl) refl

@@ -14,14 +14,9 @@ use Rattle.bus_words.specs.declared.history.Call.{Call}
 use Rattle.bus_words.specs.declared.history.Entry.{Entry}
 use Rattle.bus_words.specs.Bus.{Pipe, Subscription, State, Sending, Skip, OverLimit, Full, In, opening, owns, with_pipe, with_bits, is_named, route, is_subscribed, has_route, ignores_own, waiting_of, is_in, item_for, offered, deliver, after_receive}
 use Rattle.bus_words.specs.Machine.{refused_if, create_cause, subscribe_cause, step, state_after}
-use Rattle.bus_words.proofs.Steps.{after_step, state_from-keeps}
+use Rattle.bus_words.proofs.Steps.{refused_if-none, after_step, state_from-keeps}
 
 -- Tests. --
-
--- where a refusal doesn't come, its test is false, and none that follow come
-pub refused_if-none : (test : Bool) (status : SbStatus) (others : Option SbStatus) → refused_if test status others ≡ None → (test ≡ false) × (others ≡ None)
-refused_if-none true status others none = cc
-refused_if-none false status others none = (refl, none)
 
 pub neither : (a b : Bool) → (a || b) ≡ false → (a ≡ false) × (b ≡ false)
 neither true b is = cc
@@ -233,7 +228,7 @@ IsWithin-step limits history s app call within =
         routed = routed-more limits s.routed id (has_route s.routed id) may.known within.routed;
         routes = routes-more limits s.subscriptions _ may.room within.routes;
       };
-      sends = λ sending id who number. record {
+      sends = λ sending id who number room. record {
         pipes = omega (arith, length-deliver sending (route s.subscriptions id) s.pipes);
         each = all-deliver limits sending (route s.subscriptions id) s.pipes within.each;
         routed = within.routed;
@@ -263,7 +258,7 @@ IsWithin-step limits history s app call within =
         routed = within.routed;
         routes = λ other. let fewer = length-filter_of_filter (λ (x : Subscription). not (x.id == id && x.pipe == pipe)) (λ (x : Subscription). x.id == other) s.subscriptions in omega (arith, within.routes other);
       };
-      stands = λ pipe standing. record {
+      stands = λ pipe standing going. record {
         pipes = omega (arith, length-with_pipe after_receive pipe s.pipes);
         each = all-with_pipe (PipeFits limits) after_receive (PipeFits-after_receive limits) pipe s.pipes within.each;
         routed = within.routed;

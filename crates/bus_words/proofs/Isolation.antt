@@ -38,7 +38,7 @@ is_same status other is = ap (λ (o : Option SbStatus). option_map_or (λ x. x) 
 
 -- Refused calls. --
 
-no_message : (s : State) (app pipe : ℕ) → receive_cause s app pipe ≡ Some NoMessage → is_empty s.pipes pipe ≡ true
+pub no_message : (s : State) (app pipe : ℕ) → receive_cause s app pipe ≡ Some NoMessage → is_empty s.pipes pipe ≡ true
 no_message s app pipe is =
     by_tests (not (owns s.pipes app pipe)) (is_empty s.pipes pipe) is
   where
@@ -129,7 +129,7 @@ does-subscribe limits history s p a own app id pipe limit scope alike =
 
 does-send : (limits : Limits) (history : List Entry) (s : State) (p : ℕ) (a : Alone) (own : ℕ → ℕ) (app : ℕ) (bytes : List ℕ) (inc : Bool) → AreOrdered s →
     Stand own p s a → (subs : List Subscription) → route s.subscriptions (message_id bytes) ≡ subs →
-    Does limits history s p a app (Transmit bytes inc) (sent_along subs (record { sender = app; number = s.numbers_given + 1; asked = length bytes; message = delivered limits history bytes inc }) s)
+    Does limits history s p a app (Transmit bytes inc) (sent_along limits subs (record { sender = app; number = s.numbers_given + 1; asked = length bytes; message = delivered limits history bytes inc }) s)
 does-send limits history s p a own app bytes inc ordered alike [] is = goes_by own p s.subscriptions_made s.pipes s.subscriptions a alike
 does-send limits history s p a own app bytes inc ordered alike (sub ∷ subs) is =
     let sending : Sending = record { sender = app; number = s.numbers_given + 1; asked = length bytes; message = delivered limits history bytes inc } in

@@ -1,9 +1,16 @@
 pub mod Acts
 pub mod Alike
+pub mod Balance
 pub mod Bounds
+pub mod Drawn
 pub mod Finds
+pub mod HeldBlocks
 pub mod Isolation
 pub mod Journals
+pub mod KeptPipes
+pub mod Lasts
+pub mod LegalSteps
+pub mod Owners
 pub mod PoolGrants
 pub mod Replay
 pub mod Solo

@@ -29,12 +29,12 @@ ArePools-step limits history s app call entries are =
       same = same;
       creates = λ depth name none. same;
       subscribes = λ id pipe limit scope none other. same;
-      sends = λ sending id who number. same;
+      sends = λ sending id who number room. same;
       receives = λ pipe. same;
       deletes = λ pipe none. same;
       sets = λ pipe bits none. same;
       unsubscribes = λ id pipe none. same;
-      stands = λ pipe standing. same;
+      stands = λ pipe standing going. same;
       ends = one_more limits entries s.pools (all_after_end app s.pools) are (follows_end s.pools app);
       pools = λ next follows. one_more limits entries s.pools next are follows;
     })

@@ -1,20 +1,23 @@
 -- What holds after every step of the bus, and so after every history: how many standings there are, and that live
 -- pipes and subscriptions stand in order of number, none above those that were made.
-use Rattle.std.proofs.Common.{◌≡◌, ℕ, ◌+◌, ◌-◌, ◌<◌, ◌≤◌, ◌==◌, ◌&&◌, not, Bool, true, false, cond, if◌then◌else◌, append-nil, append_assoc, List, [], ◌∷◌, ◌++◌, length, map, filter, Option, Some, None, is_some, refl, ap, sym, ◌∙◌, subst, arith, true≢false}
+use Rattle.std.proofs.Common.{◌≡◌, ℕ, ◌+◌, ◌-◌, ◌<◌, ◌≤◌, ◌==◌, ◌&&◌, not, Bool, true, false, cond, if◌then◌else◌, append-nil, append_assoc, List, [], ◌∷◌, ◌++◌, length, map, filter, Option, Some, None, is_some, refl, ap, sym, ◌∙◌, subst, arith, true≢false, ne_eqb}
+use Rattle.std.specs.Prelude.{nat_lt}
 use Rattle.std.proofs.lemmas.List.{length-set, length-replicate, length_push, map_push}
-use Rattle.ccsds_msg.specs.Message.{message_id}
+use Rattle.ccsds_msg.specs.Message.{fault, message_id}
 use Rattle.fsw_base.specs.declared.config.Scope.{Scope}
 use Rattle.fsw_base.specs.declared.statuses.SbStatus.{SbStatus}
 use Rattle.fsw_base.specs.declared.statuses.SbStatus.TheVariants.{BadArgument, MaxPipesMet, PipeCrErr, MaxMsgsMet, MaxDestsMet, MsgTooBig, BufAlocErr, NoMessage, BufferInvalid}
 use Rattle.fsw_base.specs.Limits.{Limits}
+use Rattle.fsw_base.specs.PoolAccounts.{has_room}
 use Rattle.pool_words.specs.Grants.{Pools, pool_in, with_pool, after_create, after_get, after_put}
 use Rattle.pool_words.proofs.Following.{Follow, follows_create, follows_get, follows_put}
 use Rattle.bus_words.specs.declared.history.Call.{Call}
 use Rattle.bus_words.specs.declared.history.Call.TheVariants.{Create, Delete, SetOpts, GetOpts, Find, PipeName, Subscribe, Unsubscribe, Transmit, Receive, Pend, Look, PoolCreate, PoolGet, PoolPut, PoolFigures, End}
 use Rattle.bus_words.specs.declared.history.Entry.{Entry}
-use Rattle.bus_words.specs.Bus.{Pipe, Subscription, State, Standing, Active, Waiting, Ended, Sending, opening, with_pipe, with_bits, with_standing, is_empty, others_idle, route, is_subscribed, has_route, offered, deliver, is_in, verdict, item_for, after_receive, owns}
+use Rattle.bus_words.specs.Bus.{Pipe, Subscription, State, Standing, Active, Waiting, Ended, Sending, opening, with_pipe, with_bits, with_standing, has_ended, is_empty, others_idle, route, is_subscribed, has_route, offered, deliver, is_in, verdict, item_for, after_receive, owns}
+use Rattle.bus_words.specs.Held.{account_of, account_drawn}
 use Rattle.bus_words.specs.Refusals.{Refusal, OfBus, OfPools}
-use Rattle.bus_words.specs.Machine.{by_bus, delivered, created, deleted, unsubscribed, sent_along, received, ended, cause, create_cause, subscribe_cause, unowned_cause, set_opts_cause, unsubscribe_cause, accept, refused_state, decided, step, state_from, state_after}
+use Rattle.bus_words.specs.Machine.{by_bus, delivered, created, deleted, unsubscribed, sent_along, received, ended, cause, create_cause, subscribe_cause, unowned_cause, set_opts_cause, unsubscribe_cause, transmit_cause, refused_if, accept, refused_state, decided, step, state_from, state_after}
 
 -- Steps by cases. --
 
@@ -41,9 +44,33 @@ with_subscription s id pipe limit scope = record s {
   routed = if has_route s.routed id then s.routed else s.routed ++ id ∷ [];
 }
 
--- the bus once these subscriptions were offered what is sent
-abbrev pub with_sent : State → Sending → List Subscription → State
-with_sent s sending subs = record s { pipes = deliver sending subs s.pipes; numbers_given = sending.number }
+-- the bus once a block was drawn for what is sent and these subscriptions were offered it
+abbrev pub with_sent : Limits → State → Sending → List Subscription → State
+with_sent limits s sending subs = record s {
+  pipes = deliver sending subs s.pipes;
+  numbers_given = sending.number;
+  made = (account_drawn limits s sending.asked).made;
+  drawn = (account_drawn limits s sending.asked).requests;
+}
+
+-- where a refusal doesn't come, its test is false, and none that follow come
+pub refused_if-none : (test : Bool) (status : SbStatus) (others : Option SbStatus) → refused_if test status others ≡ None → (test ≡ false) × (others ≡ None)
+refused_if-none true status others none = cc
+refused_if-none false status others none = (refl, none)
+
+-- a send that isn't refused, and that somebody subscribes to, has room for its block
+pub transmit_cause-none : (limits : Limits) (s : State) (bytes : List ℕ) → transmit_cause limits s bytes ≡ None →
+    (length (route s.subscriptions (message_id bytes)) == 0) ≡ false → has_room (account_of limits s) (length bytes) ≡ true
+transmit_cause-none limits s bytes none some =
+    let room = has_room (account_of limits s) (length bytes) in
+    let first = refused_if-none (is_some (fault bytes)) BadArgument _ none in
+    let second = refused_if-none (nat_lt limits.msgmax (length bytes)) MsgTooBig _ first.1 in
+    let last = subst (λ b. cond {A = Option SbStatus} b None (refused_if (not room) BufAlocErr None) ≡ None) some second.1 in
+    not_false room (refused_if-none (not room) BufAlocErr None last).0
+  where
+    not_false : (b : Bool) → not b ≡ false → b ≡ true
+    not_false true is = refl
+    not_false false is = absurd (true≢false is)
 
 -- a fact of a state that each change of it keeps
 pub record Keeps (F : State → Type 0) (limits : Limits) (s : State) (app : ℕ) : Type 0 where
@@ -52,12 +79,12 @@ pub record Keeps (F : State → Type 0) (limits : Limits) (s : State) (app : ℕ
   pub subscribes : (id pipe limit : ℕ) (scope : Scope) → subscribe_cause limits s app id pipe ≡ None →
       is_subscribed s.subscriptions id pipe ≡ false → F (with_subscription s id pipe limit scope)
   pub sends : (sending : Sending) (id : ℕ) → sending.sender ≡ app → sending.number ≡ s.numbers_given + 1 →
-      F (with_sent s sending (route s.subscriptions id))
+      has_room (account_of limits s) sending.asked ≡ true → F (with_sent limits s sending (route s.subscriptions id))
   pub receives : (pipe : ℕ) → F (received s pipe)
   pub deletes : (pipe : ℕ) → unowned_cause s app pipe ≡ None → F (deleted s pipe)
   pub sets : (pipe bits : ℕ) → set_opts_cause s app pipe bits ≡ None → F (record s { pipes = with_pipe (with_bits bits) pipe s.pipes })
   pub unsubscribes : (id pipe : ℕ) → unsubscribe_cause s app id pipe ≡ None → F (unsubscribed s id pipe)
-  pub stands : (pipe : ℕ) (standing : Standing) → F (with_standing (received s pipe) app standing)
+  pub stands : (pipe : ℕ) (standing : Standing) → has_ended standing ≡ false → F (with_standing (received s pipe) app standing)
   pub ends : F (ended s app)
   pub pools : (next : Pools) → Follow s.pools next → F (record s { pools = next })
 
@@ -97,9 +124,10 @@ after_subscribe : (F : State → Type 0) (s next : State) (live : Bool) → F s 
 after_subscribe F s next true same other = same
 after_subscribe F s next false same other = other refl
 
-after_send : (F : State → Type 0) (s : State) (sending : Sending) (subs : List Subscription) → F s → F (with_sent s sending subs) → F ((sent_along subs sending s).1)
-after_send F s sending [] same sends = same
-after_send F s sending (sub ∷ subs) same sends = sends
+after_send : (F : State → Type 0) (limits : Limits) (s : State) (sending : Sending) (subs : List Subscription) → F s →
+    ((length subs == 0) ≡ false → F (with_sent limits s sending subs)) → F ((sent_along limits subs sending s).1)
+after_send F limits s sending [] same sends = same
+after_send F limits s sending (sub ∷ subs) same sends = sends (ne_eqb (length (sub ∷ subs)) 0 (λ is. omega (arith, is)))
 
 pub after_choice : (F : State → Type 0) (test : Bool) (one other : State) → F one → F other → F (if test then one else other)
 after_choice F true one other first second = first
@@ -118,14 +146,16 @@ after_accepted F limits history s app (Subscribe id pipe limit scope) none keeps
 after_accepted F limits history s app (Unsubscribe id pipe) none keeps = keeps.unsubscribes id pipe (by_bus-none (unsubscribe_cause s app id pipe) none)
 after_accepted F limits history s app (Transmit bytes inc) none keeps =
     let sending : Sending = record { sender = app; number = s.numbers_given + 1; asked = length bytes; message = delivered limits history bytes inc } in
-    after_send F s sending (route s.subscriptions (message_id bytes)) keeps.same (keeps.sends sending (message_id bytes) refl refl)
+    let accepted = by_bus-none (transmit_cause limits s bytes) none in
+    after_send F limits s sending (route s.subscriptions (message_id bytes)) keeps.same
+    (λ some. keeps.sends sending (message_id bytes) refl refl (transmit_cause-none limits s bytes accepted some))
 after_accepted F limits history s app (Receive pipe) none keeps = keeps.receives pipe
 after_accepted F limits history s app (Pend pipe) none keeps =
     after_choice F (is_empty s.pipes pipe && not (others_idle s app)) (with_standing (received s pipe) app (Waiting pipe)) (received s pipe)
-    (keeps.stands pipe (Waiting pipe)) (keeps.receives pipe)
+    (keeps.stands pipe (Waiting pipe) refl) (keeps.receives pipe)
 after_accepted F limits history s app (Look pipe) none keeps =
     after_choice F (is_empty s.pipes pipe && not (others_idle s app)) s (with_standing (received s pipe) app Active)
-    keeps.same (keeps.stands pipe Active)
+    keeps.same (keeps.stands pipe Active refl)
 after_accepted F limits history s app (PoolCreate bytes) none keeps = keeps.pools (after_create s.pools bytes) (follows_create s.pools bytes)
 after_accepted F limits history s app (PoolGet pool size) none keeps = keeps.pools (with_pool s.pools pool (after_get (pool_in s.pools pool) app size)) (follows_get s.pools pool app size)
 after_accepted F limits history s app (PoolPut pool grant) none keeps = keeps.pools (with_pool s.pools pool (after_put (pool_in s.pools pool) grant)) (follows_put s.pools pool grant)
@@ -160,12 +190,12 @@ length-standings-step limits history s app call =
       same = refl;
       creates = λ depth name none. refl;
       subscribes = λ id pipe limit scope none other. refl;
-      sends = λ sending id who number. refl;
+      sends = λ sending id who number room. refl;
       receives = λ pipe. refl;
       deletes = λ pipe none. refl;
       sets = λ pipe bits none. refl;
       unsubscribes = λ id pipe none. refl;
-      stands = λ pipe standing. length-set s.standings (app - 1) standing;
+      stands = λ pipe standing going. length-set s.standings (app - 1) standing;
       ends = length-set s.standings (app - 1) Ended;
       pools = λ next follows. refl;
     })
@@ -251,7 +281,7 @@ AreNumbered-step limits history s app call numbered =
         pipes = numbered.pipes;
         subscriptions = subst (AreRising 0 (s.subscriptions_made + 1)) (sym (map_push (λ (x : Subscription). x.number) s.subscriptions _)) (AreRising-push 0 s.subscriptions_made (subscription_numbers s) numbered.subscriptions);
       };
-      sends = λ sending id who number. record {
+      sends = λ sending id who number room. record {
         pipes = subst (AreRising 0 s.pipes_created) (sym (pipe_numbers-deliver sending (route s.subscriptions id) s.pipes)) numbered.pipes;
         subscriptions = numbered.subscriptions;
       };
@@ -271,7 +301,7 @@ AreNumbered-step limits history s app call numbered =
         pipes = numbered.pipes;
         subscriptions = AreRising-filter (λ (x : Subscription). x.number) (λ x. not (x.id == id && x.pipe == pipe)) 0 s.subscriptions_made s.subscriptions numbered.subscriptions;
       };
-      stands = λ pipe standing. record {
+      stands = λ pipe standing going. record {
         pipes = subst (AreRising 0 s.pipes_created) (sym (pipe_numbers-with_pipe after_receive (λ p. refl) pipe s.pipes)) numbered.pipes;
         subscriptions = numbered.subscriptions;
       };
@@ -302,12 +332,12 @@ AtMostOneMore-step limits history s app call =
       same = record { pipes = omega arith; subscriptions = omega arith; numbers = omega arith };
       creates = λ depth name none. record { pipes = omega arith; subscriptions = omega arith; numbers = omega arith };
       subscribes = λ id pipe limit scope none other. record { pipes = omega arith; subscriptions = omega arith; numbers = omega arith };
-      sends = λ sending id who number. record { pipes = omega arith; subscriptions = omega arith; numbers = omega (arith, number) };
+      sends = λ sending id who number room. record { pipes = omega arith; subscriptions = omega arith; numbers = omega (arith, number) };
       receives = λ pipe. record { pipes = omega arith; subscriptions = omega arith; numbers = omega arith };
       deletes = λ pipe none. record { pipes = omega arith; subscriptions = omega arith; numbers = omega arith };
       sets = λ pipe bits none. record { pipes = omega arith; subscriptions = omega arith; numbers = omega arith };
       unsubscribes = λ id pipe none. record { pipes = omega arith; subscriptions = omega arith; numbers = omega arith };
-      stands = λ pipe standing. record { pipes = omega arith; subscriptions = omega arith; numbers = omega arith };
+      stands = λ pipe standing going. record { pipes = omega arith; subscriptions = omega arith; numbers = omega arith };
       ends = record { pipes = omega arith; subscriptions = omega arith; numbers = omega arith };
       pools = λ next follows. record { pipes = omega arith; subscriptions = omega arith; numbers = omega arith };
     })

@@ -97,7 +97,7 @@ AreTied-step limits history s app call tied =
         pairs = ArePairs-push s.subscriptions _ other tied.pairs;
         live = Each-push (λ (sub : Subscription). is_live s.pipes sub.pipe ≡ true) s.subscriptions _ tied.live (is_live-owns s.pipes app pipe (subscribe-owns limits s app id pipe none));
       };
-      sends = λ sending id who number. record {
+      sends = λ sending id who number room. record {
         pairs = tied.pairs;
         live = live-same s.subscriptions s.pipes _ (pipe_numbers-deliver sending (route s.subscriptions id) s.pipes) tied.live;
       };
@@ -112,7 +112,7 @@ AreTied-step limits history s app call tied =
         pairs = ArePairs-filter (λ x. not (x.id == id && x.pipe == pipe)) s.subscriptions tied.pairs;
         live = Each-kept (λ (sub : Subscription). is_live s.pipes sub.pipe ≡ true) (λ sub. is_live s.pipes sub.pipe ≡ true) (λ x. not (x.id == id && x.pipe == pipe)) s.subscriptions (λ sub kept is. is) tied.live;
       };
-      stands = λ pipe standing. record { pairs = tied.pairs; live = live-same s.subscriptions s.pipes _ (pipe_numbers-with_pipe after_receive (λ p. refl) pipe s.pipes) tied.live };
+      stands = λ pipe standing going. record { pairs = tied.pairs; live = live-same s.subscriptions s.pipes _ (pipe_numbers-with_pipe after_receive (λ p. refl) pipe s.pipes) tied.live };
       ends = record {
         pairs = ArePairs-filter (λ x. not (owns s.pipes app x.pipe)) s.subscriptions tied.pairs;
         live = Each-kept (λ (sub : Subscription). is_live s.pipes sub.pipe ≡ true) (λ sub. is_live (filter (λ pipe. not (pipe.owner == app)) s.pipes) sub.pipe ≡ true) (λ x. not (owns s.pipes app x.pipe)) s.subscriptions

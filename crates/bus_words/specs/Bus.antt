@@ -44,8 +44,9 @@ pub data Standing : Type 0 where
   Ended : Standing
 
 -- The bus: the live pipes and how many were created, the live subscriptions and how many were made, each in order of
--- number; the ids that have a route; how many send numbers were given; the standing of each application, from 1; and the
--- memory pools of applications.
+-- number; the ids that have a route; how many send numbers were given; the standing of each application, from 1; the
+-- memory pools of applications; and of the bus's own pool how many blocks of each size were made, which is the greatest
+-- number that were ever out at once, and how many blocks were drawn, told up to 2^32 - 1.
 pub record State : Type 0 where
   pub pipes : List Pipe
   pub pipes_created : ℕ
@@ -55,6 +56,8 @@ pub record State : Type 0 where
   pub numbers_given : ℕ
   pub standings : List Standing
   pub pools : Pools
+  pub made : List ℕ
+  pub drawn : ℕ
 
 -- before the first call of so many applications
 abbrev pub opening : Limits → ℕ → State
@@ -67,6 +70,8 @@ opening limits apps = record {
   numbers_given = 0;
   standings = replicate apps Active;
   pools = record { most = limits.apppool; sizes = limits.sizes; pools = [] };
+  made = replicate (length limits.sizes) 0;
+  drawn = 0;
 }
 
 -- the memory pools of a bus after so many entries: they have the limits' block sizes, each is counted, and each gave at most as
@@ -208,6 +213,12 @@ is_idle pipes Ended = true
 -- whether every application but this one has ended or waits on an empty pipe
 abbrev pub others_idle : State → ℕ → Bool
 others_idle s app = list_all (is_idle s.pipes) (slice_set s.standings (app - 1) Ended)
+
+-- whether an application in this standing has ended
+abbrev pub has_ended : Standing → Bool
+has_ended Active = false
+has_ended (Waiting pipe) = false
+has_ended Ended = true
 
 -- the bus, with this application's standing changed
 abbrev pub with_standing : State → ℕ → Standing → State

@@ -2,6 +2,7 @@ pub mod Acts
 pub mod Alone
 pub mod Bus
 pub mod Entries
+pub mod Held
 pub mod Log
 pub mod Machine
 pub mod ReceiptLists

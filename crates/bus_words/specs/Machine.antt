@@ -5,7 +5,7 @@ use Rattle.fsw_base.specs.declared.config.Scope.{Scope}
 use Rattle.fsw_base.specs.Limits.{Limits}
 use Rattle.fsw_base.specs.Starts.{start_of}
 use Rattle.fsw_base.specs.declared.statuses.SbStatus.{SbStatus}
-use Rattle.fsw_base.specs.declared.statuses.SbStatus.TheVariants.{BadArgument, MaxPipesMet, PipeCrErr, MaxMsgsMet, MaxDestsMet, MsgTooBig, NoMessage}
+use Rattle.fsw_base.specs.declared.statuses.SbStatus.TheVariants.{BadArgument, MaxPipesMet, PipeCrErr, MaxMsgsMet, MaxDestsMet, MsgTooBig, BufAlocErr, NoMessage}
 use Rattle.fsw_base.specs.declared.statuses.EsStatus.{EsStatus}
 use Rattle.fsw_base.specs.declared.statuses.EsStatus.TheVariants.{ErrMemBlockSize, BufferNotInPool, PoolBlockInvalid, NoPool}
 use Rattle.fsw_base.specs.PoolAccounts.{has_room}
@@ -17,6 +17,7 @@ use Rattle.bus_words.specs.declared.history.Call.{Call}
 use Rattle.bus_words.specs.declared.history.Call.TheVariants.{Create, Delete, SetOpts, GetOpts, Find, PipeName, Subscribe, Unsubscribe, Transmit, Receive, Pend, Look, PoolCreate, PoolGet, PoolPut, PoolFigures, End}
 use Rattle.bus_words.specs.declared.history.Entry.{Entry}
 use Rattle.bus_words.specs.Refusals.{Refusal, OfBus, OfPools, refusal_answer}
+use Rattle.bus_words.specs.Held.{account_of, account_drawn}
 use Rattle.bus_words.specs.Bus.{Pipe, Subscription, State, Standing, Active, Waiting, Ended, Sending, opening, standing_of, pipe_at, pipe_named, is_live, is_named, owns, with_pipe, with_bits, with_standing, route, is_subscribed, has_route, is_empty, others_idle, deliver, reached, oldest, after_receive}
 
 -- Sequence counts (CCSDS 133.0-B, 4.1.3.4.3). --
@@ -84,10 +85,13 @@ subscribe_cause limits s app id pipe =
 abbrev pub unsubscribe_cause : State → ℕ → ℕ → ℕ → Option SbStatus
 unsubscribe_cause s app id pipe = refused_if (not (is_valid_id id) || not (owns s.pipes app pipe)) BadArgument None
 
+-- a message that nobody subscribes to needs no block of the bus's pool
 abbrev pub transmit_cause : Limits → State → List ℕ → Option SbStatus
 transmit_cause limits s bytes =
     refused_if (is_some (fault bytes)) BadArgument
-    (refused_if (nat_lt limits.msgmax (length bytes)) MsgTooBig None)
+    (refused_if (nat_lt limits.msgmax (length bytes)) MsgTooBig
+    (if length (route s.subscriptions (message_id bytes)) == 0 then None
+    else refused_if (not (has_room (account_of limits s) (length bytes))) BufAlocErr None))
 
 abbrev pub receive_cause : State → ℕ → ℕ → Option SbStatus
 receive_cause s app pipe =
@@ -191,17 +195,22 @@ subscribed s id pipe limit scope = (
 abbrev pub unsubscribed : State → ℕ → ℕ → State
 unsubscribed s id pipe = record s { subscriptions = filter (λ sub. not (sub.id == id && sub.pipe == pipe)) s.subscriptions }
 
--- without a live subscription of its id a message goes nowhere and takes no number
-abbrev pub sent_along : List Subscription → Sending → State → BusAnswer × State
-sent_along [] sending s = (Sent 0 0, s)
-sent_along (sub ∷ subs) sending s = (
+-- without a live subscription of its id a message goes nowhere, and takes no number and no block
+abbrev pub sent_along : Limits → List Subscription → Sending → State → BusAnswer × State
+sent_along limits [] sending s = (Sent 0 0, s)
+sent_along limits (sub ∷ subs) sending s = (
   Sent sending.number (reached sending (sub ∷ subs) s.pipes),
-  record s { pipes = deliver sending (sub ∷ subs) s.pipes; numbers_given = sending.number },
+  record s {
+    pipes = deliver sending (sub ∷ subs) s.pipes;
+    numbers_given = sending.number;
+    made = (account_drawn limits s sending.asked).made;
+    drawn = (account_drawn limits s sending.asked).requests;
+  },
 )
 
-abbrev pub transmitted : Reads → State → ℕ → List ℕ → Bool → BusAnswer × State
-transmitted reads s app bytes inc =
-    sent_along (route s.subscriptions (message_id bytes))
+abbrev pub transmitted : Reads → Limits → State → ℕ → List ℕ → Bool → BusAnswer × State
+transmitted reads limits s app bytes inc =
+    sent_along limits (route s.subscriptions (message_id bytes))
     (record { sender = app; number = s.numbers_given + 1; asked = length bytes; message = stamped reads bytes inc }) s
 
 -- the number of the oldest message that is queued on the pipe
@@ -265,7 +274,7 @@ accept_with reads limits s app (Find name) = (Number (number_of s.pipes name), s
 accept_with reads limits s app (PipeName pipe) = (Name (name_of s.pipes pipe), s)
 accept_with reads limits s app (Subscribe id pipe limit scope) = subscribed s id pipe limit scope
 accept_with reads limits s app (Unsubscribe id pipe) = (Done, unsubscribed s id pipe)
-accept_with reads limits s app (Transmit bytes inc) = transmitted reads s app bytes inc
+accept_with reads limits s app (Transmit bytes inc) = transmitted reads limits s app bytes inc
 accept_with reads limits s app (Receive pipe) = (Got (oldest_number s.pipes pipe), received s pipe)
 accept_with reads limits s app (Pend pipe) = (pended_answer s app pipe, pended s app pipe)
 accept_with reads limits s app (Look pipe) = (pended_answer s app pipe, looked s app pipe)

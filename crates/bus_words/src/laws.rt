@@ -1,9 +1,10 @@
 //! What holds of every history of the bus, whoever kept it.
-ghost use Rattle.std.specs.Prelude.{◌≡◌, ℕ, List, [], ◌∷◌, ◌++◌, length, true, IsTrue};
+ghost use Rattle.std.specs.Prelude.{◌≡◌, ℕ, ◌≤◌, List, [], ◌∷◌, ◌++◌, length, sum_by, true, false, IsTrue};
 ghost use Rattle.fsw_base.specs.Limits.{Limits};
 ghost use Rattle.bus_words.specs.declared.history.Call.{Call};
 ghost use Rattle.bus_words.specs.declared.history.Entry.{Entry};
-ghost use Rattle.bus_words.specs.Bus.{ArePools, opening, standing_of};
+ghost use Rattle.bus_words.specs.Bus.{ArePools, State, opening, standing_of, has_ended, owns};
+ghost use Rattle.bus_words.specs.Held.{IsAccounted, HoldsNothing, held, block_of, account_of, bytes_in_use};
 ghost use Rattle.bus_words.specs.Machine.{reads_after, cause, cause_with, step, state_after, may_call, makes_entry, IsLegal};
 ghost use Rattle.bus_words.specs.Acts.{AreAlike, act, reads_in, whole_after, whole_of};
 ghost use Rattle.bus_words.specs.Runs.{callers, stepped, Follows};
@@ -81,4 +82,33 @@ pub fn states_are_enough()
 pub fn pools_are_counted()
     ensures { (limits : Limits) (apps : ℕ) (history : List Entry) →
         ArePools limits (length history) (state_after limits apps history).pools }
+{}
+
+/// The account of the bus's own pool adds up after every history: no more blocks of a size are out
+/// than were made, the pool's bytes pay for those that were made, and a block was drawn for each
+/// send number that was given. Does nothing.
+pub fn draws_are_counted()
+    ensures { (limits : Limits) (apps : ℕ) (history : List Entry) →
+        IsAccounted limits (length history) (state_after limits apps history) }
+{}
+
+/// What is in use of the pool's bytes are the blocks for the sends that are held, one for each.
+/// Does nothing.
+pub fn bytes_are_of_sends()
+    ensures { (limits : Limits) (s : State) → bytes_in_use (account_of limits s) ≡
+        sum_by (block_of limits.sizes s.pipes) (held s.pipes s.numbers_given) }
+{}
+
+/// An application that has ended owns no live pipe. So where all have ended nothing is left: no
+/// pipe is live, no send is held, and every block of the bus's pool has come back. Does nothing.
+pub fn ends_leave_nothing()
+    ensures owners { (limits : Limits) (apps app pipe : ℕ) (history : List Entry) →
+        IsLegal limits apps history →
+        has_ended (standing_of (state_after limits apps history) app) ≡ true →
+        owns (state_after limits apps history).pipes app pipe ≡ false }
+    ensures nothing { (limits : Limits) (apps : ℕ) (history : List Entry) →
+        IsLegal limits apps history →
+        ((app : ℕ) → 1 ≤ app → app ≤ apps →
+        has_ended (standing_of (state_after limits apps history) app) ≡ true) →
+        HoldsNothing limits (state_after limits apps history) }
 {}

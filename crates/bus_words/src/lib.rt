@@ -16,6 +16,7 @@ mod calls;
 mod history;
 mod journal;
 mod laws;
+mod message_receipts;
 mod pipe_text;
 mod receipts;
 
@@ -23,9 +24,9 @@ pub use calls::{BusAnswer, BusCall, BusEntry};
 pub use history::{Call, Entry};
 pub use journal::BusJournal;
 pub use journal_store::Allowance;
-pub use laws::{histories_are_runs, pipes_stand_alone, pools_are_counted, states_are_enough};
+pub use laws::{
+    bytes_are_of_sends, draws_are_counted, ends_leave_nothing, histories_are_runs,
+    pipes_stand_alone, pools_are_counted, states_are_enough,
+};
 pub use pipe_text::{NAME_BYTES, PipeText};
 pub use receipts::{HEAD_BYTES, Head, Receipt, ReceiptList};
-
-#[cfg(test)]
-mod tests;

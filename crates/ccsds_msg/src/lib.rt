@@ -4,7 +4,7 @@
 //! Every reader answers the header's fields exactly, every writer changes its field alone, and
 //! bytes are refused exactly where they are no message.
 //!
-//! The caller below is proved, in `tests.rt`.
+//! The caller below is proved, in the crate `bus_tests`.
 //!
 //! ```
 //! /// Makes a telemetry packet of the whole slice, with this sequence count.
@@ -32,6 +32,3 @@ pub use command::{function_code, set_function_code};
 pub use packet::{Header, MsgFault};
 pub use reading::{count_of, front, id_of, read_header, size_of};
 pub use writing::{set_count, write_header};
-
-#[cfg(test)]
-mod tests;

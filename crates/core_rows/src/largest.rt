@@ -5,14 +5,13 @@ ghost use Rattle.sb_calls.specs.Core.{state_of};
 
 use crate::example::Limit;
 use crate::fail::Fail;
-use crate::opening::{budgets, config_of};
-use crate::playing::make;
+use crate::opening::config_of;
+use crate::played::PlayedBus;
 use crate::printing::print_title;
 use bucket_list::{Blank, Ledger, Steps};
 use bus_words::BusCall;
 use ccsds_msg::write_header;
 use fsw_base::{AppNo, Scope, Sink, SinkGuard, WriteFault};
-use sb_calls::BusCore;
 use std::alloc::Global;
 use text_page::{Page, finish, put, put_number};
 
@@ -53,13 +52,15 @@ pub fn print_largest<L: Ledger, K: Sink>(
     ensures { OnOk result (sink.new.failed ≡ false) }
 {
     let mut steps = Steps::<L>::new(blank);
-    let mut core = BusCore::new(alloc, &config_of(&LIMITS), budgets(16))?;
-    print_filled(&mut core, sink, &mut steps)
+    let config = config_of(&LIMITS);
+    let mut region = vec![in alloc; 0u8; config.pool as usize]?;
+    let mut played = PlayedBus::new(alloc, &config, 16, &mut region)?;
+    print_filled(&mut played, sink, &mut steps)
 }
 
 // Fills this bus, and prints how many calls it took.
 fn print_filled<L: Ledger, K: Sink>(
-    core: &mut BusCore,
+    played: &mut PlayedBus<'_>,
     sink: &mut SinkGuard<'_, K>,
     steps: &mut Steps<L>,
 ) -> Result<(), Fail>
@@ -67,26 +68,31 @@ fn print_filled<L: Ledger, K: Sink>(
     ensures { OnOk result (sink.new.failed ≡ false) }
 {
     print_title("the largest configuration", sink)?;
-    let pipes = fill(core, Filling::Pipes, 257, steps);
+    let pipes = fill(played, Filling::Pipes, 257, steps);
     print_figure(b"pipes ", pipes, sink)?;
-    let ids = fill(core, Filling::Ids, 1025, steps);
+    let ids = fill(played, Filling::Ids, 1025, steps);
     print_figure(b"ids ", ids, sink)?;
-    let dests = fill(core, Filling::Dests, 65, steps);
+    let dests = fill(played, Filling::Dests, 65, steps);
     print_figure(b"destinations ", dests, sink)?;
-    let all = pipes_reached(core, 1, steps);
+    let all = pipes_reached(played, 1, steps);
     print_figure(b"reached ", all, sink)?;
-    let one = pipes_reached(core, 1024, steps);
+    let one = pipes_reached(played, 1024, steps);
     print_figure(b"reached ", one, sink)?;
     Ok(())
 }
 
 // Fills the bus at so many places; how many calls were accepted.
-fn fill<L: Ledger>(core: &mut BusCore, filling: Filling, places: u32, steps: &mut Steps<L>) -> u32
+fn fill<L: Ledger>(
+    played: &mut PlayedBus<'_>,
+    filling: Filling,
+    places: u32,
+    steps: &mut Steps<L>,
+) -> u32
     requires { places ≤ 1025 }
 {
     let mut accepted = 0;
     for place in 0..places {
-        if is_filled(core, filling, place, steps) {
+        if is_filled(played, filling, place, steps) {
             accepted += 1;
         }
     }
@@ -95,7 +101,7 @@ fn fill<L: Ledger>(core: &mut BusCore, filling: Filling, places: u32, steps: &mu
 
 // Makes the call that fills a place; whether it was accepted.
 fn is_filled<L: Ledger>(
-    core: &mut BusCore,
+    played: &mut PlayedBus<'_>,
     filling: Filling,
     place: u32,
     steps: &mut Steps<L>,
@@ -115,7 +121,7 @@ fn is_filled<L: Ledger>(
         Filling::Ids => subscription(place as u16 + 1, pipe),
         Filling::Dests => subscription(1, pipe),
     };
-    core.may_make(app, &call) && make(core, app, call, steps)
+    played.may_make(app, &call) && played.make(app, call, steps)
 }
 
 // A call that subscribes the pipe to the id.
@@ -130,8 +136,8 @@ fn subscription(id: u16, pipe: u32) -> BusCall<'static> {
 
 // Has the first application send a message of this id; how many pipes it reached. An id of at most
 // 64 destinations takes at most 32 + 4 * 64 steps, whatever else is there.
-fn pipes_reached<L: Ledger>(core: &mut BusCore, id: u16, steps: &mut Steps<L>) -> u32
-    ensures cost { length (route (state_of core.old).subscriptions id) ≤ 64
+fn pipes_reached<L: Ledger>(played: &mut PlayedBus<'_>, id: u16, steps: &mut Steps<L>) -> u32
+    ensures cost { length (route (state_of played.old.core).subscriptions id) ≤ 64
         → steps.new ≤ steps.old + (32 + 4 * 64) }
 {
     let mut message = [0, 0, 0, 0, 0, 0, 0, 1];
@@ -141,9 +147,7 @@ fn pipes_reached<L: Ledger>(core: &mut BusCore, id: u16, steps: &mut Steps<L>) -
         inc: true,
     };
     match AppNo::try_new(1) {
-        Some(app) if core.may_make(app, &call) => core
-            .transmit(app, &message, true, steps)
-            .map_or(0, |sent| sent.reached),
+        Some(app) if played.may_make(app, &call) => played.send(app, &message, steps),
         _ => 0,
     }
 }

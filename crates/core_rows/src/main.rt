@@ -13,6 +13,7 @@ mod examples;
 mod fail;
 mod largest;
 mod opening;
+mod played;
 mod playing;
 mod printing;
 

@@ -1,10 +1,13 @@
 //! The steps of an example on a bus.
 ghost use Rattle.std.specs.Prelude.{◌≡◌, ◌≤◌, length};
 ghost use Rattle.bus_words.specs.Entries.{call_of};
+ghost use Rattle.sb_calls.specs.Bags.{HasBag, KeepsBags, KeepsOtherBags};
 ghost use Rattle.sb_calls.specs.Core.{MayCall};
 
 use crate::example::{Act, Step};
+use crate::played::PlayedBus;
 use bucket_list::{Ledger, Steps};
+use buf_desc::Held;
 use bus_words::{BusCall, Receipt};
 use ccsds_msg::write_header;
 use fsw_base::{AppNo, MAX_MESSAGE_BYTES, Scope};
@@ -26,7 +29,7 @@ pub enum Outcome {
 
 /// Plays one step. A message is made in the buffer.
 pub fn play<L: Ledger>(
-    core: &mut BusCore,
+    played: &mut PlayedBus<'_>,
     step: &Step,
     buffer: &mut [u8],
     steps: &mut Steps<L>,
@@ -36,27 +39,53 @@ pub fn play<L: Ledger>(
         return Outcome::NotAllowed;
     };
     let Some(call) = call_of(act, buffer) else {
-        return shown(core, app, act);
+        return shown(played, app, act);
     };
-    if !core.may_make(app, &call) {
+    if !played.may_make(app, &call) {
         return Outcome::NotAllowed;
     }
-    make(core, app, call, steps);
-    outcome_of_call(core, app, act)
+    played.make(app, call, steps);
+    outcome_of_call(played, app, act)
 }
 
-/// Makes the call, which the application may make now; whether it was accepted.
-pub fn make<L: Ledger>(
-    core: &mut BusCore,
+/// Makes the call, which the application may make now, with its bag; whether it was accepted.
+pub fn make<'r, L: Ledger>(
+    core: &mut BusCore<'r>,
+    app: AppNo,
+    call: BusCall<'_>,
+    held: &mut Held<'r>,
+    steps: &mut Steps<L>,
+) -> bool
+    requires may { MayCall core.old app (call_of call) }
+    requires bag { HasBag core.old app held.old }
+    ensures bag { HasBag core.new app held.new }
+    ensures other_bags { KeepsOtherBags core.old core.new app }
+{
+    match call {
+        BusCall::Delete { pipe } => core.delete_pipe(app, pipe, held, steps).is_ok(),
+        BusCall::Receive { pipe } => core.receive(app, pipe, held, steps).is_ok(),
+        BusCall::Pend { pipe } => core.pend(app, pipe, held, steps).is_ok(),
+        BusCall::Look { pipe: _ } => core.look(app, held) != Pended::Pending,
+        BusCall::End => {
+            core.end(app, held, steps);
+            true
+        }
+        _ => make_without_bag(core, app, call, steps),
+    }
+}
+
+// Makes a call that takes no bag along; whether it was accepted. False for one that takes one.
+fn make_without_bag<L: Ledger>(
+    core: &mut BusCore<'_>,
     app: AppNo,
     call: BusCall<'_>,
     steps: &mut Steps<L>,
 ) -> bool
-    requires { MayCall core.old app (call_of call) }
+    requires may { MayCall core.old app (call_of call) }
+    ensures bags { KeepsBags core.old core.new }
 {
     match call {
         BusCall::Create { depth, name } => core.create_pipe(app, depth, name).is_ok(),
-        BusCall::Delete { pipe } => core.delete_pipe(app, pipe, steps).is_ok(),
         BusCall::SetOpts { pipe, bits } => core.set_opts(app, pipe, bits).is_ok(),
         BusCall::GetOpts { pipe } => core.get_opts(app, pipe).is_ok(),
         BusCall::Find { name } => core.find_pipe(app, name).is_ok(),
@@ -69,17 +98,15 @@ pub fn make<L: Ledger>(
         } => core.subscribe(app, id, pipe, limit, scope, steps).is_ok(),
         BusCall::Unsubscribe { id, pipe } => core.unsubscribe(app, id, pipe, steps).is_ok(),
         BusCall::Transmit { bytes, inc } => core.transmit(app, bytes, inc, steps).is_ok(),
-        BusCall::Receive { pipe } => core.receive(app, pipe).is_ok(),
-        BusCall::Pend { pipe } => core.pend(app, pipe).is_ok(),
-        BusCall::Look { pipe: _ } => core.look(app) != Pended::Pending,
         BusCall::PoolCreate { bytes } => core.pool_create(app, bytes).is_ok(),
         BusCall::PoolGet { pool, size } => core.pool_get(app, pool, size, steps).is_ok(),
         BusCall::PoolPut { pool, grant } => core.pool_put(app, pool, grant, steps).is_ok(),
         BusCall::PoolFigures { pool } => core.pool_stats(app, pool).is_ok(),
-        BusCall::End => {
-            core.end(app, steps);
-            true
-        }
+        BusCall::Delete { .. }
+        | BusCall::Receive { .. }
+        | BusCall::Pend { .. }
+        | BusCall::Look { .. }
+        | BusCall::End => false,
     }
 }
 
@@ -152,10 +179,10 @@ fn fill_payload(payload: &mut [u8], fill: u8) {
 }
 
 // What a look at a pipe's last message tells.
-fn shown(core: &BusCore, app: AppNo, act: &Act) -> Outcome {
+fn shown(played: &PlayedBus<'_>, app: AppNo, act: &Act) -> Outcome {
     match act {
         Act::Show(pipe) => {
-            let receipt = core.last_receipt(app, *pipe);
+            let receipt = played.last_receipt(app, *pipe);
             Outcome::Seen(app, receipt.unwrap_or(Receipt::Nothing))
         }
         _ => Outcome::NotAllowed,
@@ -164,9 +191,9 @@ fn shown(core: &BusCore, app: AppNo, act: &Act) -> Outcome {
 
 // What a call that was made left to tell. A receive lets the pipe's last message go, so there is
 // one behind it only where the receive got it.
-fn outcome_of_call(core: &BusCore, app: AppNo, act: &Act) -> Outcome {
+fn outcome_of_call(played: &PlayedBus<'_>, app: AppNo, act: &Act) -> Outcome {
     let receipt = match act {
-        Act::Receive(pipe) | Act::Pend(pipe) | Act::Look(pipe) => core.last_receipt(app, *pipe),
+        Act::Receive(pipe) | Act::Pend(pipe) | Act::Look(pipe) => played.last_receipt(app, *pipe),
         _ => None,
     };
     match receipt {

@@ -3,13 +3,13 @@ ghost use Rattle.std.specs.Prelude.{◌≡◌, ◌<◌, false, OnOk};
 
 use crate::example::Example;
 use crate::fail::Fail;
-use crate::opening::{budgets, config_of};
+use crate::opening::config_of;
+use crate::played::PlayedBus;
 use crate::playing::{MOST_BYTES, Outcome, play};
 use bucket_list::{Blank, Ledger, Steps};
 use bus_words::{Receipt, ReceiptList};
 use fsw_base::{AppNo, Sink, SinkGuard, WriteFault};
 use run_report::write_journal;
-use sb_calls::BusCore;
 use std::alloc::{AllocError, Global};
 use text_page::write_text;
 
@@ -31,15 +31,17 @@ pub fn print_example<L: Ledger, K: Sink>(
     ensures { OnOk result (sink.new.failed ≡ false) }
 {
     let mut steps = Steps::<L>::new(blank);
-    let mut core = BusCore::new(alloc, &config_of(example.limits), budgets(example.apps))?;
-    print_played(alloc, example, &mut core, sink, &mut steps)
+    let config = config_of(example.limits);
+    let mut region = vec![in alloc; 0u8; config.pool as usize]?;
+    let mut played = PlayedBus::new(alloc, &config, example.apps, &mut region)?;
+    print_played(alloc, example, &mut played, sink, &mut steps)
 }
 
 // Plays an example on this bus, which no call was made on, and prints its title and its report.
 fn print_played<L: Ledger, K: Sink>(
     alloc: Global,
     example: &Example,
-    core: &mut BusCore,
+    played: &mut PlayedBus<'_>,
     sink: &mut SinkGuard<'_, K>,
     steps: &mut Steps<L>,
 ) -> Result<(), Fail>
@@ -50,11 +52,11 @@ fn print_played<L: Ledger, K: Sink>(
     let mut seen = Vec::with_capacity(alloc, example.steps.len())?;
     print_title(example.title, sink)?;
     for step in example.steps {
-        let outcome = play(core, step, &mut buffer, steps);
+        let outcome = play(played, step, &mut buffer, steps);
         tell(outcome, &mut seen, sink)?;
     }
     let receipts = receipt_lists(alloc, example.apps, &seen)?;
-    write_journal(core.journal(), &receipts, sink)?;
+    write_journal(played.journal(), &receipts, sink)?;
     Ok(())
 }
 

@@ -26,8 +26,6 @@ mod calls;
 mod laws;
 mod plain;
 mod pool;
-#[cfg(test)]
-mod tests;
 
 pub use agreement::{agree, pool_and_plain};
 pub use blocks::{BlockNo, ClassStats, CutBlock, OVERHEAD};

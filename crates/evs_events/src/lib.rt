@@ -5,7 +5,7 @@
 //! Each call answers and leaves exactly what the definitions of `EventDesk.antt` (of `fsw_base`)
 //! say, and no call takes memory once the desk is made.
 //!
-//! The caller below is proved, in `tests.rt`.
+//! The caller below is proved, in the crate `bus_tests`.
 //!
 //! ```
 //! /// Registers an application, and tells by a service event that it is ready.
@@ -31,6 +31,3 @@ pub use counts::EventCounts;
 pub use desk::EventDesk;
 pub use line::{LogLine, MAX_TEXT};
 pub use log::LOG_LINES;
-
-#[cfg(test)]
-mod tests;

@@ -41,6 +41,3 @@ pub use sizes::{MAX_MESSAGE_BYTES, MAX_NAME_BYTES, MAX_SCRIPT_BYTES, MAX_TABLE_B
 pub use standard::{StdSink, StdSource};
 pub use starts::{CountStarts, MAX_COUNT, MAX_ID, MAX_STARTS};
 pub use statuses::{EsStatus, EvsStatus, SbStatus};
-
-#[cfg(test)]
-mod tests;

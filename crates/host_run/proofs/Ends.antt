@@ -11,7 +11,7 @@ use Rattle.app_script.specs.Grammar.{built_script}
 use Rattle.script_runs.specs.Rotation.{rotation}
 use Rattle.app_script.specs.Script.{ScriptText}
 use Rattle.script_runs.specs.Told.{receipts_told}
-use Rattle.script_runs.proofs.Merged.{rotation-legal, rotation-merges}
+use Rattle.script_runs.proofs.Merged.{rotation-legal, rotation-merges, rotation-holds_nothing}
 use Rattle.host_run.proofs.Sizes.{length-built_script}
 use Rattle.host_run.specs.Input.{most_input, IsWhole, IsTooLarge}
 use Rattle.host_run.specs.Serve.{Fed, Made, Lockstep, Read, TooLong, SourceFailed, NoRoom, OtherWords, EndsInput, EndsScript, EndsRefused, HasCauses, Completes, Headline, too_large, rotation_report}
@@ -100,6 +100,7 @@ headline-input (Ok script) bytes fed fed' old new built whole ends = λ done. (
   built,
   rotation-legal script,
   rotation-merges script,
+  rotation-holds_nothing script,
   ends.shown,
   ends.written,
 )

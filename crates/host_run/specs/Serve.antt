@@ -7,7 +7,8 @@ use Rattle.fsw_base.specs.ScriptFaults.{fault_name}
 use Rattle.fsw_base.specs.declared.script_faults.FaultKind.TheVariants.{TooLarge}
 use Rattle.fsw_base.specs.declared.script_faults.ScriptFault.{ScriptFault}
 use Rattle.bus_words.specs.declared.history.Entry.{Entry}
-use Rattle.bus_words.specs.Machine.{IsLegal}
+use Rattle.bus_words.specs.Held.{HoldsNothing}
+use Rattle.bus_words.specs.Machine.{IsLegal, state_after}
 use Rattle.text_page.specs.Pieces.{Grew, CutShort}
 use Rattle.run_report.specs.Report.{report_text}
 use Rattle.app_script.specs.Grammar.{built_script}
@@ -161,7 +162,8 @@ Completes result fed fed' old new =
 
 -- The headline of runs in rotation: where all was done, the whole input was read and is a script, and there is a
 -- history that the bus can have under the script's limits, that merges the calls of the script's applications, each once
--- and in order, that the audit was shown, and of which the report was written.
+-- and in order, behind which no message is held and no byte of the bus's pool in use, that the audit was shown, and of
+-- which the report was written.
 abbrev pub Headline : HostStatus → Fed → Fed → Made → Made → Type 0
 Headline result fed fed' old new =
     result ≡ status.Done → (bytes : List ℕ) × (script : ScriptText) × (history : List Entry)
@@ -169,5 +171,6 @@ Headline result fed fed' old new =
     × (built_script bytes ≡ Ok script)
     × IsLegal script.limits (length script.apps) history
     × Merges script history
+    × HoldsNothing script.limits (state_after script.limits (length script.apps) history)
     × IsShown old.shown new.shown history
     × Grew old.written new.written (report script history)

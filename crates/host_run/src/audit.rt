@@ -14,7 +14,7 @@ pub trait Audit {
 
     /// Is shown a bus; `serve` shows the one of a whole run. Its history is put behind those shown
     /// before, or nothing is told from then on.
-    fn closed(&mut self, bus: &BusCore)
+    fn closed(&mut self, bus: &BusCore<'_>)
         ensures { IsShown (shown self.old) (shown self.new) bus.now.log.entries };
 }
 
@@ -25,7 +25,7 @@ pub struct NoAudit;
 impl Audit for NoAudit {
     ghost shown = { λ _. None };
 
-    fn closed(&mut self, _bus: &BusCore) {}
+    fn closed(&mut self, _bus: &BusCore<'_>) {}
 }
 
 /// An audit that is shown a bus only while nothing was written.
@@ -53,7 +53,7 @@ impl<'a, A: Audit> AuditGuard<'a, A> {
     }
 
     /// Shows the audit a bus. Nothing may have been written through the sink's guard.
-    pub fn closed<K: Sink>(&mut self, bus: &BusCore, _sink: &SinkGuard<'_, K>)
+    pub fn closed<K: Sink>(&mut self, bus: &BusCore<'_>, _sink: &SinkGuard<'_, K>)
         requires { _sink.now.untouched ≡ true }
         ensures shown { IsShown self.old.shown self.new.shown bus.now.log.entries }
         ensures same_audit { self.new.audit ≡ self.old.audit }

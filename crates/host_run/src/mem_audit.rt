@@ -113,7 +113,7 @@ impl MemAudit {
 impl Audit for MemAudit {
     ghost shown = { shown };
 
-    fn closed(&mut self, bus: &BusCore)
+    fn closed(&mut self, bus: &BusCore<'_>)
         ensures told { IsShown (shown self.old) (shown self.new) bus.now.log.entries }
         ensures copies { self.new ≡ with_copy self.old bus.now.log.entries }
     {

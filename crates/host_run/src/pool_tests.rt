@@ -41,7 +41,7 @@ impl Audit for SecondSize {
 
     ghost shown = { λ _. None };
 
-    fn closed(&mut self, bus: &BusCore) {
+    fn closed(&mut self, bus: &BusCore<'_>) {
         if 1 <= bus.app_pools() {
             let pool = bus.app_pool(1);
             if 2 <= pool.classes() {

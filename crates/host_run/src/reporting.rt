@@ -17,7 +17,7 @@ use sb_calls::BusCore;
 /// stands at its last value); the sink then has a front of the text, and after the failed write
 /// nothing more is written.
 pub fn write_report<K: Sink>(
-    bus: &BusCore,
+    bus: &BusCore<'_>,
     receipts: &[ReceiptList],
     sink: &mut SinkGuard<'_, K>,
 ) -> Result<(), WriteFault>

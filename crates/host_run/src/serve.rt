@@ -1,5 +1,5 @@
 //! The top call: all that the program does.
-ghost use Rattle.std.specs.Prelude.{◌≡◌, ◌⊎◌, true, false};
+ghost use Rattle.std.specs.Prelude.{◌≡◌, ◌≤◌, ◌⊎◌, true, false};
 ghost use Rattle.app_script.specs.Grammar.{built_script};
 ghost use Rattle.host_run.specs.Audit.{GuardedAudit};
 ghost use Rattle.host_run.specs.Serve.{Headline, Lockstep, OtherWords, HasCauses, Completes, fed_by, made_by, fed_through, made_through, EndsInput, EndsScript, EndsRefused, EndsTelling, usage_text};
@@ -12,7 +12,7 @@ use crate::reading::{Reading, read_all};
 use crate::reporting::write_report;
 use crate::status::HostStatus;
 use crate::words::Words;
-use app_run::lockstep;
+use app_run::{Finished, Regions, lockstep};
 use app_script::{ReadFail, Script, read_script};
 use fsw_base::{FaultKind, Gate, ScriptFault, Sink, SinkGuard, Source, SourceGuard, WriteFault};
 use std::alloc::Global;
@@ -176,11 +176,35 @@ fn serve_script<K: Sink, A: Audit>(
     ensures same_sink { sink.new.sink ≡ sink.old.sink }
     ensures same_audit { audit.new.audit ≡ audit.old.audit }
 {
-    let Ok(finished) = lockstep(alloc, script) else {
+    let Ok(mut regions) = Regions::new(alloc, script.config()) else {
         return HostStatus::NoMemory;
     };
-    audit.closed(&finished.bus, sink);
-    match write_report(&finished.bus, finished.receipts.as_slice(), sink) {
+    run_script(alloc, script, &mut regions, sink, audit)
+}
+
+// The same, with the memory that the messages of the run lie in.
+fn run_script<K: Sink, A: Audit>(
+    alloc: Global,
+    script: &Script,
+    regions: &mut Regions,
+    sink: &mut SinkGuard<'_, K>,
+    audit: &mut AuditGuard<'_, A>,
+) -> HostStatus
+    requires regions { script.now.limits.pool ≤ regions.old.pool }
+    requires none_failed { sink.old.failed ≡ false }
+    requires untouched { sink.old.untouched ≡ true }
+    ensures end { EndsScript result script.now (made_through sink.old audit.old)
+        (made_through sink.new audit.new) }
+    ensures failed { sink.new.failed ≡ is_write_fault result }
+    ensures no_read_fault { is_read_fault result ≡ false }
+    ensures same_sink { sink.new.sink ≡ sink.old.sink }
+    ensures same_audit { audit.new.audit ≡ audit.old.audit }
+{
+    let Ok(Finished { bus, receipts }) = lockstep(alloc, script, regions) else {
+        return HostStatus::NoMemory;
+    };
+    audit.closed(&bus, sink);
+    match write_report(&bus, receipts.as_slice(), sink) {
         Ok(()) => HostStatus::Done,
         Err(WriteFault) => HostStatus::WriteFault,
     }

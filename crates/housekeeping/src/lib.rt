@@ -5,7 +5,7 @@
 //! Each counter shows how often it was ticked, up to 4294967295, each peak is the greatest number
 //! seen, and the packet has exactly the bytes of `housekeeping_packet`. No call takes memory.
 //!
-//! The caller below is proved, in `tests.rt`.
+//! The caller below is proved, in the crate `bus_tests`.
 //!
 //! ```
 //! /// Counts a subscription that stood already, and looks at what is in use.
@@ -28,6 +28,3 @@ pub use counters::{Counters, PACKET_BYTES};
 pub use in_use::InUse;
 pub use laws::{recall_packets, recall_statistics};
 pub use names::CounterName;
-
-#[cfg(test)]
-mod tests;

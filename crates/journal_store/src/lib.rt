@@ -20,8 +20,6 @@
 
 mod allowance;
 mod store;
-#[cfg(test)]
-mod tests;
 
 pub use allowance::Allowance;
 pub use store::JournalStore;

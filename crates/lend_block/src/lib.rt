@@ -25,8 +25,6 @@ mod name;
 mod note;
 mod part;
 mod root;
-#[cfg(test)]
-mod tests;
 mod view;
 
 pub use name::LoanName;

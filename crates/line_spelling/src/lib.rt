@@ -21,6 +21,3 @@ mod words;
 
 pub use laws::printed_lines_read_back;
 pub use printing::print_line;
-
-#[cfg(test)]
-mod tests;

@@ -19,7 +19,5 @@
 #![tactic(auto)]
 
 mod map;
-#[cfg(test)]
-mod tests;
 
 pub use map::{IdMap, MAX_ID};

@@ -22,8 +22,6 @@
 
 mod item;
 mod pipe_queue;
-#[cfg(test)]
-mod tests;
 
 pub use item::{Full, Item};
 pub use pipe_queue::PipeQueue;

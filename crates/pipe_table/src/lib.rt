@@ -24,8 +24,6 @@ mod offered;
 mod pipe_no;
 mod place;
 mod table;
-#[cfg(test)]
-mod tests;
 
 pub use offered::OfferVerdict;
 pub use pipe_no::PipeNo;

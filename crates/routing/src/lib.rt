@@ -28,7 +28,5 @@
 
 mod dests;
 mod routes;
-#[cfg(test)]
-mod tests;
 
 pub use routes::{Routes, recall_counts};

@@ -11,9 +11,10 @@ use Rattle.bus_words.specs.Refusals.{Refusal, OfBus, OfPools, refusal_answer}
 use Rattle.bus_words.specs.Machine.{cause, decided, sent_along, step, LegalFrom}
 use Rattle.run_report.specs.ReadBack.{can_answer}
 
-sent_answer : (bytes : List ℕ) (inc : Bool) (subs : List Subscription) (sending : Sending) (s : State) → can_answer (Transmit bytes inc) (sent_along subs sending s).0 ≡ true
-sent_answer bytes inc [] sending s = refl
-sent_answer bytes inc (sub ∷ subs) sending s = refl
+sent_answer : (limits : Limits) (bytes : List ℕ) (inc : Bool) (subs : List Subscription) (sending : Sending) (s : State) →
+    can_answer (Transmit bytes inc) (sent_along limits subs sending s).0 ≡ true
+sent_answer limits bytes inc [] sending s = refl
+sent_answer limits bytes inc (sub ∷ subs) sending s = refl
 
 -- any call may be refused
 refused_answer : (call : Call) (why : Refusal) → can_answer call (refusal_answer why) ≡ true
@@ -74,7 +75,7 @@ decided_answer limits history s app (Find name) None = refl
 decided_answer limits history s app (PipeName pipe) None = refl
 decided_answer limits history s app (Subscribe id pipe limit scope) None = refl
 decided_answer limits history s app (Unsubscribe id pipe) None = refl
-decided_answer limits history s app (Transmit bytes inc) None = sent_answer bytes inc _ _ s
+decided_answer limits history s app (Transmit bytes inc) None = sent_answer limits bytes inc _ _ s
 decided_answer limits history s app (Receive pipe) None = refl
 decided_answer limits history s app (Pend pipe) None = pended_can pipe _ (not (is_empty s.pipes pipe)) (others_idle s app)
 decided_answer limits history s app (Look pipe) None = looked_can pipe _ (not (is_empty s.pipes pipe)) (others_idle s app)

@@ -20,6 +20,3 @@ mod writer;
 
 pub use laws::reports_tell_applications_and_answers;
 pub use writer::write_journal;
-
-#[cfg(test)]
-mod tests;

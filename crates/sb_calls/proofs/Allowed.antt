@@ -36,8 +36,8 @@ at_most m n is = grind (arith, nat_tests)
 tested : (m n : ℕ) → m ≤ n → leb m n ≡ true
 tested m n within = grind (arith, nat_tests)
 
-pub permitted : (a : Inside) (now : Core) (app : ℕ) (call : Call) (lets result : Bool) (left : Allowance) → core_of a ≡ now → Stands a → app ≤ length a.journal.budgets →
-    lets ≡ may_call (standing_of a.core.whole.bus app) call → left ≡ allowance_of (left_of a.journal) app →
+pub permitted : (a : Inside) (now : Core) (app : ℕ) (call : Call) (lets result : Bool) (left : Allowance) → core_of a ≡ now → Stands a → app ≤ length a.noted.log.budgets →
+    lets ≡ may_call (standing_of a.core.whole.bus app) call → left ≡ allowance_of (left_of a.noted.log) app →
     result ≡ (lets && leb 1 left.entries && leb (call_bytes call) left.bytes && is_within call) → IsTrue result ↔ MayCall now app call
 permitted a now app call lets result left viewed stands known is_lets is tests =
     let standing : lets ≡ may_call (standing_of (state_of (core_of a)) app) call = is_lets ∙ ap (λ (s : State). may_call (standing_of s app) call) (bus_is a stands) in
@@ -49,7 +49,7 @@ permitted a now app call lets result left viewed stands known is_lets is tests =
             known = known;
             standing = sym standing ∙ four.0;
             room = record {
-              known = omega (arith, known, length-left_of a.journal);
+              known = omega (arith, known, length-left_of a.noted.log);
               one_entry = subst (λ (l : Allowance). 1 ≤ l.entries) is (at_most 1 left.entries four.1);
               its_bytes = subst (λ (l : Allowance). call_bytes call ≤ l.bytes) is (at_most (call_bytes call) left.bytes four.2);
             };

@@ -1,28 +1,35 @@
--- The one lemma of all calls: what the core's call and the push of its entry leave.
-use Rattle.std.proofs.Common.{◌≡◌, ℕ, ◌+◌, ◌^◌, ◌<◌, ◌≤◌, List, [], ◌∷◌, ◌++◌, length, IsTrue, refl, ap, sym, ◌∙◌, subst, arith}
+-- The one lemma of all calls: what the core's call, the push of its entry and the note leave.
+use Rattle.std.proofs.Common.{◌≡◌, ℕ, ◌+◌, ◌^◌, ◌<◌, ◌≤◌, true, false, true≢false, List, [], ◌∷◌, ◌++◌, length, Option, Some, None, is_some, IsTrue, refl, ap, sym, ◌∙◌, subst, arith}
 use Rattle.std.proofs.lemmas.List.{length_push}
 use Rattle.fsw_base.specs.Limits.{Limits}
 use Rattle.bus_words.specs.declared.calls.BusAnswer.{BusAnswer}
 use Rattle.bus_words.specs.declared.history.Call.{Call}
 use Rattle.bus_words.specs.declared.history.Entry.{Entry}
-use Rattle.bus_words.specs.Bus.{State, standing_of}
+use Rattle.bus_words.specs.Alone.{gets_from}
+use Rattle.bus_words.specs.Bus.{Item, State, standing_of}
 use Rattle.bus_words.specs.Entries.{call_bytes}
-use Rattle.journal_store.specs.Budgets.{HasRoom, allowances, bytes_left, entries_left}
-use Rattle.bus_words.specs.Log.{Log, left_of, with_entry}
+use Rattle.journal_store.specs.Budgets.{allowances, entries_left}
+use Rattle.bus_words.specs.Log.{left_of, with_entry}
 use Rattle.bus_words.specs.Machine.{makes_entry, may_call, step}
 use Rattle.bus_words.specs.Acts.{Whole, act, whole_from, whole_after, opening_whole}
 use Rattle.bus_words.specs.Runs.{Follows}
 use Rattle.bus_words.proofs.Acts.{whole_after-legal, acts_after}
-use Rattle.journal_store.proofs.Charges.{entries_left-charged, bytes_left-charged}
+use Rattle.bus_words.proofs.Isolation.{gives_newest}
 use Rattle.bus_words.proofs.Journals.{left_from-push}
+use Rattle.bus_words.proofs.Lasts.{IsFrom, from-step}
+use Rattle.bus_words.proofs.LegalSteps.{AreWaiters, AreWaiters-after}
 use Rattle.bus_words.proofs.Replay.{goes_on}
 use Rattle.bus_words.proofs.Steps.{AreCounted-after, length-standings}
 use Rattle.bus_words.proofs.PoolGrants.{ArePools-after}
+use Rattle.journal_store.proofs.Charges.{entries_left-charged}
+use Rattle.bus_store.specs.Words.{last_of, loan_of}
 use Rattle.sb_core.specs.Core.{Plain, MayAct, Acts, apps_in, has_grant_numbers}
 use Rattle.sb_calls.specs.declared.bus_core.BusCore.TheInside.{Inside}
-use Rattle.sb_calls.specs.Core.{Core, MayCall, Does, IsLegalCore, state_of}
+use Rattle.sb_calls.specs.Core.{Core, MayCall, Does, IsLegalCore, with_noted, state_of}
 use Rattle.sb_calls.specs.Inside.{core_of, Stands}
+use Rattle.sb_calls.specs.Notes.{NotedLog, loan_in, note_due, noted}
 use Rattle.sb_calls.proofs.Grants.{grants_left}
+use Rattle.sb_calls.proofs.Notes.{noted-other, noted-given}
 
 whole_from-push : (limits : Limits) (w : Whole) (es : List Entry) (e : Entry) → whole_from limits w (es ++ e ∷ []) ≡ (act limits (whole_from limits w es) e.app e.call).1
 whole_from-push limits w [] e = refl
@@ -31,35 +38,34 @@ whole_from-push limits w (x ∷ es) e = whole_from-push limits ((act limits w x.
 -- the core's state is the history's bus
 pub bus_is : (a : Inside) → Stands a → a.core.whole.bus ≡ state_of (core_of a)
 bus_is a stands =
-    ap (λ (w : Whole). w.bus) (stands.whole ∙ whole_after-legal a.core.limits (length a.journal.budgets) a.journal.entries stands.legal)
+    ap (λ (w : Whole). w.bus) (stands.whole ∙ whole_after-legal a.core.limits (length a.noted.log.budgets) a.noted.log.entries stands.legal)
 
 pub bus_now : (a : Inside) (now : Core) → core_of a ≡ now → Stands a → a.core.whole.bus ≡ state_of now
 bus_now a now is stands = bus_is a stands ∙ ap state_of is
 
 -- which serves as many applications as the journal
-pub apps_are : (a : Inside) → Stands a → apps_in a.core ≡ length a.journal.budgets
+pub apps_are : (a : Inside) → Stands a → apps_in a.core ≡ length a.noted.log.budgets
 apps_are a stands =
-    ap (λ (s : State). length s.standings) (bus_is a stands) ∙ length-standings a.core.limits (length a.journal.budgets) a.journal.entries
+    ap (λ (s : State). length s.standings) (bus_is a stands) ∙ length-standings a.core.limits (length a.noted.log.budgets) a.noted.log.entries
 
 -- what the journal's call needs is what the core's call needs
 pub may_act : (a : Inside) (old : Core) (app : ℕ) (call : Call) → core_of a ≡ old → Stands a → MayCall old app call → MayAct a.core app call
 may_act a old app call is stands may_old =
     let Q : Core → Type 0 = λ o. MayCall o app call in
     let may : MayCall (core_of a) app call = subst Q (sym is) may_old in
-    let apps = length a.journal.budgets in
+    let apps = length a.noted.log.budgets in
     let s = state_of (core_of a) in
-    let counted = AreCounted-after a.core.limits apps a.journal.entries in
-    let left = entries_left-charged (left_of a.journal) app (call_bytes call) may.room in
-    let P : State → Type 0 = λ t. (app ≤ length t.standings) × IsTrue (may_call (standing_of t app) call) × (t.pipes_created + 1 < 2 ^ 32) × (t.subscriptions_made + 1 < 2 ^ 32) × (t.numbers_given < a.core.messages) × IsTrue (has_grant_numbers t.pools call) in
+    let counted = AreCounted-after a.core.limits apps a.noted.log.entries in
+    let left = entries_left-charged (left_of a.noted.log) app (call_bytes call) may.room in
+    let P : State → Type 0 = λ t. (app ≤ length t.standings) × IsTrue (may_call (standing_of t app) call) × (t.pipes_created + 1 < 2 ^ 32) × (t.subscriptions_made + 1 < 2 ^ 32) × (t.numbers_given + 1 < 2 ^ 32) × IsTrue (has_grant_numbers t.pools call) in
     let all : P a.core.whole.bus = subst P (sym (bus_is a stands)) (
-      omega (arith, may.known, length-standings a.core.limits apps a.journal.entries),
+      omega (arith, may.known, length-standings a.core.limits apps a.noted.log.entries),
       may.standing,
       omega (arith, counted.pipes, left, stands.few),
       omega (arith, counted.subscriptions, left, stands.few),
-      omega (arith, counted.numbers, left, stands.messages),
-      grants_left a.core.limits (length a.journal.entries) s.pools call (ArePools-after a.core.limits apps a.journal.entries) (omega (arith, left, stands.few)),
+      omega (arith, counted.numbers, left, stands.few),
+      grants_left a.core.limits (length a.noted.log.entries) s.pools call (ArePools-after a.core.limits apps a.noted.log.entries) (omega (arith, left, stands.few)),
     ) in
-    let taken = bytes_left-charged (left_of a.journal) app (call_bytes call) may.room in
     record {
       known = all.0;
       standing = all.1;
@@ -68,77 +74,130 @@ may_act a old app call is stands may_old =
       subscriptions = all.3;
       sends = all.4;
       grants = all.5;
-      bytes = omega (arith, taken, stands.bytes);
     }
 
--- and the journal has room for its entry
-pub has_room : (a : Inside) (old : Core) (app : ℕ) (call : Call) → core_of a ≡ old → MayCall old app call → HasRoom (left_of a.journal) app (call_bytes call)
-has_room a old app call is may = let Q : Core → Type 0 = λ o. MayCall o app call in (subst Q (sym is) may).room
+-- What a call left: the core did what the bus does, the call with its answer was entered, and noted was the loan by which the
+-- last message of each pipe that the call gave one from is lent; of the others it is as before.
+pub record Made (a : Inside) (core : Plain) (next : NotedLog) (app : ℕ) (call : Call) (answer : BusAnswer) : Type 0 where
+  pub acts : Acts a.core core app call answer
+  pub makes : IsTrue (makes_entry call answer)
+  pub loan : ℕ
+  pub pushed : next ≡ record { log = with_entry a.noted.log (record { app = app; call = call; answer = answer }); notes = a.noted.notes ++ note_due answer loan ∷ [] }
+  pub even : length next.notes ≡ length next.log.entries
+  pub given : (pipe : ℕ) → gets_from pipe (record { app = app; call = call; answer = answer }) ≡ true → is_some (last_of core.whole.bus.pipes pipe) ≡ true → loan_of core.loans pipe ≡ loan
+  pub kept : (pipe : ℕ) → gets_from pipe (record { app = app; call = call; answer = answer }) ≡ false → is_some (last_of core.whole.bus.pipes pipe) ≡ true →
+      is_some (last_of a.core.whole.bus.pipes pipe) ≡ true → loan_of core.loans pipe ≡ loan_of a.core.loans pipe
 
-module _ (a : Inside) (core : Plain) (journal : Log) (old : Core) (app : ℕ) (call : Call) (answer told : BusAnswer) (is : core_of a ≡ old) (stands : Stands a) (may_old : MayCall old app call)
-    (acts : Acts a.core core app call answer) (as_told : told ≡ answer) (makes : IsTrue (makes_entry call answer))
-    (pushed : journal ≡ with_entry a.journal (record { app = app; call = call; answer = told })) where
+-- the core's answer and state are those of the machine's step
+pub step_is : (a : Inside) (core : Plain) (app : ℕ) (call : Call) (answer : BusAnswer) → Stands a → Acts a.core core app call answer →
+    step a.core.limits a.noted.log.entries a.core.whole.bus app call ≡ (answer, core.whole.bus)
+step_is a core app call answer stands acts =
+    ap (λ s. step a.core.limits a.noted.log.entries s app call) (bus_is a stands)
+    ∙ ap (λ (made : BusAnswer × Whole). (made.0, made.1.bus))
+    (sym (acts_after a.core.limits (length a.noted.log.budgets) a.noted.log.entries app call stands.legal) ∙ ap (λ w. act a.core.limits w app call) (sym stands.whole) ∙ acts.made)
+
+pub waiters_in : (a : Inside) → Stands a → AreWaiters a.core.whole.bus
+waiters_in a stands =
+    subst (λ s. AreWaiters s) (sym (bus_is a stands)) (AreWaiters-after a.core.limits (length a.noted.log.budgets) a.noted.log.entries stands.legal)
+
+-- a pipe that has a last message now, which it wasn't given, had one before
+some-from : (was now : Option Item) → ((item : Item) → now ≡ Some item → was ≡ Some item) → is_some now ≡ true → is_some was ≡ true
+some-from was None from some = absurd (true≢false (sym some))
+some-from was (Some item) from some = ap (λ l. is_some l) (from item refl)
+
+module _ (a : Inside) (core : Plain) (next : NotedLog) (old : Core) (app : ℕ) (call : Call) (answer : BusAnswer) (is : core_of a ≡ old) (stands : Stands a) (may_old : MayCall old app call)
+    (made : Made a core next app call answer) where
+  abbrev e : Entry
+  e = record { app = app; call = call; answer = answer }
+
   may : MayCall (core_of a) app call
   may = let Q : Core → Type 0 = λ o. MayCall o app call in subst Q (sym is) may_old
 
-  entered : journal ≡ with_entry a.journal (record { app = app; call = call; answer = answer })
-  entered = pushed ∙ ap (λ t. with_entry a.journal (record { app = app; call = call; answer = t })) as_told
-
   after : Core
-  after = record { limits = a.core.limits; log = with_entry a.journal (record { app = app; call = call; answer = answer }) }
+  after = with_noted (core_of a) e (note_due answer made.loan)
 
-  made : act a.core.limits (whole_after a.core.limits (length a.journal.budgets) a.journal.entries) app call ≡ (answer, core.whole)
-  made = ap (λ w. act a.core.limits w app call) (sym stands.whole) ∙ acts.made
+  acted : act a.core.limits (whole_after a.core.limits (length a.noted.log.budgets) a.noted.log.entries) app call ≡ (answer, core.whole)
+  acted = ap (λ w. act a.core.limits w app call) (sym stands.whole) ∙ made.acts.made
 
-  answered : answer ≡ (step a.core.limits a.journal.entries (state_of (core_of a)) app call).0
-  answered = ap (λ (p : BusAnswer × Whole). p.0) (sym made ∙ acts_after a.core.limits (length a.journal.budgets) a.journal.entries app call stands.legal)
+  answered : answer ≡ (step a.core.limits a.noted.log.entries (state_of (core_of a)) app call).0
+  answered = ap (λ (p : BusAnswer × Whole). p.0) (sym acted ∙ acts_after a.core.limits (length a.noted.log.budgets) a.noted.log.entries app call stands.legal)
 
-  follows : Follows a.core.limits (length a.journal.budgets) a.journal.entries (record { app = app; call = call; answer = answer })
-  follows = goes_on a.core.limits (length a.journal.budgets) a.journal.entries (record { app = app; call = call; answer = answer }) stands.legal may.standing answered makes
+  follows : Follows a.core.limits (length a.noted.log.budgets) a.noted.log.entries e
+  follows = goes_on a.core.limits (length a.noted.log.budgets) a.noted.log.entries e stands.legal may.standing answered made.makes
 
-  same_core : record { limits = core.limits; log = journal } ≡ after
+  same_core : record { limits = core.limits; log = next.log; notes = next.notes } ≡ after
   unfolding after
-  same_core = ap (λ l. record { limits = l; log = journal }) acts.limits ∙ ap (λ l. record { limits = a.core.limits; log = l }) entered
+  same_core =
+      ap (λ l. record { limits = l; log = next.log; notes = next.notes }) made.acts.limits
+      ∙ ap (λ (n : NotedLog). record { limits = a.core.limits; log = n.log; notes = n.notes }) made.pushed
 
   legal_after : IsLegalCore after
   unfolding after
   legal_after = follows.legal
 
-  state_after_is : state_of after ≡ (step a.core.limits a.journal.entries (state_of (core_of a)) app call).1
+  state_after_is : state_of after ≡ (step a.core.limits a.noted.log.entries (state_of (core_of a)) app call).1
   unfolding after
   state_after_is = follows.state
 
-  pub does_over : Does old (record { limits = core.limits; log = journal }) app call answer
+  pub does_over : Does old (record { limits = core.limits; log = next.log; notes = next.notes }) app call answer
   unfolding after
   does_over =
-      let P : Core → Type 0 = λ o. Does o (record { limits = core.limits; log = journal }) app call answer in
+      let P : Core → Type 0 = λ o. Does o (record { limits = core.limits; log = next.log; notes = next.notes }) app call answer in
       subst P is (record {
+        loan = made.loan;
         entry = same_core;
         as_machine = answered;
         state = ap state_of same_core ∙ state_after_is;
         legal = let L : Core → Type 0 = λ c. IsLegalCore c in subst L (sym same_core) legal_after;
+        noted = made.even;
       })
 
-  whole_is : core.whole ≡ whole_after core.limits (length journal.budgets) journal.entries
+  whole_is : core.whole ≡ whole_after core.limits (length next.log.budgets) next.log.entries
   whole_is =
-      let e : Entry = record { app = app; call = call; answer = answer } in
-      ap (λ (p : BusAnswer × Whole). p.1) (sym made)
-      ∙ sym (whole_from-push a.core.limits (opening_whole a.core.limits (length a.journal.budgets)) a.journal.entries e)
-      ∙ ap (λ (l : Log). whole_after a.core.limits (length l.budgets) l.entries) (sym entered)
-      ∙ ap (λ l. whole_after l (length journal.budgets) journal.entries) (sym acts.limits)
+      ap (λ (p : BusAnswer × Whole). p.1) (sym acted)
+      ∙ sym (whole_from-push a.core.limits (opening_whole a.core.limits (length a.noted.log.budgets)) a.noted.log.entries e)
+      ∙ ap (λ (n : NotedLog). whole_after a.core.limits (length n.log.budgets) n.log.entries) (sym made.pushed)
+      ∙ ap (λ l. whole_after l (length next.log.budgets) next.log.entries) (sym made.acts.limits)
 
-  pub stands_over : Stands (record a { core = core; journal = journal })
+  even_before : length a.noted.notes ≡ length a.noted.log.entries
+  even_before =
+      let notes : length next.notes ≡ length a.noted.notes + 1 = ap (λ (n : NotedLog). length n.notes) made.pushed ∙ length_push a.noted.notes (note_due answer made.loan) in
+      let entries : length next.log.entries ≡ length a.noted.log.entries + 1 = ap (λ (n : NotedLog). length n.log.entries) made.pushed ∙ length_push a.noted.log.entries e in
+      omega (arith, notes, entries, made.even)
+
+  -- the pipe had a last message before
+  had : (pipe : ℕ) → gets_from pipe e ≡ false → is_some (last_of core.whole.bus.pipes pipe) ≡ true → is_some (last_of a.core.whole.bus.pipes pipe) ≡ true
+  had pipe none some =
+      let as_step = step_is a core app call answer stands made.acts in
+      let waits = waiters_in a stands in
+      some-from (last_of a.core.whole.bus.pipes pipe) (last_of core.whole.bus.pipes pipe)
+      (subst (λ (p : BusAnswer × State). gets_from pipe (record { app = app; call = call; answer = p.0 }) ≡ false → IsFrom a.core.whole.bus.pipes p.1.pipes pipe) as_step
+      (from-step a.core.limits a.noted.log.entries a.core.whole.bus pipe app waits.numbered call) none)
+      some
+
+  loans_after : (pipe : ℕ) → is_some (last_of core.whole.bus.pipes pipe) ≡ true → loan_of core.loans pipe ≡ noted pipe (a.noted.log.entries ++ e ∷ []) (a.noted.notes ++ note_due answer made.loan ∷ [])
+  loans_after pipe some =
+      elim (gets_from pipe e) as (λ b. gets_from pipe e ≡ b → loan_of core.loans pipe ≡ noted pipe (a.noted.log.entries ++ e ∷ []) (a.noted.notes ++ note_due answer made.loan ∷ [])) [
+        | true ↦ λ gives.
+            let message = gives_newest a.core.limits (length a.noted.log.budgets) pipe a.noted.log.entries e follows.legal gives in
+            made.given pipe gives some
+            ∙ ap (λ x. loan_in (note_due x made.loan)) (sym message.1.answer)
+            ∙ sym (noted-given pipe a.noted.log.entries e a.noted.notes (note_due answer made.loan) even_before gives)
+        | false ↦ λ none.
+            let before = had pipe none some in
+            made.kept pipe none some before
+            ∙ stands.loans pipe before
+            ∙ sym (noted-other pipe a.noted.log.entries e a.noted.notes (note_due answer made.loan) even_before none)
+      ] refl
+
+  pub stands_over : Stands (record a { core = core; noted = next })
   stands_over =
-      let e : Entry = record { app = app; call = call; answer = answer } in
-      let pushed_left = left_from-push (allowances a.journal.budgets) a.journal.entries e in
-      let entries : length journal.entries ≡ length a.journal.entries + 1 = ap (λ (l : Log). length l.entries) entered ∙ length_push a.journal.entries e in
-      let left : entries_left (left_of journal) + 1 ≡ entries_left (left_of a.journal) = ap (λ (l : Log). entries_left (left_of l) + 1) entered ∙ ap (λ l. entries_left l + 1) pushed_left ∙ entries_left-charged (left_of a.journal) app (call_bytes call) may.room in
-      let taken : bytes_left (left_of journal) + call_bytes call ≡ bytes_left (left_of a.journal) =
-      ap (λ (l : Log). bytes_left (left_of l) + call_bytes call) entered ∙ ap (λ l. bytes_left l + call_bytes call) pushed_left ∙ bytes_left-charged (left_of a.journal) app (call_bytes call) may.room in
+      let pushed_left = left_from-push (allowances a.noted.log.budgets) a.noted.log.entries e in
+      let entries : length next.log.entries ≡ length a.noted.log.entries + 1 = ap (λ (n : NotedLog). length n.log.entries) made.pushed ∙ length_push a.noted.log.entries e in
+      let left : entries_left (left_of next.log) + 1 ≡ entries_left (left_of a.noted.log) = ap (λ (n : NotedLog). entries_left (left_of n.log) + 1) made.pushed ∙ ap (λ l. entries_left l + 1) pushed_left ∙ entries_left-charged (left_of a.noted.log) app (call_bytes call) may.room in
       record {
         legal = let L : Core → Type 0 = λ c. IsLegalCore c in subst L (sym same_core) legal_after;
         whole = whole_is;
-        messages = omega (arith, entries, left, stands.messages, acts.messages);
+        loans = λ pipe some. loans_after pipe some ∙ ap (λ (n : NotedLog). noted pipe n.log.entries n.notes) (sym made.pushed);
         few = omega (arith, entries, left, stands.few);
-        bytes = omega (arith, taken, stands.bytes, acts.spare);
       }

@@ -1,10 +1,15 @@
--- The bus core as its callers see it: its limits and its journal, with the budgets. What the bus is follows from them.
-use Rattle.std.specs.Prelude.{◌≡◌, ℕ, ◌≤◌, length, IsTrue}
+-- The bus core as its callers see it: its limits, its journal with the budgets, and the note of each entry. What the bus is
+-- follows from them.
+use Rattle.std.specs.Prelude.{◌≡◌, ℕ, ◌≤◌, List, [], ◌∷◌, ◌++◌, length, Some, IsTrue}
 use Rattle.fsw_base.specs.Limits.{Limits}
+use Rattle.lend_block.specs.Loan.{LentBytes}
+use Rattle.lend_block.specs.declared.note.Note.{Note}
+use Rattle.buf_desc.specs.Held.{Holding}
 use Rattle.bus_words.specs.declared.calls.BusAnswer.{BusAnswer}
 use Rattle.bus_words.specs.declared.calls.BusAnswer.TheVariants.{Got}
 use Rattle.bus_words.specs.declared.history.Call.{Call}
 use Rattle.bus_words.specs.declared.history.Call.TheVariants.{Look}
+use Rattle.bus_words.specs.declared.history.Entry.{Entry}
 use Rattle.bus_words.specs.Alone.{Received, Gives, receipts, solo_receipts, unmade, cut}
 use Rattle.bus_words.specs.Bus.{State, standing_of}
 use Rattle.bus_words.specs.Entries.{call_bytes}
@@ -15,10 +20,13 @@ use Rattle.sb_core.specs.declared.pending.Pended.TheVariants.{Pending}
 use Rattle.sb_core.specs.Answers.{waited}
 pub use Rattle.sb_core.specs.Core.{is_within}
 use Rattle.bus_words.specs.Machine.{IsLegal, may_call, state_after, step}
+use Rattle.sb_calls.specs.Notes.{note_due}
+use Rattle.sb_calls.specs.Views.{bytes_seen}
 
 pub record Core : Type 0 where
   pub limits : Limits
   pub log : Log
+  pub notes : List Note
 
 -- how many applications the core serves
 abbrev pub apps_of : Core → ℕ
@@ -32,6 +40,10 @@ state_of core = state_after core.limits (apps_of core) core.log.entries
 abbrev pub IsLegalCore : Core → Type 0
 IsLegalCore core = IsLegal core.limits (apps_of core) core.log.entries
 
+-- each entry has its note
+abbrev pub IsNoted : Core → Type 0
+IsNoted core = length core.notes ≡ length core.log.entries
+
 -- the application may make this call now
 pub record MayCall (core : Core) (app : ℕ) (call : Call) : Type 0 where
   pub known : app ≤ apps_of core
@@ -39,12 +51,19 @@ pub record MayCall (core : Core) (app : ℕ) (call : Call) : Type 0 where
   pub room : HasRoom (left_of core.log) app (call_bytes call)
   pub within : IsTrue (is_within call)
 
--- the call was answered as the bus answers it after the core's history, and its entry stands at the history's end
+-- the core with one more entry and its note
+abbrev pub with_noted : Core → Entry → Note → Core
+with_noted core e note = record core { log = with_entry core.log e; notes = core.notes ++ note ∷ [] }
+
+-- The call was answered as the bus answers it after the core's history, and its entry stands at the history's end, noted with
+-- the loan of the view that was given, where one was.
 pub record Does (old new : Core) (app : ℕ) (call : Call) (answer : BusAnswer) : Type 0 where
-  pub entry : new ≡ record { limits = old.limits; log = with_entry old.log (record { app = app; call = call; answer = answer }) }
+  pub loan : ℕ
+  pub entry : new ≡ with_noted old (record { app = app; call = call; answer = answer }) (note_due answer loan)
   pub as_machine : answer ≡ (step old.limits old.log.entries (state_of old) app call).0
   pub state : state_of new ≡ (step old.limits old.log.entries (state_of old) app call).1
   pub legal : IsLegalCore new
+  pub noted : IsNoted new
 
 -- a look does what the bus does; where it finds the application still waiting, nothing changes
 abbrev pub Looks : Core → Core → ℕ → ℕ → Pended → Type 0
@@ -54,11 +73,11 @@ Looks old new app pipe answer = Does old new app (Look pipe) (waited answer)
 
 -- Isolation. --
 
--- the message of this number, which the application gets from a pipe by this call, is the pipe's last message, and the
--- newest that the pipe alone gives
-abbrev pub GotAlone : Core → ℕ → ℕ → Call → ℕ → Type 0
-GotAlone old app pipe call number =
-    (message : Received) × (message.number ≡ number)
+-- the message of this number, which the application gets from a pipe by this call, is what its bag shows of the pipe, the
+-- pipe's last message, and the newest that the pipe alone gives
+abbrev pub GotAlone : Core → ℕ → ℕ → Call → ℕ → Holding LentBytes → Type 0
+GotAlone old app pipe call number bag =
+    (message : Received) × (message.number ≡ number) × (bytes_seen bag pipe ≡ Some message.message)
     × Gives old.limits (apps_of old) pipe old.log.entries (record { app = app; call = call; answer = Got number }) message
 
 -- what each pipe gave so far is what the pipe alone gives, whatever befell the others

@@ -1,20 +1,21 @@
 -- What the core's fields stand for, and what is always true of them.
-use Rattle.std.specs.Prelude.{◌≡◌, ◌+◌, ◌^◌, ◌<◌, ◌≤◌, length}
+use Rattle.std.specs.Prelude.{◌≡◌, ℕ, ◌+◌, ◌^◌, ◌<◌, true, length, is_some}
 use Rattle.bus_words.specs.Acts.{whole_after}
-use Rattle.journal_store.specs.Budgets.{bytes_left, entries_left}
 use Rattle.bus_words.specs.Log.{left_of}
+use Rattle.journal_store.specs.Budgets.{entries_left}
+use Rattle.bus_store.specs.Words.{last_of, loan_of}
 use Rattle.sb_calls.specs.declared.bus_core.BusCore.TheInside.{Inside}
 use Rattle.sb_calls.specs.Core.{Core, IsLegalCore}
+use Rattle.sb_calls.specs.Notes.{noted}
 
 -- the core as its callers see it
 abbrev pub core_of : Inside → Core
-core_of a = record { limits = a.core.limits; log = a.journal }
+core_of a = record { limits = a.core.limits; log = a.noted.log; notes = a.noted.notes }
 
--- What is always true of a core: its history is one that the bus can have, its state is the one that the history leaves, and
--- messages, bytes and numbers are left for every entry that may come.
+-- What is always true of a core: its history is one that the bus can have, its state is the one that the history leaves, the
+-- last message of each pipe is lent by the loan that was noted, and a number is left for every entry that may come.
 pub record Stands (a : Inside) : Type 0 where
   pub legal : IsLegalCore (core_of a)
-  pub whole : a.core.whole ≡ whole_after a.core.limits (length a.journal.budgets) a.journal.entries
-  pub messages : length a.journal.entries + entries_left (left_of a.journal) ≤ a.core.messages
-  pub few : length a.journal.entries + entries_left (left_of a.journal) < 2 ^ 32
-  pub bytes : bytes_left (left_of a.journal) ≤ a.core.spare
+  pub whole : a.core.whole ≡ whole_after a.core.limits (length a.noted.log.budgets) a.noted.log.entries
+  pub loans : (pipe : ℕ) → is_some (last_of a.core.whole.bus.pipes pipe) ≡ true → loan_of a.core.loans pipe ≡ noted pipe a.noted.log.entries a.noted.notes
+  pub few : length a.noted.log.entries + entries_left (left_of a.noted.log) < 2 ^ 32

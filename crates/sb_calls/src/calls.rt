@@ -1,19 +1,23 @@
 //! The calls of subscriptions and messages, and the last call. Each is the core's call and one
 //! entry of the journal: the call with its answer.
-ghost use Rattle.std.specs.Prelude.{◌≡◌, ℕ, ◌+◌, ◌*◌, ◌≤◌, length, Ok};
+ghost use Rattle.std.specs.Prelude.{◌≡◌, ℕ, ◌+◌, ◌*◌, ◌≤◌, [], length, Ok};
 ghost use Rattle.ccsds_msg.specs.Message.{message_id};
 ghost use Rattle.bus_words.specs.Bus.{route};
+ghost use Rattle.sb_calls.specs.Bags.{HasBag, KeepsBags, KeepsOtherBags};
 ghost use Rattle.sb_calls.specs.Core.{MayCall, Does, GotAlone, state_of};
 ghost use Rattle.sb_core.specs.Answers.{created, done, sent, got};
 
 use crate::answers::{of_created, of_done, of_got, of_sent};
 use crate::bus_core::BusCore;
+use crate::noted::note_of;
 use bucket_list::{Ledger, Steps};
+use buf_desc::Held;
 use bus_words::{BusAnswer, BusCall, BusEntry, Call};
 use fsw_base::{AppNo, SbStatus, Scope};
+use lend_block::Note;
 use sb_core::Sent;
 
-impl BusCore {
+impl<'r> BusCore<'r> {
     /// Creates a pipe that holds up to `depth` messages, and answers its number. Pipes are numbered
     /// 1, 2, 3 and so on, and no number is used again.
     ///
@@ -23,14 +27,16 @@ impl BusCore {
     /// `PipeCrErr` where a live pipe has the name. The first that applies.
     pub fn create_pipe(&mut self, app: AppNo, depth: u32, name: &[u8]) -> Result<u32, SbStatus>
         requires may { MayCall self.old app (Call.Create depth name.now) }
-        ensures { Does self.old self.new app (Call.Create depth name.now) (created result) }
+        ensures does { Does self.old self.new app (Call.Create depth name.now) (created result) }
+        ensures bags { KeepsBags self.old self.new }
     {
         let result = self.core.create_pipe(app, depth, name);
-        self.journal.push(&BusEntry {
+        let entry = BusEntry {
             app,
             call: BusCall::Create { depth, name },
             answer: of_created(&result),
-        });
+        };
+        self.noted.push(&entry, Note::Nothing);
         result
     }
 
@@ -55,11 +61,12 @@ impl BusCore {
         requires may { MayCall self.old app (Call.Subscribe id pipe limit scope) }
         ensures does { Does self.old self.new app (Call.Subscribe id pipe limit scope)
             (done result) }
+        ensures bags { KeepsBags self.old self.new }
         ensures cost { steps.new
             ≤ steps.old + 2 * length (route (state_of self.old).subscriptions id) + 10 }
     {
         let result = self.core.subscribe(app, id, pipe, limit, scope, steps);
-        self.journal.push(&BusEntry {
+        let entry = BusEntry {
             app,
             call: BusCall::Subscribe {
                 id,
@@ -68,7 +75,8 @@ impl BusCore {
                 scope,
             },
             answer: of_done(&result),
-        });
+        };
+        self.noted.push(&entry, Note::Nothing);
         result
     }
 
@@ -88,27 +96,31 @@ impl BusCore {
     ) -> Result<(), SbStatus>
         requires may { MayCall self.old app (Call.Unsubscribe id pipe) }
         ensures does { Does self.old self.new app (Call.Unsubscribe id pipe) (done result) }
+        ensures bags { KeepsBags self.old self.new }
         ensures cost { steps.new
             ≤ steps.old + 3 * length (route (state_of self.old).subscriptions id) + 10 }
     {
         let result = self.core.unsubscribe(app, id, pipe, steps);
-        self.journal.push(&BusEntry {
+        let entry = BusEntry {
             app,
             call: BusCall::Unsubscribe { id, pipe },
             answer: of_done(&result),
-        });
+        };
+        self.noted.push(&entry, Note::Nothing);
         result
     }
 
     /// Sends a message to every pipe that is subscribed to its id, in order of subscription. A pipe
     /// that is full, that ignores what its owner sends where that is the sender, or where as many
     /// messages of the subscription wait as its limit says, misses it. With `inc` the message gets
-    /// the id's next sequence count (CCSDS 133.0-B, 4.1.3.4.3). At most 4 steps for each
-    /// subscription of the id, and 32 more, whatever else there is.
+    /// the id's next sequence count (CCSDS 133.0-B, 4.1.3.4.3). Where nobody subscribes to the id,
+    /// it takes neither a number nor a block. At most 4 steps for each subscription of the id, and
+    /// 32 more, whatever else there is.
     ///
     /// # Errors
     /// `BadArgument` for bytes that are no message; `MsgTooBig` for more bytes than the
-    /// configuration allows. The first that applies.
+    /// configuration allows; `BufAlocErr` where somebody subscribes to the id, and the bus's pool
+    /// has no block for so many bytes. The first that applies.
     pub fn transmit<L: Ledger>(
         &mut self,
         app: AppNo,
@@ -118,51 +130,75 @@ impl BusCore {
     ) -> Result<Sent, SbStatus>
         requires may { MayCall self.old app (Call.Transmit bytes.now inc) }
         ensures does { Does self.old self.new app (Call.Transmit bytes.now inc) (sent result) }
+        ensures bags { KeepsBags self.old self.new }
         ensures cost { steps.new
             ≤ steps.old + 32 + 4 * length
             (route (state_of self.old).subscriptions (message_id bytes.now)) }
     {
         let result = self.core.transmit(app, bytes, inc, steps);
-        self.journal.push(&BusEntry {
+        let entry = BusEntry {
             app,
             call: BusCall::Transmit { bytes, inc },
             answer: of_sent(&result),
-        });
+        };
+        self.noted.push(&entry, Note::Nothing);
         result
     }
 
-    /// Takes the oldest message that waits on the caller's pipe, and answers its number. The last
-    /// message received from the pipe is let go, also where none waits.
+    /// Takes the oldest message that waits on the caller's pipe, and answers its number: its view
+    /// is put into the caller's bag, and its loan is noted. The last message received from the pipe
+    /// is let go, also where none waits: its view is taken out of the bag, and where no other pipe
+    /// names it, its block goes back to the pool. At most 32 steps.
     ///
     /// # Errors
     /// `BadArgument` for a pipe that isn't live or isn't the caller's; `NoMessage` where none
     /// waits. The first that applies.
-    pub fn receive(&mut self, app: AppNo, pipe: u32) -> Result<u32, SbStatus>
+    pub fn receive<L: Ledger>(
+        &mut self,
+        app: AppNo,
+        pipe: u32,
+        held: &mut Held<'r>,
+        steps: &mut Steps<L>,
+    ) -> Result<u32, SbStatus>
         requires may { MayCall self.old app (Call.Receive pipe) }
+        requires bag { HasBag self.old app held.old }
         ensures does { Does self.old self.new app (Call.Receive pipe) (got result) }
+        ensures bag { HasBag self.new app held.new }
+        ensures other_bags { KeepsOtherBags self.old self.new app }
+        ensures buffers { held.new ≡ record held.old { views = held.new.views } }
         ensures alone { (number : ℕ) → result ≡ Ok number →
-            GotAlone self.old app pipe (Call.Receive pipe) number }
+            GotAlone self.old app pipe (Call.Receive pipe) number held.new }
+        ensures cost { steps.new ≤ steps.old + 32 }
     {
-        let result = self.core.receive(app, pipe);
-        self.journal.push(&BusEntry {
+        let result = self.core.receive(app, pipe, held, steps);
+        let answer = of_got(&result);
+        let note = note_of(&answer, held, pipe);
+        let entry = BusEntry {
             app,
             call: BusCall::Receive { pipe },
-            answer: of_got(&result),
-        });
+            answer,
+        };
+        self.noted.push(&entry, note);
         result
     }
 
-    /// The caller's last call: its pipes leave with their subscriptions and messages, and its
-    /// grants of memory pools are given back.
-    pub fn end<L: Ledger>(&mut self, app: AppNo, steps: &mut Steps<L>)
+    /// The caller's last call: its pipes leave with their subscriptions and messages, whose views
+    /// are taken out of its bag, and its grants of memory pools are given back.
+    pub fn end<L: Ledger>(&mut self, app: AppNo, held: &mut Held<'r>, steps: &mut Steps<L>)
         requires may { MayCall self.old app Call.End }
-        ensures { Does self.old self.new app Call.End BusAnswer.Done }
+        requires bag { HasBag self.old app held.old }
+        ensures does { Does self.old self.new app Call.End BusAnswer.Done }
+        ensures bag { HasBag self.new app held.new }
+        ensures other_bags { KeepsOtherBags self.old self.new app }
+        ensures views { held.new.views ≡ [] }
+        ensures buffers { held.new ≡ record held.old { views = held.new.views } }
     {
-        self.core.end(app, steps);
-        self.journal.push(&BusEntry {
+        self.core.end(app, held, steps);
+        let entry = BusEntry {
             app,
             call: BusCall::End,
             answer: BusAnswer::Done,
-        });
+        };
+        self.noted.push(&entry, Note::Nothing);
     }
 }

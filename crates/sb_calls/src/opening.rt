@@ -10,11 +10,3 @@ pub(crate) fn total_entries(budgets: &[Budget]) -> u32
 {
     budgets.iter().map(|budget| budget.entries).sum()
 }
-
-/// How many bytes of names and messages the budgets allow in all.
-pub(crate) fn total_bytes(budgets: &[Budget]) -> u32
-    requires { sum_by (λ budget. budget.bytes) budgets.now < 2 ^ 32 }
-    ensures { result ≡ sum_by (λ budget. budget.bytes) budgets.now }
-{
-    budgets.iter().map(|budget| budget.bytes).sum()
-}

@@ -8,18 +8,18 @@ use crate::bus_core::BusCore;
 use bus_words::{Allowance, BusCall};
 use fsw_base::{AppNo, MAX_MESSAGE_BYTES, MAX_NAME_BYTES};
 
-impl BusCore {
-    /// Whether the application may make this call now, which is the condition of the call: the core
-    /// serves it, it is active (for a look, it waits on that pipe; for its end, it hasn't ended),
-    /// it has an entry and the call's bytes left, and a name has at most 64 bytes, a message at
-    /// most 65542.
+impl BusCore<'_> {
+    /// Whether the application may make this call now, which is the condition of the call, beside
+    /// that on its bag where it takes one along: the core serves it, it is active (for a look, it
+    /// waits on that pipe; for its end, it hasn't ended), it has an entry and the call's bytes
+    /// left, and a name has at most 64 bytes, a message at most 65542.
     pub fn may_make(&self, app: AppNo, call: &BusCall<'_>) -> bool
         ensures { IsTrue result ↔ MayCall self.now app (call_of call.now) }
     {
         if app.get() > self.apps() {
             return false;
         }
-        let left = self.journal.left(app);
+        let left = self.noted.journal().left(app);
         let lets = self.core.is_open(app, call);
         is_permitted(lets, left, call)
     }

@@ -1,18 +1,22 @@
 //! The calls on a pipe that is there: its end, its option bits, its number and its name. Each is
 //! the core's call and one entry of the journal.
 ghost use Rattle.std.specs.Prelude.{◌≡◌};
+ghost use Rattle.sb_calls.specs.Bags.{HasBag, KeepsBags, KeepsOtherBags};
 ghost use Rattle.sb_calls.specs.Core.{MayCall, Does};
 ghost use Rattle.sb_core.specs.Answers.{done, found, bits_told, named};
 
 use crate::answers::{of_bits, of_done, of_found, of_named};
 use crate::bus_core::BusCore;
 use bucket_list::{Ledger, Steps};
+use buf_desc::Held;
 use bus_words::{BusCall, BusEntry, Call, PipeText};
 use fsw_base::{AppNo, SbStatus};
+use lend_block::Note;
 
-impl BusCore {
-    /// Ends the caller's pipe: it leaves with its subscriptions and messages. No other pipe gets
-    /// its number.
+impl<'r> BusCore<'r> {
+    /// Ends the caller's pipe: it leaves with its subscriptions and messages. The view of its last
+    /// message is taken out of the caller's bag, and each block that no other pipe has a message in
+    /// goes back to the pool. No other pipe gets its number.
     ///
     /// # Errors
     /// `BadArgument` for a pipe that isn't live or isn't the caller's.
@@ -20,17 +24,23 @@ impl BusCore {
         &mut self,
         app: AppNo,
         pipe: u32,
+        held: &mut Held<'r>,
         steps: &mut Steps<L>,
     ) -> Result<(), SbStatus>
         requires may { MayCall self.old app (Call.Delete pipe) }
-        ensures { Does self.old self.new app (Call.Delete pipe) (done result) }
+        requires bag { HasBag self.old app held.old }
+        ensures does { Does self.old self.new app (Call.Delete pipe) (done result) }
+        ensures bag { HasBag self.new app held.new }
+        ensures other_bags { KeepsOtherBags self.old self.new app }
+        ensures buffers { held.new ≡ record held.old { views = held.new.views } }
     {
-        let result = self.core.delete_pipe(app, pipe, steps);
-        self.journal.push(&BusEntry {
+        let result = self.core.delete_pipe(app, pipe, held, steps);
+        let entry = BusEntry {
             app,
             call: BusCall::Delete { pipe },
             answer: of_done(&result),
-        });
+        };
+        self.noted.push(&entry, Note::Nothing);
         result
     }
 
@@ -42,14 +52,16 @@ impl BusCore {
     /// 0x01.
     pub fn set_opts(&mut self, app: AppNo, pipe: u32, bits: u8) -> Result<(), SbStatus>
         requires may { MayCall self.old app (Call.SetOpts pipe bits) }
-        ensures { Does self.old self.new app (Call.SetOpts pipe bits) (done result) }
+        ensures does { Does self.old self.new app (Call.SetOpts pipe bits) (done result) }
+        ensures bags { KeepsBags self.old self.new }
     {
         let result = self.core.set_opts(app, pipe, bits);
-        self.journal.push(&BusEntry {
+        let entry = BusEntry {
             app,
             call: BusCall::SetOpts { pipe, bits },
             answer: of_done(&result),
-        });
+        };
+        self.noted.push(&entry, Note::Nothing);
         result
     }
 
@@ -60,14 +72,16 @@ impl BusCore {
     /// `BadArgument` for a pipe that isn't live.
     pub fn get_opts(&mut self, app: AppNo, pipe: u32) -> Result<u8, SbStatus>
         requires may { MayCall self.old app (Call.GetOpts pipe) }
-        ensures { Does self.old self.new app (Call.GetOpts pipe) (bits_told result) }
+        ensures does { Does self.old self.new app (Call.GetOpts pipe) (bits_told result) }
+        ensures bags { KeepsBags self.old self.new }
     {
         let result = self.core.get_opts(pipe);
-        self.journal.push(&BusEntry {
+        let entry = BusEntry {
             app,
             call: BusCall::GetOpts { pipe },
             answer: of_bits(&result),
-        });
+        };
+        self.noted.push(&entry, Note::Nothing);
         result
     }
 
@@ -77,14 +91,16 @@ impl BusCore {
     /// `BadArgument` where no live pipe has the name.
     pub fn find_pipe(&mut self, app: AppNo, name: &[u8]) -> Result<u32, SbStatus>
         requires may { MayCall self.old app (Call.Find name.now) }
-        ensures { Does self.old self.new app (Call.Find name.now) (found result) }
+        ensures does { Does self.old self.new app (Call.Find name.now) (found result) }
+        ensures bags { KeepsBags self.old self.new }
     {
         let result = self.core.find_pipe(name);
-        self.journal.push(&BusEntry {
+        let entry = BusEntry {
             app,
             call: BusCall::Find { name },
             answer: of_found(&result),
-        });
+        };
+        self.noted.push(&entry, Note::Nothing);
         result
     }
 
@@ -94,14 +110,16 @@ impl BusCore {
     /// `BadArgument` for a pipe that isn't live.
     pub fn pipe_name(&mut self, app: AppNo, pipe: u32) -> Result<PipeText, SbStatus>
         requires may { MayCall self.old app (Call.PipeName pipe) }
-        ensures { Does self.old self.new app (Call.PipeName pipe) (named result) }
+        ensures does { Does self.old self.new app (Call.PipeName pipe) (named result) }
+        ensures bags { KeepsBags self.old self.new }
     {
         let result = self.core.pipe_name(pipe);
-        self.journal.push(&BusEntry {
+        let entry = BusEntry {
             app,
             call: BusCall::PipeName { pipe },
             answer: of_named(&result),
-        });
+        };
+        self.noted.push(&entry, Note::Nothing);
         result
     }
 }

@@ -4,6 +4,7 @@
 ghost use Rattle.std.specs.Prelude.{◌≡◌, ◌+◌, ◌≤◌, length, IsTrue};
 ghost use Rattle.es_pool.specs.Account.{IsAccountOf};
 ghost use Rattle.pool_words.specs.Grants.{is_pool, pool_in};
+ghost use Rattle.sb_calls.specs.Bags.{KeepsBags};
 ghost use Rattle.sb_calls.specs.Core.{MayCall, Does, state_of};
 ghost use Rattle.sb_core.specs.Answers.{pool_told, grant_back, figures_told};
 
@@ -13,8 +14,9 @@ use bucket_list::{Ledger, Steps};
 use bus_words::{BusCall, BusEntry, Call};
 use es_pool::Pool;
 use fsw_base::{AppNo, EsStatus, PoolStats};
+use lend_block::Note;
 
-impl BusCore {
+impl<'r> BusCore<'r> {
     /// Creates a memory pool of `bytes` bytes with the configured block sizes, and answers its
     /// number. Pools are numbered 1, 2, 3 and so on, up to 8, and none is ever deleted.
     ///
@@ -23,14 +25,16 @@ impl BusCore {
     /// allows, or too few for a block of the smallest size.
     pub fn pool_create(&mut self, app: AppNo, bytes: u32) -> Result<u32, EsStatus>
         requires may { MayCall self.old app (Call.PoolCreate bytes) }
-        ensures { Does self.old self.new app (Call.PoolCreate bytes) (pool_told result) }
+        ensures does { Does self.old self.new app (Call.PoolCreate bytes) (pool_told result) }
+        ensures bags { KeepsBags self.old self.new }
     {
         let result = self.core.pool_create(app, bytes);
-        self.journal.push(&BusEntry {
+        let entry = BusEntry {
             app,
             call: BusCall::PoolCreate { bytes },
             answer: of_pool(&result),
-        });
+        };
+        self.noted.push(&entry, Note::Nothing);
         result
     }
 
@@ -51,14 +55,16 @@ impl BusCore {
     ) -> Result<u32, EsStatus>
         requires may { MayCall self.old app (Call.PoolGet pool size) }
         ensures does { Does self.old self.new app (Call.PoolGet pool size) (pool_told result) }
+        ensures bags { KeepsBags self.old self.new }
         ensures cost { steps.new ≤ steps.old + 8 }
     {
         let result = self.core.pool_get(app, pool, size, steps);
-        self.journal.push(&BusEntry {
+        let entry = BusEntry {
             app,
             call: BusCall::PoolGet { pool, size },
             answer: of_pool(&result),
-        });
+        };
+        self.noted.push(&entry, Note::Nothing);
         result
     }
 
@@ -77,14 +83,16 @@ impl BusCore {
     ) -> Result<(), EsStatus>
         requires may { MayCall self.old app (Call.PoolPut pool grant) }
         ensures does { Does self.old self.new app (Call.PoolPut pool grant) (grant_back result) }
+        ensures bags { KeepsBags self.old self.new }
         ensures cost { steps.new ≤ steps.old + 8 }
     {
         let result = self.core.pool_put(app, pool, grant, steps);
-        self.journal.push(&BusEntry {
+        let entry = BusEntry {
             app,
             call: BusCall::PoolPut { pool, grant },
             answer: of_back(&result),
-        });
+        };
+        self.noted.push(&entry, Note::Nothing);
         result
     }
 
@@ -95,14 +103,16 @@ impl BusCore {
     /// `NoPool` where no pool of this number was created.
     pub fn pool_stats(&mut self, app: AppNo, pool: u32) -> Result<PoolStats, EsStatus>
         requires may { MayCall self.old app (Call.PoolFigures pool) }
-        ensures { Does self.old self.new app (Call.PoolFigures pool) (figures_told result) }
+        ensures does { Does self.old self.new app (Call.PoolFigures pool) (figures_told result) }
+        ensures bags { KeepsBags self.old self.new }
     {
         let result = self.core.pool_stats(pool);
-        self.journal.push(&BusEntry {
+        let entry = BusEntry {
             app,
             call: BusCall::PoolFigures { pool },
             answer: of_figures(&result),
-        });
+        };
+        self.noted.push(&entry, Note::Nothing);
         result
     }
 

@@ -1,102 +1,95 @@
--- Changes of the core's tables and activities that leave what is kept.
-use Rattle.std.proofs.Common.{◌≡◌, ℕ, Bool, true, false, not, cond, eqb, List, length, filter, refl, sym, subst, arith, Vec, Global}
-use Rattle.std.specs.List.{All}
-use Rattle.std.proofs.lemmas.List.Filters.{length-filter_both}
-use Rattle.std.proofs.lemmas.List.Elements.{All-filter, All-map, All-weaker}
-use Rattle.pool_words.specs.Grants.{Pools}
-use Rattle.bus_words.specs.Bus.{Subscription}
+-- Changes of the core's fields that keep what is always true of them.
+use Rattle.std.proofs.Common.{◌≡◌, ℕ, Bool, true, not, eqb, [], ◌∷◌, ◌++◌, filter, sym, subst, Vec, Global}
+use Rattle.std.proofs.lemmas.List.Elements.{All-filter}
+use Rattle.bus_words.specs.Bus.{Pipe, Subscription, owns, with_pipe, with_bits, after_receive}
+use Rattle.bus_tables.specs.Rows.{has_way}
+use Rattle.bus_store.specs.Store.{Store, LastLoan}
+use Rattle.bus_store.specs.Words.{IsRising, with_held}
 use Rattle.sb_core.specs.declared.plain.SbCore.TheInside.{Inside}
 use Rattle.sb_core.specs.declared.activities.Activity.{Activity}
-use Rattle.sb_core.specs.Inside.{Keeps}
-use Rattle.sb_core.specs.Rows.{IsRow}
-use Rattle.bus_tables.specs.Rows.{Row, with_row, has_way}
-use Rattle.bus_tables.specs.Tables.{Tables}
+use Rattle.sb_core.specs.declared.activities.Activity.TheVariants as activities
+use Rattle.sb_core.specs.Inside.{Keeps, AreReady}
+use Rattle.sb_core.specs.Rows.{activity_at}
+use Rattle.sb_core.proofs.Ready.{ready_all, ready_others, ready_pushed, ready_set_bits, ready_received, ready_without}
 
--- other activities
-pub activities_keep : (a : Inside) (acts : Vec Activity Global) → Keeps a → Keeps (record a { activities = acts })
-activities_keep a acts keeps =
-    record {
-      room = keeps.room;
-      rows = keeps.rows;
-      messages = keeps.messages;
-      ways = keeps.ways;
-      misses = keeps.misses;
-      once = keeps.once;
-      subscriptions_live = keeps.subscriptions_live;
-      subscriptions_made = keeps.subscriptions_made;
-      sends_made = keeps.sends_made;
-      sends_few = keeps.sends_few;
-    }
+module _ (a : Inside) (next : Store) (keeps : Keeps a) where
+  -- a pipe more
+  pub created_keeps : (pipe : Pipe) (created : ℕ) (loan : LastLoan) →
+      next ≡ record a.store { pipes = a.store.pipes ++ pipe ∷ []; pipes_created = created; loans = a.store.loans ++ loan ∷ [] } → Keeps (record a { store = next })
+  created_keeps pipe created loan is =
+      subst (λ s. Keeps (record a { store = s })) (sym is)
+      (record {
+        room = keeps.room;
+        pool = keeps.pool;
+        ways = keeps.ways;
+        once = keeps.once;
+        ready = ready_all a.store.pipes (a.store.pipes ++ pipe ∷ []) a.activities.items keeps.ready
+            (λ app number ready. ready_pushed a.store.pipes app number ready pipe);
+      })
 
--- other memory pools
-pub pools_keep : (a : Inside) (pools : Pools) → Keeps a → Keeps (record a { pools = pools })
-pools_keep a pools keeps =
-    record {
-      room = keeps.room;
-      rows = keeps.rows;
-      messages = keeps.messages;
-      ways = keeps.ways;
-      misses = keeps.misses;
-      once = keeps.once;
-      subscriptions_live = keeps.subscriptions_live;
-      subscriptions_made = keeps.subscriptions_made;
-      sends_made = keeps.sends_made;
-      sends_few = keeps.sends_few;
-    }
+  -- other option bits
+  pub set_keeps : (pipe bits : ℕ) → next ≡ record a.store { pipes = with_pipe (with_bits bits) pipe a.store.pipes } → Keeps (record a { store = next })
+  set_keeps pipe bits is =
+      subst (λ s. Keeps (record a { store = s })) (sym is)
+      (record {
+        room = keeps.room;
+        pool = keeps.pool;
+        ways = keeps.ways;
+        once = keeps.once;
+        ready = ready_all a.store.pipes (with_pipe (with_bits bits) pipe a.store.pipes) a.activities.items keeps.ready
+            (λ app number ready. ready_set_bits a.store.pipes app number ready bits pipe);
+      })
 
--- other pipes
-pipes_keep : (a : Inside) (pipes : List Row) → Keeps a → All (IsRow (length a.sends.kept)) pipes → Keeps (record a { tables = record a.tables { pipes = pipes } })
-pipes_keep a pipes keeps rows =
-    record {
-      room = keeps.room;
-      rows = rows;
-      messages = keeps.messages;
-      ways = keeps.ways;
-      misses = keeps.misses;
-      once = keeps.once;
-      subscriptions_live = keeps.subscriptions_live;
-      subscriptions_made = keeps.subscriptions_made;
-      sends_made = keeps.sends_made;
-      sends_few = keeps.sends_few;
-    }
+  -- subscriptions that leave
+  pub unsubscribed_keeps : (stays : Subscription → Bool) → next ≡ record a.store { subscriptions = filter stays a.store.subscriptions } → Keeps (record a { store = next })
+  unsubscribed_keeps stays is =
+      subst (λ s. Keeps (record a { store = s })) (sym is)
+      (record {
+        room = keeps.room;
+        pool = keeps.pool;
+        ways = All-filter stays (λ sub. has_way a.store.routes sub.id ≡ true) a.store.subscriptions keeps.ways;
+        once = keeps.once;
+        ready = keeps.ready;
+      })
 
--- a change of rows that keeps each row keeps all
-pub rows_kept : (sends : ℕ) (change : Row → Row) → ((row : Row) → IsRow sends row → IsRow sends (change row)) →
-    (number : ℕ) (rows : List Row) → All (IsRow sends) rows → All (IsRow sends) (with_row change number rows)
-rows_kept sends change keeps number rows all =
-    All-map (IsRow sends) (λ row. cond {A = Row} (eqb row.number number) (change row) row) rows
-    (All-weaker (IsRow sends) (λ row. IsRow sends (cond {A = Row} (eqb row.number number) (change row) row)) (λ row one. by_test row one (eqb row.number number)) rows all)
-  where
-    by_test : (row : Row) → IsRow sends row → (b : Bool) → IsRow sends (cond {A = Row} b (change row) row)
-    by_test row one true = keeps row one
-    by_test row one false = one
+  -- a receive, whatever the applications do then
+  pub received_keeps : (pipe : ℕ) (acts : Vec Activity Global) →
+      next ≡ record a.store { pipes = with_pipe after_receive pipe a.store.pipes; account = with_held a.store.account next.pipes a.store.numbers_given; loans = next.loans } →
+      AreReady (with_pipe after_receive pipe a.store.pipes) acts.items → Keeps (record a { store = next; activities = acts })
+  received_keeps pipe acts is ready =
+      subst (λ s. Keeps (record a { store = s; activities = acts })) (sym is)
+      (record {
+        room = keeps.room;
+        pool = record { bytes = keeps.pool.bytes; sizes = keeps.pool.sizes; errors = keeps.pool.errors };
+        ways = keeps.ways;
+        once = keeps.once;
+        ready = ready;
+      })
 
--- a change of one row that keeps each row
-pub row_keeps : (a : Inside) (next : Tables) (change : Row → Row) (number : ℕ) → Keeps a →
-    ((row : Row) → IsRow (length a.sends.kept) row → IsRow (length a.sends.kept) (change row)) →
-    next ≡ record a.tables { pipes = with_row change number a.tables.pipes } → Keeps (record a { tables = next })
-row_keeps a next change number keeps each is =
-    let P : Tables → Type 0 = λ t. Keeps (record a { tables = t }) in
-    subst P (sym is) (pipes_keep a (with_row change number a.tables.pipes) keeps (rows_kept (length a.sends.kept) change each number a.tables.pipes keeps.rows))
+  module _ (app pipe : ℕ) (rises : IsRising 0 a.store.pipes) (own : owns a.store.pipes app pipe ≡ true) where
+    -- a receive of an active application
+    pub taken_keeps : next ≡ record a.store { pipes = with_pipe after_receive pipe a.store.pipes; account = with_held a.store.account next.pipes a.store.numbers_given; loans = next.loans } →
+        activity_at a.activities.items app ≡ activities.Active → Keeps (record a { store = next })
+    taken_keeps is active =
+        received_keeps pipe a.activities is
+        (ready_others a.store.pipes (with_pipe after_receive pipe a.store.pipes) a.activities.items keeps.ready app active
+        (λ other number apart ready. ready_received a.store.pipes other number ready app pipe rises own apart))
 
--- pipes that leave
-pub pipes_leave : (a : Inside) (stays : Row → Bool) → Keeps a → Keeps (record a { tables = record a.tables { pipes = filter stays a.tables.pipes } })
-pipes_leave a stays keeps = pipes_keep a (filter stays a.tables.pipes) keeps (All-filter stays (IsRow (length a.sends.kept)) a.tables.pipes keeps.rows)
-
--- subscriptions that leave
-pub subscriptions_leave : (a : Inside) (stays : Subscription → Bool) → Keeps a →
-    Keeps (record a { tables = record a.tables { subscriptions = filter stays a.tables.subscriptions } })
-subscriptions_leave a stays keeps =
-    let all = length-filter_both stays (λ sub. not (stays sub)) (λ sub. refl) a.tables.subscriptions in
-    record {
-      room = keeps.room;
-      rows = keeps.rows;
-      messages = keeps.messages;
-      ways = All-filter stays (λ sub. has_way a.tables.routes sub.id ≡ true) a.tables.subscriptions keeps.ways;
-      misses = keeps.misses;
-      once = keeps.once;
-      subscriptions_live = omega (arith, all, keeps.subscriptions_live);
-      subscriptions_made = keeps.subscriptions_made;
-      sends_made = keeps.sends_made;
-      sends_few = keeps.sends_few;
-    }
+    -- its pipe leaves
+    pub deleted_keeps :
+        next ≡ record a.store {
+          pipes = filter (λ (p : Pipe). not (eqb p.number pipe)) a.store.pipes;
+          subscriptions = filter (λ (sub : Subscription). not (eqb sub.pipe pipe)) a.store.subscriptions;
+          account = with_held a.store.account next.pipes a.store.numbers_given;
+          loans = next.loans;
+        } → activity_at a.activities.items app ≡ activities.Active → Keeps (record a { store = next })
+    deleted_keeps is active =
+        subst (λ s. Keeps (record a { store = s })) (sym is)
+        (record {
+          room = keeps.room;
+          pool = record { bytes = keeps.pool.bytes; sizes = keeps.pool.sizes; errors = keeps.pool.errors };
+          ways = All-filter (λ (sub : Subscription). not (eqb sub.pipe pipe)) (λ sub. has_way a.store.routes sub.id ≡ true) a.store.subscriptions keeps.ways;
+          once = keeps.once;
+          ready = ready_others a.store.pipes (filter (λ (p : Pipe). not (eqb p.number pipe)) a.store.pipes) a.activities.items keeps.ready app active
+              (λ other number apart ready. ready_without a.store.pipes other number ready app pipe rises own apart);
+        })

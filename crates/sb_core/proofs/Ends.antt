@@ -1,80 +1,85 @@
 -- What an application's end leaves.
-use Rattle.std.proofs.Common.{◌≡◌, ℕ, ◌-◌, Bool, not, cond, eqb, List, [], ◌∷◌, map, filter, set, refl, ap, sym, ◌∙◌, subst, arith, Vec, Global}
-use Rattle.std.proofs.lemmas.List.{map-set}
-use Rattle.fsw_base.proofs.Lists.{filter-map}
+use Rattle.std.proofs.Common.{◌≡◌, ℕ, ◌+◌, ◌-◌, ◌≤◌, Bool, true, false, ◌&&◌, not, cond, eqb, List, [], ◌∷◌, length, map, filter, set, is_some, refl, ap, sym, ◌∙◌, subst, zero-add, Vec, Global}
+use Rattle.std.proofs.lemmas.List.{map-set, nil_from_length}
+use Rattle.std.proofs.lemmas.List.Elements.{All-filter}
+use Rattle.std.proofs.lemmas.List.Sums.{sum_by-cons}
+use Rattle.fsw_base.specs.PoolAccounts.{Account}
 use Rattle.pool_words.specs.Grants.{Pools, all_after_end}
+use Rattle.lend_block.specs.Loan.{LentBytes}
+use Rattle.buf_desc.specs.Held.{Holding}
 use Rattle.bus_words.specs.declared.calls.BusAnswer.TheVariants.{Done}
 use Rattle.bus_words.specs.declared.history.Call.TheVariants.{End}
 use Rattle.bus_words.specs.Bus.{Pipe, Standing, Subscription, owns}
-use Rattle.bus_words.specs.Acts.{Whole}
 use Rattle.bus_words.specs.Machine.{ended}
+use Rattle.bus_tables.specs.Rows.{has_way}
+use Rattle.bus_store.specs.Bag.{views_due}
+use Rattle.bus_store.specs.Store.{Store, LastLoan}
+use Rattle.bus_store.specs.Words.{IsRising}
 use Rattle.sb_core.specs.declared.plain.SbCore.TheInside.{Inside}
 use Rattle.sb_core.specs.declared.activities.Activity.{Activity}
 use Rattle.sb_core.specs.declared.activities.Activity.TheVariants as activities
 use Rattle.sb_core.specs.Core.{Plain, Acts}
-use Rattle.sb_core.specs.Inside.{plain_of, means, Keeps}
-use Rattle.sb_core.specs.Rows.{pipe_in, standing_in}
-use Rattle.bus_tables.specs.Rows.{owns_row}
-use Rattle.bus_tables.specs.Tables.{Tables}
+use Rattle.sb_core.specs.Inside.{plain_of, means, Keeps, AreReady}
+use Rattle.sb_core.specs.Rows.{standing_in}
 use Rattle.sb_core.proofs.After.{acts_from}
-use Rattle.sb_core.proofs.Changes.{activities_keep, pools_keep, pipes_leave, subscriptions_leave}
-use Rattle.sb_core.proofs.Meaning.{owns-rows}
+use Rattle.sb_core.proofs.Bags.{HasViews}
+use Rattle.sb_core.proofs.Ready.{ready_set, ready_left}
+use Rattle.sb_core.proofs.Releases.{OutAlone}
 
-filter_agrees : {X : Type 0} (p q : X → Bool) → ((x : X) → p x ≡ q x) → (xs : List X) → filter p xs ≡ filter q xs
-filter_agrees p q same [] = refl
-filter_agrees {X} p q same (x ∷ xs) =
-    ap (λ b. cond {A = List X} b (x ∷ filter p xs) (filter p xs)) (same x)
-    ∙ ap (λ l. cond {A = List X} (q x) (x ∷ l) l) (filter_agrees p q same xs)
+-- the store without the application's pipes and their subscriptions
+abbrev pub without : Store → ℕ → Account → List LastLoan → Store
+without store app account loans = record store {
+  pipes = filter (λ pipe. not (eqb pipe.owner app)) store.pipes;
+  subscriptions = filter (λ sub. not (owns store.pipes app sub.pipe)) store.subscriptions;
+  account = account;
+  loans = loans;
+}
 
-module _ (a : Inside) (acts : Vec Activity Global) (next : Tables) (pools : Pools) (old : Plain) (app : ℕ)
-    (ends : acts.items ≡ set a.activities.items (app - 1) activities.Ended)
-    (is : next ≡ record a.tables {
-      pipes = filter (λ row. not (eqb row.owner app)) a.tables.pipes;
-      subscriptions = filter (λ sub. not (owns_row a.tables.pipes app sub.pipe)) a.tables.subscriptions;
-    })
-    (back : pools ≡ all_after_end app a.pools) where
-  emptied : Keeps a → Keeps (record a { activities = acts; tables = next })
-  emptied keeps =
-      let P : Tables → Type 0 = λ t. Keeps (record a { activities = acts; tables = t }) in
-      subst P (sym is)
-      (activities_keep
-      (record a {
-        tables = record a.tables {
-          pipes = filter (λ row. not (eqb row.owner app)) a.tables.pipes;
-          subscriptions = filter (λ sub. not (owns_row a.tables.pipes app sub.pipe)) a.tables.subscriptions;
-        };
-      }) acts
-      (subscriptions_leave (record a { tables = record a.tables { pipes = filter (λ row. not (eqb row.owner app)) a.tables.pipes } }) (λ sub. not (owns_row a.tables.pipes app sub.pipe))
-      (pipes_leave a (λ row. not (eqb row.owner app)) keeps)))
+module _ (a : Inside) (acts : Vec Activity Global) (next : Store) (pools : Pools) (old : Plain) (app : ℕ)
+    (ends : acts.items ≡ set a.activities.items (app - 1) activities.Ended) (is : next ≡ without a.store app next.account next.loans) (out : OutAlone a.store.account next.account) where
+  left : next ≡ without a.store app (record a.store.account { out = next.account.out }) next.loans
+  left = is ∙ ap (λ (c : Account). without a.store app c next.loans) out
 
-  pub ended_keeps : Keeps a → Keeps (record a { activities = acts; tables = next; pools = pools })
-  ended_keeps keeps = pools_keep (record a { activities = acts; tables = next }) pools (emptied keeps)
-
-  ended_means : means (record a { activities = acts; tables = next; pools = pools }) ≡ record (means a) { bus = ended (means a).bus app }
-  ended_means =
-      let kept = a.sends.kept in
-      let s = (means a).bus in
-      let gone : Tables = record a.tables {
-        pipes = filter (λ row. not (eqb row.owner app)) a.tables.pipes;
-        subscriptions = filter (λ sub. not (owns_row a.tables.pipes app sub.pipe)) a.tables.subscriptions;
-      } in
-      ap (λ t. means (record a { activities = acts; tables = t; pools = pools })) is
-      ∙ ap (λ q. means (record a { activities = acts; tables = gone; pools = q })) back
-      ∙ ap (λ (ps : List Pipe). record (means a) {
-        bus = record s {
-          pipes = ps;
-          subscriptions = filter (λ sub. not (owns_row a.tables.pipes app sub.pipe)) a.tables.subscriptions;
-          standings = map standing_in acts.items;
-          pools = all_after_end app a.pools;
-        };
+  pub ended_keeps : Keeps a → IsRising 0 a.store.pipes → 1 ≤ app → app ≤ length a.activities.items → Keeps (record a { activities = acts; store = next; pools = pools })
+  ended_keeps keeps rises first within =
+      let pipes = filter (λ (pipe : Pipe). not (eqb pipe.owner app)) a.store.pipes in
+      subst (λ s. Keeps (record a { activities = acts; store = s; pools = pools })) (sym left)
+      (record {
+        room = keeps.room;
+        pool = record { bytes = keeps.pool.bytes; sizes = keeps.pool.sizes; errors = keeps.pool.errors };
+        ways = All-filter (λ (sub : Subscription). not (owns a.store.pipes app sub.pipe)) (λ sub. has_way a.store.routes sub.id ≡ true) a.store.subscriptions keeps.ways;
+        once = keeps.once;
+        ready = subst (AreReady pipes) (sym ends)
+            (ready_set a.store.pipes pipes a.activities.items keeps.ready app activities.Ended first within (λ number wrong. absurd (cc (wrong)))
+            (λ other number apart ready. ready_left a.store.pipes other number ready app apart rises));
       })
-      (sym (filter-map (λ pipe. not (eqb pipe.owner app)) (pipe_in kept) a.tables.pipes))
-      ∙ ap (λ (ss : List Subscription). record (means a) { bus = record s { pipes = (ended s app).pipes; subscriptions = ss; standings = map standing_in acts.items; pools = all_after_end app a.pools } })
-      (filter_agrees (λ sub. not (owns_row a.tables.pipes app sub.pipe)) (λ sub. not (owns s.pipes app sub.pipe)) (λ sub. ap not (sym (owns-rows kept a.tables.pipes app sub.pipe))) a.tables.subscriptions)
-      ∙ ap (λ (st : List Standing). record (means a) { bus = record (ended s app) { standings = st } })
-      (ap (map standing_in) ends ∙ map-set standing_in a.activities.items (app - 1) activities.Ended)
 
-  pub ended_acts : plain_of a ≡ old → Acts old (plain_of (record a { activities = acts; tables = next; pools = pools })) app End Done
-  ended_acts viewed =
-      acts_from a (record a { activities = acts; tables = next; pools = pools }) old app End Done viewed refl refl (omega arith)
-      (ap (λ (w : Whole). (Done, w)) (sym ended_means))
+  pub ended_acts : plain_of a ≡ old → pools ≡ all_after_end app a.pools → Acts old (plain_of (record a { activities = acts; store = next; pools = pools })) app End Done
+  ended_acts viewed back =
+      let s = (means a).bus in
+      acts_from a (record a { activities = acts; store = next; pools = pools }) old app End Done viewed refl
+      (sym
+      (ap (λ n. (Done, means (record a { activities = acts; store = n; pools = pools }))) left
+      ∙ ap (λ (q : Pools). (Done, record (means a) { bus = record (ended s app) { standings = map standing_in acts.items; pools = q } })) back
+      ∙ ap (λ (st : List Standing). (Done, record (means a) { bus = record (ended s app) { standings = st } }))
+      (ap (map standing_in) ends ∙ map-set standing_in a.activities.items (app - 1) activities.Ended)))
+
+-- Its bag has no view then. --
+
+none_due : (pipes : List Pipe) (app : ℕ) → views_due (filter (λ (pipe : Pipe). not (eqb pipe.owner app)) pipes) app ≡ 0
+none_due [] app = refl
+none_due (pipe ∷ pipes) app = by_owner (eqb pipe.owner app) refl (none_due pipes app)
+  where
+    rest : List Pipe
+    rest = filter (λ (p : Pipe). not (eqb p.owner app)) pipes
+
+    by_owner : (b : Bool) → eqb pipe.owner app ≡ b → views_due rest app ≡ 0 → views_due (cond {A = List Pipe} (not b) (pipe ∷ rest) rest) app ≡ 0
+    by_owner true e ih = ih
+    by_owner false e ih =
+        sum_by-cons (λ (p : Pipe). cond {A = ℕ} (eqb p.owner app && is_some p.last) 1 0) pipe rest
+        ∙ ap (λ b. cond {A = ℕ} (b && is_some pipe.last) 1 0 + views_due rest app) e
+        ∙ zero-add (views_due rest app)
+        ∙ ih
+
+pub no_view : (store next : Store) (app : ℕ) (bag : Holding LentBytes) → next ≡ without store app next.account next.loans → HasViews next app bag → bag.views ≡ []
+no_view store next app bag is has = nil_from_length bag.views (has.counted ∙ ap (λ (s : Store). views_due s.pipes app) is ∙ none_due store.pipes app)

@@ -1,29 +1,54 @@
 -- A core that was just made.
-use Rattle.std.proofs.Common.{◌≡◌, ℕ, zero, suc, List, [], ◌∷◌, map, replicate, refl, ap, ◌∙◌}
+use Rattle.std.proofs.Common.{◌≡◌, ℕ, zero, suc, ◌-◌, Bool, true, false, cond, eqb, List, [], ◌∷◌, get_or, map, replicate, refl, ap, sym, ◌∙◌, subst}
+use Rattle.std.proofs.lemmas.List.Elements.{All-nil}
 use Rattle.fsw_base.specs.Limits.{Limits, limits_of}
 use Rattle.pool_words.specs.Grants.{Pools}
-use Rattle.bus_words.specs.Bus.{Active, Standing}
+use Rattle.bus_words.specs.Bus.{Active, Standing, Subscription}
 use Rattle.bus_words.specs.Acts.{opening_whole}
-use Rattle.bus_tables.specs.Tables.{opened}
+use Rattle.bus_tables.specs.Rows.{has_way}
+use Rattle.bus_store.specs.Store.{opened}
 use Rattle.sb_core.specs.declared.plain.SbCore.TheInside.{Inside}
+use Rattle.sb_core.specs.declared.activities.Activity.{Activity}
 use Rattle.sb_core.specs.declared.activities.Activity.TheVariants as activities
-use Rattle.sb_core.specs.Inside.{plain_of, means}
-use Rattle.sb_core.specs.Rows.{Sends, standing_in}
+use Rattle.sb_core.specs.Inside.{plain_of, means, Keeps}
+use Rattle.sb_core.specs.Rows.{standing_in, activity_at}
 
 standings-active : (n : ℕ) → map standing_in (replicate n activities.Active) ≡ replicate n Active
 standings-active zero = refl
 standings-active (suc n) = ap (λ l. Active ∷ l) (standings-active n)
 
-pub opened_plain : (a : Inside) (limits : Limits) (apps messages bytes : ℕ) → limits_of a.config ≡ limits → a.activities.items ≡ replicate apps activities.Active →
-    a.tables ≡ opened limits → a.sends ≡ record { kept = []; places = messages; spare = bytes } →
-    a.pools ≡ record { most = limits.apppool; sizes = limits.sizes; pools = [] } →
-    plain_of a ≡ record { limits = limits; messages = messages; spare = bytes; whole = opening_whole limits apps }
-opened_plain a limits apps messages bytes same active tables sends pools =
-    let no_pools : Pools = record { most = limits.apppool; sizes = limits.sizes; pools = [] } in
-    let none : Sends = record { kept = []; places = messages; spare = bytes } in
-    ap (λ t. plain_of (record a { tables = t })) tables
-    ∙ ap (λ m. plain_of (record a { tables = opened limits; sends = m })) sends
-    ∙ ap (λ q. plain_of (record a { tables = opened limits; sends = none; pools = q })) pools
-    ∙ ap (λ l. record { limits = l; messages = messages; spare = bytes; whole = means (record a { tables = opened limits; sends = none; pools = no_pools }) }) same
-    ∙ ap (λ (st : List Standing). record { limits = limits; messages = messages; spare = bytes; whole = record { bus = record { pipes = []; pipes_created = 0; subscriptions = []; subscriptions_made = 0; routed = []; numbers_given = 0; standings = st; pools = no_pools }; nexts = [] } })
-    (ap (map standing_in) active ∙ standings-active apps)
+-- an application that is active, or that there isn't, doesn't wait
+nobody_waits : (apps app pipe : ℕ) → activity_at (replicate apps activities.Active) app ≡ activities.Waiting pipe → ⊥
+nobody_waits apps app pipe waits = by_test (eqb app 0) waits
+  where
+    at : (n i : ℕ) → get_or (replicate n activities.Active) i activities.Ended ≡ activities.Waiting pipe → ⊥
+    at zero zero is = cc (is)
+    at zero (suc i) is = cc (is)
+    at (suc n) zero is = cc (is)
+    at (suc n) (suc i) is = at n i is
+
+    by_test : (b : Bool) → cond {A = Activity} b activities.Ended (get_or (replicate apps activities.Active) (app - 1) activities.Ended) ≡ activities.Waiting pipe → ⊥
+    by_test true is = cc (is)
+    by_test false is = at apps (app - 1) is
+
+module _ (a : Inside) (limits : Limits) (apps : ℕ) (same : limits_of a.config ≡ limits) (active : a.activities.items ≡ replicate apps activities.Active) (store : a.store ≡ opened limits) where
+  pub opened_plain : a.pools ≡ record { most = limits.apppool; sizes = limits.sizes; pools = [] } → plain_of a ≡ record { limits = limits; whole = opening_whole limits apps; loans = [] }
+  opened_plain pools =
+      let no_pools : Pools = record { most = limits.apppool; sizes = limits.sizes; pools = [] } in
+      ap (λ s. plain_of (record a { store = s })) store
+      ∙ ap (λ q. plain_of (record a { store = opened limits; pools = q })) pools
+      ∙ ap (λ l. record { limits = l; whole = means (record a { store = opened limits; pools = no_pools }); loans = [] }) same
+      ∙ ap (λ (st : List Standing). record { limits = limits; whole = record { bus = record (opening_whole limits apps).bus { standings = st }; nexts = [] }; loans = [] })
+      (ap (map standing_in) active ∙ standings-active apps)
+
+  pub opened_keeps : Keeps a
+  opened_keeps =
+      let there : opened limits ≡ a.store = sym store in
+      subst (λ s. Keeps (record a { store = s })) there
+      (record {
+        room = ap (λ l. (opened l).room) (sym same);
+        pool = record { bytes = ap (λ (l : Limits). l.pool) (sym same); sizes = ap (λ (l : Limits). l.sizes) (sym same); errors = refl };
+        ways = All-nil (λ (sub : Subscription). has_way [] sub.id ≡ true);
+        once = tt;
+        ready = λ app pipe waits. absurd (nobody_waits apps app pipe (ap (λ l. activity_at l app) (sym active) ∙ waits));
+      })

@@ -1,6 +1,7 @@
 -- Causes by their tests, and causes at the core that callers see.
-use Rattle.std.proofs.Common.{◌≡◌, ℕ, ◌<◌, ◌≤◌, Bool, true, false, ◌&&◌, ◌||◌, not, cond, eqb, leb, ltb, List, length, Option, None, ap, sym, ◌∙◌, subst, arith}
+use Rattle.std.proofs.Common.{◌≡◌, ℕ, ◌<◌, ◌≤◌, Bool, true, false, ◌&&◌, ◌||◌, not, cond, eqb, leb, ltb, List, length, Option, Some, None, refl, ap, sym, ◌∙◌, subst, arith}
 use Rattle.std.specs.List.{list_any}
+use Rattle.std.specs.Option.{is_some}
 use Rattle.std.specs.Str.{bytes_eq}
 use Rattle.std.proofs.lemmas.Bool.Decides.{nat_tests}
 use Rattle.std.proofs.lemmas.List.{length-map}
@@ -8,16 +9,16 @@ use Rattle.fsw_base.proofs.Lists.{list_any-map}
 use Rattle.fsw_base.specs.Limits.{Limits, limits_of}
 use Rattle.fsw_base.specs.declared.statuses.SbStatus.{SbStatus}
 use Rattle.fsw_base.specs.declared.statuses.SbStatus.TheVariants.{BadArgument, MaxPipesMet, PipeCrErr, MaxMsgsMet, MaxDestsMet}
-use Rattle.ccsds_msg.specs.Message.{is_valid_id}
+use Rattle.ccsds_msg.specs.Message.{fault, is_valid_id}
+use Rattle.ccsds_msg.specs.declared.packet.MsgFault.{MsgFault}
+use Rattle.ccsds_msg.proofs.MessageLemmas.{IsMessage-length}
 use Rattle.bus_words.specs.Bus.{State, owns, is_subscribed, has_route, route}
-use Rattle.bus_words.specs.Machine.{create_cause, subscribe_cause, refused_if}
+use Rattle.bus_words.specs.Machine.{create_cause, subscribe_cause, unowned_cause, refused_if}
 use Rattle.sb_core.specs.declared.plain.SbCore.TheInside.{Inside}
 use Rattle.bus_tables.specs.Rows.{RouteRow}
 use Rattle.sb_core.specs.Core.{Plain}
 use Rattle.sb_core.specs.Inside.{plain_of, means}
-use Rattle.sb_core.specs.Rows.{pipe_in}
-use Rattle.bus_tables.specs.Rows.{ids_of, has_way, owns_row}
-use Rattle.sb_core.proofs.Meaning.{owns-rows}
+use Rattle.bus_tables.specs.Rows.{ids_of, has_way}
 
 -- what is told of the core is told of the fields
 pub at_fields : (a : Inside) (now : Plain) → plain_of a ≡ now → (F : Limits → State → Option SbStatus) (why : Option SbStatus) →
@@ -28,11 +29,6 @@ at_fields a now is F why there = let P : Plain → Type 0 = λ o. F o.limits o.w
 pub at_core : (a : Inside) (now : Plain) → plain_of a ≡ now → (F : Limits → State → Option SbStatus) (why : Option SbStatus) →
     F (limits_of a.config) (means a).bus ≡ why → why ≡ F now.limits now.whole.bus
 at_core a now is F why here = let P : Plain → Type 0 = λ o. why ≡ F o.limits o.whole.bus in subst P is (sym here)
-
--- whether a pipe is live and the application's
-pub owns_here : (a : Inside) (now : Plain) → plain_of a ≡ now → (app pipe : ℕ) → owns_row a.tables.pipes app pipe ≡ owns now.whole.bus.pipes app pipe
-owns_here a now is app pipe =
-    sym (owns-rows a.sends.kept a.tables.pipes app pipe) ∙ ap (λ (o : Plain). owns o.whole.bus.pipes app pipe) is
 
 -- tests of numbers
 pub not_at_least : (m n : ℕ) → n < m → leb m n ≡ false
@@ -54,21 +50,6 @@ create_checked limits s depth name bad full taken is_bad is_full is_taken =
     ∙ ap (λ b. refused_if bad BadArgument (refused_if b MaxPipesMet (refused_if (list_any (λ pipe. bytes_eq pipe.name name) s.pipes) PipeCrErr None))) is_full
     ∙ ap (λ b. refused_if bad BadArgument (refused_if full MaxPipesMet (refused_if b PipeCrErr None))) is_taken
 
-module _ (a : Inside) where
-  pub pipes_full : a.config.pipes ≤ length a.tables.pipes → leb a.config.pipes (length (means a).bus.pipes) ≡ true
-  pipes_full full =
-      let n = length-map a.tables.pipes (pipe_in a.sends.kept) in
-      at_least a.config.pipes (length (means a).bus.pipes) (omega (arith, n))
-
-  pub pipes_free : length a.tables.pipes < a.config.pipes → leb a.config.pipes (length (means a).bus.pipes) ≡ false
-  pipes_free free =
-      let n = length-map a.tables.pipes (pipe_in a.sends.kept) in
-      not_at_least a.config.pipes (length (means a).bus.pipes) (omega (arith, n))
-
-  pub name_taken : (name : List ℕ) (taken : Bool) → list_any (λ row. bytes_eq row.name name) a.tables.pipes ≡ taken →
-      list_any (λ pipe. bytes_eq pipe.name name) (means a).bus.pipes ≡ taken
-  name_taken name taken is = list_any-map (λ pipe. bytes_eq pipe.name name) (pipe_in a.sends.kept) a.tables.pipes ∙ is
-
 -- Subscribing. --
 
 pub subscribe_checked : (limits : Limits) (s : State) (app id pipe : ℕ) (bad live lacks full : Bool) →
@@ -88,15 +69,30 @@ subscribe_checked limits s app id pipe bad live lacks full is_bad is_live is_lac
 pub has_route-rows : (routes : List RouteRow) (id : ℕ) → has_route (ids_of routes) id ≡ has_way routes id
 has_route-rows routes id = list_any-map (λ other. eqb other id) (λ route. route.id) routes
 
-module _ (a : Inside) where
-  pub bad_subscription : (app id pipe : ℕ) (bad : Bool) → (not (is_valid_id id) || not (owns_row a.tables.pipes app pipe)) ≡ bad →
-      (not (is_valid_id id) || not (owns (means a).bus.pipes app pipe)) ≡ bad
-  bad_subscription app id pipe bad is =
-      ap (λ b. not (is_valid_id id) || not b) (owns-rows a.sends.kept a.tables.pipes app pipe) ∙ is
+-- whether an id lacks a route that it can't get
+pub lacks_route : (a : Inside) (id : ℕ) (lacks : Bool) → (not (has_way a.store.routes id) && leb a.config.msgids (length a.store.routes)) ≡ lacks →
+    (not (has_route (means a).bus.routed id) && leb a.config.msgids (length (means a).bus.routed)) ≡ lacks
+lacks_route a id lacks is =
+    ap (λ b. not b && leb a.config.msgids (length (means a).bus.routed)) (has_route-rows a.store.routes id)
+    ∙ ap (λ n. not (has_way a.store.routes id) && leb a.config.msgids n) (length-map a.store.routes (λ route. route.id))
+    ∙ is
 
-  pub lacks_route : (id : ℕ) (lacks : Bool) → (not (has_way a.tables.routes id) && leb a.config.msgids (length a.tables.routes)) ≡ lacks →
-      (not (has_route (means a).bus.routed id) && leb a.config.msgids (length (means a).bus.routed)) ≡ lacks
-  lacks_route id lacks is =
-      ap (λ b. not b && leb a.config.msgids (length (means a).bus.routed)) (has_route-rows a.tables.routes id)
-      ∙ ap (λ n. not (has_way a.tables.routes id) && leb a.config.msgids n) (length-map a.tables.routes (λ route. route.id))
-      ∙ is
+-- Sending. --
+
+-- what passes as a message has its header and a byte more at least
+pub message_least : (bytes : List ℕ) → not (is_some (fault bytes)) ≡ true → 7 ≤ length bytes
+message_least bytes passes = IsMessage-length bytes (none (fault bytes) passes)
+  where
+    none : (o : Option MsgFault) → not (is_some o) ≡ true → o ≡ None
+    none None passes = refl
+    none (Some why) passes = absurd (cc (passes))
+
+-- Pipes of others. --
+
+-- an application owns a pipe that it isn't refused for
+pub not_unowned : (s : State) (app pipe : ℕ) → unowned_cause s app pipe ≡ None → owns s.pipes app pipe ≡ true
+not_unowned s app pipe none = by_test (owns s.pipes app pipe) none
+  where
+    by_test : (b : Bool) → refused_if (not b) BadArgument None ≡ None → b ≡ true
+    by_test true none = refl
+    by_test false none = absurd (cc (none))

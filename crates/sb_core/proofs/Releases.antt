@@ -5,120 +5,122 @@ use Rattle.std.specs.Option.{option_map}
 use Rattle.std.proofs.lemmas.Bool.{eqb-true, eq-eqb}
 use Rattle.std.proofs.lemmas.List.Elements.{All-nil, All-cons, All-weaker, All-filter, filter_passes}
 use Rattle.std.proofs.lemmas.Map.Views.{any-filter_same}
-use Rattle.bus_words.specs.Bus as bus
-use Rattle.bus_tables.specs.Rows.{Row, owns_row}
-use Rattle.bus_tables.specs.Tables.{Tables, IsRising}
+use Rattle.fsw_base.specs.PoolAccounts.{Account}
+use Rattle.bus_words.specs.Bus.{Pipe, Subscription, owns}
+use Rattle.bus_words.proofs.Finds.{any-filter_none}
 use Rattle.bus_tables.proofs.EndingsLists.{found_all, found_any, found_passes, filter_whole, filter_shorter, filter_within, none_any, not_found}
 use Rattle.bus_tables.proofs.Endings.{and_left}
 use Rattle.bus_tables.proofs.Removals.{other_number}
+use Rattle.bus_store.specs.Store.{Store, LastLoan}
+use Rattle.bus_store.specs.Words.{IsRising}
 
 -- rising numbers are all above the first bound
-rising_above : (below : ℕ) (rows : List Row) → IsRising below rows → All (λ row. below < row.number) rows
-rising_above below [] rising = All-nil (λ (row : Row). below < row.number)
-rising_above below (row ∷ rows) rising =
-    All-cons (λ r. below < r.number) row rows rising.0
-    (All-weaker (λ r. row.number < r.number) (λ r. below < r.number) (λ r above. omega (arith, above, rising.0)) rows (rising_above row.number rows rising.1))
+rising_above : (below : ℕ) (pipes : List Pipe) → IsRising below pipes → All (λ one. below < one.number) pipes
+rising_above below [] rising = All-nil (λ (one : Pipe). below < one.number)
+rising_above below (one ∷ pipes) rising =
+    All-cons (λ r. below < r.number) one pipes rising.0
+    (All-weaker (λ r. one.number < r.number) (λ r. below < r.number) (λ r above. omega (arith, above, rising.0)) pipes (rising_above one.number pipes rising.1))
 
 -- no other pipe has the number of a live one
-pub own_row : (p : Row → Bool) (below : ℕ) (rows : List Row) (row : Row) → IsRising below rows → find p rows ≡ Some row → All (λ r. r.number ≡ row.number → r ≡ row) rows
-own_row p below [] row rising found = absurd cc
-own_row p below (r ∷ rows) row rising found = choose (own_row p r.number rows row rising.1) (p r) found
+pub own_pipe : (p : Pipe → Bool) (below : ℕ) (pipes : List Pipe) (one : Pipe) → IsRising below pipes → find p pipes ≡ Some one → All (λ r. r.number ≡ one.number → r ≡ one) pipes
+own_pipe p below [] one rising found = absurd cc
+own_pipe p below (r ∷ pipes) one rising found = choose (own_pipe p r.number pipes one rising.1) (p r) found
   where
-    Own : Row → Type 0
-    Own q = q.number ≡ row.number → q ≡ row
+    Own : Pipe → Type 0
+    Own q = q.number ≡ one.number → q ≡ one
 
-    choose : (find p rows ≡ Some row → All Own rows) → (b : Bool) → cond {A = Option Row} b (Some r) (find p rows) ≡ Some row → All Own (r ∷ rows)
+    choose : (find p pipes ≡ Some one → All Own pipes) → (b : Bool) → cond {A = Option Pipe} b (Some r) (find p pipes) ≡ Some one → All Own (r ∷ pipes)
     choose rest true found =
-        let same : r ≡ row = cc in
-        All-cons Own r rows (λ _. same)
-        (All-weaker (λ q. r.number < q.number) Own (λ q above is. absurd (omega (arith, above, is, ap (λ x. x.number) same))) rows (rising_above r.number rows rising.1))
+        let same : r ≡ one = cc in
+        All-cons Own r pipes (λ _. same)
+        (All-weaker (λ q. r.number < q.number) Own (λ q above is. absurd (omega (arith, above, is, ap (λ x. x.number) same))) pipes (rising_above r.number pipes rising.1))
     choose rest false found =
-        let above : r.number < row.number = found_all p (λ q. r.number < q.number) rows row (rising_above r.number rows rising.1) found in
-        All-cons Own r rows (λ is. absurd (omega (arith, above, is))) (rest found)
+        let above : r.number < one.number = found_all p (λ q. r.number < q.number) pipes one (rising_above r.number pipes rising.1) found in
+        All-cons Own r pipes (λ is. absurd (omega (arith, above, is))) (rest found)
 
 -- the first of an application's pipes, by its number
-pub first_row : (o : Option Row) (number : ℕ) → option_map (λ row. row.number) o ≡ Some number → (row : Row) × (o ≡ Some row) × (row.number ≡ number)
-first_row None number is = absurd cc
-first_row (Some row) number is = let same : row.number ≡ number = cc in (row, refl, same)
+pub first_pipe : (o : Option Pipe) (number : ℕ) → option_map (λ one. one.number) o ≡ Some number → (one : Pipe) × (o ≡ Some one) × (one.number ≡ number)
+first_pipe None number is = absurd cc
+first_pipe (Some one) number is = let same : one.number ≡ number = cc in (one, refl, same)
 
 -- an application has no pipe
-pub no_first : (o : Option Row) → option_map (λ row. row.number) o ≡ None → o ≡ None
+pub no_first : (o : Option Pipe) → option_map (λ one. one.number) o ≡ None → o ≡ None
 no_first None is = refl
-no_first (Some row) is = absurd cc
+no_first (Some one) is = absurd cc
 
-module _ (rows : List Row) (app number : ℕ) (row : Row) (found : find (λ r. eqb r.owner app) rows ≡ Some row) (its : row.number ≡ number) where
+module _ (pipes : List Pipe) (app number : ℕ) (one : Pipe) (found : find (λ r. eqb r.owner app) pipes ≡ Some one) (its : one.number ≡ number) where
   -- its owner
-  owner_is : row.owner ≡ app
-  owner_is = eqb-true row.owner app (found_passes (λ r. eqb r.owner app) rows row found)
+  owner_is : one.owner ≡ app
+  owner_is = eqb-true one.owner app (found_passes (λ r. eqb r.owner app) pipes one found)
 
   -- its end takes no pipe of another application away
-  pub rows_stay : IsRising 0 rows → filter (λ r. not (eqb r.owner app)) (filter (λ r. not (eqb r.number number)) rows) ≡ filter (λ r. not (eqb r.owner app)) rows
-  rows_stay rising =
-      filter_within (λ r. not (eqb r.owner app)) (λ r. not (eqb r.number number)) rows
-      (All-weaker (λ r. r.number ≡ row.number → r ≡ row) (λ r. not (eqb r.owner app) ≡ true → not (eqb r.number number) ≡ true)
-      (λ r only other. by_number r only other (eqb r.number number) refl) rows (own_row (λ r. eqb r.owner app) 0 rows row rising found))
+  pub pipes_stay : IsRising 0 pipes → filter (λ r. not (eqb r.owner app)) (filter (λ r. not (eqb r.number number)) pipes) ≡ filter (λ r. not (eqb r.owner app)) pipes
+  pipes_stay rising =
+      filter_within (λ r. not (eqb r.owner app)) (λ r. not (eqb r.number number)) pipes
+      (All-weaker (λ r. r.number ≡ one.number → r ≡ one) (λ r. not (eqb r.owner app) ≡ true → not (eqb r.number number) ≡ true)
+      (λ r only other. by_number r only other (eqb r.number number) refl) pipes (own_pipe (λ r. eqb r.owner app) 0 pipes one rising found))
     where
-      by_number : (r : Row) → (r.number ≡ row.number → r ≡ row) → not (eqb r.owner app) ≡ true → (b : Bool) → eqb r.number number ≡ b → not b ≡ true
+      by_number : (r : Pipe) → (r.number ≡ one.number → r ≡ one) → not (eqb r.owner app) ≡ true → (b : Bool) → eqb r.number number ≡ b → not b ≡ true
       by_number r only other true e =
-          let same : r ≡ row = only (eqb-true r.number number e ∙ sym its) in
+          let same : r ≡ one = only (eqb-true r.number number e ∙ sym its) in
           absurd (cc (sym other ∙ ap not (eq-eqb r.owner app (ap (λ q. q.owner) same ∙ owner_is))))
       by_number r only other false e = refl
 
   -- there are fewer then
-  pub rows_fewer : length (filter (λ r. not (eqb r.number number)) rows) < length rows
-  rows_fewer = filter_shorter (λ r. eqb r.owner app) (λ r. not (eqb r.number number)) rows row found (ap not (eq-eqb row.number number its))
+  pub pipes_fewer : length (filter (λ r. not (eqb r.number number)) pipes) < length pipes
+  pipes_fewer = filter_shorter (λ r. eqb r.owner app) (λ r. not (eqb r.number number)) pipes one found (ap not (eq-eqb one.number number its))
 
   -- its number is of one of the application's pipes
-  pub first_owned : owns_row rows app number ≡ true
+  pub first_owned : owns pipes app number ≡ true
   first_owned =
-      found_any (λ r. eqb r.owner app) (λ r. eqb r.number number && eqb r.owner app) rows row found
-      (ap (λ b. b && eqb row.owner app) (eq-eqb row.number number its) ∙ eq-eqb row.owner app owner_is)
+      found_any (λ r. eqb r.owner app) (λ r. eqb r.number number && eqb r.owner app) pipes one found
+      (ap (λ b. b && eqb one.owner app) (eq-eqb one.number number its) ∙ eq-eqb one.owner app owner_is)
 
 -- whether another pipe is the application's
-pub owned_else : (rows : List Row) (app number pipe : ℕ) → not (eqb pipe number) ≡ true → owns_row (filter (λ r. not (eqb r.number number)) rows) app pipe ≡ owns_row rows app pipe
-owned_else rows app number pipe apart =
+pub owned_else : (pipes : List Pipe) (app number pipe : ℕ) → not (eqb pipe number) ≡ true → owns (filter (λ r. not (eqb r.number number)) pipes) app pipe ≡ owns pipes app pipe
+owned_else pipes app number pipe apart =
     any-filter_same (λ r. eqb r.number pipe && eqb r.owner app) (λ r. not (eqb r.number number)) true
-    (λ r passes. other_number r.number pipe number apart (and_left (eqb r.number pipe) (eqb r.owner app) passes)) rows
+    (λ r passes. other_number r.number pipe number apart (and_left (eqb r.number pipe) (eqb r.owner app) passes)) pipes
 
 -- subscriptions of the application's pipes, at first and now
-abbrev pub AreOwned : List Row → List Row → ℕ → List bus.Subscription → Type 0
-AreOwned first now app subscriptions = All (λ sub. owns_row first app sub.pipe ≡ owns_row now app sub.pipe) subscriptions
+abbrev pub AreOwned : List Pipe → List Pipe → ℕ → List Subscription → Type 0
+AreOwned first now app subscriptions = All (λ sub. owns first app sub.pipe ≡ owns now app sub.pipe) subscriptions
 
 -- the end of one of its pipes
-pub owned_after : (first now : List Row) (app number : ℕ) (subscriptions : List bus.Subscription) → AreOwned first now app subscriptions →
+pub owned_after : (first now : List Pipe) (app number : ℕ) (subscriptions : List Subscription) → AreOwned first now app subscriptions →
     AreOwned first (filter (λ r. not (eqb r.number number)) now) app (filter (λ sub. not (eqb sub.pipe number)) subscriptions)
 owned_after first now app number subscriptions owned = λ k d within.
     let stay = filter (λ sub. not (eqb sub.pipe number)) subscriptions in
     let sub = get_or stay k d in
-    let was = All-filter (λ sub. not (eqb sub.pipe number)) (λ sub. owns_row first app sub.pipe ≡ owns_row now app sub.pipe) subscriptions owned in
+    let was = All-filter (λ sub. not (eqb sub.pipe number)) (λ sub. owns first app sub.pipe ≡ owns now app sub.pipe) subscriptions owned in
     was k d within ∙ sym (owned_else now app number sub.pipe (filter_passes (λ sub. not (eqb sub.pipe number)) subscriptions k d within))
 
 -- it takes no subscription of another application's pipe away
-pub subs_stay : (first now : List Row) (app number : ℕ) (subscriptions : List bus.Subscription) → AreOwned first now app subscriptions → owns_row now app number ≡ true →
-    filter (λ sub. not (owns_row first app sub.pipe)) (filter (λ sub. not (eqb sub.pipe number)) subscriptions) ≡ filter (λ sub. not (owns_row first app sub.pipe)) subscriptions
+pub subs_stay : (first now : List Pipe) (app number : ℕ) (subscriptions : List Subscription) → AreOwned first now app subscriptions → owns now app number ≡ true →
+    filter (λ sub. not (owns first app sub.pipe)) (filter (λ sub. not (eqb sub.pipe number)) subscriptions) ≡ filter (λ sub. not (owns first app sub.pipe)) subscriptions
 subs_stay first now app number subscriptions owned its =
-    filter_within (λ sub. not (owns_row first app sub.pipe)) (λ sub. not (eqb sub.pipe number)) subscriptions
-    (All-weaker (λ sub. owns_row first app sub.pipe ≡ owns_row now app sub.pipe) (λ sub. not (owns_row first app sub.pipe) ≡ true → not (eqb sub.pipe number) ≡ true)
+    filter_within (λ sub. not (owns first app sub.pipe)) (λ sub. not (eqb sub.pipe number)) subscriptions
+    (All-weaker (λ sub. owns first app sub.pipe ≡ owns now app sub.pipe) (λ sub. not (owns first app sub.pipe) ≡ true → not (eqb sub.pipe number) ≡ true)
     (λ sub same other. by_pipe sub same other (eqb sub.pipe number) refl) subscriptions owned)
   where
-    by_pipe : (sub : bus.Subscription) → owns_row first app sub.pipe ≡ owns_row now app sub.pipe → not (owns_row first app sub.pipe) ≡ true → (b : Bool) → eqb sub.pipe number ≡ b → not b ≡ true
+    by_pipe : (sub : Subscription) → owns first app sub.pipe ≡ owns now app sub.pipe → not (owns first app sub.pipe) ≡ true → (b : Bool) → eqb sub.pipe number ≡ b → not b ≡ true
     by_pipe sub same other true e =
-        absurd (cc (sym other ∙ ap not (same ∙ ap (owns_row now app) (eqb-true sub.pipe number e) ∙ its)))
+        absurd (cc (sym other ∙ ap not (same ∙ ap (owns now app) (eqb-true sub.pipe number e) ∙ its)))
     by_pipe sub same other false e = refl
 
 -- Once the application has no pipe. --
 
-module _ (now : List Row) (app : ℕ) (none : find (λ r. eqb r.owner app) now ≡ None) where
+module _ (now : List Pipe) (app : ℕ) (none : find (λ r. eqb r.owner app) now ≡ None) where
   -- all pipes are of others
   others : All (λ r. eqb r.owner app ≡ false) now
   others = not_found (λ r. eqb r.owner app) now none
 
   -- all pipes stay
-  pub rows_left : filter (λ r. not (eqb r.owner app)) now ≡ now
-  rows_left = filter_whole (λ r. not (eqb r.owner app)) now (All-weaker (λ r. eqb r.owner app ≡ false) (λ r. not (eqb r.owner app) ≡ true) (λ r other. ap not other) now others)
+  pub pipes_left : filter (λ r. not (eqb r.owner app)) now ≡ now
+  pipes_left = filter_whole (λ r. not (eqb r.owner app)) now (All-weaker (λ r. eqb r.owner app ≡ false) (λ r. not (eqb r.owner app) ≡ true) (λ r other. ap not other) now others)
 
   -- no number is of a pipe of its own
-  owns_none : (pipe : ℕ) → owns_row now app pipe ≡ false
+  owns_none : (pipe : ℕ) → owns now app pipe ≡ false
   owns_none pipe =
       none_any (λ r. eqb r.number pipe && eqb r.owner app) now
       (All-weaker (λ r. eqb r.owner app ≡ false) (λ r. (eqb r.number pipe && eqb r.owner app) ≡ false) (λ r other. ap (λ b. eqb r.number pipe && b) other ∙ and_false (eqb r.number pipe)) now others)
@@ -128,15 +130,45 @@ module _ (now : List Row) (app : ℕ) (none : find (λ r. eqb r.owner app) now �
       and_false false = refl
 
   -- no subscription that is left is of a pipe of its own
-  pub subs_left : (first : List Row) (subscriptions : List bus.Subscription) → AreOwned first now app subscriptions → filter (λ sub. not (owns_row first app sub.pipe)) subscriptions ≡ subscriptions
+  pub subs_left : (first : List Pipe) (subscriptions : List Subscription) → AreOwned first now app subscriptions → filter (λ sub. not (owns first app sub.pipe)) subscriptions ≡ subscriptions
   subs_left first subscriptions owned =
-      filter_whole (λ sub. not (owns_row first app sub.pipe)) subscriptions
-      (All-weaker (λ sub. owns_row first app sub.pipe ≡ owns_row now app sub.pipe) (λ sub. not (owns_row first app sub.pipe) ≡ true) (λ sub same. ap not (same ∙ owns_none sub.pipe)) subscriptions owned)
+      filter_whole (λ sub. not (owns first app sub.pipe)) subscriptions
+      (All-weaker (λ sub. owns first app sub.pipe ≡ owns now app sub.pipe) (λ sub. not (owns first app sub.pipe) ≡ true) (λ sub same. ap not (same ∙ owns_none sub.pipe)) subscriptions owned)
 
--- what a further round leaves as it was at first
-pub same_tables : (first before after : Tables) (rows : List Row) (left : List bus.Subscription) → after ≡ record before { pipes = rows; subscriptions = left } →
-    before ≡ record first { pipes = before.pipes; subscriptions = before.subscriptions } → after ≡ record first { pipes = after.pipes; subscriptions = after.subscriptions }
-same_tables first before after rows left is was =
-    is
-    ∙ ap (λ t. let v : Tables = record t { pipes = rows; subscriptions = left } in v) was
-    ∙ sym (ap (λ t. let v : Tables = record first { pipes = t.pipes; subscriptions = t.subscriptions } in v) is)
+-- What each round leaves. --
+
+-- pipes, subscriptions, account and loans alone are others than at first
+abbrev pub Alone : Store → Store → Type 0
+Alone first store = store ≡ record first { pipes = store.pipes; subscriptions = store.subscriptions; account = store.account; loans = store.loans }
+
+-- what is out alone is other than at first
+abbrev pub OutAlone : Account → Account → Type 0
+OutAlone first account = account ≡ record first { out = account.out }
+
+module _ (first before after : Store) (pipes : List Pipe) (left : List Subscription) (out : List ℕ) (loans : List LastLoan)
+    (is : after ≡ record before { pipes = pipes; subscriptions = left; account = record before.account { out = out }; loans = loans }) where
+  pub still_alone : Alone first before → Alone first after
+  still_alone was =
+      is
+      ∙ ap (λ (t : Store). let v : Store = record t { pipes = pipes; subscriptions = left; account = record before.account { out = out }; loans = loans } in v) was
+      ∙ sym (ap (λ (t : Store). let v : Store = record first { pipes = t.pipes; subscriptions = t.subscriptions; account = t.account; loans = t.loans } in v) is)
+
+  pub still_out : OutAlone first.account before.account → OutAlone first.account after.account
+  still_out was =
+      ap (λ (t : Store). t.account) is
+      ∙ ap (λ (c : Account). let v : Account = record c { out = out } in v) was
+      ∙ sym (ap (λ (t : Store). let v : Account = record first.account { out = t.account.out } in v) is)
+
+-- a pipe of its own was one at first
+abbrev pub AreFewer : List Pipe → List Pipe → ℕ → Type 0
+AreFewer first now app = (number : ℕ) → owns now app number ≡ true → owns first app number ≡ true
+
+pub still_fewer : (first now : List Pipe) (app number : ℕ) → AreFewer first now app → AreFewer first (filter (λ r. not (eqb r.number number)) now) app
+still_fewer first now app number fewer other own = fewer other (by_test (owns now app other) refl)
+  where
+    by_test : (b : Bool) → owns now app other ≡ b → owns now app other ≡ true
+    by_test true e = e
+    by_test false e = absurd (wrong (sym own ∙ any-filter_none (λ (p : Pipe). eqb p.number other && eqb p.owner app) (λ (p : Pipe). not (eqb p.number number)) now e))
+      where
+        wrong : true ≡ false → ⊥
+        wrong is = cc (is)

@@ -1,9 +1,9 @@
 -- What a subscription leaves.
-use Rattle.std.proofs.Common.{◌≡◌, ℕ, ◌+◌, ◌%◌, ◌^◌, ◌<◌, ◌≤◌, Bool, true, false, ◌&&◌, ◌||◌, not, cond, eqb, leb, add-zero, List, [], ◌∷◌, ◌++◌, length, map, None, refl, ap, sym, ◌∙◌, subst, arith}
+use Rattle.std.proofs.Common.{◌≡◌, ℕ, ◌+◌, ◌%◌, ◌<◌, ◌≤◌, Bool, true, false, ◌&&◌, ◌||◌, not, cond, eqb, leb, add-zero, List, [], ◌∷◌, ◌++◌, length, map, None, refl, ap, sym, ◌∙◌, subst, arith}
 use Rattle.std.specs.List.{All, list_any}
 use Rattle.std.proofs.lemmas.Bool.{eqb-true}
 use Rattle.std.proofs.lemmas.Bool.Decides.{nat_tests}
-use Rattle.std.proofs.lemmas.List.{length_push, map_push}
+use Rattle.std.proofs.lemmas.List.{map_push}
 use Rattle.std.proofs.lemmas.List.Folds.{list_any-append}
 use Rattle.std.proofs.lemmas.List.Elements.{All-push, All-weaker, All-head, All-tail}
 use Rattle.fsw_base.specs.Limits.{Limits, limits_of}
@@ -18,13 +18,15 @@ use Rattle.bus_words.specs.Bus.{State, Subscription, owns, is_subscribed, has_ro
 use Rattle.bus_words.specs.Machine.{subscribe_cause, refused_if}
 use Rattle.bus_words.proofs.Finds.{any-map, any-push, same-sym}
 use Rattle.bus_words.proofs.Steps.{with_subscription}
-use Rattle.bus_tables.specs.Rows.{Row, RouteRow, ids_of, has_way, owns_row, with_route}
-use Rattle.bus_tables.specs.Tables.{Room, Tables}
+use Rattle.bus_tables.specs.Rows.{RouteRow, ids_of, has_way, with_route}
+use Rattle.bus_tables.specs.Tables.{Room}
 use Rattle.sb_core.specs.declared.plain.SbCore.TheInside.{Inside}
 use Rattle.sb_core.specs.Core.{Plain, Acts}
 use Rattle.sb_core.specs.Inside.{plain_of, means, Keeps}
-use Rattle.sb_core.specs.Rows.{next_of, nexts_in, AreOnce}
-use Rattle.sb_core.proofs.After.{accepted_by, acts_by_tables, acts_still}
+use Rattle.bus_store.specs.Store.{Store}
+use Rattle.bus_store.specs.Words.{next_of, nexts_in}
+use Rattle.sb_core.specs.Rows.{AreOnce}
+use Rattle.sb_core.proofs.After.{accepted_by, acts_by_store, acts_still}
 use Rattle.sb_core.proofs.Refusals.{has_route-rows}
 
 -- Routes. --
@@ -178,19 +180,10 @@ id_first id valid = grind (arith, nat_tests)
 pub id_last : (id : ℕ) → is_valid_id id ≡ true → id ≤ 8191
 id_last id valid = grind (arith, nat_tests)
 
--- a pipe that an application owns is live
-pub live_owned : (rows : List Row) (app pipe : ℕ) → owns_row rows app pipe ≡ true → list_any (λ row. eqb row.number pipe) rows ≡ true
-live_owned [] app pipe own = absurd (cc (own))
-live_owned (row ∷ rows) app pipe own = by_tests (eqb row.number pipe) (eqb row.owner app) (owns_row rows app pipe) (list_any (λ r. eqb r.number pipe) rows) (live_owned rows app pipe) own
-  where
-    by_tests : (n o rest live : Bool) → (rest ≡ true → live ≡ true) → (n && o || rest) ≡ true → (n || live) ≡ true
-    by_tests true o rest live ih is = refl
-    by_tests false o rest live ih is = ih is
-
 -- The exits. --
 
--- the tables with one subscription more
-abbrev pub with_sub : Tables → ℕ → ℕ → ℕ → Scope → Tables
+-- the store with one subscription more
+abbrev pub with_sub : Store → ℕ → ℕ → ℕ → Scope → Store
 with_sub t id pipe limit scope = record t {
   subscriptions = t.subscriptions ++ record { number = t.subscriptions_made + 1; id = id; pipe = pipe; limit = limit; scope = scope } ∷ [];
   subscriptions_made = t.subscriptions_made + 1;
@@ -204,7 +197,7 @@ with_next limits nexts id = cond (has_next nexts id) nexts (nexts ++ first_next 
 module _ (a : Inside) (old : Plain) (app id pipe limit : ℕ) (scope : Scope) (viewed : plain_of a ≡ old)
     (why : subscribe_cause (limits_of a.config) (means a).bus app id pipe ≡ None) (keeps : Keeps a) where
   -- the answer and the state, by whether the pair is live
-  made_by : (live : Bool) → is_subscribed a.tables.subscriptions id pipe ≡ live →
+  made_by : (live : Bool) → is_subscribed a.store.subscriptions id pipe ≡ live →
       act (limits_of a.config) (means a) app (Subscribe id pipe limit scope)
       ≡ (
         Done,
@@ -224,45 +217,38 @@ module _ (a : Inside) (old : Plain) (app id pipe limit : ℕ) (scope : Scope) (v
       )) is
 
   -- a live pair: nothing changes
-  pub live_acts : is_subscribed a.tables.subscriptions id pipe ≡ true → Acts old old app (Subscribe id pipe limit scope) Done
+  pub live_acts : is_subscribed a.store.subscriptions id pipe ≡ true → Acts old old app (Subscribe id pipe limit scope) Done
   live_acts live =
-      let way = way_of_pair a.tables.routes a.tables.subscriptions id pipe keeps.ways live in
+      let way = way_of_pair a.store.routes a.store.subscriptions id pipe keeps.ways live in
       acts_still a old app (Subscribe id pipe limit scope) Done viewed
       (made_by true live
       ∙ ap (λ b. (Done, record (means a) { nexts = cond {A = List NextCount} b (means a).nexts ((means a).nexts ++ first_next (limits_of a.config) id ∷ []) }))
-      (has_next-rows a.tables.room.starts a.tables.routes id ∙ way))
+      (has_next-rows a.store.room.starts a.store.routes id ∙ way))
 
-  module _ (next : Tables) (is : next ≡ with_sub a.tables id pipe limit scope) where
-    pub subscribed_keeps : a.tables.subscriptions_made + 1 < 2 ^ 32 → Keeps (record a { tables = next })
-    subscribed_keeps left =
-        let sub : Subscription = record { number = a.tables.subscriptions_made + 1; id = id; pipe = pipe; limit = limit; scope = scope } in
-        let more : length (a.tables.subscriptions ++ sub ∷ []) ≡ length a.tables.subscriptions + 1 = length_push a.tables.subscriptions sub in
-        let P : Tables → Type 0 = λ t. Keeps (record a { tables = t }) in
-        subst P (sym is)
+  module _ (next : Store) (is : next ≡ with_sub a.store id pipe limit scope) where
+    pub subscribed_keeps : Keeps (record a { store = next })
+    subscribed_keeps =
+        let sub : Subscription = record { number = a.store.subscriptions_made + 1; id = id; pipe = pipe; limit = limit; scope = scope } in
+        subst (λ t. Keeps (record a { store = t })) (sym is)
         (record {
           room = keeps.room;
-          rows = keeps.rows;
-          messages = keeps.messages;
-          ways = ways_kept a.tables.routes (with_route a.tables.routes id) id a.tables.subscriptions (a.tables.subscriptions ++ sub ∷ []) sub refl refl refl keeps.ways;
-          misses = keeps.misses;
-          once = once_with_route a.tables.routes id keeps.once;
-          subscriptions_live = omega (arith, more, keeps.subscriptions_live);
-          subscriptions_made = left;
-          sends_made = keeps.sends_made;
-          sends_few = keeps.sends_few;
+          pool = keeps.pool;
+          ways = ways_kept a.store.routes (with_route a.store.routes id) id a.store.subscriptions (a.store.subscriptions ++ sub ∷ []) sub refl refl refl keeps.ways;
+          once = once_with_route a.store.routes id keeps.once;
+          ready = keeps.ready;
         })
 
-    pub subscribed_acts : is_subscribed a.tables.subscriptions id pipe ≡ false → Acts old (plain_of (record a { tables = next })) app (Subscribe id pipe limit scope) Done
+    pub subscribed_acts : is_subscribed a.store.subscriptions id pipe ≡ false → Acts old (plain_of (record a { store = next })) app (Subscribe id pipe limit scope) Done
     subscribed_acts fresh =
         let s = (means a).bus in
         let limits = limits_of a.config in
-        let starts : a.tables.room.starts ≡ limits.starts = ap (λ (r : Room). r.starts) keeps.room in
-        let nexts : nexts_in (with_sub a.tables id pipe limit scope) ≡ with_next limits (means a).nexts id =
-        ap (λ st. map (next_of st) (with_route a.tables.routes id)) starts
-        ∙ nexts-with_route limits a.tables.routes id
-        ∙ ap (λ st. with_next limits (map (next_of st) a.tables.routes) id) (sym starts) in
-        acts_by_tables a next a.activities old app (Subscribe id pipe limit scope) Done viewed
+        let starts : a.store.room.starts ≡ limits.starts = ap (λ (r : Room). r.starts) keeps.room in
+        let nexts : nexts_in (with_sub a.store id pipe limit scope) ≡ with_next limits (means a).nexts id =
+        ap (λ st. map (next_of st) (with_route a.store.routes id)) starts
+        ∙ nexts-with_route limits a.store.routes id
+        ∙ ap (λ st. with_next limits (map (next_of st) a.store.routes) id) (sym starts) in
+        acts_by_store a next a.activities old app (Subscribe id pipe limit scope) Done viewed
         (made_by false fresh
-        ∙ ap (λ (l : List ℕ). (Done, record { bus = record (with_subscription s id pipe limit scope) { routed = l }; nexts = with_next limits (means a).nexts id })) (sym (ids_of-with_route a.tables.routes id))
-        ∙ ap (λ (ns : List NextCount). (Done, record { bus = record (with_subscription s id pipe limit scope) { routed = ids_of (with_route a.tables.routes id) }; nexts = ns })) (sym nexts)
-        ∙ ap (λ t. (Done, means (record a { tables = t }))) (sym is))
+        ∙ ap (λ (l : List ℕ). (Done, record { bus = record (with_subscription s id pipe limit scope) { routed = l }; nexts = with_next limits (means a).nexts id })) (sym (ids_of-with_route a.store.routes id))
+        ∙ ap (λ (ns : List NextCount). (Done, record { bus = record (with_subscription s id pipe limit scope) { routed = ids_of (with_route a.store.routes id) }; nexts = ns })) (sym nexts)
+        ∙ ap (λ t. (Done, means (record a { store = t }))) (sym is))

@@ -1,22 +1,20 @@
--- The core as its callers see it: its limits, what it may still give, and the state.
-use Rattle.std.specs.Prelude.{◌≡◌, ℕ, ◌+◌, ◌^◌, ◌<◌, ◌≤◌, nat_le, Bool, true, length, IsTrue}
+-- The core as its callers see it: its limits, the state, and the loans of the last messages.
+use Rattle.std.specs.Prelude.{◌≡◌, ℕ, ◌+◌, ◌^◌, ◌<◌, ◌≤◌, nat_le, Bool, true, List, length, IsTrue}
 use Rattle.fsw_base.specs.Limits.{Limits}
 use Rattle.pool_words.specs.Grants.{Pools, has_numbers}
 use Rattle.bus_words.specs.declared.calls.BusAnswer.{BusAnswer}
 use Rattle.bus_words.specs.declared.history.Call.{Call}
 use Rattle.bus_words.specs.declared.history.Call.TheVariants.{Create, Delete, SetOpts, GetOpts, Find, PipeName, Subscribe, Unsubscribe, Transmit, Receive, Pend, Look, PoolCreate, PoolGet, PoolPut, PoolFigures, End}
 use Rattle.bus_words.specs.Bus.{standing_of}
-use Rattle.bus_words.specs.Entries.{call_bytes}
 use Rattle.bus_words.specs.Machine.{may_call}
 use Rattle.bus_words.specs.Acts.{Whole, act}
+use Rattle.bus_store.specs.Store.{LastLoan}
 
--- The limits, how many messages are sent at most and how many bytes of them may still be sent (as long as each message is
--- kept for good), and the state.
+-- The limits, the state, and the loan that the last message of each live pipe is lent by.
 pub record Plain : Type 0 where
   pub limits : Limits
-  pub messages : ℕ
-  pub spare : ℕ
   pub whole : Whole
+  pub loans : List LastLoan
 
 -- how many applications the core serves
 abbrev pub apps_in : Plain → ℕ
@@ -52,17 +50,13 @@ pub record MayAct (core : Plain) (app : ℕ) (call : Call) : Type 0 where
   pub known : app ≤ apps_in core
   pub standing : IsTrue (may_call (standing_of core.whole.bus app) call)
   pub within : IsTrue (is_within call)
-  -- a number of each kind is left, and the call's bytes
+  -- a number of each kind is left
   pub pipes : core.whole.bus.pipes_created + 1 < 2 ^ 32
   pub subscriptions : core.whole.bus.subscriptions_made + 1 < 2 ^ 32
-  pub sends : core.whole.bus.numbers_given < core.messages
-  pub bytes : call_bytes call ≤ core.spare
+  pub sends : core.whole.bus.numbers_given + 1 < 2 ^ 32
   pub grants : IsTrue (has_grant_numbers core.whole.bus.pools call)
 
--- the call was answered, and left the state, as the machine does by the state alone; of the bytes that may still be sent it
--- took no more than its own
+-- the call was answered, and left the state, as the machine does by the state alone
 pub record Acts (old new : Plain) (app : ℕ) (call : Call) (answer : BusAnswer) : Type 0 where
   pub made : act old.limits old.whole app call ≡ (answer, new.whole)
   pub limits : new.limits ≡ old.limits
-  pub messages : new.messages ≡ old.messages
-  pub spare : old.spare ≤ new.spare + call_bytes call

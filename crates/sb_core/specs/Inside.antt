@@ -1,49 +1,61 @@
 -- What the core's fields stand for, and what is always true of them.
-use Rattle.std.specs.Prelude.{◌≡◌, ◌^◌, ◌<◌, ◌≤◌, true, length, map, All}
-use Rattle.fsw_base.specs.Limits.{limits_of}
+use Rattle.std.specs.Prelude.{◌≡◌, ℕ, true, map, None, List, All}
+use Rattle.fsw_base.specs.Limits.{Limits, limits_of}
+use Rattle.fsw_base.specs.PoolAccounts.{Account}
 use Rattle.bus_words.specs.Acts.{Whole}
-use Rattle.sb_core.specs.declared.plain.SbCore.TheInside.{Inside}
-use Rattle.sb_core.specs.Core.{Plain}
-use Rattle.sb_core.specs.Rows.{IsKept, IsRow, pipe_in, standing_in, nexts_in, AreOnce}
+use Rattle.bus_words.specs.Bus.{Pipe, owns}
 use Rattle.bus_tables.specs.Rows.{ids_of, has_way}
 use Rattle.bus_tables.specs.Tables.{room_for}
+use Rattle.bus_store.specs.Words.{last_of, nexts_in}
+use Rattle.sb_core.specs.declared.activities.Activity.{Activity}
+use Rattle.sb_core.specs.declared.activities.Activity.TheVariants as activities
+use Rattle.sb_core.specs.declared.plain.SbCore.TheInside.{Inside}
+use Rattle.sb_core.specs.Core.{Plain}
+use Rattle.sb_core.specs.Rows.{standing_in, activity_at, AreOnce}
 
 -- the state that the fields stand for
 abbrev pub means : Inside → Whole
 means a = record {
   bus = record {
-    pipes = map (pipe_in a.sends.kept) a.tables.pipes;
-    pipes_created = a.tables.pipes_created;
-    subscriptions = a.tables.subscriptions;
-    subscriptions_made = a.tables.subscriptions_made;
-    routed = ids_of a.tables.routes;
-    numbers_given = length a.sends.kept;
+    pipes = a.store.pipes;
+    pipes_created = a.store.pipes_created;
+    subscriptions = a.store.subscriptions;
+    subscriptions_made = a.store.subscriptions_made;
+    routed = ids_of a.store.routes;
+    numbers_given = a.store.numbers_given;
     standings = map standing_in a.activities.items;
     pools = a.pools;
+    made = a.store.account.made;
+    drawn = a.store.account.requests;
   };
-  nexts = nexts_in a.tables;
+  nexts = nexts_in a.store;
 }
 
 -- the core as its callers see it
 abbrev pub plain_of : Inside → Plain
-plain_of a = record { limits = limits_of a.config; messages = a.sends.places; spare = a.sends.spare; whole = means a }
+plain_of a = record { limits = limits_of a.config; whole = means a; loans = a.store.loans }
 
--- What keeps the calls free of memory and their numbers in range.
+-- the pool has the limits' bytes and block sizes, and no return was refused
+pub record IsPoolOf (limits : Limits) (account : Account) : Type 0 where
+  pub bytes : account.bytes ≡ limits.pool
+  pub sizes : account.sizes ≡ limits.sizes
+  pub errors : account.errors ≡ 0
+
+-- a pipe is the application's, and has no last message
+pub record IsReady (pipes : List Pipe) (app pipe : ℕ) : Type 0 where
+  pub own : owns pipes app pipe ≡ true
+  pub none : last_of pipes pipe ≡ None
+
+-- each application that waits does so on a pipe of its own, whose last message it let go before
+abbrev pub AreReady : List Pipe → List Activity → Type 0
+AreReady pipes acts = (app pipe : ℕ) → activity_at acts app ≡ activities.Waiting pipe → IsReady pipes app pipe
+
 pub record Keeps (a : Inside) : Type 0 where
-  -- the tables have the room that the limits ask for
-  pub room : a.tables.room ≡ room_for (limits_of a.config)
-  -- what waits or was received last names an accepted send
-  pub rows : All (IsRow (length a.sends.kept)) a.tables.pipes
-  -- what was sent has the length of a message
-  pub messages : All IsKept a.sends.kept
+  -- the store has the room that the limits ask for
+  pub room : a.store.room ≡ room_for (limits_of a.config)
+  pub pool : IsPoolOf (limits_of a.config) a.store.account
   -- the id of each subscription has a route
-  pub ways : All (λ sub. has_way a.tables.routes sub.id ≡ true) a.tables.subscriptions
+  pub ways : All (λ sub. has_way a.store.routes sub.id ≡ true) a.store.subscriptions
   -- each id has one route at most
-  pub once : AreOnce a.tables.routes
-  -- there is room for all that may miss a message
-  pub misses : a.misses.room ≡ (limits_of a.config).dests
-  -- numbers
-  pub subscriptions_live : length a.tables.subscriptions ≤ a.tables.subscriptions_made
-  pub subscriptions_made : a.tables.subscriptions_made < 2 ^ 32
-  pub sends_made : length a.sends.kept ≤ a.sends.places
-  pub sends_few : a.sends.places < 2 ^ 32
+  pub once : AreOnce a.store.routes
+  pub ready : AreReady a.store.pipes a.activities.items

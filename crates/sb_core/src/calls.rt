@@ -1,19 +1,19 @@
 //! The calls of subscriptions and messages, and the last call. Each answers and changes what the
 //! bus of the definitions does by its state alone.
-ghost use Rattle.std.specs.Prelude.{◌≡◌, ◌+◌, ◌*◌, ◌≤◌, length};
+ghost use Rattle.std.specs.Prelude.{◌≡◌, ◌+◌, ◌*◌, ◌≤◌, false, [], length};
 ghost use Rattle.ccsds_msg.specs.Message.{message_id};
 ghost use Rattle.bus_words.specs.declared.calls.BusAnswer.TheVariants.{Done};
 ghost use Rattle.bus_words.specs.declared.history.Call.TheVariants.{Create, Subscribe, Unsubscribe, Transmit, Receive, End};
-ghost use Rattle.bus_words.specs.Bus.{route};
+ghost use Rattle.bus_words.specs.Bus.{owns, route};
 ghost use Rattle.sb_core.specs.Core.{MayAct, Acts};
 ghost use Rattle.sb_core.specs.Answers.{created, done, sent, got};
+ghost use Rattle.sb_core.specs.Bags.{HasBag, KeepsBags, KeepsOtherBags, KeepsAllLoans, KeepsLoans, KeepsOtherLoans};
 
 use crate::activities::Activity;
-use crate::messages::keep;
 use crate::pipe_ends::release;
 use crate::plain::SbCore;
 use bucket_list::{Ledger, Steps};
-use bus_tables::Message;
+use buf_desc::Held;
 use bus_words::PipeText;
 use ccsds_msg::id_of;
 use fsw_base::{AppNo, SbStatus, Scope};
@@ -27,7 +27,7 @@ pub struct Sent {
     pub reached: u32,
 }
 
-impl SbCore {
+impl<'r> SbCore<'r> {
     /// Creates a pipe that holds up to `depth` messages, and answers its number. Pipes are numbered
     /// 1, 2, 3 and so on, and no number is used again.
     ///
@@ -37,13 +37,15 @@ impl SbCore {
     /// `PipeCrErr` where a live pipe has the name. The first that applies.
     pub fn create_pipe(&mut self, app: AppNo, depth: u32, name: &[u8]) -> Result<u32, SbStatus>
         requires may { MayAct self.old app (Create depth name.now) }
-        ensures { Acts self.old self.new app (Create depth name.now) (created result) }
+        ensures does { Acts self.old self.new app (Create depth name.now) (created result) }
+        ensures bags { KeepsBags self.old self.new }
+        ensures loans { KeepsAllLoans self.old self.new }
     {
         if let Some(status) = self.create_cause(depth, name) {
             return Err(status);
         }
         let text = PipeText::try_new(name).unwrap();
-        Ok(self.tables.create_pipe(&text, app, depth))
+        Ok(self.store.create_pipe(&text, app, depth))
     }
 
     /// Has messages of this id queued on the caller's pipe, up to `limit` of them at once. Where
@@ -68,15 +70,17 @@ impl SbCore {
         ensures does { Acts self.old self.new app (Subscribe id pipe limit scope) (done result) }
         ensures cost { steps.new
             ≤ steps.old + 2 * length (route self.old.whole.bus.subscriptions id) + 10 }
+        ensures bags { KeepsBags self.old self.new }
+        ensures loans { KeepsAllLoans self.old self.new }
     {
-        let there = self.tables.is_subscribed(id, pipe, steps);
+        let there = self.store.is_subscribed(id, pipe, steps);
         if let Some(status) = self.subscribe_cause(app, id, pipe, there) {
             return Err(status);
         }
         if there {
             return Ok(());
         }
-        self.tables.subscribe(id, pipe, limit, scope, steps);
+        self.store.subscribe(id, pipe, limit, scope, steps);
         Ok(())
     }
 
@@ -98,23 +102,27 @@ impl SbCore {
         ensures does { Acts self.old self.new app (Unsubscribe id pipe) (done result) }
         ensures cost { steps.new
             ≤ steps.old + 3 * length (route self.old.whole.bus.subscriptions id) + 10 }
+        ensures bags { KeepsBags self.old self.new }
+        ensures loans { KeepsAllLoans self.old self.new }
     {
         if let Some(status) = self.unsubscribe_cause(app, id, pipe) {
             return Err(status);
         }
-        self.tables.unsubscribe(id, pipe, steps);
+        self.store.unsubscribe(id, pipe, steps);
         Ok(())
     }
 
     /// Sends a message to every pipe that is subscribed to its id, in order of subscription. A pipe
     /// that is full, that ignores what its owner sends where that is the sender, or where as many
     /// messages of the subscription wait as its limit says, misses it. With `inc` the message gets
-    /// the id's next sequence count (CCSDS 133.0-B, 4.1.3.4.3). At most 4 steps for each
-    /// subscription of the id, and 32 more, whatever else there is.
+    /// the id's next sequence count (CCSDS 133.0-B, 4.1.3.4.3). Where nobody subscribes to the id,
+    /// it takes neither a number nor a block. At most 4 steps for each subscription of the id, and
+    /// 32 more, whatever else there is.
     ///
     /// # Errors
     /// `BadArgument` for bytes that are no message; `MsgTooBig` for more bytes than the
-    /// configuration allows. The first that applies.
+    /// configuration allows; `BufAlocErr` where somebody subscribes to the id, and the bus's pool
+    /// has no block for so many bytes. The first that applies.
     pub fn transmit<L: Ledger>(
         &mut self,
         app: AppNo,
@@ -127,56 +135,79 @@ impl SbCore {
         ensures cost { steps.new
             ≤ steps.old + 32 + 4 * length
             (route self.old.whole.bus.subscriptions (message_id bytes.now)) }
+        ensures bags { KeepsBags self.old self.new }
+        ensures loans { KeepsAllLoans self.old self.new }
     {
         if let Some(status) = self.transmit_cause(bytes) {
             return Err(status);
         }
-        let id = id_of(bytes);
-        if self.tables.dests_of(id) == 0 {
+        if self.store.dests_of(id_of(bytes)) == 0 {
             return Ok(Sent {
                 number: 0,
                 reached: 0,
             });
         }
-        keep(&mut self.tables, &mut self.sends, bytes, inc);
-        let number = self.sends.len() as u32;
-        let message = Message {
-            sender: app,
-            number,
-            // The place of its send among the accepted ones.
-            desc: number - 1,
-        };
-        let reached = self.tables.deliver(id, &message, &mut self.misses, steps);
-        Ok(Sent { number, reached })
+        // Does nothing; the proof learns of it which blocks are out.
+        self.store.recall_held();
+        let sent = self.store.send(app, bytes, inc, steps);
+        Ok(Sent {
+            number: sent.number,
+            reached: sent.reached,
+        })
     }
 
-    /// Takes the oldest message that waits on the caller's pipe, and answers its number. The last
-    /// message received from the pipe is let go, also where none waits.
+    /// Takes the oldest message that waits on the caller's pipe, and answers its number: its view
+    /// is put into the caller's bag. The last message received from the pipe is let go, also where
+    /// none waits: its view is taken out of the bag, and where no other pipe names it, its block
+    /// goes back to the pool. At most 32 steps.
     ///
     /// # Errors
     /// `BadArgument` for a pipe that isn't live or isn't the caller's; `NoMessage` where none
     /// waits. The first that applies.
-    pub fn receive(&mut self, app: AppNo, pipe: u32) -> Result<u32, SbStatus>
+    pub fn receive<L: Ledger>(
+        &mut self,
+        app: AppNo,
+        pipe: u32,
+        held: &mut Held<'r>,
+        steps: &mut Steps<L>,
+    ) -> Result<u32, SbStatus>
         requires may { MayAct self.old app (Receive pipe) }
-        ensures { Acts self.old self.new app (Receive pipe) (got result) }
+        requires bag { HasBag self.old app held.old }
+        ensures does { Acts self.old self.new app (Receive pipe) (got result) }
+        ensures unowned { owns self.old.whole.bus.pipes app pipe ≡ false → self.new ≡ self.old }
+        ensures loans { KeepsLoans self.old self.new pipe }
+        ensures bag { HasBag self.new app held.new }
+        ensures other_bags { KeepsOtherBags self.old self.new app }
+        ensures buffers { held.new ≡ record held.old { views = held.new.views } }
+        ensures cost { steps.new ≤ steps.old + 32 }
     {
-        if !self.tables.owns(app, pipe) {
+        if !self.store.owns(app, pipe) {
             return Err(SbStatus::BadArgument);
         }
-        let Some(item) = self.tables.take(pipe).after else {
+        // Does nothing; the proof learns of it that no two applications have one pipe.
+        self.store.recall_order();
+        let Some(number) = self.store.receive(app, pipe, held, steps) else {
             return Err(SbStatus::NoMessage);
         };
-        Ok(item.number)
+        Ok(number)
     }
 
-    /// The caller's last call: its pipes leave with their subscriptions and messages, and its
-    /// grants of memory pools are given back.
-    pub fn end<L: Ledger>(&mut self, app: AppNo, steps: &mut Steps<L>)
+    /// The caller's last call: its pipes leave with their subscriptions and messages, whose views
+    /// are taken out of its bag, and its grants of memory pools are given back.
+    pub fn end<L: Ledger>(&mut self, app: AppNo, held: &mut Held<'r>, steps: &mut Steps<L>)
         requires may { MayAct self.old app End }
-        ensures { Acts self.old self.new app End Done }
+        requires bag { HasBag self.old app held.old }
+        ensures does { Acts self.old self.new app End Done }
+        ensures loans { KeepsOtherLoans self.old self.new app }
+        ensures bag { HasBag self.new app held.new }
+        ensures views { held.new.views ≡ [] }
+        ensures other_bags { KeepsOtherBags self.old self.new app }
+        ensures buffers { held.new ≡ record held.old { views = held.new.views } }
     {
+        // Does nothing; the proof learns of it that no two applications have one pipe.
+        self.store.recall_order();
         self.activities[(app.get() - 1) as usize] = Activity::Ended;
-        release(&mut self.tables, app, steps);
+        release(&mut self.store, app, held, steps);
         self.pools.end(app, steps);
     }
 }

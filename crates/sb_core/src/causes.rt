@@ -2,17 +2,17 @@
 //! (`bus_words`).
 ghost use Rattle.std.specs.Prelude.{◌≡◌, None, ◌==◌, ◌||◌, ◌&&◌, not, nat_lt, nat_le, length, is_some, ◌≤◌};
 ghost use Rattle.ccsds_msg.specs.Message.{fault, is_valid_id};
-ghost use Rattle.bus_words.specs.Bus.{is_subscribed};
+ghost use Rattle.bus_words.specs.Bus.{is_subscribed, owns};
 ghost use Rattle.bus_words.specs.Machine.{refused_if, create_cause, subscribe_cause, unsubscribe_cause, unowned_cause, set_opts_cause, transmit_cause};
-ghost use Rattle.bus_tables.specs.Rows.{owns_row, has_way};
+ghost use Rattle.bus_tables.specs.Rows.{has_way};
 
 use crate::plain::SbCore;
-use bus_tables::BusTables;
+use bus_store::BusStore;
 use bus_words::NAME_BYTES;
-use ccsds_msg::read_header;
+use ccsds_msg::{id_of, read_header};
 use fsw_base::{AppNo, MAX_ID, SbStatus};
 
-impl SbCore {
+impl<'r> SbCore<'r> {
     /// Why the pipe can't be created.
     pub(crate) fn create_cause(&self, depth: u32, name: &[u8]) -> Option<SbStatus>
         ensures { result ≡ create_cause self.now.limits self.now.whole.bus depth name.now }
@@ -20,10 +20,10 @@ impl SbCore {
         if is_bad_pipe(depth, self.config.depth, name) {
             return Some(SbStatus::BadArgument);
         }
-        if self.tables.pipes_len() >= self.config.pipes as usize {
+        if self.store.pipes_len() >= self.config.pipes as usize {
             return Some(SbStatus::MaxPipesMet);
         }
-        if self.tables.find(name).is_some() {
+        if self.store.find(name).is_some() {
             return Some(SbStatus::PipeCrErr);
         }
         None
@@ -40,16 +40,16 @@ impl SbCore {
         requires { there ≡ is_subscribed self.now.whole.bus.subscriptions id pipe }
         ensures { result ≡ subscribe_cause self.now.limits self.now.whole.bus app id pipe }
     {
-        if is_bad_subscription(&self.tables, app, id, pipe) {
+        if is_bad_subscription(&self.store, app, id, pipe) {
             return Some(SbStatus::BadArgument);
         }
         if there {
             return None;
         }
-        if lacks_route(&self.tables, id, self.config.msgids) {
+        if lacks_route(&self.store, id, self.config.msgids) {
             return Some(SbStatus::MaxMsgsMet);
         }
-        if self.tables.dests_of(id) >= self.config.dests {
+        if self.store.dests_of(id) >= self.config.dests {
             return Some(SbStatus::MaxDestsMet);
         }
         None
@@ -59,21 +59,21 @@ impl SbCore {
     pub(crate) fn unsubscribe_cause(&self, app: AppNo, id: u16, pipe: u32) -> Option<SbStatus>
         ensures { result ≡ unsubscribe_cause self.now.whole.bus app id pipe }
     {
-        bad_argument_if(is_bad_subscription(&self.tables, app, id, pipe))
+        bad_argument_if(is_bad_subscription(&self.store, app, id, pipe))
     }
 
     /// Why the pipe isn't the application's to end or to receive on.
     pub(crate) fn unowned_cause(&self, app: AppNo, pipe: u32) -> Option<SbStatus>
         ensures { result ≡ unowned_cause self.now.whole.bus app pipe }
     {
-        bad_argument_if(!self.tables.owns(app, pipe))
+        bad_argument_if(!self.store.owns(app, pipe))
     }
 
     /// Why the pipe's option bits can't be set to these.
     pub(crate) fn set_opts_cause(&self, app: AppNo, pipe: u32, bits: u8) -> Option<SbStatus>
         ensures { result ≡ set_opts_cause self.now.whole.bus app pipe bits }
     {
-        bad_argument_if(is_bad_option(&self.tables, app, pipe, bits))
+        bad_argument_if(is_bad_option(&self.store, app, pipe, bits))
     }
 
     /// Why the bytes can't be sent.
@@ -86,6 +86,14 @@ impl SbCore {
         }
         if bytes.len() > self.config.msgmax as usize {
             return Some(SbStatus::MsgTooBig);
+        }
+        if self.store.dests_of(id_of(bytes)) == 0 {
+            return None;
+        }
+        // Does nothing; the proof learns of it which blocks are out.
+        self.store.recall_held();
+        if !self.store.fits(bytes.len() as u32) {
+            return Some(SbStatus::BufAlocErr);
         }
         None
     }
@@ -111,25 +119,25 @@ fn is_bad_pipe(depth: u32, greatest: u32, name: &[u8]) -> bool
 }
 
 // Whether the pipe isn't the application's, or a bit is no option.
-fn is_bad_option(tables: &BusTables, app: AppNo, pipe: u32, bits: u8) -> bool
-    ensures { result ≡ (not (owns_row tables.now.pipes app pipe) || nat_lt 1 bits) }
+fn is_bad_option(store: &BusStore<'_>, app: AppNo, pipe: u32, bits: u8) -> bool
+    ensures { result ≡ (not (owns store.now.pipes app pipe) || nat_lt 1 bits) }
 {
-    !tables.owns(app, pipe) || bits > 1
+    !store.owns(app, pipe) || bits > 1
 }
 
 // Whether the id is out of its range, or the pipe isn't the application's.
-fn is_bad_subscription(tables: &BusTables, app: AppNo, id: u16, pipe: u32) -> bool
-    ensures { result ≡ (not (is_valid_id id) || not (owns_row tables.now.pipes app pipe)) }
+fn is_bad_subscription(store: &BusStore<'_>, app: AppNo, id: u16, pipe: u32) -> bool
+    ensures { result ≡ (not (is_valid_id id) || not (owns store.now.pipes app pipe)) }
 {
-    !is_valid_id(id) || !tables.owns(app, pipe)
+    !is_valid_id(id) || !store.owns(app, pipe)
 }
 
 // Whether the id has no route where as many ids have one as may.
-fn lacks_route(tables: &BusTables, id: u16, most: u32) -> bool
+fn lacks_route(store: &BusStore<'_>, id: u16, most: u32) -> bool
     ensures { result ≡
-        (not (has_way tables.now.routes id) && nat_le most (length tables.now.routes)) }
+        (not (has_way store.now.routes id) && nat_le most (length store.now.routes)) }
 {
-    !tables.has_route(id) && tables.routes_len() >= most
+    !store.has_route(id) && store.routes_len() >= most
 }
 
 // Whether it is a message id, 1 to 0x1FFF (CCSDS 133.0-B, 4.1.3.2 and 4.1.3.3).

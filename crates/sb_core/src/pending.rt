@@ -1,17 +1,20 @@
 //! Receives that wait. Nothing blocks here: an application that would wait is told so, and looks
 //! again in its next turn.
-ghost use Rattle.std.specs.Prelude.{◌≡◌, ◌≤◌, ◌-◌, not, length, slice_set, slice_index_or, count_by, if◌then◌else◌};
+ghost use Rattle.std.specs.Prelude.{◌≡◌, ◌≤◌, ◌+◌, ◌-◌, false, not, length, slice_set, slice_index_or, count_by, if◌then◌else◌};
 ghost use Rattle.std.specs.List.{list_all};
 ghost use Rattle.bus_words.specs.declared.history.Call.TheVariants.{Pend, Look};
-ghost use Rattle.bus_words.specs.Bus.{standing_of, waited_on};
+ghost use Rattle.bus_words.specs.Bus.{owns, standing_of, waited_on};
 ghost use Rattle.bus_words.specs.Machine.{pended_answer};
 ghost use Rattle.sb_core.specs.Answers.{pended, waited, is_pending};
 ghost use Rattle.sb_core.specs.Core.{MayAct, Acts, apps_in};
 ghost use Rattle.sb_core.specs.Rows.{idle_in, standing_in};
+ghost use Rattle.sb_core.specs.Bags.{HasBag, KeepsOtherBags, KeepsLoans};
 
 use crate::activities::Activity;
 use crate::plain::SbCore;
-use bus_tables::BusTables;
+use bucket_list::{Ledger, Steps};
+use buf_desc::Held;
+use bus_store::BusStore;
 use bus_words::BusAnswer;
 use fsw_base::{AppNo, SbStatus};
 
@@ -46,23 +49,40 @@ impl Pended {
     }
 }
 
-impl SbCore {
-    /// Takes the oldest message that waits on the caller's pipe, and answers its number. Where none
-    /// waits, it is a time-out if every other application has ended or waits on an empty pipe;
-    /// otherwise the caller waits on the pipe from then on, and looks again by [`SbCore::look`].
-    /// The last message received from the pipe is let go in each case.
+impl<'r> SbCore<'r> {
+    /// Takes the oldest message that waits on the caller's pipe, and answers its number: its view
+    /// is put into the caller's bag. Where none waits, it is a time-out if every other application
+    /// has ended or waits on an empty pipe; otherwise the caller waits on the pipe from then on and
+    /// looks again by [`SbCore::look`]. The last message received from the pipe is let go in each
+    /// case: its view is taken out of the bag, and where no other pipe names it, its block goes
+    /// back to the pool. At most 32 steps.
     ///
     /// # Errors
     /// `BadArgument` for a pipe that isn't live or isn't the caller's.
-    pub fn pend(&mut self, app: AppNo, pipe: u32) -> Result<Pended, SbStatus>
+    pub fn pend<L: Ledger>(
+        &mut self,
+        app: AppNo,
+        pipe: u32,
+        held: &mut Held<'r>,
+        steps: &mut Steps<L>,
+    ) -> Result<Pended, SbStatus>
         requires may { MayAct self.old app (Pend pipe) }
-        ensures { Acts self.old self.new app (Pend pipe) (pended result) }
+        requires bag { HasBag self.old app held.old }
+        ensures does { Acts self.old self.new app (Pend pipe) (pended result) }
+        ensures unowned { owns self.old.whole.bus.pipes app pipe ≡ false → self.new ≡ self.old }
+        ensures loans { KeepsLoans self.old self.new pipe }
+        ensures bag { HasBag self.new app held.new }
+        ensures other_bags { KeepsOtherBags self.old self.new app }
+        ensures buffers { held.new ≡ record held.old { views = held.new.views } }
+        ensures cost { steps.new ≤ steps.old + 32 }
     {
         if let Some(status) = self.unowned_cause(app, pipe) {
             return Err(status);
         }
+        // Does nothing; the proof learns of it that no two applications have one pipe.
+        self.store.recall_order();
         let answer = self.pended(app, pipe);
-        self.tables.take(pipe);
+        self.store.receive(app, pipe, held, steps);
         set_waiting(&mut self.activities, app, pipe, &answer);
         Ok(answer)
     }
@@ -76,17 +96,27 @@ impl SbCore {
     }
 
     /// Looks again for a message on this pipe, which the caller waits on
-    /// ([`SbCore::pipe_waited_on`]). With a message or a time-out the caller makes calls again.
-    /// Where it still waits, nothing changes.
-    pub fn look(&mut self, app: AppNo, pipe: u32) -> Pended
+    /// ([`SbCore::pipe_waited_on`]). The view of a message is put into the caller's bag. With a
+    /// message or a time-out the caller makes calls again. Where it still waits, nothing changes.
+    /// Nothing is let go: the pipe has no last message since the caller waits on it.
+    pub fn look(&mut self, app: AppNo, pipe: u32, held: &mut Held<'r>) -> Pended
         requires may { MayAct self.old app (Look pipe) }
-        ensures { Acts self.old self.new app (Look pipe) (waited result) }
+        requires bag { HasBag self.old app held.old }
+        ensures does { Acts self.old self.new app (Look pipe) (waited result) }
+        ensures still { result ≡ Pended.Pending → self.new ≡ self.old }
+        ensures bag_still { result ≡ Pended.Pending → held.new ≡ held.old }
+        ensures loans { KeepsLoans self.old self.new pipe }
+        ensures bag { HasBag self.new app held.new }
+        ensures other_bags { KeepsOtherBags self.old self.new app }
+        ensures buffers { held.new ≡ record held.old { views = held.new.views } }
     {
         let answer = self.pended(app, pipe);
         if answer.is_pending() {
             return answer;
         }
-        self.tables.take(pipe);
+        // Does nothing; the proof learns of it that no two applications have one pipe.
+        self.store.recall_order();
+        self.store.receive_first(app, pipe, held);
         self.activities[(app.get() - 1) as usize] = Activity::Active;
         answer
     }
@@ -96,10 +126,10 @@ impl SbCore {
         requires { app ≤ apps_in self.now }
         ensures { waited result ≡ pended_answer self.now.whole.bus app pipe }
     {
-        if let Some(item) = self.tables.oldest(pipe) {
-            return Pended::Got(item.number);
+        if let Some(number) = self.store.oldest(pipe) {
+            return Pended::Got(number);
         }
-        if are_others_idle(&self.activities, &self.tables, app) {
+        if are_others_idle(&self.activities, &self.store, app) {
             return Pended::TimeOut;
         }
         Pended::Pending
@@ -108,12 +138,12 @@ impl SbCore {
 
 // Whether every application but this one has ended or waits on an empty pipe: no busy one is left
 // where the caller isn't counted.
-fn are_others_idle(activities: &[Activity], tables: &BusTables, app: AppNo) -> bool
+fn are_others_idle(activities: &[Activity], store: &BusStore<'_>, app: AppNo) -> bool
     requires { app ≤ length activities.now }
     ensures { result ≡
-        list_all (idle_in tables.now.pipes) (slice_set activities.now (app - 1) Activity.Ended) }
+        list_all (idle_in store.now.pipes) (slice_set activities.now (app - 1) Activity.Ended) }
 {
-    busy(activities, tables) == busy_once(activity_of(activities, app), tables)
+    busy(activities, store) == busy_once(activity_of(activities, app), store)
 }
 
 /// What the application does.
@@ -126,32 +156,32 @@ pub(crate) fn activity_of(activities: &[Activity], app: AppNo) -> Activity
 }
 
 // How many applications are busy.
-fn busy(activities: &[Activity], tables: &BusTables) -> usize
+fn busy(activities: &[Activity], store: &BusStore<'_>) -> usize
     ensures { result ≡
-        count_by (λ activity. not (idle_in tables.now.pipes activity)) activities.now }
+        count_by (λ activity. not (idle_in store.now.pipes activity)) activities.now }
 {
     activities
         .iter()
-        .filter(|activity| !is_idle(activity, tables))
+        .filter(|activity| !is_idle(activity, store))
         .count()
 }
 
 // Whether the application has ended or waits on an empty pipe.
-fn is_idle(activity: &Activity, tables: &BusTables) -> bool
-    ensures { result ≡ idle_in tables.now.pipes activity.now }
+fn is_idle(activity: &Activity, store: &BusStore<'_>) -> bool
+    ensures { result ≡ idle_in store.now.pipes activity.now }
 {
     match activity {
         Activity::Active => false,
-        Activity::Waiting(pipe) => tables.oldest(*pipe).is_none(),
+        Activity::Waiting(pipe) => store.oldest(*pipe).is_none(),
         Activity::Ended => true,
     }
 }
 
 // 1 where the application isn't idle.
-fn busy_once(activity: Activity, tables: &BusTables) -> usize
-    ensures { result ≡ (if not (idle_in tables.now.pipes activity) then 1 else 0) }
+fn busy_once(activity: Activity, store: &BusStore<'_>) -> usize
+    ensures { result ≡ (if not (idle_in store.now.pipes activity) then 1 else 0) }
 {
-    if is_idle(&activity, tables) { 0 } else { 1 }
+    if is_idle(&activity, store) { 0 } else { 1 }
 }
 
 // Has the application wait on the pipe where it was told so.

@@ -12,7 +12,7 @@ use crate::plain::SbCore;
 use bus_words::BusCall;
 use fsw_base::AppNo;
 
-impl SbCore {
+impl<'r> SbCore<'r> {
     /// How many applications it serves.
     pub fn apps(&self) -> usize
         ensures { result ≡ apps_in self.now }

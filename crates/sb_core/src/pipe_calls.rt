@@ -1,18 +1,21 @@
 //! The calls on a pipe that is there: its end, its option bits, its number and its name.
-ghost use Rattle.std.specs.Prelude.{◌≡◌, ℕ};
+ghost use Rattle.std.specs.Prelude.{◌≡◌, ℕ, false};
 ghost use Rattle.bus_words.specs.declared.history.Call.TheVariants.{Delete, SetOpts, GetOpts, Find, PipeName};
+ghost use Rattle.bus_words.specs.Bus.{owns};
 ghost use Rattle.sb_core.specs.Core.{MayAct, Acts};
 ghost use Rattle.sb_core.specs.Answers.{done, found, bits_told, named};
+ghost use Rattle.sb_core.specs.Bags.{HasBag, KeepsBags, KeepsOtherBags, KeepsAllLoans, KeepsLoans};
 
-use crate::pipe_ends::end_pipe;
 use crate::plain::SbCore;
 use bucket_list::{Ledger, Steps};
+use buf_desc::Held;
 use bus_words::PipeText;
 use fsw_base::{AppNo, SbStatus};
 
-impl SbCore {
-    /// Ends the caller's pipe: it leaves with its subscriptions and messages. No other pipe gets
-    /// its number.
+impl<'r> SbCore<'r> {
+    /// Ends the caller's pipe: it leaves with its subscriptions and messages. The view of its last
+    /// message is taken out of the caller's bag, and each block that no other pipe has a message in
+    /// goes back to the pool. No other pipe gets its number.
     ///
     /// # Errors
     /// `BadArgument` for a pipe that isn't live or isn't the caller's.
@@ -20,15 +23,24 @@ impl SbCore {
         &mut self,
         app: AppNo,
         pipe: u32,
+        held: &mut Held<'r>,
         steps: &mut Steps<L>,
     ) -> Result<(), SbStatus>
         requires may { MayAct self.old app (Delete pipe) }
-        ensures { Acts self.old self.new app (Delete pipe) (done result) }
+        requires bag { HasBag self.old app held.old }
+        ensures does { Acts self.old self.new app (Delete pipe) (done result) }
+        ensures unowned { owns self.old.whole.bus.pipes app pipe ≡ false → self.new ≡ self.old }
+        ensures loans { KeepsLoans self.old self.new pipe }
+        ensures bag { HasBag self.new app held.new }
+        ensures other_bags { KeepsOtherBags self.old self.new app }
+        ensures buffers { held.new ≡ record held.old { views = held.new.views } }
     {
         if let Some(status) = self.unowned_cause(app, pipe) {
             return Err(status);
         }
-        end_pipe(&mut self.tables, pipe, steps);
+        // Does nothing; the proof learns of it that no two applications have one pipe.
+        self.store.recall_order();
+        self.store.delete_pipe(app, pipe, held, steps);
         Ok(())
     }
 
@@ -40,12 +52,14 @@ impl SbCore {
     /// 0x01.
     pub fn set_opts(&mut self, app: AppNo, pipe: u32, bits: u8) -> Result<(), SbStatus>
         requires may { MayAct self.old app (SetOpts pipe bits) }
-        ensures { Acts self.old self.new app (SetOpts pipe bits) (done result) }
+        ensures does { Acts self.old self.new app (SetOpts pipe bits) (done result) }
+        ensures bags { KeepsBags self.old self.new }
+        ensures loans { KeepsAllLoans self.old self.new }
     {
         if let Some(status) = self.set_opts_cause(app, pipe, bits) {
             return Err(status);
         }
-        self.tables.set_bits(pipe, bits);
+        self.store.set_bits(pipe, bits);
         Ok(())
     }
 
@@ -57,7 +71,7 @@ impl SbCore {
     pub fn get_opts(&self, pipe: u32) -> Result<u8, SbStatus>
         ensures { (app : ℕ) → Acts self.now self.now app (GetOpts pipe) (bits_told result) }
     {
-        self.tables.bits(pipe).ok_or(SbStatus::BadArgument)
+        self.store.bits(pipe).ok_or(SbStatus::BadArgument)
     }
 
     /// Answers the number of the live pipe of this name, whoever's it is.
@@ -67,7 +81,7 @@ impl SbCore {
     pub fn find_pipe(&self, name: &[u8]) -> Result<u32, SbStatus>
         ensures { (app : ℕ) → Acts self.now self.now app (Find name.now) (found result) }
     {
-        self.tables.find(name).ok_or(SbStatus::BadArgument)
+        self.store.find(name).ok_or(SbStatus::BadArgument)
     }
 
     /// Answers the name of a pipe, 1 to 19 bytes, whoever's it is.
@@ -77,6 +91,6 @@ impl SbCore {
     pub fn pipe_name(&self, pipe: u32) -> Result<PipeText, SbStatus>
         ensures { (app : ℕ) → Acts self.now self.now app (PipeName pipe) (named result) }
     {
-        self.tables.name(pipe).ok_or(SbStatus::BadArgument)
+        self.store.name(pipe).ok_or(SbStatus::BadArgument)
     }
 }

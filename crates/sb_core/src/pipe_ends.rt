@@ -1,47 +1,45 @@
-//! Pipes that end. A pipe gives up its messages one by one before it leaves.
-ghost use Rattle.std.specs.Prelude.{◌≡◌, ◌==◌, not, filter, None};
-ghost use Rattle.bus_tables.specs.Rows.{oldest_item, last_item, owns_row};
+//! Pipes that end with their owner.
+ghost use Rattle.std.specs.Prelude.{◌≡◌, ◌≢◌, ℕ, ◌==◌, false, not, filter};
+ghost use Rattle.bus_words.specs.Bus.{owns};
+ghost use Rattle.lend_block.specs.Loan.{LentBytes};
+ghost use Rattle.buf_desc.specs.Held.{Holding};
+ghost use Rattle.bus_store.specs.Bag.{Holds};
+ghost use Rattle.bus_store.specs.Words.{loan_of};
 
 use bucket_list::{Ledger, Steps};
-use bus_tables::BusTables;
+use buf_desc::Held;
+use bus_store::BusStore;
 use fsw_base::AppNo;
 
-// Takes each message out of the live pipe of this number, those that wait and the one received
-// last.
-fn empty_pipe(tables: &mut BusTables, number: u32)
-    ensures waits { oldest_item tables.new.pipes number ≡ None }
-    ensures last { last_item tables.new.pipes number ≡ None }
-    ensures others { filter (λ row. not (row.number == number)) tables.new.pipes ≡
-        filter (λ row. not (row.number == number)) tables.old.pipes }
-    ensures same { tables.new ≡ record tables.old { pipes = tables.new.pipes } }
-{
-    while let Some(_) = tables.take_front(number) {}
-    tables.take_last(number);
-}
-
-/// Ends the live pipe of this number, with its subscriptions and messages; no effect where none is
-/// live.
-pub(crate) fn end_pipe<L: Ledger>(tables: &mut BusTables, number: u32, steps: &mut Steps<L>)
-    ensures { tables.new ≡ record tables.old {
-      pipes = filter (λ row. not (row.number == number)) tables.old.pipes;
-      subscriptions = filter (λ sub. not (sub.pipe == number)) tables.old.subscriptions;
+/// Ends the application's pipes, with their subscriptions and messages, whose views are taken out
+/// of its bag.
+pub(crate) fn release<'r, L: Ledger>(
+    store: &mut BusStore<'r>,
+    app: AppNo,
+    held: &mut Held<'r>,
+    steps: &mut Steps<L>,
+)
+    requires bag { Holds store.old.pipes store.old.loans store.old.room.pipes app held.old }
+    ensures after { store.new ≡ record store.old {
+      pipes = filter (λ pipe. not (pipe.owner == app)) store.old.pipes;
+      subscriptions = filter (λ sub. not (owns store.old.pipes app sub.pipe))
+          store.old.subscriptions;
+      account = store.new.account;
+      loans = store.new.loans;
     } }
+    ensures account { store.new.account ≡
+        record store.old.account { out = store.new.account.out } }
+    ensures loans { (pipe : ℕ) → owns store.old.pipes app pipe ≡ false →
+        loan_of store.new.loans pipe ≡ loan_of store.old.loans pipe }
+    ensures bag { Holds store.new.pipes store.new.loans store.new.room.pipes app held.new }
+    ensures other_bags { (other : ℕ) (bag : Holding LentBytes) → other ≢ app →
+        Holds store.old.pipes store.old.loans store.old.room.pipes other bag →
+        Holds store.new.pipes store.new.loans store.new.room.pipes other bag }
+    ensures buffers { held.new ≡ record held.old { views = held.new.views } }
 {
-    empty_pipe(tables, number);
-    tables.delete_pipe(number, steps);
-}
-
-/// Ends the application's pipes, with their subscriptions and messages.
-pub(crate) fn release<L: Ledger>(tables: &mut BusTables, app: AppNo, steps: &mut Steps<L>)
-    ensures { tables.new ≡ record tables.old {
-      pipes = filter (λ row. not (row.owner == app)) tables.old.pipes;
-      subscriptions = filter (λ sub. not (owns_row tables.old.pipes app sub.pipe))
-          tables.old.subscriptions;
-    } }
-{
-    while let Some(number) = tables.first_of(app) {
+    while let Some(pipe) = store.first_of(app) {
         // Does nothing; the proof learns of it that no other pipe has this number.
-        tables.recall_order();
-        end_pipe(tables, number, steps);
+        store.recall_order();
+        store.delete_pipe(app, pipe, held, steps);
     }
 }

@@ -6,13 +6,14 @@ ghost use Rattle.pool_words.specs.Grants.{is_pool, pool_in, has_numbers};
 ghost use Rattle.bus_words.specs.declared.history.Call.TheVariants.{PoolCreate, PoolGet, PoolPut, PoolFigures};
 ghost use Rattle.sb_core.specs.Core.{MayAct, Acts};
 ghost use Rattle.sb_core.specs.Answers.{pool_told, grant_back, figures_told};
+ghost use Rattle.sb_core.specs.Bags.{KeepsBags, KeepsAllLoans};
 
 use crate::plain::SbCore;
 use bucket_list::{Ledger, Steps};
 use es_pool::Pool;
 use fsw_base::{AppNo, EsStatus, PoolStats};
 
-impl SbCore {
+impl<'r> SbCore<'r> {
     /// Creates a memory pool of `bytes` bytes with the configured block sizes, and answers its
     /// number. Pools are numbered 1, 2, 3 and so on, up to 8, and none is ever deleted.
     ///
@@ -21,7 +22,9 @@ impl SbCore {
     /// allows, or too few for a block of the smallest size.
     pub fn pool_create(&mut self, app: AppNo, bytes: u32) -> Result<u32, EsStatus>
         requires may { MayAct self.old app (PoolCreate bytes) }
-        ensures { Acts self.old self.new app (PoolCreate bytes) (pool_told result) }
+        ensures does { Acts self.old self.new app (PoolCreate bytes) (pool_told result) }
+        ensures bags { KeepsBags self.old self.new }
+        ensures loans { KeepsAllLoans self.old self.new }
     {
         self.pools.create(bytes)
     }
@@ -44,6 +47,8 @@ impl SbCore {
         requires may { MayAct self.old app (PoolGet pool size) }
         ensures does { Acts self.old self.new app (PoolGet pool size) (pool_told result) }
         ensures cost { steps.new ≤ steps.old + 8 }
+        ensures bags { KeepsBags self.old self.new }
+        ensures loans { KeepsAllLoans self.old self.new }
     {
         self.pools.get(app, pool, size, steps)
     }
@@ -64,6 +69,8 @@ impl SbCore {
         requires may { MayAct self.old app (PoolPut pool grant) }
         ensures does { Acts self.old self.new app (PoolPut pool grant) (grant_back result) }
         ensures cost { steps.new ≤ steps.old + 8 }
+        ensures bags { KeepsBags self.old self.new }
+        ensures loans { KeepsAllLoans self.old self.new }
     {
         self.pools.put(pool, grant, steps)
     }

@@ -18,6 +18,3 @@ mod scripts;
 
 pub use laws::{generated_scripts_are_in_range, generated_scripts_read_back};
 pub use scripts::generate;
-
-#[cfg(test)]
-mod tests;

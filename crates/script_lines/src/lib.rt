@@ -26,8 +26,6 @@ mod laws;
 mod line;
 mod memory_lines;
 mod table_lines;
-#[cfg(test)]
-mod tests;
 
 pub use bus_lines::BusWord;
 pub use call_lines::{CallWord, call_line, call_word};

@@ -15,6 +15,3 @@ mod printing;
 
 pub use laws::printed_scripts_read_back;
 pub use printing::print_script;
-
-#[cfg(test)]
-mod tests;

@@ -1,5 +1,5 @@
-pub mod Owners
-pub mod LegalSteps
+pub mod OwnLasts
+pub mod OnlyMessages
 pub mod LastMessages
 pub mod OneTurn
 pub mod Rotated

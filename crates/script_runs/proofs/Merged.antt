@@ -6,13 +6,16 @@ use Rattle.std.proofs.lemmas.List.Elements.{All-nil, All-cons}
 use Rattle.std.proofs.lemmas.List.Sums.{sum_by-cons}
 use Rattle.fsw_base.specs.Limits.{Limits}
 use Rattle.bus_words.specs.declared.history.Entry.{Entry}
-use Rattle.bus_words.specs.Bus.{State, Standing, Active, Waiting, Ended, opening, standing_of}
-use Rattle.bus_words.specs.Machine.{step, may_call, LegalFrom, IsLegal}
+use Rattle.bus_words.specs.Bus.{State, Standing, Active, Waiting, Ended, opening, standing_of, has_ended}
+use Rattle.bus_words.specs.Held.{HoldsNothing}
+use Rattle.bus_words.specs.Machine.{step, may_call, state_after, LegalFrom, IsLegal}
+use Rattle.bus_words.proofs.HeldBlocks.{holds_nothing}
+use Rattle.bus_words.proofs.Owners.{AreOwned-after, none_left}
 use Rattle.bus_words.proofs.Steps.{length-standings-step}
 use Rattle.script_runs.specs.Rotation.{Running, SoFar, before_all, enough, rotation, rotations, starting}
 use Rattle.app_script.specs.Script.{Application, ScriptText, app_at}
 use Rattle.script_runs.specs.Trace.{Trace, Merges, first_registers, own_entries}
-use Rattle.script_runs.proofs.LegalSteps.{standing_at}
+use Rattle.bus_words.proofs.LegalSteps.{standing_at}
 use Rattle.script_runs.proofs.OneTurn.{Owes, waits, is_ended}
 use Rattle.script_runs.proofs.Rotated.{left_of, AreApart, IsFit, Owed, HasRotated, weights, rotations-end}
 
@@ -117,6 +120,25 @@ rotation-ends script = (all-rotated script).none
 
 pub rotation-legal : (script : ScriptText) → IsLegal script.limits (length script.apps) (rotation script)
 rotation-legal script = (all-rotated script).leads.fit.sound.legal
+
+-- who isn't left has ended
+pub rotation-all_ended : (script : ScriptText) (app : ℕ) → has_ended (standing_of (state_after script.limits (length script.apps) (rotation script)) app) ≡ true
+rotation-all_ended script app =
+    let done = all-rotated script in
+    let last : SoFar × List Running = rotations (enough script) script.limits (before_all script) in
+    ap (λ (s : State). has_ended (standing_of s app)) (sym done.leads.fit.sound.state)
+    ∙ over (standing_of last.0.state app) (ap (λ (rs : List Running). is_some (left_of rs app)) (sym done.none) ∙ done.leads.fit.fits app)
+  where
+    over : (standing : Standing) → false ≡ not (is_ended standing) → has_ended standing ≡ true
+    over Active gone = absurd (true≢false (sym gone))
+    over (Waiting pipe) gone = absurd (true≢false (sym gone))
+    over Ended gone = refl
+
+-- so nothing is held
+pub rotation-holds_nothing : (script : ScriptText) → HoldsNothing script.limits (state_after script.limits (length script.apps) (rotation script))
+rotation-holds_nothing script =
+    let s = state_after script.limits (length script.apps) (rotation script) in
+    holds_nothing script.limits s (none_left s s.pipes (AreOwned-after script.limits (length script.apps) (rotation script) (rotation-legal script)) (rotation-all_ended script))
 
 -- Merges. --
 

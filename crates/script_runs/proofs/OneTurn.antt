@@ -20,7 +20,7 @@ use Rattle.script_lines.specs.declared.line.Line.{Line}
 use Rattle.script_lines.specs.declared.line.Line.TheVariants as lines
 use Rattle.script_runs.specs.Rotation.{Running, SoFar, answer_to, after_call, after_look, behind, line_turn, active_turn, turn_in}
 use Rattle.script_runs.specs.Trace.{Registers, call_of, registers_after, AfterAnswer, LineEntries, IsEnd, Trace}
-use Rattle.script_runs.proofs.LegalSteps.{standing_at, standing-ended, standing-step}
+use Rattle.bus_words.proofs.LegalSteps.{standing_at, standing-ended, standing-step}
 
 -- The calls of lines. --
 
@@ -176,10 +176,10 @@ either : (F : BusAnswer × State → Type 0) (b : Bool) (answer : BusAnswer) (on
 either F true answer one other first second = first
 either F false answer one other first second = second
 
-sent_stands : (app : ℕ) (bytes : List ℕ) (inc : Bool) (subs : List Subscription) (sending : Sending) (s : State) → standing_of s app ≡ Active →
-    Stands app (calls.Transmit bytes inc) (sent_along subs sending s)
-sent_stands app bytes inc [] sending s is = is
-sent_stands app bytes inc (sub ∷ subs) sending s is = is
+sent_stands : (limits : Limits) (app : ℕ) (bytes : List ℕ) (inc : Bool) (subs : List Subscription) (sending : Sending) (s : State) → standing_of s app ≡ Active →
+    Stands app (calls.Transmit bytes inc) (sent_along limits subs sending s)
+sent_stands limits app bytes inc [] sending s is = is
+sent_stands limits app bytes inc (sub ∷ subs) sending s is = is
 
 pend_stands : (s : State) (app pipe : ℕ) → standing_of s app ≡ Active → Stands app (calls.Pend pipe) (pended_answer s app pipe, pended s app pipe)
 pend_stands s app pipe is =
@@ -205,7 +205,7 @@ accepted_stands limits history s app (calls.PipeName pipe) line is = is
 accepted_stands limits history s app (calls.Subscribe id pipe limit scope) line is =
     either (Stands app (calls.Subscribe id pipe limit scope)) (is_subscribed s.subscriptions id pipe) Done s (with_subscription s id pipe limit scope) is is
 accepted_stands limits history s app (calls.Unsubscribe id pipe) line is = is
-accepted_stands limits history s app (calls.Transmit bytes inc) line is = sent_stands app bytes inc (route s.subscriptions (message_id bytes)) _ s is
+accepted_stands limits history s app (calls.Transmit bytes inc) line is = sent_stands limits app bytes inc (route s.subscriptions (message_id bytes)) _ s is
 accepted_stands limits history s app (calls.Receive pipe) line is = is
 accepted_stands limits history s app (calls.Pend pipe) line is = pend_stands s app pipe is
 accepted_stands limits history s app (calls.Look pipe) line is = absurd (true≢false (sym line))

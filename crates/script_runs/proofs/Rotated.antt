@@ -11,7 +11,7 @@ use Rattle.bus_words.specs.Machine.{pended_answer, oldest_number}
 use Rattle.bus_words.proofs.Finds.{Each, not_true, not_false, same-sym, same-self}
 use Rattle.script_runs.specs.Rotation.{Running, SoFar, turn, rotated, rotations}
 use Rattle.script_runs.specs.Trace.{own_entries}
-use Rattle.script_runs.proofs.LegalSteps.{standing_at}
+use Rattle.bus_words.proofs.LegalSteps.{standing_at}
 use Rattle.script_runs.proofs.OneTurn.{IsSound, IsTurn, IsStuck, Owes, HasNumber, listed, weight, is_ended, is_pending, turn-in}
 
 -- Who is left. --

@@ -1,6 +1,6 @@
 -- What an application tells of the messages that it received, in the order of its lines.
 use Rattle.std.specs.Prelude.{ℕ, ◌==◌, List, [], ◌∷◌, ◌++◌, length, slice_index, Option, Some, None, unwrap_or, if◌then◌else◌}
-use Rattle.std.specs.Option.{option_to_list}
+use Rattle.std.specs.Option.{option_and_then, option_to_list}
 use Rattle.fsw_base.specs.Limits.{Limits}
 use Rattle.bus_words.specs.declared.calls.BusAnswer.{BusAnswer}
 use Rattle.bus_words.specs.declared.calls.BusAnswer.TheVariants.{Got, Pending}
@@ -9,13 +9,17 @@ use Rattle.bus_words.specs.declared.history.Call.TheVariants as calls
 use Rattle.bus_words.specs.declared.history.Entry.{Entry}
 use Rattle.bus_words.specs.declared.receipts.Receipt.{Receipt}
 use Rattle.bus_words.specs.declared.receipts.Receipt.TheVariants.{Nothing}
-use Rattle.bus_words.specs.Bus.{State, opening}
+use Rattle.bus_words.specs.Bus.{Item, Pipe, State, opening, owns, pipe_at}
 use Rattle.bus_words.specs.Machine.{step}
 use Rattle.bus_words.specs.Receipts.{receipt_in}
 use Rattle.script_lines.specs.declared.line.Line.{Line}
 use Rattle.script_lines.specs.declared.line.Line.TheVariants.{ShowPipe}
 use Rattle.app_script.specs.Script.{ScriptText, app_at}
 use Rattle.script_runs.specs.Trace.{Registers, first_registers, call_of, registers_after}
+
+-- the last message of the application's own live pipe of this number, where it has one
+abbrev pub own_last : List Pipe → ℕ → ℕ → Option Item
+own_last pipes app number = if owns pipes app number then option_and_then (λ pipe. pipe.last) (pipe_at pipes number) else None
 
 -- An entry of an application, and the bus after it.
 pub record Seen : Type 0 where

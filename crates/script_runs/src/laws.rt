@@ -4,6 +4,7 @@ ghost use Rattle.fsw_base.specs.Limits.{Limits};
 ghost use Rattle.bus_words.specs.declared.history.Call.{Call};
 ghost use Rattle.bus_words.specs.declared.history.Entry.{Entry};
 ghost use Rattle.bus_words.specs.Bus.{standing_of};
+ghost use Rattle.bus_words.specs.Held.{HoldsNothing};
 ghost use Rattle.bus_words.specs.Machine.{state_after, step, may_call, IsLegal};
 ghost use Rattle.bus_words.specs.Receipts.{receipt_in};
 ghost use Rattle.app_script.specs.Script.{ScriptText};
@@ -28,11 +29,14 @@ pub fn last_messages_stay()
 
 /// A rotation ends: after enough turns of all no application is left. Its history is one that the
 /// bus can have, and has each application's calls, each once and in the order of its lines, with
-/// its end behind them.
+/// its end behind them; so at its end nothing is held, and no byte of the bus's pool is in use.
 pub fn rotations_merge()
     ensures ends { (script : ScriptText) →
         (rotations (enough script) script.limits (before_all script)).1 ≡ [] }
     ensures legal { (script : ScriptText) →
         IsLegal script.limits (length script.apps) (rotation script) }
     ensures merges { (script : ScriptText) → Merges script (rotation script) }
+    ensures nothing { (script : ScriptText) →
+        HoldsNothing script.limits
+        (state_after script.limits (length script.apps) (rotation script)) }
 {}

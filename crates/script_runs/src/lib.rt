@@ -4,8 +4,8 @@
 //!
 //! It is definitions (`specs`) and their laws. It promises that strict rotation of any script ends,
 //! in a history that the bus can have and that has each application's calls, each once and in the
-//! order of its lines; and that what an application tells of a pipe's last message changes by its
-//! own calls alone.
+//! order of its lines, and behind which nothing is held; and that what an application tells of a
+//! pipe's last message changes by its own calls alone.
 //!
 //! ```text
 //! rotation script                      // the history that lockstep makes of a script

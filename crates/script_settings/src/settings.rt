@@ -315,7 +315,8 @@ pub fn version(rest: &[u8]) -> Result<u32, FaultKind>
     within(1, 1, version)
 }
 
-/// Whether the program runs with this limit already: `apppool` and those from `msgids` to `msgmax`.
+/// Whether the program runs with this limit already: `pool`, `apppool` and those from `msgids` to
+/// `msgmax`.
 pub fn is_built_limit(name: LimitName) -> bool
     ensures { result ≡ is_built_limit name }
 {
@@ -325,7 +326,7 @@ pub fn is_built_limit(name: LimitName) -> bool
         LimitName::Dests => true,
         LimitName::Depth => true,
         LimitName::MsgMax => true,
-        LimitName::Pool => false,
+        LimitName::Pool => true,
         LimitName::AppPool => true,
         LimitName::Tables => false,
         LimitName::Handles => false,

@@ -21,8 +21,6 @@
 
 mod place;
 mod subs;
-#[cfg(test)]
-mod tests;
 mod words;
 
 pub use subs::Subs;

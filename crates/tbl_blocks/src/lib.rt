@@ -40,8 +40,6 @@ mod slot;
 mod space;
 mod staged;
 mod table;
-#[cfg(test)]
-mod tests;
 mod version;
 
 pub use blocks::TableBlocks;

@@ -23,8 +23,6 @@ mod name;
 mod registry;
 mod rows;
 mod shelf;
-#[cfg(test)]
-mod tests;
 
 pub use laws::recall_listed;
 pub use registry::Registry;

@@ -33,6 +33,3 @@ pub use receipts::{HEAD_BYTES, TableReceipt};
 pub use rules::{MAX_RULES, Rule, RuleList};
 pub use statuses::TblStatus;
 pub use uses::TblUse;
-
-#[cfg(test)]
-mod tests;

@@ -33,7 +33,7 @@ const COUNT: usize = 2;
 const VALUE: usize = 0;
 
 /// How often a thread looks before it sleeps. A turn is short, so that most waits end before.
-pub(crate) const LOOKS: u32 = 100;
+pub const LOOKS: u32 = 100;
 
 // How many numbers the half of a word has that a sleep compares.
 const HALF: u64 = 4294967296;

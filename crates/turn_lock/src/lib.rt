@@ -54,11 +54,10 @@ mod historied;
 mod lock;
 mod rule;
 mod seat;
-#[cfg(test)]
-mod tests;
 mod turn;
 mod view;
 
+pub use board::LOOKS;
 pub use historied::Historied;
 pub use lock::{MOST_SEATS, TurnLock};
 pub use seat::{LockName, Seat};

@@ -24,7 +24,5 @@
 #![tactic(auto)]
 
 mod held;
-#[cfg(test)]
-mod tests;
 
 pub use held::HeldLists;

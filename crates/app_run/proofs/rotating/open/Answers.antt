@@ -1,14 +1,16 @@
-use Rattle.std.proofs.Common.{◌∙◌, sym, subst, List}
+use Rattle.std.proofs.Common.{◌∙◌, ap, sym, subst, arith, List}
 use Rattle.fsw_base.specs.declared.config.Budget.{Budget}
-use Rattle.fsw_base.specs.Limits.{limits_of}
+use Rattle.fsw_base.specs.Limits.{Limits, limits_of}
 use Rattle.journal_store.specs.Budgets.{AreBudgets}
 use Rattle.app_run.proofs.OpenLaws.{are-budgets, opened-is}
 use Rattle.app_run.proofs.rotating.open.Goals as goal
 
 pub new-requires : goal.new-requires
-new-requires c =
-    subst (λ (bs : List Budget). AreBudgets bs) (sym (c.deref.ensures.value ∙ c.in_ok-budgets.ensures))
-    (are-budgets c.args.script.now c.recall_ranges.ensures.run c.recall_ranges.ensures.text.some c.recall_ranges.ensures.text.few)
+new-requires c = record {
+  budgets = subst (λ (bs : List Budget). AreBudgets bs) (sym (c.deref.ensures.value ∙ c.in_ok-budgets.ensures))
+      (are-budgets c.args.script.now c.recall_ranges.ensures.run c.recall_ranges.ensures.text.some c.recall_ranges.ensures.text.few);
+  region = omega (arith, ap (λ (limits : Limits). limits.pool) c.config.ensures, c.pool_mut.ensures, c.requires);
+}
 
 pub returns-clause-bus : goal.returns-clause-bus
 returns-clause-bus c =

@@ -10,5 +10,5 @@ returns c =
     let acts = c.args.activities.now in
     let within : c.args.app - 1 < length acts = omega (arith, c.requires, c.activity_of.ensures.first) in
     ap (λ n. nat_eq n c.busy_once.result) c.busy.ensures
-    ∙ ap (nat_eq _) (c.busy_once.ensures ∙ ap (λ (x : Activity). cond {A = ℕ} (not (idle_in c.args.tables.now.pipes x)) 1 0) c.activity_of.ensures.activity)
-    ∙ sym (others_pass (idle_in c.args.tables.now.pipes) acts (c.args.app - 1) activities.Ended activities.Ended within refl)
+    ∙ ap (nat_eq _) (c.busy_once.ensures ∙ ap (λ (x : Activity). cond {A = ℕ} (not (idle_in c.args.store.now.pipes x)) 1 0) c.activity_of.ensures.activity)
+    ∙ sym (others_pass (idle_in c.args.store.now.pipes) acts (c.args.app - 1) activities.Ended activities.Ended within refl)

@@ -6,5 +6,6 @@ returns g c = record {
   now = c.args.self.now.core.now;
   meets = inl refl;
   does = c.look.ensures.looks;
-  same = record { app = refl; bus = refl; alone = refl };
+  bag = c.look.ensures.bag;
+  same = record { app = refl; bus = refl; bag = refl; alone = refl };
 }

@@ -7,7 +7,7 @@ use Rattle.app_run.specs.Inside.{receipts_to_come}
 use Rattle.app_script.specs.Script.{app_at}
 use Rattle.script_runs.specs.Trace.{call_of}
 use Rattle.app_run.specs.Inside.{progress_in}
-use Rattle.app_run.proofs.TurnLaws.{allowed-line, may-run, drop-next, get_at, ran-line, ran-local, run-same, waits-or-got}
+use Rattle.app_run.proofs.TurnLaws.{allowed-line, may-run, drop-next, get_at, ran-line, ran-local, run-same, run-bag, run-remember, waits-or-got}
 use Rattle.app_run.proofs.runner.Runner.run_next.Goals as goal
 
 pub overflow_add-self : goal.overflow_add-self
@@ -19,8 +19,8 @@ run_line-requires-clause-may g c =
     let all = (app_at a.script.now a.app).lines in
     let line = c.line-line.result.now in
     let next : drop a.next all ≡ line ∷ drop (suc a.next) all = drop-next all a.next line c.line-line.ensures in
-    may-run c.args.self.now (g.C.Calls.caller c.args.calls.now) line (drop (suc a.next) all) (call_of a.registers line) c.requires.may.stands c.requires.may.own
-    c.requires.may.goes_on c.requires.active (subst (λ p. p.running.lines ≡ line ∷ drop (suc a.next) all) c.self.view_is next)
+    may-run c.args.self.now (g.C.Calls.caller c.args.calls.now) line (drop (suc a.next) all) (call_of a.registers line) c.requires.may
+    c.requires.active (subst (λ p. p.running.lines ≡ line ∷ drop (suc a.next) all) c.self.view_is next)
     (allowed-line a.registers line (get_at IsLineInRange all a.next line c.line-line.ensures c.self.invariant.ranges))
 
 pub run_line-requires-clause-range : goal.run_line-requires-clause-range
@@ -45,8 +45,8 @@ invariant_of-self g c =
       place = omega (arith, there);
       ranges = c.self.invariant.ranges;
       message = subst (λ n. All (λ line. message_size line ≤ n) (app_at a.script.now a.app).lines) (sym c.run_line.ensures.message) c.self.invariant.message;
-      room = subst (λ w. receipts_to_come (length (app_at a.script.now a.app).lines - (a.next + 1)) w ≤ c.receive.new.receipts.room) (sym c.pipe_waited_for-self-inside.ensures)
-          (omega (arith, room, there, few, c.receive.ensures.room));
+      room = subst (λ w. receipts_to_come (length (app_at a.script.now a.app).lines - (a.next + 1)) w ≤ c.take_got.new.receipts.room) (sym c.pipe_waited_for-self-inside.ensures)
+          (omega (arith, room, there, few, c.take_got.ensures.room));
     }
 
 pub returns-in-Some-clause-turn : goal.returns-in-Some-clause-turn
@@ -56,11 +56,11 @@ returns-in-Some-clause-turn g c =
     let all = (app_at a.script.now a.app).lines in
     let line = c.line-line.result.now in
     let next : drop a.next all ≡ line ∷ drop (a.next + 1) all = drop-next all a.next line c.line-line.ensures ∙ ap (λ n. line ∷ drop n all) (sym (add-one a.next)) in
-    ran-line (progress_in a) c.args.self.now (caller c.args.calls.now) (caller c.run_line.new.calls) (caller c.receive.new.calls) line (drop (a.next + 1) all) c.in-Some.answer
-    c.note.new.self c.pipe_waited_for-self-inside.result c.receive.new.receipts.receipts (call_of a.registers line)
+    ran-line (progress_in a) c.args.self.now (caller c.args.calls.now) (caller c.run_line.new.calls) line (drop (a.next + 1) all) c.in-Some.answer
+    c.note.new.self c.pipe_waited_for-self-inside.result c.take_got.new.receipts.receipts (call_of a.registers line)
     c.self.view_is c.requires.may c.requires.active next
     (get_at IsLineInRange all a.next line c.line-line.ensures c.self.invariant.ranges)
-    refl c.in-Some.ensures.call c.receive.ensures.same c.receive.ensures.receipts c.note.ensures c.pipe_waited_for-self-inside.ensures
+    refl c.in-Some.ensures.call c.take_got.ensures.receipts c.note.ensures c.pipe_waited_for-self-inside.ensures
 
 pub returns-in-None-clause-turn : goal.returns-in-None-clause-turn
 returns-in-None-clause-turn g c =
@@ -69,18 +69,34 @@ returns-in-None-clause-turn g c =
     let all = (app_at a.script.now a.app).lines in
     let line = c.line-line.result.now in
     let next : drop a.next all ≡ line ∷ drop (a.next + 1) all = drop-next all a.next line c.line-line.ensures ∙ ap (λ n. line ∷ drop n all) (sym (add-one a.next)) in
-    ran-local (progress_in a) c.args.self.now (caller c.args.calls.now) (caller c.run_line.new.calls) (caller c.show.new.calls) line (drop (a.next + 1) all)
+    ran-local (progress_in a) c.args.self.now (caller c.args.calls.now) (caller c.run_line.new.calls) line (drop (a.next + 1) all)
     c.show.new.receipts.receipts (call_of a.registers line)
-    c.self.view_is c.requires.may c.requires.active next refl c.in-None.ensures.call c.show.ensures.same c.show.ensures.receipts
+    c.self.view_is c.requires.may c.requires.active next refl c.in-None.ensures.call c.show.ensures.receipts
+
+pub take_got-requires-clause-bag : goal.take_got-requires-clause-bag
+take_got-requires-clause-bag g c =
+    let caller = g.C.Calls.caller in
+    run-bag (caller c.args.calls.now) (caller c.run_line.new.calls) (call_of c.self.inside.registers c.line-line.result.now) (Some c.in-Some.answer)
+    c.in-Some.ensures.call c.requires.may.bag
+
+pub show-requires-clause-bag : goal.show-requires-clause-bag
+show-requires-clause-bag g c =
+    let caller = g.C.Calls.caller in
+    run-bag (caller c.args.calls.now) (caller c.run_line.new.calls) (call_of c.self.inside.registers c.line-line.result.now) None
+    c.in-None.ensures.call c.requires.may.bag
+
+pub show-requires-clause-remember : goal.show-requires-clause-remember
+show-requires-clause-remember g c =
+    let caller = g.C.Calls.caller in
+    run-remember (progress_in c.self.inside) c.args.self.now (caller c.args.calls.now) (caller c.run_line.new.calls) (call_of c.self.inside.registers c.line-line.result.now)
+    c.self.view_is c.requires.may c.in-None.ensures.call
 
 pub returns-in-Some-clause-same : goal.returns-in-Some-clause-same
 returns-in-Some-clause-same g c =
     let caller = g.C.Calls.caller in
-    run-same (caller c.args.calls.now) (caller c.run_line.new.calls) (caller c.receive.new.calls) (call_of c.self.inside.registers c.line-line.result.now) (Some c.in-Some.answer)
-    c.in-Some.ensures.call c.receive.ensures.same
+    run-same (caller c.args.calls.now) (caller c.run_line.new.calls) (call_of c.self.inside.registers c.line-line.result.now) (Some c.in-Some.answer) c.in-Some.ensures.call
 
 pub returns-in-None-clause-same : goal.returns-in-None-clause-same
 returns-in-None-clause-same g c =
     let caller = g.C.Calls.caller in
-    run-same (caller c.args.calls.now) (caller c.run_line.new.calls) (caller c.show.new.calls) (call_of c.self.inside.registers c.line-line.result.now) None
-    c.in-None.ensures.call c.show.ensures.same
+    run-same (caller c.args.calls.now) (caller c.run_line.new.calls) (call_of c.self.inside.registers c.line-line.result.now) None c.in-None.ensures.call

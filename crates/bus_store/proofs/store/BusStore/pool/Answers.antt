@@ -1,11 +1,20 @@
-use Rattle.std.proofs.Common.{sym, subst}
-use Rattle.es_pool.specs.Pool.{PoolState}
+use Rattle.std.proofs.Common.{◌≡◌, ap, sum_by, subst, sym, ◌∙◌}
+use Rattle.es_pool.specs.Pool.{PoolState, in_use_by}
 use Rattle.es_pool.specs.Account.{IsAccountOf}
+use Rattle.bus_words.specs.Held.{held, block_of}
 use Rattle.bus_store.specs.Store.{Store}
+use Rattle.bus_store.proofs.Blocked.{in_use_held}
 use Rattle.bus_store.proofs.store.BusStore.pool.Goals as goal
 
-pub returns : goal.returns
-returns c =
+pub returns-clause-account : goal.returns-clause-account
+returns-clause-account c =
     let a = c.self.inside in
     subst (λ (p : PoolState). IsAccountOf p c.args.self.now.account) (sym c.pool.ensures)
     (subst (λ (o : Store). IsAccountOf a.desk.pool o.account) c.self.view_is c.self.invariant.backed.tied.account)
+
+pub returns-clause-in_use : goal.returns-clause-in_use
+returns-clause-in_use c =
+    let a = c.self.inside in
+    ap (λ (p : PoolState). in_use_by p.sizes p.blocks) c.pool.ensures
+    ∙ subst (λ (o : Store). in_use_by a.desk.pool.sizes a.desk.pool.blocks ≡ sum_by (block_of o.account.sizes o.pipes) (held o.pipes o.numbers_given)) c.self.view_is
+    (in_use_held a.desk a.tables.pipes a.given c.self.invariant.backed c.recall_live.ensures.live)

@@ -1,5 +1,7 @@
 use Rattle.std.proofs.Common.{refl}
 use Rattle.bus_words.specs.declared.history.Call.TheVariants.{Create}
+use Rattle.sb_calls.proofs.CoreBags.{bags_over}
+use Rattle.sb_calls.proofs.Made.{made_plain, created-nothing}
 use Rattle.sb_calls.proofs.Over.{may_act, stands_over, does_over}
 use Rattle.sb_calls.proofs.bus_core.BusCore.create_pipe.Goals as goal
 
@@ -8,10 +10,16 @@ create_pipe-result-requires c = record { may = may_act c.self.inside c.args.self
 
 pub invariant_of-self : goal.invariant_of-self
 invariant_of-self c =
-    stands_over c.self.inside c.create_pipe-result.new.self c.push.new.self c.args.self.now c.args.app (Create c.args.depth c.args.name.now) _ c.of_created.result c.self.view_is c.self.invariant c.requires.may
-    c.create_pipe-result.ensures c.of_created.ensures refl c.push.ensures
+    stands_over c.self.inside c.create_pipe-result.new.self c.push.new.self c.args.self.now c.args.app (Create c.args.depth c.args.name.now) _ c.self.view_is c.self.invariant c.requires.may
+    (made_plain c.self.inside c.create_pipe-result.new.self c.push.new.self c.args.app (Create c.args.depth c.args.name.now) _ c.of_created.result c.create_pipe-result.ensures.does refl c.of_created.ensures c.push.ensures.even
+    c.push.ensures.pushed (created-nothing c.create_pipe-result.result 0) (λ pipe. refl) c.create_pipe-result.ensures.loans)
 
-pub returns : goal.returns
-returns c =
-    does_over c.self.inside c.create_pipe-result.new.self c.push.new.self c.args.self.now c.args.app (Create c.args.depth c.args.name.now) _ c.of_created.result c.self.view_is c.self.invariant c.requires.may
-    c.create_pipe-result.ensures c.of_created.ensures refl c.push.ensures
+pub returns-clause-does : goal.returns-clause-does
+returns-clause-does c =
+    does_over c.self.inside c.create_pipe-result.new.self c.push.new.self c.args.self.now c.args.app (Create c.args.depth c.args.name.now) _ c.self.view_is c.self.invariant c.requires.may
+    (made_plain c.self.inside c.create_pipe-result.new.self c.push.new.self c.args.app (Create c.args.depth c.args.name.now) _ c.of_created.result c.create_pipe-result.ensures.does refl c.of_created.ensures c.push.ensures.even
+    c.push.ensures.pushed (created-nothing c.create_pipe-result.result 0) (λ pipe. refl) c.create_pipe-result.ensures.loans)
+
+pub returns-clause-bags : goal.returns-clause-bags
+returns-clause-bags c =
+    bags_over c.self.inside (record { core = c.create_pipe-result.new.self; noted = c.push.new.self }) c.args.self.now c.self.view_is c.self.invariant (invariant_of-self c) c.create_pipe-result.ensures.bags

@@ -1,17 +1,45 @@
-use Rattle.std.proofs.Common.{refl}
 use Rattle.bus_words.specs.declared.history.Call.TheVariants.{Delete}
+use Rattle.sb_calls.proofs.CoreBags.{bag_in, bag_out}
+use Rattle.sb_calls.proofs.Made.{made_delete}
+use Rattle.sb_calls.proofs.OthersBags.{others_keep}
 use Rattle.sb_calls.proofs.Over.{may_act, stands_over, does_over}
 use Rattle.sb_calls.proofs.bus_core.BusCore.delete_pipe.Goals as goal
 
 pub delete_pipe-result-requires : goal.delete_pipe-result-requires
-delete_pipe-result-requires g c = record { may = may_act c.self.inside c.args.self.now c.args.app (Delete c.args.pipe) c.self.view_is c.self.invariant c.requires.may }
+delete_pipe-result-requires g c = record {
+  may = may_act c.self.inside c.args.self.now c.args.app (Delete c.args.pipe) c.self.view_is c.self.invariant c.requires.may;
+  bag = bag_in c.self.inside c.args.self.now c.args.app c.args.held.now c.self.view_is c.self.invariant c.requires.bag;
+}
 
 pub invariant_of-self : goal.invariant_of-self
 invariant_of-self g c =
-    stands_over c.self.inside c.delete_pipe-result.new.self c.push.new.self c.args.self.now c.args.app (Delete c.args.pipe) _ c.of_done.result c.self.view_is c.self.invariant c.requires.may
-    c.delete_pipe-result.ensures c.of_done.ensures refl c.push.ensures
+    stands_over c.self.inside c.delete_pipe-result.new.self c.push.new.self c.args.self.now c.args.app (Delete c.args.pipe) _ c.self.view_is c.self.invariant c.requires.may
+    (made_delete c.self.inside c.delete_pipe-result.new.self c.push.new.self c.args.app c.args.pipe c.delete_pipe-result.result c.of_done.result c.delete_pipe-result.new.held c.delete_pipe-result.ensures.bag (record {
+      stands = c.self.invariant;
+      acts = c.delete_pipe-result.ensures.does;
+      as_told = c.of_done.ensures;
+      even = c.push.ensures.even;
+      loans = c.delete_pipe-result.ensures.loans;
+      unowned = c.delete_pipe-result.ensures.unowned;
+      pushed = c.push.ensures.pushed;
+    }))
 
-pub returns : goal.returns
-returns g c =
-    does_over c.self.inside c.delete_pipe-result.new.self c.push.new.self c.args.self.now c.args.app (Delete c.args.pipe) _ c.of_done.result c.self.view_is c.self.invariant c.requires.may
-    c.delete_pipe-result.ensures c.of_done.ensures refl c.push.ensures
+pub returns-clause-does : goal.returns-clause-does
+returns-clause-does g c =
+    does_over c.self.inside c.delete_pipe-result.new.self c.push.new.self c.args.self.now c.args.app (Delete c.args.pipe) _ c.self.view_is c.self.invariant c.requires.may
+    (made_delete c.self.inside c.delete_pipe-result.new.self c.push.new.self c.args.app c.args.pipe c.delete_pipe-result.result c.of_done.result c.delete_pipe-result.new.held c.delete_pipe-result.ensures.bag (record {
+      stands = c.self.invariant;
+      acts = c.delete_pipe-result.ensures.does;
+      as_told = c.of_done.ensures;
+      even = c.push.ensures.even;
+      loans = c.delete_pipe-result.ensures.loans;
+      unowned = c.delete_pipe-result.ensures.unowned;
+      pushed = c.push.ensures.pushed;
+    }))
+
+pub returns-clause-bag : goal.returns-clause-bag
+returns-clause-bag g c =
+    bag_out (record { core = c.delete_pipe-result.new.self; noted = c.push.new.self }) c.args.app c.delete_pipe-result.new.held (invariant_of-self g c) c.delete_pipe-result.ensures.bag
+
+pub returns-clause-other_bags : goal.returns-clause-other_bags
+returns-clause-other_bags g c = others_keep c.args.self.now _ c.args.app (Delete c.args.pipe) _ (returns-clause-does g c)

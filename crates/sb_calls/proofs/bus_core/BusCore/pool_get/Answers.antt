@@ -1,5 +1,7 @@
 use Rattle.std.proofs.Common.{refl}
 use Rattle.bus_words.specs.declared.history.Call.TheVariants.{PoolGet}
+use Rattle.sb_calls.proofs.CoreBags.{bags_over}
+use Rattle.sb_calls.proofs.Made.{made_plain, pool-nothing}
 use Rattle.sb_calls.proofs.Over.{may_act, stands_over, does_over}
 use Rattle.sb_calls.proofs.bus_core.BusCore.pool_get.Goals as goal
 
@@ -8,10 +10,16 @@ pool_get-result-requires g c = record { may = may_act c.self.inside c.args.self.
 
 pub invariant_of-self : goal.invariant_of-self
 invariant_of-self g c =
-    stands_over c.self.inside c.pool_get-result.new.self c.push.new.self c.args.self.now c.args.app (PoolGet c.args.pool c.args.size) _ c.of_pool.result c.self.view_is c.self.invariant c.requires.may
-    c.pool_get-result.ensures.does c.of_pool.ensures refl c.push.ensures
+    stands_over c.self.inside c.pool_get-result.new.self c.push.new.self c.args.self.now c.args.app (PoolGet c.args.pool c.args.size) _ c.self.view_is c.self.invariant c.requires.may
+    (made_plain c.self.inside c.pool_get-result.new.self c.push.new.self c.args.app (PoolGet c.args.pool c.args.size) _ c.of_pool.result c.pool_get-result.ensures.does refl c.of_pool.ensures c.push.ensures.even
+    c.push.ensures.pushed (pool-nothing c.pool_get-result.result 0) (λ pipe. refl) c.pool_get-result.ensures.loans)
 
 pub returns-clause-does : goal.returns-clause-does
 returns-clause-does g c =
-    does_over c.self.inside c.pool_get-result.new.self c.push.new.self c.args.self.now c.args.app (PoolGet c.args.pool c.args.size) _ c.of_pool.result c.self.view_is c.self.invariant c.requires.may
-    c.pool_get-result.ensures.does c.of_pool.ensures refl c.push.ensures
+    does_over c.self.inside c.pool_get-result.new.self c.push.new.self c.args.self.now c.args.app (PoolGet c.args.pool c.args.size) _ c.self.view_is c.self.invariant c.requires.may
+    (made_plain c.self.inside c.pool_get-result.new.self c.push.new.self c.args.app (PoolGet c.args.pool c.args.size) _ c.of_pool.result c.pool_get-result.ensures.does refl c.of_pool.ensures c.push.ensures.even
+    c.push.ensures.pushed (pool-nothing c.pool_get-result.result 0) (λ pipe. refl) c.pool_get-result.ensures.loans)
+
+pub returns-clause-bags : goal.returns-clause-bags
+returns-clause-bags g c =
+    bags_over c.self.inside (record { core = c.pool_get-result.new.self; noted = c.push.new.self }) c.args.self.now c.self.view_is c.self.invariant (invariant_of-self g c) c.pool_get-result.ensures.bags

@@ -1,5 +1,7 @@
 use Rattle.std.proofs.Common.{refl}
 use Rattle.bus_words.specs.declared.history.Call.TheVariants.{PoolPut}
+use Rattle.sb_calls.proofs.CoreBags.{bags_over}
+use Rattle.sb_calls.proofs.Made.{made_plain, back-nothing}
 use Rattle.sb_calls.proofs.Over.{may_act, stands_over, does_over}
 use Rattle.sb_calls.proofs.bus_core.BusCore.pool_put.Goals as goal
 
@@ -8,10 +10,16 @@ pool_put-result-requires g c = record { may = may_act c.self.inside c.args.self.
 
 pub invariant_of-self : goal.invariant_of-self
 invariant_of-self g c =
-    stands_over c.self.inside c.pool_put-result.new.self c.push.new.self c.args.self.now c.args.app (PoolPut c.args.pool c.args.grant) _ c.of_back.result c.self.view_is c.self.invariant c.requires.may
-    c.pool_put-result.ensures.does c.of_back.ensures refl c.push.ensures
+    stands_over c.self.inside c.pool_put-result.new.self c.push.new.self c.args.self.now c.args.app (PoolPut c.args.pool c.args.grant) _ c.self.view_is c.self.invariant c.requires.may
+    (made_plain c.self.inside c.pool_put-result.new.self c.push.new.self c.args.app (PoolPut c.args.pool c.args.grant) _ c.of_back.result c.pool_put-result.ensures.does refl c.of_back.ensures c.push.ensures.even
+    c.push.ensures.pushed (back-nothing c.pool_put-result.result 0) (λ pipe. refl) c.pool_put-result.ensures.loans)
 
 pub returns-clause-does : goal.returns-clause-does
 returns-clause-does g c =
-    does_over c.self.inside c.pool_put-result.new.self c.push.new.self c.args.self.now c.args.app (PoolPut c.args.pool c.args.grant) _ c.of_back.result c.self.view_is c.self.invariant c.requires.may
-    c.pool_put-result.ensures.does c.of_back.ensures refl c.push.ensures
+    does_over c.self.inside c.pool_put-result.new.self c.push.new.self c.args.self.now c.args.app (PoolPut c.args.pool c.args.grant) _ c.self.view_is c.self.invariant c.requires.may
+    (made_plain c.self.inside c.pool_put-result.new.self c.push.new.self c.args.app (PoolPut c.args.pool c.args.grant) _ c.of_back.result c.pool_put-result.ensures.does refl c.of_back.ensures c.push.ensures.even
+    c.push.ensures.pushed (back-nothing c.pool_put-result.result 0) (λ pipe. refl) c.pool_put-result.ensures.loans)
+
+pub returns-clause-bags : goal.returns-clause-bags
+returns-clause-bags g c =
+    bags_over c.self.inside (record { core = c.pool_put-result.new.self; noted = c.push.new.self }) c.args.self.now c.self.view_is c.self.invariant (invariant_of-self g c) c.pool_put-result.ensures.bags

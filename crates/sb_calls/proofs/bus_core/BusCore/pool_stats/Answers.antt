@@ -1,14 +1,22 @@
 use Rattle.std.proofs.Common.{refl}
 use Rattle.bus_words.specs.declared.history.Call.TheVariants.{PoolFigures}
+use Rattle.sb_calls.proofs.CoreBags.{bags_over}
+use Rattle.sb_calls.proofs.Made.{made_plain, figures-nothing}
 use Rattle.sb_calls.proofs.Over.{stands_over, does_over}
 use Rattle.sb_calls.proofs.bus_core.BusCore.pool_stats.Goals as goal
 
 pub invariant_of-self : goal.invariant_of-self
 invariant_of-self c =
-    stands_over c.self.inside c.self.inside.core c.push.new.self c.args.self.now c.args.app (PoolFigures c.args.pool) _ c.of_figures.result c.self.view_is c.self.invariant c.requires.may
-    (c.pool_stats-result.ensures c.args.app) c.of_figures.ensures refl c.push.ensures
+    stands_over c.self.inside c.self.inside.core c.push.new.self c.args.self.now c.args.app (PoolFigures c.args.pool) _ c.self.view_is c.self.invariant c.requires.may
+    (made_plain c.self.inside c.self.inside.core c.push.new.self c.args.app (PoolFigures c.args.pool) _ c.of_figures.result (c.pool_stats-result.ensures c.args.app) refl c.of_figures.ensures c.push.ensures.even
+    c.push.ensures.pushed (figures-nothing c.pool_stats-result.result 0) (λ pipe. refl) (λ pipe. refl))
 
-pub returns : goal.returns
-returns c =
-    does_over c.self.inside c.self.inside.core c.push.new.self c.args.self.now c.args.app (PoolFigures c.args.pool) _ c.of_figures.result c.self.view_is c.self.invariant c.requires.may
-    (c.pool_stats-result.ensures c.args.app) c.of_figures.ensures refl c.push.ensures
+pub returns-clause-does : goal.returns-clause-does
+returns-clause-does c =
+    does_over c.self.inside c.self.inside.core c.push.new.self c.args.self.now c.args.app (PoolFigures c.args.pool) _ c.self.view_is c.self.invariant c.requires.may
+    (made_plain c.self.inside c.self.inside.core c.push.new.self c.args.app (PoolFigures c.args.pool) _ c.of_figures.result (c.pool_stats-result.ensures c.args.app) refl c.of_figures.ensures c.push.ensures.even
+    c.push.ensures.pushed (figures-nothing c.pool_stats-result.result 0) (λ pipe. refl) (λ pipe. refl))
+
+pub returns-clause-bags : goal.returns-clause-bags
+returns-clause-bags c =
+    bags_over c.self.inside (record { core = c.self.inside.core; noted = c.push.new.self }) c.args.self.now c.self.view_is c.self.invariant (invariant_of-self c) (λ app bag has. has)

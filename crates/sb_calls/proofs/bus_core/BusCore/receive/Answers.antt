@@ -1,22 +1,50 @@
-use Rattle.std.proofs.Common.{refl}
 use Rattle.bus_words.specs.declared.history.Call.TheVariants.{Receive}
-use Rattle.sb_calls.proofs.Over.{may_act, stands_over, does_over}
 use Rattle.sb_calls.proofs.Alone.{received_alone}
+use Rattle.sb_calls.proofs.CoreBags.{bag_in, bag_out}
+use Rattle.sb_calls.proofs.Made.{made_receive}
+use Rattle.sb_calls.proofs.OthersBags.{others_keep}
+use Rattle.sb_calls.proofs.Over.{may_act, stands_over, does_over}
 use Rattle.sb_calls.proofs.bus_core.BusCore.receive.Goals as goal
 
 pub receive-result-requires : goal.receive-result-requires
-receive-result-requires c = record { may = may_act c.self.inside c.args.self.now c.args.app (Receive c.args.pipe) c.self.view_is c.self.invariant c.requires.may }
+receive-result-requires g c = record {
+  may = may_act c.self.inside c.args.self.now c.args.app (Receive c.args.pipe) c.self.view_is c.self.invariant c.requires.may;
+  bag = bag_in c.self.inside c.args.self.now c.args.app c.args.held.now c.self.view_is c.self.invariant c.requires.bag;
+}
 
 pub invariant_of-self : goal.invariant_of-self
-invariant_of-self c =
-    stands_over c.self.inside c.receive-result.new.self c.push.new.self c.args.self.now c.args.app (Receive c.args.pipe) _ c.of_got.result c.self.view_is c.self.invariant c.requires.may
-    c.receive-result.ensures c.of_got.ensures refl c.push.ensures
+invariant_of-self g c =
+    stands_over c.self.inside c.receive-result.new.self c.push.new.self c.args.self.now c.args.app (Receive c.args.pipe) _ c.self.view_is c.self.invariant c.requires.may
+    (made_receive c.self.inside c.receive-result.new.self c.push.new.self c.args.app c.args.pipe _ c.of_got-answer.result c.note_of-note.result c.receive-result.new.held c.receive-result.ensures.bag (record {
+      stands = c.self.invariant;
+      acts = c.receive-result.ensures.does;
+      as_told = c.of_got-answer.ensures;
+      even = c.push.ensures.even;
+      loans = c.receive-result.ensures.loans;
+      unowned = c.receive-result.ensures.unowned;
+      pushed = c.push.ensures.pushed;
+    }) c.note_of-note.ensures)
 
 pub returns-clause-does : goal.returns-clause-does
-returns-clause-does c =
-    does_over c.self.inside c.receive-result.new.self c.push.new.self c.args.self.now c.args.app (Receive c.args.pipe) _ c.of_got.result c.self.view_is c.self.invariant c.requires.may
-    c.receive-result.ensures c.of_got.ensures refl c.push.ensures
+returns-clause-does g c =
+    does_over c.self.inside c.receive-result.new.self c.push.new.self c.args.self.now c.args.app (Receive c.args.pipe) _ c.self.view_is c.self.invariant c.requires.may
+    (made_receive c.self.inside c.receive-result.new.self c.push.new.self c.args.app c.args.pipe _ c.of_got-answer.result c.note_of-note.result c.receive-result.new.held c.receive-result.ensures.bag (record {
+      stands = c.self.invariant;
+      acts = c.receive-result.ensures.does;
+      as_told = c.of_got-answer.ensures;
+      even = c.push.ensures.even;
+      loans = c.receive-result.ensures.loans;
+      unowned = c.receive-result.ensures.unowned;
+      pushed = c.push.ensures.pushed;
+    }) c.note_of-note.ensures)
+
+pub returns-clause-bag : goal.returns-clause-bag
+returns-clause-bag g c =
+    bag_out (record { core = c.receive-result.new.self; noted = c.push.new.self }) c.args.app c.receive-result.new.held (invariant_of-self g c) c.receive-result.ensures.bag
 
 pub returns-clause-alone : goal.returns-clause-alone
-returns-clause-alone c = λ number is.
-    received_alone c.args.self.now _ c.args.app c.args.pipe c.receive-result.result number is (returns-clause-does c)
+returns-clause-alone g c = λ number is.
+    received_alone c.args.self.now _ c.args.app c.args.pipe c.receive-result.result c.receive-result.new.held number is (returns-clause-does g c) (returns-clause-bag g c)
+
+pub returns-clause-other_bags : goal.returns-clause-other_bags
+returns-clause-other_bags g c = others_keep c.args.self.now _ c.args.app (Receive c.args.pipe) _ (returns-clause-does g c)

@@ -1,5 +1,7 @@
 use Rattle.std.proofs.Common.{refl}
 use Rattle.bus_words.specs.declared.history.Call.TheVariants.{SetOpts}
+use Rattle.sb_calls.proofs.CoreBags.{bags_over}
+use Rattle.sb_calls.proofs.Made.{made_plain, done-nothing}
 use Rattle.sb_calls.proofs.Over.{may_act, stands_over, does_over}
 use Rattle.sb_calls.proofs.bus_core.BusCore.set_opts.Goals as goal
 
@@ -8,10 +10,16 @@ set_opts-result-requires c = record { may = may_act c.self.inside c.args.self.no
 
 pub invariant_of-self : goal.invariant_of-self
 invariant_of-self c =
-    stands_over c.self.inside c.set_opts-result.new.self c.push.new.self c.args.self.now c.args.app (SetOpts c.args.pipe c.args.bits) _ c.of_done.result c.self.view_is c.self.invariant c.requires.may
-    c.set_opts-result.ensures c.of_done.ensures refl c.push.ensures
+    stands_over c.self.inside c.set_opts-result.new.self c.push.new.self c.args.self.now c.args.app (SetOpts c.args.pipe c.args.bits) _ c.self.view_is c.self.invariant c.requires.may
+    (made_plain c.self.inside c.set_opts-result.new.self c.push.new.self c.args.app (SetOpts c.args.pipe c.args.bits) _ c.of_done.result c.set_opts-result.ensures.does refl c.of_done.ensures c.push.ensures.even
+    c.push.ensures.pushed (done-nothing c.set_opts-result.result 0) (λ pipe. refl) c.set_opts-result.ensures.loans)
 
-pub returns : goal.returns
-returns c =
-    does_over c.self.inside c.set_opts-result.new.self c.push.new.self c.args.self.now c.args.app (SetOpts c.args.pipe c.args.bits) _ c.of_done.result c.self.view_is c.self.invariant c.requires.may
-    c.set_opts-result.ensures c.of_done.ensures refl c.push.ensures
+pub returns-clause-does : goal.returns-clause-does
+returns-clause-does c =
+    does_over c.self.inside c.set_opts-result.new.self c.push.new.self c.args.self.now c.args.app (SetOpts c.args.pipe c.args.bits) _ c.self.view_is c.self.invariant c.requires.may
+    (made_plain c.self.inside c.set_opts-result.new.self c.push.new.self c.args.app (SetOpts c.args.pipe c.args.bits) _ c.of_done.result c.set_opts-result.ensures.does refl c.of_done.ensures c.push.ensures.even
+    c.push.ensures.pushed (done-nothing c.set_opts-result.result 0) (λ pipe. refl) c.set_opts-result.ensures.loans)
+
+pub returns-clause-bags : goal.returns-clause-bags
+returns-clause-bags c =
+    bags_over c.self.inside (record { core = c.set_opts-result.new.self; noted = c.push.new.self }) c.args.self.now c.self.view_is c.self.invariant (invariant_of-self c) c.set_opts-result.ensures.bags

@@ -2,6 +2,8 @@ use Rattle.std.proofs.Common.{length, ap, arith, refl}
 use Rattle.bus_words.specs.declared.history.Call.TheVariants.{Transmit}
 use Rattle.ccsds_msg.specs.Message.{message_id}
 use Rattle.bus_words.specs.Bus.{State, route}
+use Rattle.sb_calls.proofs.CoreBags.{bags_over}
+use Rattle.sb_calls.proofs.Made.{made_plain, sent-nothing}
 use Rattle.sb_calls.proofs.Over.{may_act, stands_over, does_over, bus_now}
 use Rattle.sb_calls.proofs.bus_core.BusCore.transmit.Goals as goal
 
@@ -10,13 +12,19 @@ transmit-result-requires g c = record { may = may_act c.self.inside c.args.self.
 
 pub invariant_of-self : goal.invariant_of-self
 invariant_of-self g c =
-    stands_over c.self.inside c.transmit-result.new.self c.push.new.self c.args.self.now c.args.app (Transmit c.args.bytes.now c.args.inc) _ c.of_sent.result c.self.view_is c.self.invariant c.requires.may
-    c.transmit-result.ensures.does c.of_sent.ensures refl c.push.ensures
+    stands_over c.self.inside c.transmit-result.new.self c.push.new.self c.args.self.now c.args.app (Transmit c.args.bytes.now c.args.inc) _ c.self.view_is c.self.invariant c.requires.may
+    (made_plain c.self.inside c.transmit-result.new.self c.push.new.self c.args.app (Transmit c.args.bytes.now c.args.inc) _ c.of_sent.result c.transmit-result.ensures.does refl c.of_sent.ensures c.push.ensures.even
+    c.push.ensures.pushed (sent-nothing c.transmit-result.result 0) (λ pipe. refl) c.transmit-result.ensures.loans)
 
 pub returns-clause-does : goal.returns-clause-does
 returns-clause-does g c =
-    does_over c.self.inside c.transmit-result.new.self c.push.new.self c.args.self.now c.args.app (Transmit c.args.bytes.now c.args.inc) _ c.of_sent.result c.self.view_is c.self.invariant c.requires.may
-    c.transmit-result.ensures.does c.of_sent.ensures refl c.push.ensures
+    does_over c.self.inside c.transmit-result.new.self c.push.new.self c.args.self.now c.args.app (Transmit c.args.bytes.now c.args.inc) _ c.self.view_is c.self.invariant c.requires.may
+    (made_plain c.self.inside c.transmit-result.new.self c.push.new.self c.args.app (Transmit c.args.bytes.now c.args.inc) _ c.of_sent.result c.transmit-result.ensures.does refl c.of_sent.ensures c.push.ensures.even
+    c.push.ensures.pushed (sent-nothing c.transmit-result.result 0) (λ pipe. refl) c.transmit-result.ensures.loans)
+
+pub returns-clause-bags : goal.returns-clause-bags
+returns-clause-bags g c =
+    bags_over c.self.inside (record { core = c.transmit-result.new.self; noted = c.push.new.self }) c.args.self.now c.self.view_is c.self.invariant (invariant_of-self g c) c.transmit-result.ensures.bags
 
 pub returns-clause-cost : goal.returns-clause-cost
 returns-clause-cost g c =

@@ -1,6 +1,8 @@
 use Rattle.std.proofs.Common.{length, ap, arith, refl}
 use Rattle.bus_words.specs.declared.history.Call.TheVariants.{Unsubscribe}
 use Rattle.bus_words.specs.Bus.{State, route}
+use Rattle.sb_calls.proofs.CoreBags.{bags_over}
+use Rattle.sb_calls.proofs.Made.{made_plain, done-nothing}
 use Rattle.sb_calls.proofs.Over.{may_act, stands_over, does_over, bus_now}
 use Rattle.sb_calls.proofs.bus_core.BusCore.unsubscribe.Goals as goal
 
@@ -9,13 +11,19 @@ unsubscribe-result-requires g c = record { may = may_act c.self.inside c.args.se
 
 pub invariant_of-self : goal.invariant_of-self
 invariant_of-self g c =
-    stands_over c.self.inside c.unsubscribe-result.new.self c.push.new.self c.args.self.now c.args.app (Unsubscribe c.args.id c.args.pipe) _ c.of_done.result c.self.view_is c.self.invariant c.requires.may
-    c.unsubscribe-result.ensures.does c.of_done.ensures refl c.push.ensures
+    stands_over c.self.inside c.unsubscribe-result.new.self c.push.new.self c.args.self.now c.args.app (Unsubscribe c.args.id c.args.pipe) _ c.self.view_is c.self.invariant c.requires.may
+    (made_plain c.self.inside c.unsubscribe-result.new.self c.push.new.self c.args.app (Unsubscribe c.args.id c.args.pipe) _ c.of_done.result c.unsubscribe-result.ensures.does refl c.of_done.ensures c.push.ensures.even
+    c.push.ensures.pushed (done-nothing c.unsubscribe-result.result 0) (λ pipe. refl) c.unsubscribe-result.ensures.loans)
 
 pub returns-clause-does : goal.returns-clause-does
 returns-clause-does g c =
-    does_over c.self.inside c.unsubscribe-result.new.self c.push.new.self c.args.self.now c.args.app (Unsubscribe c.args.id c.args.pipe) _ c.of_done.result c.self.view_is c.self.invariant c.requires.may
-    c.unsubscribe-result.ensures.does c.of_done.ensures refl c.push.ensures
+    does_over c.self.inside c.unsubscribe-result.new.self c.push.new.self c.args.self.now c.args.app (Unsubscribe c.args.id c.args.pipe) _ c.self.view_is c.self.invariant c.requires.may
+    (made_plain c.self.inside c.unsubscribe-result.new.self c.push.new.self c.args.app (Unsubscribe c.args.id c.args.pipe) _ c.of_done.result c.unsubscribe-result.ensures.does refl c.of_done.ensures c.push.ensures.even
+    c.push.ensures.pushed (done-nothing c.unsubscribe-result.result 0) (λ pipe. refl) c.unsubscribe-result.ensures.loans)
+
+pub returns-clause-bags : goal.returns-clause-bags
+returns-clause-bags g c =
+    bags_over c.self.inside (record { core = c.unsubscribe-result.new.self; noted = c.push.new.self }) c.args.self.now c.self.view_is c.self.invariant (invariant_of-self g c) c.unsubscribe-result.ensures.bags
 
 pub returns-clause-cost : goal.returns-clause-cost
 returns-clause-cost g c =

@@ -11,14 +11,14 @@ use Rattle.sb_core.proofs.plain.SbCore.pended.Goals as goal
 pub returns-in-Some : goal.returns-in-Some
 returns-in-Some c =
     let some = sym c.oldest.ensures ∙ c.in-Some.is in
-    sym (pended-some c.self.inside c.args.app c.args.pipe c.in-Some.item some)
+    sym (pended-some c.self.inside c.args.app c.args.pipe c.in-Some.number some)
     ∙ ap (λ (o : Plain). pended_answer o.whole.bus c.args.app c.args.pipe) c.self.view_is
 
 pub returns-then-are_others_idle : goal.returns-then-are_others_idle
 returns-then-are_others_idle c =
     let none = sym c.oldest.ensures ∙ c.in_default.is in
     let idle =
-    ap (λ (l : List Activity). list_all (idle_in c.self.inside.tables.pipes) (set l (c.args.app - 1) activities.Ended)) (sym c.deref.ensures.value)
+    ap (λ (l : List Activity). list_all (idle_in c.self.inside.store.pipes) (set l (c.args.app - 1) activities.Ended)) (sym c.deref.ensures.value)
     ∙ sym c.are_others_idle.ensures ∙ c.if-are_others_idle.true in
     sym (pended-none c.self.inside c.args.app c.args.pipe true none idle)
     ∙ ap (λ (o : Plain). pended_answer o.whole.bus c.args.app c.args.pipe) c.self.view_is
@@ -27,7 +27,7 @@ pub returns : goal.returns
 returns c =
     let none = sym c.oldest.ensures ∙ c.in_default.is in
     let idle =
-    ap (λ (l : List Activity). list_all (idle_in c.self.inside.tables.pipes) (set l (c.args.app - 1) activities.Ended)) (sym c.deref.ensures.value)
+    ap (λ (l : List Activity). list_all (idle_in c.self.inside.store.pipes) (set l (c.args.app - 1) activities.Ended)) (sym c.deref.ensures.value)
     ∙ sym c.are_others_idle.ensures ∙ c.if-are_others_idle.false in
     sym (pended-none c.self.inside c.args.app c.args.pipe false none idle)
     ∙ ap (λ (o : Plain). pended_answer o.whole.bus c.args.app c.args.pipe) c.self.view_is

@@ -1,4 +1,4 @@
-use Rattle.std.proofs.Common.{◌+◌, ◌^◌, ◌<◌, None, ap, sym, ◌∙◌, subst, arith}
+use Rattle.std.proofs.Common.{None, ap, sym, ◌∙◌, arith}
 use Rattle.std.proofs.lemmas.List.{length-map}
 use Rattle.fsw_base.specs.Limits.{limits_of}
 use Rattle.bus_words.specs.Bus.{is_subscribed}
@@ -8,8 +8,8 @@ use Rattle.bus_tables.specs.Tables.{Room}
 use Rattle.sb_core.specs.Core.{Plain}
 use Rattle.sb_core.specs.Inside.{means}
 use Rattle.sb_core.proofs.Refusals.{at_fields, has_route-rows}
-use Rattle.sb_core.proofs.Meaning.{owns-rows}
-use Rattle.sb_core.proofs.Subscribes.{is_free, id_first, id_last, live_owned, live_acts, subscribed_keeps, subscribed_acts}
+use Rattle.sb_core.proofs.Owners.{live_owned}
+use Rattle.sb_core.proofs.Subscribes.{is_free, id_first, id_last, live_acts, subscribed_keeps, subscribed_acts}
 use Rattle.sb_core.proofs.plain.SbCore.subscribe.Goals as goal
 
 pub subscribe_cause-requires : goal.subscribe_cause-requires
@@ -43,7 +43,7 @@ subscribe-requires-clause-live g c =
     let why = at_fields a c.args.self.now c.self.view_is (λ limits s. subscribe_cause limits s c.args.app c.args.id c.args.pipe) None (sym c.subscribe_cause.ensures ∙ c.in_default.is) in
     let fresh = sym c.is_subscribed-there.ensures.is ∙ c.if-there.false in
     let free = is_free (limits_of a.config) (means a).bus c.args.app c.args.id c.args.pipe why fresh in
-    live_owned a.tables.pipes c.args.app c.args.pipe (sym (owns-rows a.sends.kept a.tables.pipes c.args.app c.args.pipe) ∙ free.own)
+    live_owned a.store.pipes c.args.app c.args.pipe free.own
 
 pub subscribe-requires-clause-way : goal.subscribe-requires-clause-way
 subscribe-requires-clause-way g c =
@@ -52,9 +52,9 @@ subscribe-requires-clause-way g c =
     let fresh = sym c.is_subscribed-there.ensures.is ∙ c.if-there.false in
     let free = is_free (limits_of a.config) (means a).bus c.args.app c.args.id c.args.pipe why fresh in
     λ lacks.
-    let n = length-map a.tables.routes (λ (r : RouteRow). r.id) in
+    let n = length-map a.store.routes (λ (r : RouteRow). r.id) in
     let most = ap (λ (r : Room). r.msgids) c.self.invariant.room in
-    let fits = free.ids (has_route-rows a.tables.routes c.args.id ∙ lacks) in
+    let fits = free.ids (has_route-rows a.store.routes c.args.id ∙ lacks) in
     omega (arith, fits, n, most)
 
 pub subscribe-requires-clause-dests : goal.subscribe-requires-clause-dests
@@ -70,9 +70,7 @@ pub invariant_of-self : goal.invariant_of-self
 invariant_of-self g c =
     let a = c.self.inside in
     let why = at_fields a c.args.self.now c.self.view_is (λ limits s. subscribe_cause limits s c.args.app c.args.id c.args.pipe) None (sym c.subscribe_cause.ensures ∙ c.in_default.is) in
-    let P : Plain → Type 0 = λ o. o.whole.bus.subscriptions_made + 1 < 2 ^ 32 in
     subscribed_keeps a c.args.self.now c.args.app c.args.id c.args.pipe c.args.limit c.args.scope c.self.view_is why c.self.invariant c.subscribe.new.self c.subscribe.ensures.after
-    (subst P (sym c.self.view_is) c.requires.may.subscriptions)
 
 pub returns-clause-does : goal.returns-clause-does
 returns-clause-does g c =

@@ -1,0 +1,5 @@
+use Rattle.bus_store.proofs.Shared.{one_view}
+use Rattle.bus_store.proofs.held.receivers_share_views.Goals as goal
+
+pub returns : goal.returns
+returns c = one_view

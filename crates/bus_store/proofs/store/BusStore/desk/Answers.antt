@@ -1,0 +1,11 @@
+use Rattle.std.proofs.Common.{subst}
+use Rattle.bus_store.specs.Store.{Store}
+use Rattle.bus_store.specs.Blocks.{AreBlocks}
+use Rattle.bus_store.proofs.BlocksShown.{are_blocks}
+use Rattle.bus_store.proofs.store.BusStore.desk.Goals as goal
+
+pub returns-clause-blocks : goal.returns-clause-blocks
+returns-clause-blocks c =
+    let a = c.self.inside in
+    subst (λ (o : Store). AreBlocks a.desk o.pipes o.loans) c.self.view_is
+    (are_blocks a.desk a.tables.pipes a.given c.self.invariant.backed c.recall_live.ensures.whole)

@@ -1,0 +1,131 @@
+-- An application's bag stays its bag whatever others call, by one entry or by many.
+use Rattle.std.proofs.Common.{◌≡◌, ◌≢◌, ℕ, ◌==◌, true, false, true≢false, ne_eqb, List, [], ◌∷◌, ◌++◌, length, map, append-nil, append_assoc, is_some, IsTrue, refl, ap, sym, ◌∙◌, subst, arith}
+use Rattle.std.specs.List.{All}
+use Rattle.std.proofs.lemmas.List.{length_push}
+use Rattle.std.proofs.lemmas.List.Elements.{All-head, All-tail}
+use Rattle.lend_block.specs.Loan.{LentBytes}
+use Rattle.lend_block.specs.declared.note.Note.{Note}
+use Rattle.buf_desc.specs.Held.{Holding}
+use Rattle.bus_words.specs.declared.calls.BusAnswer.{BusAnswer}
+use Rattle.bus_words.specs.declared.history.Call.{Call}
+use Rattle.bus_words.specs.declared.history.Call.TheVariants.{Look}
+use Rattle.bus_words.specs.declared.history.Entry.{Entry}
+use Rattle.bus_words.specs.Alone.{gets_from}
+use Rattle.bus_words.specs.Bus.{Pipe, State, opening, standing_of, owns}
+use Rattle.bus_words.specs.Machine.{IsLegal, may_call, step}
+use Rattle.bus_words.proofs.KeptPipes.{IsKept, single-rising, owns-one}
+use Rattle.bus_words.proofs.Lasts.{gets-owns, count-step}
+use Rattle.bus_words.proofs.LegalSteps.{AreWaiters, AreWaiters-after, kept-step, legal-last, legal-front}
+use Rattle.bus_words.proofs.Replay.{state_from-push}
+use Rattle.bus_store.specs.Bag.{Holds}
+use Rattle.bus_store.specs.Store.{LastLoan}
+use Rattle.bus_store.specs.Words.{last_of, loan_of}
+use Rattle.sb_core.specs.declared.pending.Pended.{Pended}
+use Rattle.sb_core.specs.declared.pending.Pended.TheVariants as waits
+use Rattle.sb_core.specs.Answers.{waited}
+use Rattle.sb_calls.specs.Bags.{HasBag, KeepsOtherBags, CalledByOthers, loans_of}
+use Rattle.sb_calls.specs.Core.{Core, Does, Looks, IsLegalCore, IsNoted, with_noted, apps_of, state_of}
+use Rattle.sb_calls.specs.Notes.{noted, note_due}
+use Rattle.sb_calls.proofs.Holds.{holds-alike, last-live, loan_of-told}
+use Rattle.sb_calls.proofs.Notes.{noted-other}
+
+-- the loans that are noted of these pipes
+abbrev told : List Entry → List Note → List Pipe → List LastLoan
+told entries notes pipes = map (λ pipe. record { pipe = pipe.number; loan = noted pipe.number entries notes }) pipes
+
+module _ (old : Core) (e : Entry) (note : Note) (app : ℕ) (even : IsNoted old) (legal : IsLegalCore (with_noted old e note)) (other : e.app ≢ app) where
+  abbrev s : State
+  s = state_of old
+
+  -- the bus after the entry
+  abbrev t : State
+  t = (step old.limits old.log.entries s e.app e.call).1
+
+  parts : IsLegal old.limits (apps_of old) old.log.entries × IsTrue (may_call (standing_of s e.app) e.call) × (e.answer ≡ (step old.limits old.log.entries s e.app e.call).0)
+  parts = legal-last old.limits [] (opening old.limits (apps_of old)) old.log.entries e legal
+
+  waiters : AreWaiters s
+  waiters = AreWaiters-after old.limits (apps_of old) old.log.entries parts.0
+
+  differ : (app == e.app) ≡ false
+  differ = ne_eqb app e.app (λ same. other (sym same))
+
+  kept : (pipe : ℕ) → IsKept s.pipes t.pipes app pipe
+  kept pipe = kept-step old.limits old.log.entries s e.app app pipe e.call waiters parts.1 differ
+
+  -- the entry gives no message from a pipe of the application
+  none_given : (pipe : ℕ) → owns s.pipes app pipe ≡ true → gets_from pipe e ≡ false
+  none_given pipe own =
+      elim (gets_from pipe e) as (λ b. gets_from pipe e ≡ b → b ≡ false) [
+        | true ↦ λ gives.
+            let answered = ap (λ (a : BusAnswer). gets_from pipe (record { app = e.app; call = e.call; answer = a })) (sym parts.2) ∙ gives in
+            let his = gets-owns old.limits old.log.entries s pipe e.app e.call waiters parts.1 answered in
+            absurd (true≢false (sym own ∙ owns-one s.pipes e.app app pipe (single-rising 0 s.pipes_created s.pipes waiters.numbered.pipes) differ his))
+        | false ↦ λ none. refl
+      ] refl
+
+  loans : (pipe : ℕ) → owns s.pipes app pipe ≡ true → is_some (last_of s.pipes pipe) ≡ true →
+      loan_of (told (old.log.entries ++ e ∷ []) (old.notes ++ note ∷ []) t.pipes) pipe ≡ loan_of (loans_of old) pipe
+  loans pipe own some =
+      loan_of-told (λ n. noted n (old.log.entries ++ e ∷ []) (old.notes ++ note ∷ [])) t.pipes pipe (last-live t.pipes pipe (ap (λ l. is_some l) ((kept pipe).last own) ∙ some))
+      ∙ noted-other pipe old.log.entries e old.notes note even (none_given pipe own)
+      ∙ sym (loan_of-told (λ n. noted n old.log.entries old.notes) s.pipes pipe (last-live s.pipes pipe some))
+
+  pub others_stay : (bag : Holding LentBytes) → HasBag old app bag → HasBag (with_noted old e note) app bag
+  others_stay bag has =
+      subst (λ (x : State). Holds x.pipes (told (old.log.entries ++ e ∷ []) (old.notes ++ note ∷ []) x.pipes) old.limits.pipes app bag)
+      (sym (state_from-push old.limits [] (opening old.limits (apps_of old)) old.log.entries e))
+      (holds-alike s.pipes t.pipes (loans_of old) (told (old.log.entries ++ e ∷ []) (old.notes ++ note ∷ []) t.pipes) old.limits.pipes app bag
+      (record {
+        owned = λ pipe. (kept pipe).owned;
+        last = λ pipe. (kept pipe).last;
+        lent = loans;
+        counted = count-step old.limits old.log.entries s e.app app e.call waiters parts.1 differ;
+      }) has)
+
+-- a call of another
+pub others_keep : (old new : Core) (app : ℕ) (call : Call) (answer : BusAnswer) → Does old new app call answer → KeepsOtherBags old new app
+others_keep old new app call answer does other bag differ has =
+    let e : Entry = record { app = app; call = call; answer = answer } in
+    let note = note_due answer does.loan in
+    let legal : IsLegalCore (with_noted old e note) = subst (λ core. IsLegalCore core) does.entry does.legal in
+    let pushed : IsNoted (with_noted old e note) = subst (λ core. IsNoted core) does.entry does.noted in
+    let even : IsNoted old = omega (arith, pushed, length_push old.notes note, length_push old.log.entries e) in
+    subst (λ core. HasBag core other bag) (sym does.entry) (others_stay old e note other even legal (λ same. differ (sym same)) bag has)
+
+-- and a look
+pub others_looked : (old new : Core) (app pipe : ℕ) (answer : Pended) → Looks old new app pipe answer → KeepsOtherBags old new app
+others_looked old new app pipe (waits.Got number) looks = others_keep old new app (Look pipe) (waited (waits.Got number)) looks
+others_looked old new app pipe waits.TimeOut looks = others_keep old new app (Look pipe) (waited waits.TimeOut) looks
+others_looked old new app pipe waits.Pending looks = λ other bag differ has. subst (λ core. HasBag core other bag) (sym looks.0) has
+
+-- the core with these entries and notes behind its own
+abbrev grown : Core → List Entry → List Note → Core
+grown core entries notes = record { limits = core.limits; log = record { budgets = core.log.budgets; entries = core.log.entries ++ entries }; notes = core.notes ++ notes }
+
+behind : (old : Core) (app : ℕ) (bag : Holding LentBytes) (entries : List Entry) (notes : List Note) → All (λ (entry : Entry). entry.app ≢ app) entries → length notes ≡ length entries →
+    IsNoted old → IsLegalCore (grown old entries notes) → HasBag old app bag → HasBag (grown old entries notes) app bag
+behind old app bag [] [] others even noted legal has =
+    subst (λ ns. HasBag (record old { log = record { budgets = old.log.budgets; entries = old.log.entries ++ [] }; notes = ns }) app bag) (sym (append-nil old.notes))
+    (subst (λ es. HasBag (record old { log = record { budgets = old.log.budgets; entries = es } }) app bag) (sym (append-nil old.log.entries)) has)
+behind old app bag [] (n ∷ ns) others even noted legal has = absurd (omega (arith, even))
+behind old app bag (e ∷ es) [] others even noted legal has = absurd (omega (arith, even))
+behind old app bag (e ∷ es) (n ∷ ns) others even noted legal has =
+    let other : Entry → Type 0 = λ x. x.app ≢ app in
+    let next = with_noted old e n in
+    let entries = append_assoc old.log.entries (e ∷ []) es in
+    let notes = append_assoc old.notes (n ∷ []) ns in
+    let whole : grown next es ns ≡ grown old (e ∷ es) (n ∷ ns) =
+    ap (λ xs. record { limits = old.limits; log = record { budgets = old.log.budgets; entries = xs }; notes = (old.notes ++ n ∷ []) ++ ns }) entries
+    ∙ ap (λ xs. record { limits = old.limits; log = record { budgets = old.log.budgets; entries = old.log.entries ++ e ∷ es }; notes = xs }) notes in
+    let legal_all : IsLegalCore (grown next es ns) = subst (λ core. IsLegalCore core) (sym whole) legal in
+    let legal_next : IsLegalCore next = legal-front old.limits [] (opening old.limits (apps_of old)) (old.log.entries ++ e ∷ []) es legal_all in
+    subst (λ core. HasBag core app bag) whole
+    (behind next app bag es ns (All-tail other e es others) (omega (arith, even)) (omega (arith, noted, length_push old.notes n, length_push old.log.entries e)) legal_all
+    (others_stay old e n app noted legal_next (All-head other e es others) bag has))
+
+-- calls of others, all together
+pub others_behind : (old new : Core) (app : ℕ) (bag : Holding LentBytes) → CalledByOthers old new app → HasBag old app bag → HasBag new app bag
+others_behind old new app bag called has =
+    subst (λ core. HasBag core app bag) (sym called.grown)
+    (behind old app bag called.entries called.notes called.by_others called.noted called.before (subst (λ core. IsLegalCore core) called.grown called.legal) has)

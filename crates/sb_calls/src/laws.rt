@@ -1,0 +1,21 @@
+//! What holds of every bag, whoever has it.
+ghost use Rattle.std.specs.Prelude.{◌≡◌, ℕ};
+ghost use Rattle.lend_block.specs.Loan.{LentBytes};
+ghost use Rattle.buf_desc.specs.Held.{Holding};
+ghost use Rattle.bus_words.specs.declared.calls.BusAnswer.{BusAnswer};
+ghost use Rattle.bus_words.specs.declared.history.Call.{Call};
+ghost use Rattle.sb_calls.specs.Bags.{HasBag, KeepsOtherBags, CalledByOthers, last_message};
+ghost use Rattle.sb_calls.specs.Core.{Core, Does, state_of};
+ghost use Rattle.sb_calls.specs.Views.{bytes_seen};
+
+/// An application's bag shows the bytes of the last message of each of its pipes, and nothing of
+/// any other pipe; and it stays its bag whatever others call, by one entry or by many. Does
+/// nothing.
+pub fn bags_stay()
+    ensures shown { (core : Core) (app pipe : ℕ) (bag : Holding LentBytes) → HasBag core app bag →
+        bytes_seen bag pipe ≡ last_message (state_of core) app pipe }
+    ensures other_bags { (old new : Core) (app : ℕ) (call : Call) (answer : BusAnswer) →
+        Does old new app call answer → KeepsOtherBags old new app }
+    ensures behind { (old new : Core) (app : ℕ) (bag : Holding LentBytes) →
+        CalledByOthers old new app → HasBag old app bag → HasBag new app bag }
+{}

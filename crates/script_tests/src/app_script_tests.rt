@@ -1,0 +1,36 @@
+//! A script on its happy path, and one with a fault.
+use app_script::{ReadFail, read_script};
+use std::alloc::Global;
+use std::test::Fail;
+
+// How many applications the input has, where it is a script.
+fn apps_of(alloc: Global, input: &[u8]) -> Option<u32> {
+    match read_script(alloc, input) {
+        Ok(script) => Some(script.apps()),
+        Err(_) => None,
+    }
+}
+
+// The line of the input's fault, where it has one.
+fn fault_line_of(alloc: Global, input: &[u8]) -> Option<u32> {
+    match read_script(alloc, input) {
+        Ok(_) => None,
+        Err(ReadFail::Memory(_)) => None,
+        Err(ReadFail::Fault(fault)) => Some(fault.line),
+    }
+}
+
+#[test]
+fn script_is_read(rt: HostRuntime) -> Result<(), Fail> {
+    assert_eq!(rt; apps_of(rt.alloc(), b"app A\nrecv p0\napp B\n"), Some(2));
+    Ok(())
+}
+
+#[test]
+fn first_fault_is_told(rt: HostRuntime) -> Result<(), Fail> {
+    assert_eq!(rt;
+        fault_line_of(rt.alloc(), b"app A\nrecv p64\nrecv\n"),
+        Some(2)
+    );
+    Ok(())
+}

@@ -1,0 +1,12 @@
+//! Tests of the words, the registry and the contents of tables, over their public calls.
+//!
+//! They show what no clause says: that memory is found, what a journal gives back, and the callers
+//! that the crates' first lines show.
+#![tactic(auto)]
+
+#[cfg(test)]
+mod tbl_blocks_tests;
+#[cfg(test)]
+mod tbl_registry_tests;
+#[cfg(test)]
+mod tbl_words_tests;
