@@ -1,7 +1,8 @@
 -- Refusals by what the registry finds.
-use Rattle.std.proofs.Common.{◌≡◌, ℕ, ◌||◌, Bool, true, false, not, leb, cond, eqb, Option, Some, None, Result, Ok, Err, is_some, List, [], ◌∷◌, length, find, refl, ap, ◌∙◌}
+use Rattle.std.proofs.Common.{◌≡◌, ℕ, ◌||◌, Bool, true, false, not, leb, cond, eqb, Option, Some, None, Result, Ok, Err, is_some, List, [], ◌∷◌, length, find, refl, ap, sym, ◌∙◌, arith}
 use Rattle.std.specs.List.{list_any}
 use Rattle.std.specs.Option.{option_map, option_map_or}
+use Rattle.std.proofs.lemmas.Bool.Decides.{nat_tests}
 use Rattle.fsw_base.specs.Limits.{Limits}
 use Rattle.tbl_words.specs.declared.statuses.TblStatus.{TblStatus}
 use Rattle.tbl_words.specs.declared.statuses.TblStatus.TheVariants.{ErrInvalidHandle, ErrInvalidName, ErrHandlesFull, ErrNoAccess}
@@ -14,7 +15,7 @@ use Rattle.tbl_core.specs.Inside.{means, table_in}
 use Rattle.tbl_core.specs.Refusals.{own_handle}
 use Rattle.tbl_core.proofs.Meaning.{alike, named_here}
 
-any_found : {X : Type 0} (p : X → Bool) (xs : List X) → list_any p xs ≡ is_some (find p xs)
+pub any_found : {X : Type 0} (p : X → Bool) (xs : List X) → list_any p xs ≡ is_some (find p xs)
 any_found p [] = refl
 any_found {X} p (x ∷ xs) = by_test (p x) (any_found p xs)
   where
@@ -39,7 +40,7 @@ access_by a tied app handle others =
     by_found (Some h) = refl
 
 -- a handle that the application doesn't own
-abbrev err_of : Result Handle TblStatus → TblStatus
+abbrev pub err_of : Result Handle TblStatus → TblStatus
 err_of (Ok h) = ErrNoAccess
 err_of (Err status) = status
 
@@ -56,7 +57,7 @@ pub record IsOwned (o : Option Handle) (app : ℕ) (h : Handle) : Type 0 where
   pub found : o ≡ Some h
   pub own : (others : Option TblStatus) → asked app others o ≡ others
 
-abbrev ok_of : Handle → Result Handle TblStatus → Handle
+abbrev pub ok_of : Handle → Result Handle TblStatus → Handle
 ok_of h (Ok k) = k
 ok_of h (Err status) = h
 
@@ -69,6 +70,18 @@ owned_here (Some k) app h is = by_test (eqb k.app app) refl is
       found = ap (λ r. Some (ok_of k r)) here;
       own = λ others. ap (λ b. refused_if (not b) ErrNoAccess others) same;
     }
+    by_test false other never = absurd (cc (never))
+
+-- whose handle it is
+pub app_of : (o : Option Handle) (app : ℕ) (h : Handle) → own_handle app o ≡ Ok h → h.app ≡ app
+app_of None app h never = absurd (cc (never))
+app_of (Some k) app h is = by_test (eqb k.app app) refl is
+  where
+    is_same : eqb k.app app ≡ true → k.app ≡ app
+    is_same same = grind (arith, nat_tests)
+
+    by_test : (b : Bool) → eqb k.app app ≡ b → cond {A = Result Handle TblStatus} b (Ok k) (Err ErrNoAccess) ≡ Ok h → h.app ≡ app
+    by_test true same here = sym (ap (λ r. (ok_of k r).app) here) ∙ is_same same
     by_test false other never = absurd (cc (never))
 
 -- A share. --

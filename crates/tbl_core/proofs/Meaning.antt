@@ -1,9 +1,10 @@
 -- What the fields stand for: the registry lists it, and what is looked up there is what the registry finds with its contents.
-use Rattle.std.proofs.Common.{◌≡◌, ℕ, ◌&&◌, Bool, true, false, cond, eqb, Option, Some, None, List, [], ◌∷◌, map, find, All, refl, ap, sym, ◌∙◌, subst, arith}
+use Rattle.std.proofs.Common.{◌≡◌, ℕ, ◌&&◌, Bool, true, false, cond, eqb, Option, Some, None, List, [], ◌∷◌, map, find, count_by, All, refl, ap, sym, ◌∙◌, subst, arith}
 use Rattle.std.specs.Option.{option_map, option_map_or, option_and_then}
 use Rattle.std.specs.Str.{bytes_eq}
 use Rattle.std.proofs.lemmas.Bool.Decides.{nat_tests}
 use Rattle.std.proofs.lemmas.List.Elements.{All-head, All-tail}
+use Rattle.std.proofs.lemmas.List.Sums.{sum_by-cons}
 use Rattle.fsw_base.proofs.Lists.{find-map}
 use Rattle.tbl_words.specs.Tables as state
 use Rattle.tbl_registry.specs.declared.rows.Handle.{Handle}
@@ -26,6 +27,18 @@ found_all {X} P p (y ∷ xs) x all is = by_test (λ rest. found_all P p xs x (Al
     by_test : (find p xs ≡ Some x → P x) → (b : Bool) → cond {A = Option X} b (Some y) (find p xs) ≡ Some x → P x
     by_test ih true here = subst P (some_is x here) (All-head P y xs all)
     by_test ih false rest = ih rest
+
+-- what passes alike is counted alike
+pub count_alike : {X : Type 0} (p q : X → Bool) (xs : List X) → All (λ x. p x ≡ q x) xs → count_by p xs ≡ count_by q xs
+count_alike p q [] same = refl
+count_alike {X} p q (x ∷ xs) same =
+    omega (
+      arith,
+      sum_by-cons (λ y. cond {A = ℕ} (p y) 1 0) x xs,
+      sum_by-cons (λ y. cond {A = ℕ} (q y) 1 0) x xs,
+      ap (λ b. cond {A = ℕ} b 1 0) (All-head (λ (y : X). p y ≡ q y) x xs same),
+      count_alike p q xs (All-tail (λ (y : X). p y ≡ q y) x xs same),
+    )
 
 facts_map : (handles : List Handle) (contents : List (Option Content)) (tables : List Table) → map facts_of (map (table_in handles contents) tables) ≡ map (facts_in handles) tables
 facts_map handles contents [] = refl

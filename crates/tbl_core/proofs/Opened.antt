@@ -6,7 +6,9 @@ use Rattle.fsw_base.specs.Limits.{Limits, limits_of}
 use Rattle.es_pool.specs.Pool.{made_in}
 use Rattle.es_pool.specs.Account.{IsAccountOf}
 use Rattle.es_pool.proofs.Law.{account_new}
+use Rattle.tbl_words.specs.Rules.{has_misfit}
 use Rattle.tbl_words.specs.Tables.{opening, account_of, blocks_out}
+use Rattle.tbl_registry.specs.declared.rows.Handle.{Handle}
 use Rattle.tbl_registry.specs.Listing.{Table, Listing, has_handle}
 use Rattle.tbl_registry.specs.Listed.{AllHaveHandles}
 use Rattle.tbl_blocks.specs.Blocks.{Stored}
@@ -44,13 +46,13 @@ no_contents limits = with_sizes limits limits.sizes
 
 module _ (a : Inside) (limits : Limits) (apps : ℕ) (same : limits_of a.config ≡ limits) (active : a.ended.items ≡ replicate apps false)
     (registry : a.registry ≡ no_listing limits) (blocks : a.blocks ≡ no_contents limits) where
-  pub opened_plain : plain_of a ≡ record { limits = limits; state = opening limits apps }
+  pub opened_plain : plain_of a ≡ record { limits = limits; state = opening limits apps; lent = [] }
   opened_plain =
       ap (λ (r : Listing). plain_of (record a { registry = r })) registry
       ∙ ap (λ (b : Stored). plain_of (record a { registry = no_listing limits; blocks = b })) blocks
-      ∙ ap (λ (l : Limits). let p : Plain = record { limits = l; state = means (record a { registry = no_listing limits; blocks = no_contents limits }) } in p) same
-      ∙ ap (λ (e : List Bool). let p : Plain = record { limits = limits; state = record { tables = []; handles = []; handles_made = 0; ended = e; made = each_below (made_in []) (length limits.sizes); drawn = 0 } } in p) active
-      ∙ ap (λ (m : List ℕ). let p : Plain = record { limits = limits; state = record { tables = []; handles = []; handles_made = 0; ended = replicate apps false; made = m; drawn = 0 } } in p) (none_made (length limits.sizes))
+      ∙ ap (λ (l : Limits). let p : Plain = record { limits = l; state = means (record a { registry = no_listing limits; blocks = no_contents limits }); lent = [] } in p) same
+      ∙ ap (λ (e : List Bool). let p : Plain = record { limits = limits; state = record { tables = []; handles = []; handles_made = 0; ended = e; made = each_below (made_in []) (length limits.sizes); drawn = 0 }; lent = [] } in p) active
+      ∙ ap (λ (m : List ℕ). let p : Plain = record { limits = limits; state = record { tables = []; handles = []; handles_made = 0; ended = replicate apps false; made = m; drawn = 0 }; lent = [] } in p) (none_made (length limits.sizes))
 
   pub opened_keeps : Keeps a
   opened_keeps = record {
@@ -65,7 +67,9 @@ module _ (a : Inside) (limits : Limits) (apps : ℕ) (same : limits_of a.config 
         (subst (λ (b : Stored). IsAccountOf b.pool (account_of limits (opening limits apps))) (sym blocks)
         (subst (λ (out : List ℕ). IsAccountOf (no_contents limits).pool (record { bytes = limits.tablepool; sizes = limits.sizes; made = replicate (length limits.sizes) 0; out = out; requests = 0; errors = 0 })) (sym (none_out limits.sizes limits.sizes))
         (account_new limits.tablepool limits.sizes)));
+    fit = subst (λ (r : Listing). All (λ (t : Table). has_misfit t.size t.rules ≡ false) r.tables) (sym registry) (All-nil (λ (t : Table). has_misfit t.size t.rules ≡ false));
     had = subst (λ (r : Listing). AllHaveHandles r) (sym registry) (All-nil (λ (t : Table). has_handle [] t.number ≡ true));
+    owners = subst (λ (r : Listing). All (λ (h : Handle). All (λ (t : Table). h.number ≡ t.number → h.table ≡ t.number) r.tables) r.handles) (sym registry) (All-nil (λ (h : Handle). All (λ (t : Table). h.number ≡ t.number → h.table ≡ t.number) []));
     filled = subst (λ (r : Listing). All (IsFilled r.handles a.blocks.tables) r.tables) (sym registry) (All-nil (IsFilled [] a.blocks.tables));
     known = λ key there. absurd (none_open limits.tables key (ap (λ (b : Stored). is_open b.tables key) (sym blocks) ∙ there));
   }

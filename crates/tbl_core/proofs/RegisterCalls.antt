@@ -15,8 +15,9 @@ use Rattle.tbl_words.specs.Tables as state
 use Rattle.tbl_words.specs.Machine.{register_cause, new_table_cause, duplicate_cause, refused_if, with_new_table}
 use Rattle.tbl_registry.specs.declared.rows.TableRow.{TableRow}
 use Rattle.tbl_registry.specs.Listing.{Table, IsTied, is_live, table_named, owner_handle, Tells}
+use Rattle.tbl_blocks.specs.Held.{HeldViews}
 use Rattle.tbl_core.specs.declared.plain.TblCore.TheInside.{Inside}
-use Rattle.tbl_core.specs.Core.{Plain, Acts}
+use Rattle.tbl_core.specs.Core.{Plain, Holds, Acts}
 use Rattle.tbl_core.specs.Inside.{plain_of, means, table_in, Keeps}
 use Rattle.tbl_core.specs.Refusals.{unfit_cause}
 use Rattle.tbl_core.proofs.After.{step_by, acts_from, acts_still, acts_refused}
@@ -51,6 +52,18 @@ last_of_three true y z e f g never = absurd (cc (never))
 last_of_three false true z e f g never = absurd (cc (never))
 last_of_three false false false e f g never = absurd (cc (never))
 last_of_three false false true e f g is = refl
+
+-- what isn't refused for its options has rules that fit
+pub rules_fit : (most : ℕ) (name : List ℕ) (size option : ℕ) (rules : List Rule) → unfit_cause most name size option rules None ≡ None → has_misfit size rules ≡ false
+rules_fit most name size option rules is =
+    by_test (eqb (length name) 0 || ltb 15 (length name)) (eqb size 0 || ltb most size) (ltb 2 option) (has_misfit size rules) is
+  where
+    by_test : (x y z w : Bool) → refused_if x ErrInvalidName (refused_if y ErrInvalidSize (refused_if (z || w) ErrInvalidOptions None)) ≡ None → w ≡ false
+    by_test true y z w never = absurd (cc (never))
+    by_test false true z w never = absurd (cc (never))
+    by_test false false true w never = absurd (cc (never))
+    by_test false false false true never = absurd (cc (never))
+    by_test false false false false fit = refl
 
 -- Room for one table more. --
 
@@ -175,9 +188,10 @@ module _ (a : Inside) (old : Plain) (viewed : plain_of a ≡ old) (app : ℕ) (n
       register_full status is = acts_refused a old app (Register name size option rules) status viewed (new_is ∙ is)
 
       pub register_acts : (b : Inside) → limits_of b.config ≡ limits → new_table_cause limits (means a) size option ≡ None → means b ≡ with_new_table limits (means a) app name size option rules →
-          Acts old (plain_of b) app (Register name size option rules) (answers.Number (a.registry.made + 1))
-      register_acts b same is after =
+          ((other : ℕ) (bag : HeldViews) → Holds (plain_of a) other bag → Holds (plain_of b) other bag) → Acts old (plain_of b) app (Register name size option rules) (answers.Number (a.registry.made + 1))
+      register_acts b same is after bags =
           acts_from a b old app (Register name size option rules) (answers.Number (a.registry.made + 1)) viewed same
           (step_by limits (means a) app (Register name size option rules) None (new_is ∙ is)
           ∙ ap (λ o. option_map_or (λ (t : state.Table). (answers.Duplicate t.number, means a)) o (answers.Number (a.registry.made + 1), with_new_table limits (means a) app name size option rules)) unnamed
           ∙ ap (λ s. (answers.Number (a.registry.made + 1), s)) (sym after))
+          (λ other bag apart. bags other bag)

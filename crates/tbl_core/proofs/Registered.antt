@@ -17,9 +17,10 @@ use Rattle.tbl_core.specs.declared.plain.TblCore.TheInside.{Inside}
 use Rattle.tbl_core.specs.Core.{Plain, Acts}
 use Rattle.tbl_core.specs.Inside.{plain_of, means, Keeps}
 use Rattle.tbl_core.specs.Refusals.{unfit_cause}
+use Rattle.tbl_core.proofs.Bags.{bags_grown}
 use Rattle.tbl_core.proofs.Pools.{HasClass, has_class, fits_alike}
-use Rattle.tbl_core.proofs.Registers.{added, registered_means, registered_keeps}
-use Rattle.tbl_core.proofs.RegisterCalls.{new_table_fits, register_acts}
+use Rattle.tbl_core.proofs.Registers.{one, added, registered_means, registered_views, registered_keeps}
+use Rattle.tbl_core.proofs.RegisterCalls.{new_table_fits, rules_fit, register_acts}
 
 -- what an answer that is one of success promises
 pub on_ok : {A E : Type 0} {P : Type 0} (r : Result A E) → IsOk r → OnOk r P → P
@@ -43,10 +44,10 @@ module _ (a : Inside) (old : Plain) (viewed : plain_of a ≡ old) (keeps : Keeps
   sizes : are_block_sizes a.config.sizes ≡ true
   sizes = ap are_block_sizes (sym keeps.pool_sizes) ∙ whole
 
-  pub registered_all_keeps : Keeps (record a { registry = r; blocks = b })
-  registered_all_keeps =
+  pub registered_all_keeps : unfit_cause a.config.tablemax name size option rules None ≡ None → Keeps (record a { registry = r; blocks = b })
+  registered_all_keeps fit =
       subst (λ (l : Listing). let x : Inside = record a { registry = l; blocks = b } in Keeps x) (sym (added a keeps tied app name size option rules r adds))
-      (registered_keeps a keeps tied app name size option rules r adds b c opens has.class has.is has.within few sizes)
+      (registered_keeps a keeps tied app name size option rules r adds b c opens has.class has.is has.within few sizes (rules_fit a.config.tablemax name size option rules fit))
 
   pub registered_all_acts : unfit_cause a.config.tablemax name size option rules None ≡ None → option_map (λ (t : Table). t.key) (table_named a.registry name) ≡ None →
       Acts old (plain_of (record a { registry = r; blocks = b })) app (Register name size option rules) (answers.Number (a.registry.made + 1))
@@ -54,3 +55,5 @@ module _ (a : Inside) (old : Plain) (viewed : plain_of a ≡ old) (keeps : Keeps
       register_acts a old viewed app name size option rules fit none (record a { registry = r; blocks = b }) refl free
       (ap (λ (l : Listing). let x : Inside = record a { registry = l; blocks = b } in means x) (added a keeps tied app name size option rules r adds)
       ∙ registered_means a keeps tied app name size option rules r adds b c opens has.class has.is has.within few sizes)
+      (bags_grown a (record a { registry = r; blocks = b }) (one a keeps tied app name size option rules r adds) refl refl (ap (λ (l : Listing). l.handles) (added a keeps tied app name size option rules r adds))
+      (registered_views a keeps tied app name size option rules r adds b c opens))

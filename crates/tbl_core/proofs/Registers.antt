@@ -12,6 +12,7 @@ use Rattle.fsw_base.specs.PoolAccounts.{Account, after_draws}
 use Rattle.es_pool.specs.Account.{IsAccountOf}
 use Rattle.es_pool.specs.Pool.{made_in}
 use Rattle.tbl_words.specs.declared.rules.Rule.{Rule}
+use Rattle.tbl_words.specs.Rules.{has_misfit}
 use Rattle.tbl_words.specs.Tables as state
 use Rattle.tbl_words.specs.Machine as machine
 use Rattle.tbl_words.proofs.Accounts.{registrations_draw}
@@ -27,13 +28,15 @@ use Rattle.tbl_blocks.specs.Blocks.{Stored, Opens}
 use Rattle.tbl_blocks.specs.Contents.{Content, no_content, kept_at, content_at, is_open, is_staged, older_in}
 use Rattle.tbl_core.specs.declared.plain.TblCore.TheInside.{Inside}
 use Rattle.tbl_core.specs.Inside.{means, table_in, table_with, handle_in, handle_with, staged_of, each_below, is_this, is_other, IsFilled, Keeps}
+use Rattle.tbl_core.specs.Views.{held_by}
+use Rattle.tbl_core.proofs.Bags.{held_view}
 use Rattle.tbl_core.proofs.Meaning.{found_all}
 use Rattle.tbl_core.proofs.Pools.{draws_all, made_counted}
 use Rattle.tbl_core.proofs.Shares.{live_still, grown}
 
 -- Lists. --
 
-map_all : {X Y : Type 0} (f g : X → Y) (xs : List X) → All (λ x. f x ≡ g x) xs → map f xs ≡ map g xs
+pub map_all : {X Y : Type 0} (f g : X → Y) (xs : List X) → All (λ x. f x ≡ g x) xs → map f xs ≡ map g xs
 map_all f g [] same = refl
 map_all {X} f g (x ∷ xs) same =
     ap (λ y. y ∷ map f xs) (All-head (λ (z : X). f z ≡ g z) x xs same) ∙ ap (λ l. g x ∷ l) (map_all f g xs (All-tail (λ (z : X). f z ≡ g z) x xs same))
@@ -43,13 +46,13 @@ find_none p [] none = refl
 find_none {X} p (x ∷ xs) none =
     ap (λ b. cond {A = Option X} b (Some x) (find p xs)) (All-head (λ (z : X). p z ≡ false) x xs none) ∙ find_none p xs (All-tail (λ (z : X). p z ≡ false) x xs none)
 
-count_none : {X : Type 0} (p : X → Bool) (xs : List X) → All (λ x. p x ≡ false) xs → count_by p xs ≡ 0
+pub count_none : {X : Type 0} (p : X → Bool) (xs : List X) → All (λ x. p x ≡ false) xs → count_by p xs ≡ 0
 count_none p [] none = refl
 count_none {X} p (x ∷ xs) none =
     let first : cond {A = ℕ} (p x) 1 0 ≡ 0 = ap (λ b. cond {A = ℕ} b 1 0) (All-head (λ (z : X). p z ≡ false) x xs none) in
     omega (arith, sum_by-cons (λ y. cond {A = ℕ} (p y) 1 0) x xs, first, count_none p xs (All-tail (λ (z : X). p z ≡ false) x xs none))
 
-none_staged : (next : Next) → is_staged next ≡ false → staged_of next ≡ None
+pub none_staged : (next : Next) → is_staged next ≡ false → staged_of next ≡ None
 none_staged Nothing is = refl
 none_staged (Inactive version) is = refl
 none_staged (Staged staged) never = absurd (cc (never))
@@ -132,6 +135,10 @@ module _ (a : Inside) (keeps : Keeps a) (tied : IsTied a.registry) (app : ℕ) (
 
     old_at : (key : ℕ) → key ≢ adds.key → content_at b.tables key ≡ content_at a.blocks.tables key
     old_at key other = ap (λ o. option_map_or (λ (x : Content). x) o no_content) (kept_old key other)
+
+    -- what the other handles were lent
+    pub registered_views : All (λ (k : Handle). held_view b.tables k ≡ held_view a.blocks.tables k) a.registry.handles
+    registered_views k d within = let h = get_or a.registry.handles k d in ap (λ (x : Content). held_by x h) (old_at h.key (other_handles k d within))
 
     -- The state. --
 
@@ -265,8 +272,8 @@ module _ (a : Inside) (keeps : Keeps a) (tied : IsTied a.registry) (app : ℕ) (
           by_key true same None at = ap (λ y. is_some (cond {A = Option Table} y (Some row) None)) same
           by_key false apart None at = absurd (cc (sym (ap is_some at) ∙ keeps.known key (ap is_some (sym (kept_old key (other apart))) ∙ there)))
 
-      pub registered_keeps : Keeps after
-      registered_keeps = record {
+      pub registered_keeps : has_misfit size rules ≡ false → Keeps after
+      registered_keeps sound = record {
         table_room = keeps.table_room;
         handle_room = keeps.handle_room;
         content_room = ap length contents_now ∙ length-set a.blocks.tables adds.key (Some c) ∙ keeps.content_room;
@@ -276,7 +283,14 @@ module _ (a : Inside) (keeps : Keeps a) (tied : IsTied a.registry) (app : ℕ) (
         account =
             subst (λ s. IsAccountOf b.pool (state.account_of (limits_of a.config) s)) (sym registered_means)
             (subst (λ x. IsAccountOf b.pool x) (sym (registrations_draw (limits_of a.config) (means a) app name size option rules class fit here)) drawn_account);
+        fit = All-push (λ (t : Table). has_misfit t.size t.rules ≡ false) a.registry.tables row keeps.fit sound;
         had = subst (λ l. AllHaveHandles l) added (handles_go_on.opened a.registry r app name size option rules adds keeps.had);
+        owners =
+            All-push (λ (k : Handle). All (λ (t : Table). k.number ≡ t.number → k.table ≡ t.number) (a.registry.tables ++ row ∷ [])) a.registry.handles one
+            (λ k d inside.
+            let h = get_or a.registry.handles k d in
+            All-push (λ (t : Table). h.number ≡ t.number → h.table ≡ t.number) a.registry.tables row (keeps.owners k d inside) (λ same. absurd (omega (arith, same, tied.handles_made k d inside))))
+            (All-push (λ (t : Table). a.registry.made + 1 ≡ t.number → a.registry.made + 1 ≡ t.number) a.registry.tables row (λ k d inside same. same) (λ same. same));
         filled =
             All-push (IsFilled (a.registry.handles ++ one ∷ []) b.tables) a.registry.tables row
             (λ k d inside. grown b.tables a.registry.made a.registry.handles app (a.registry.made + 1) adds.key (get_or a.registry.tables k d) (tied.tables_made k d inside) (moved (get_or a.registry.tables k d) (other_keys k d inside) (keeps.filled k d inside)))

@@ -25,6 +25,7 @@ use Rattle.tbl_core.specs.Core.{Plain, Acts}
 use Rattle.tbl_core.specs.Inside.{plain_of, means, table_in, table_with, handle_in, is_this, is_other, IsFilled, Keeps}
 use Rattle.tbl_core.proofs.After.{step_by, acts_from, acts_refused}
 use Rattle.tbl_core.proofs.Access.{share_checked}
+use Rattle.tbl_core.proofs.Bags.{bags_grown}
 use Rattle.tbl_core.proofs.Meaning.{named_here, found_all}
 
 -- The table of a name, by its key. --
@@ -146,7 +147,9 @@ module _ (a : Inside) (keeps : Keeps a) (tied : IsTied a.registry) (app : ℕ) (
     pool_bytes = keeps.pool_bytes;
     pool_sizes = keeps.pool_sizes;
     account = subst (λ s. IsAccountOf a.blocks.pool (state.account_of (limits_of a.config) s)) (sym new_handle_means) keeps.account;
+    fit = keeps.fit;
     had = handles_go_on.added a.registry app t.number t.key keeps.had;
+    owners = All-push (λ (k : Handle). All (λ (u : Table). k.number ≡ u.number → k.table ≡ u.number) a.registry.tables) a.registry.handles h keeps.owners (λ k d within same. absurd (omega (arith, same, tied.tables_made k d within)));
     filled = λ k d within. grown a.blocks.tables a.registry.made a.registry.handles app t.number t.key (get_or a.registry.tables k d) (tied.tables_made k d within) (keeps.filled k d within);
     known = keeps.known;
   }
@@ -210,6 +213,8 @@ module _ (a : Inside) (old : Plain) (viewed : plain_of a ≡ old) (tied : IsTied
         (ap (λ o. option_map_or (λ (t : state.Table). machine.with_new_handle (means a) app t.number t.loaded) o (means a)) (named_here a name ∙ ap (option_map (table_in a.registry.handles a.blocks.tables)) named.found)
         ∙ sym (new_handle_means a keeps tied app named.t itself)
         ∙ ap (λ (l : Listing). let b : Inside = record a { registry = l } in means b) (sym added)))
+        (λ other bag apart.
+        bags_grown a (record a { registry = new }) (made_handle (a.registry.made + 1) app named.t.number named.t.key) refl refl (ap (λ (l : Listing). l.handles) added) (λ k d within. refl) other bag)
       where
         below : leb a.config.handles (length a.registry.handles) ≡ false
         below = grind (arith, nat_tests)

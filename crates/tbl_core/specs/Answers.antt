@@ -1,8 +1,11 @@
 -- The answers of the calls, as entries of a history have them.
-use Rattle.std.specs.Prelude.{ℕ, Result, Ok, Err}
+use Rattle.std.specs.Prelude.{ℕ, ◌==◌, if◌then◌else◌, Result, Ok, Err}
 use Rattle.tbl_words.specs.declared.statuses.TblStatus.{TblStatus}
 use Rattle.tbl_words.specs.declared.calls.Registered.{Registered}
 use Rattle.tbl_words.specs.declared.calls.Registered.TheVariants.{New, Duplicate}
+use Rattle.tbl_words.specs.declared.calls.Address.{Address}
+use Rattle.tbl_words.specs.declared.calls.Told.{Told}
+use Rattle.tbl_words.specs.declared.calls.Told.TheVariants.{Same, Updated, NeverLoaded}
 use Rattle.tbl_words.specs.declared.calls.TblState.{TblState}
 use Rattle.tbl_words.specs.declared.calls.TblAnswer.{TblAnswer}
 use Rattle.tbl_words.specs.declared.calls.TblAnswer.TheVariants as answers
@@ -22,3 +25,17 @@ shared (Err status) = answers.Refused status
 abbrev pub figures_told : Result TblState TblStatus → TblAnswer
 figures_told (Ok figures) = answers.State figures
 figures_told (Err status) = answers.Refused status
+
+-- the address of a table, or the refusal
+abbrev pub addressed : Result Address TblStatus → TblAnswer
+addressed (Ok address) = answers.Address address.told address.version
+addressed (Err status) = answers.Refused status
+
+-- what an address is told with, by the version before and now: that there was no load, or whether one came
+abbrev pub told_by : ℕ → ℕ → Told
+told_by before version = if version == 0 then NeverLoaded else if before == version then Same else Updated
+
+-- done, or the refusal
+abbrev pub done : Result (Unit {0}) TblStatus → TblAnswer
+done (Ok nothing) = answers.Done
+done (Err status) = answers.Refused status

@@ -1,15 +1,51 @@
--- The core as its callers see it: its limits and the state.
-use Rattle.std.specs.Prelude.{◌≡◌, ℕ, ◌+◌, ◌^◌, ◌<◌, nat_le, ◌&&◌, Bool, true, List, length, All, IsTrue}
+-- The core as its callers see it: its limits, the state and what is lent; and what an application has in its bag of what it holds.
+use Rattle.std.specs.Prelude.{◌≡◌, ◌≢◌, ℕ, ◌+◌, ◌^◌, ◌<◌, ◌≤◌, ◌==◌, nat_le, ◌&&◌, Bool, true, false, if◌then◌else◌, List, length, find, count_by, All, IsTrue, Option, None, is_some}
+use Rattle.std.specs.Option.{option_map, option_map_or, option_and_then}
 use Rattle.fsw_base.specs.Limits.{Limits}
 use Rattle.tbl_words.specs.declared.calls.TblAnswer.{TblAnswer}
 use Rattle.tbl_words.specs.declared.history.Call.{Call}
 use Rattle.tbl_words.specs.declared.history.Call.TheVariants.{Register, Share, Unregister, Stage, Validate, Update, Abort, Load, GetAddress, ReleaseAddress, Status, End}
-use Rattle.tbl_words.specs.Tables.{State}
+use Rattle.tbl_words.specs.Tables.{Handle, State, handle_at}
 use Rattle.tbl_words.specs.Machine.{may_call, step}
+use Rattle.lend_block.specs.Loan.{LentBytes}
+use Rattle.tbl_blocks.specs.Held.{HeldViews, held_at}
 
+-- The number of a live handle, and of the loan of the version that it holds; 0 where it holds none.
+pub record Lent : Type 0 where
+  pub handle : ℕ
+  pub loan : ℕ
+
+-- The limits, the tables and the live handles, and for each live handle, in order, what it was lent.
 pub record Plain : Type 0 where
   pub limits : Limits
   pub state : State
+  pub lent : List Lent
+
+-- What an application has in its bag. --
+
+-- the number of the loan of what a live handle holds
+abbrev pub loan_of : List Lent → ℕ → ℕ
+loan_of lent number = option_map_or (λ one. one.loan) (find (λ one. one.handle == number) lent) 0
+
+-- the view of what a handle holds, if anything
+abbrev pub view_of : List Lent → Handle → Option LentBytes
+view_of lent h = option_map (λ hold. record { loan = loan_of lent h.number; bytes = hold.value }) h.hold
+
+-- the view that an application has for the live handle of a number: of what it holds, where it is the application's
+abbrev pub view_due : Plain → ℕ → ℕ → Option LentBytes
+view_due core app number = option_and_then (λ h. if h.app == app then view_of core.lent h else None) (handle_at core.state.handles number)
+
+-- how many of the application's handles hold something
+abbrev pub views_due : Plain → ℕ → ℕ
+views_due core app = count_by (λ h. h.app == app && is_some h.hold) core.state.handles
+
+-- the bag has the views that are due and no others, and room for one of each handle that there may be
+pub record Holds (core : Plain) (app : ℕ) (bag : HeldViews) : Type 0 where
+  pub seen : (number : ℕ) → held_at bag number ≡ view_due core app number
+  pub counted : length bag.views ≡ views_due core app
+  pub room : core.limits.handles ≤ bag.room
+
+-- Calls. --
 
 -- a name of at most 64 bytes
 abbrev pub is_name : List ℕ → Bool
@@ -41,7 +77,24 @@ pub record MayAct (core : Plain) (app : ℕ) (call : Call) : Type 0 where
   pub draws : core.state.drawn + 2 < 2 ^ 32
   pub versions : All (λ t. t.version + 1 < 2 ^ 32) core.state.tables
 
--- the call was answered, and left the state, as the machine does
+-- whether the call changes what its own application holds
+abbrev pub changes_bag : Call → Bool
+changes_bag (Register name size option rules) = false
+changes_bag (Share name) = false
+changes_bag (Unregister handle) = true
+changes_bag (Stage handle offset bytes) = false
+changes_bag (Validate handle) = false
+changes_bag (Update handle) = false
+changes_bag (Abort handle) = false
+changes_bag (Load handle offset bytes) = false
+changes_bag (GetAddress handle) = true
+changes_bag (ReleaseAddress handle) = true
+changes_bag (Status handle) = false
+changes_bag End = true
+
+-- the call was answered, and left the state, as the machine does; and what applications hold stays, but for the caller's own where the
+-- call changes it
 pub record Acts (old new : Plain) (app : ℕ) (call : Call) (answer : TblAnswer) : Type 0 where
   pub made : step old.limits old.state app call ≡ (answer, new.state)
   pub limits : new.limits ≡ old.limits
+  pub bags : (other : ℕ) (bag : HeldViews) → (changes_bag call ≡ true → other ≢ app) → Holds old other bag → Holds new other bag

@@ -1,11 +1,12 @@
 -- What the core's fields stand for, and what is always true of them.
 use Rattle.std.specs.Prelude.{◌≡◌, ℕ, zero, suc, ◌+◌, ◌≤◌, ◌==◌, ◌&&◌, not, Bool, true, false, List, [], ◌∷◌, length, map, count_by, All, Option, Some, None, IsSome}
-use Rattle.std.specs.Option.{option_map}
+use Rattle.std.specs.Option.{option_map, option_map_or}
 use Rattle.fsw_base.specs.Limits.{limits_of}
 use Rattle.es_pool.specs.Pool.{made_in}
 use Rattle.es_pool.specs.Account.{IsAccountOf}
 use Rattle.tbl_words.specs.declared.calls.TblState.{TblState}
 use Rattle.tbl_words.specs.Tables as state
+use Rattle.tbl_words.specs.Rules.{has_misfit}
 use Rattle.tbl_words.specs.Machine.{staged_number}
 use Rattle.tbl_registry.specs.declared.rows.Handle.{Handle}
 use Rattle.tbl_registry.specs.Listing.{Table, is_live, is_registered, table_at}
@@ -14,7 +15,7 @@ use Rattle.tbl_blocks.specs.declared.next.Next.{Next}
 use Rattle.tbl_blocks.specs.declared.next.Next.TheVariants.{Nothing, Inactive, Staged}
 use Rattle.tbl_blocks.specs.Contents.{Content, older_in, is_staged, version_at, is_open, content_at}
 use Rattle.tbl_core.specs.declared.plain.TblCore.TheInside.{Inside}
-use Rattle.tbl_core.specs.Core.{Plain}
+use Rattle.tbl_core.specs.Core.{Lent, Plain}
 
 -- What rows and contents stand for. --
 
@@ -69,6 +70,10 @@ handle_with h c = record {
 abbrev pub handle_in : List (Option Content) → Handle → state.Handle
 handle_in contents h = handle_with h (content_at contents h.key)
 
+-- what a handle was lent
+abbrev pub lent_in : List (Option Content) → Handle → Lent
+lent_in contents h = record { handle = h.number; loan = option_map_or (λ version. (version_at (content_at contents h.key) version).loan) h.held 0 }
+
 -- what is told of each place below so many
 abbrev pub each_below : (ℕ → ℕ) → ℕ → List ℕ
 each_below f zero = []
@@ -87,7 +92,7 @@ means a = record {
 
 -- the core as its callers see it
 abbrev pub plain_of : Inside → Plain
-plain_of a = record { limits = limits_of a.config; state = means a }
+plain_of a = record { limits = limits_of a.config; state = means a; lent = map (lent_in a.blocks.tables) a.registry.handles }
 
 -- What is always true. --
 
@@ -122,7 +127,10 @@ pub record Keeps (a : Inside) : Type 0 where
   pub pool_sizes : a.blocks.pool.sizes ≡ (limits_of a.config).sizes
   -- the blocks that are out are those of the tables
   pub account : IsAccountOf a.blocks.pool (state.account_of (limits_of a.config) (means a))
-  -- each table has a handle and its contents, and there are no other contents
+  -- each table has rules that fit its size, a handle and its contents, and there are no other contents
+  pub fit : All (λ t. has_misfit t.size t.rules ≡ false) a.registry.tables
   pub had : AllHaveHandles a.registry
+  -- a handle with a table's number is that table's
+  pub owners : All (λ h. All (λ t. h.number ≡ t.number → h.table ≡ t.number) a.registry.tables) a.registry.handles
   pub filled : All (IsFilled a.registry.handles a.blocks.tables) a.registry.tables
   pub known : (key : ℕ) → is_open a.blocks.tables key ≡ true → IsSome (table_at a.registry.tables key)

@@ -2,3 +2,4 @@ pub mod Answers
 pub mod Core
 pub mod Inside
 pub mod Refusals
+pub mod Views

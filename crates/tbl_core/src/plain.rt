@@ -1,5 +1,5 @@
 //! The core: what it keeps, and how it opens.
-ghost use Rattle.std.specs.Prelude.{◌≡◌, ◌*◌, ◌≤◌, false, length, replicate, IfOk};
+ghost use Rattle.std.specs.Prelude.{◌≡◌, ◌*◌, ◌≤◌, [], false, length, replicate, IfOk};
 ghost use Rattle.fsw_base.specs.Limits.{limits_of};
 ghost use Rattle.tbl_words.specs.Tables.{opening};
 
@@ -56,6 +56,7 @@ impl<'r> TblCore<'r> {
             record {
               limits = limits_of cfg.now;
               state = opening (limits_of cfg.now) apps;
+              lent = [];
             }) }
     {
         Ok(TblCore {

@@ -90,6 +90,7 @@ invariant_of-self g c =
     let opens = subst O key (on_ok c.open.result (c.open.ensures.given.1 (registered_fits c.self.inside c.self.invariant c.args.size c.args.option free)) c.open.ensures.opened) in
     registered_all_keeps c.self.inside c.args.self.now c.self.view_is c.self.invariant c.recall_ties.ensures c.args.app c.args.name.now c.args.size c.args.option c.args.rules.now c.add_table-number.new.self c.add_table-number.ensures.after
     c.open.new.self (content_at c.open.new.self.tables c.add_table-number.ensures.after.key) opens free c.requires.may.draws (subst (λ (p : PoolState). are_block_sizes p.sizes ≡ true) c.pool.ensures c.recall_whole.ensures.sizes_fit)
+    (sym c.unfit_cause.ensures ∙ c.in_default.is)
 
 pub returns-clause-does : goal.returns-clause-does
 returns-clause-does g c =
