@@ -54,7 +54,7 @@ impl EventKind {
 }
 
 /// Up to [`MAX_FILTERS`] pairs of an event id and a mask, each id once.
-#[derive(Drop)]
+#[derive(Debug, Drop)]
 pub struct FilterList {
     pairs: ArrayVec<(u16, u16), MAX_FILTERS>,
 }

@@ -37,7 +37,9 @@ pub use memory::{MemSink, MemSource};
 pub use outside::{Gate, OpenGate, ReadAnswer, Sink, Source, WriteAnswer};
 pub use reserved::extend_reserved;
 pub use script_faults::{FaultKind, ScriptFault, WriteFault};
-pub use sizes::{MAX_MESSAGE_BYTES, MAX_NAME_BYTES, MAX_SCRIPT_BYTES, MAX_TABLE_BYTES};
+pub use sizes::{
+    MAX_MESSAGE_BYTES, MAX_NAME_BYTES, MAX_SCRIPT_BYTES, MAX_TABLE_BYTES, MAX_TEXT_BYTES,
+};
 pub use standard::{StdSink, StdSource};
 pub use starts::{CountStarts, MAX_COUNT, MAX_ID, MAX_STARTS};
 pub use statuses::{EsStatus, EvsStatus, SbStatus};

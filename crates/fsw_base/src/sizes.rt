@@ -3,6 +3,9 @@
 /// The bytes of the longest name that a call may give.
 pub const MAX_NAME_BYTES: usize = 64;
 
+/// The bytes of the longest event text that a call may give.
+pub const MAX_TEXT_BYTES: usize = 200;
+
 /// The bytes of the largest message: a header of 6, and as many as the 16 bits of its length can
 /// say (CCSDS 133.0-B, 4.1.3.5).
 pub const MAX_MESSAGE_BYTES: u32 = 65542;

@@ -9,15 +9,12 @@ ghost use Rattle.script_lines.specs.EventLines.{evreset_of, logmode_of, event_li
 
 use crate::line::Line;
 use arrayvec::ArrayVec;
-use fsw_base::{EventKind, FaultKind, FilterList, MAX_FILTERS};
+use fsw_base::{EventKind, FaultKind, FilterList, MAX_FILTERS, MAX_TEXT_BYTES};
 use script_words::counts::{few, next, none, one};
 use script_words::numbers::{number, short_within, two_numbers, within};
 use script_words::text::{first_word, is_same, trimmed_text};
 use script_words::{ByteText, LineFail};
 use std::alloc::Global;
-
-// How many bytes an event text may have.
-const MAX_EVENT_TEXT: usize = 200;
 
 /// The first word of a line of events or of the bus's figures.
 #[derive(Clone, Copy)]
@@ -169,7 +166,7 @@ fn kind(number: u32) -> Result<EventKind, FaultKind>
 fn text_within(alloc: Global, text: &[u8]) -> Result<ByteText, LineFail>
     ensures { Gives (λ kept. kept) result (text_of text.now) }
 {
-    if text.len() <= MAX_EVENT_TEXT {
+    if text.len() <= MAX_TEXT_BYTES {
         Ok(ByteText::new(alloc, text)?)
     } else {
         Err(LineFail::Fault(FaultKind::OutOfRange))
