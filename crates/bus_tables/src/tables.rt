@@ -322,9 +322,10 @@ impl BusTables {
         let _ = self.routes.add_dest(route, sub, steps);
     }
 
-    /// Ends the pipe's subscription to the id; no effect where it has none. Goes along the id's
-    /// subscriptions alone: at most 3 steps for each, and 10 more.
-    pub fn unsubscribe<L: Ledger>(&mut self, id: u16, pipe: u32, steps: &mut Steps<L>)
+    /// Ends the pipe's subscription to the id, and answers whether it had one; no effect where it
+    /// had none. Goes along the id's subscriptions alone: at most 3 steps for each, and 10 more.
+    pub fn unsubscribe<L: Ledger>(&mut self, id: u16, pipe: u32, steps: &mut Steps<L>) -> bool
+        ensures there { result ≡ is_subscribed self.old.subscriptions id pipe }
         ensures after { self.new ≡
             record
             self.old {
@@ -337,6 +338,9 @@ impl BusTables {
         self.subs.recall_order();
         if let Some(sub) = first_of(&self.subs, &self.routes, id, pipe, steps) {
             end_subscription(&mut self.subs, &mut self.routes, sub, steps);
+            true
+        } else {
+            false
         }
     }
 

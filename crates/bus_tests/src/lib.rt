@@ -30,4 +30,6 @@ mod routing_tests;
 #[cfg(test)]
 mod run_report_tests;
 #[cfg(test)]
+mod service_events_tests;
+#[cfg(test)]
 mod subscriptions_tests;

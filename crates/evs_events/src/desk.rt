@@ -147,6 +147,28 @@ impl EventDesk {
         Ok(())
     }
 
+    /// Why an event of the application would be refused; None where it wouldn't. Counts nothing.
+    pub fn send_refusal(&self, app: AppNo) -> Option<EvsStatus>
+        ensures { result ≡ send_refusal self.now app }
+    {
+        match &self.registrations[place_of(app)] {
+            None => Some(EvsStatus::AppNotRegistered),
+            Some(_) => None,
+        }
+    }
+
+    /// Why a reset of the application's filter for this event id would be refused; None where it
+    /// wouldn't. Counts nothing.
+    pub fn reset_refusal(&self, app: AppNo, id: u16) -> Option<EvsStatus>
+        ensures { result ≡ reset_refusal self.now app id }
+    {
+        match &self.registrations[place_of(app)] {
+            None => Some(EvsStatus::AppNotRegistered),
+            Some(registration) if registration.has_filter(id) => None,
+            Some(_) => Some(EvsStatus::EvtNotRegistered),
+        }
+    }
+
     /// Sets the log's mode: from now on a full log drops its oldest line in mode 0, and the new one
     /// in mode 1. The lines stay.
     pub fn set_log_mode(&mut self, mode: u8)

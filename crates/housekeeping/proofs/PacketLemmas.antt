@@ -3,7 +3,7 @@ use Rattle.std.proofs.Common.{◌≡◌, ℕ, List, [], ◌∷◌, ◌++◌, len
 use Rattle.std.proofs.lemmas.Grind.{common_steps}
 use Rattle.std.proofs.lemmas.List.{take_at, drop_at, drop_all, drop-drop}
 use borrow.Rule.Slice.PartMut.{put_mid}
-use Rattle.ccsds_msg.specs.Message.{header_bytes, header_of, fault, IsMessage}
+use Rattle.ccsds_msg.specs.Message.{header_bytes, header_of, message_id, fault, IsMessage}
 use Rattle.housekeeping.specs.declared.in_use.InUse.{InUse}
 use Rattle.housekeeping.specs.Counters.{Counts}
 use Rattle.housekeeping.specs.Packet.{housekeeping_id, counts_told, housekeeping_packet}
@@ -48,3 +48,7 @@ pub header_of-housekeeping_packet : (counts : Counts) (now : InUse) →
     header_of (housekeeping_packet counts now) ≡ record { id = housekeeping_id; flags = 3; count = 0; size = 64 }
 unfolding housekeeping_packet header_bytes
 header_of-housekeeping_packet counts now = refl
+
+-- the packet's message id
+pub message_id-housekeeping_packet : (counts : Counts) (now : InUse) → message_id (housekeeping_packet counts now) ≡ housekeeping_id
+message_id-housekeeping_packet counts now = ap (λ header. header.id) (header_of-housekeeping_packet counts now)

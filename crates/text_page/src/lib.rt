@@ -17,5 +17,5 @@ mod pieces;
 mod writes;
 
 pub use pages::{Page, finish, put};
-pub use pieces::{put_hex_bytes, put_hex_id, put_name, put_number};
+pub use pieces::{hex_id, put_hex_bytes, put_hex_id, put_name, put_number};
 pub use writes::write_text;

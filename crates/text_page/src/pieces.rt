@@ -30,9 +30,23 @@ pub fn put_name<K: Sink>(sink: &mut SinkGuard<'_, K>, page: &mut Page, name: &[u
 pub fn put_hex_id<K: Sink>(sink: &mut SinkGuard<'_, K>, page: &mut Page, id: u16)
     ensures { Puts sink.old sink.new page.old page.new (hex_id id) }
 {
-    put(sink, page, b"0x");
-    put(sink, page, &hex_byte((id / 256) as u8));
-    put(sink, page, &hex_byte((id % 256) as u8));
+    put(sink, page, &hex_id(id));
+}
+
+/// A message id as `0x` and four hexadecimal digits, for a text that no page has.
+pub fn hex_id(id: u16) -> [u8; 6]
+    ensures { result ≡ hex_id id }
+{
+    let high = (id / 256) as u8;
+    let low = (id % 256) as u8;
+    [
+        b'0',
+        b'x',
+        hex_digit(high / 16),
+        hex_digit(high % 16),
+        hex_digit(low / 16),
+        hex_digit(low % 16),
+    ]
 }
 
 /// Puts bytes as two hexadecimal digits each.

@@ -1,12 +1,12 @@
 -- At most one subscription ties the id to the pipe, so the end of the one that is found leaves just those that don't.
 use Rattle.std.proofs.Common.{◌*◌, ◌≡◌, not, ◌&&◌, eqb, length, map, filter, find, is_some, refl, ap, sym, subst, ◌∙◌, arith}
-use Rattle.bus_words.specs.Bus.{route}
+use Rattle.bus_words.specs.Bus.{is_subscribed, route}
 use Rattle.routing.specs.Routing.{Routing}
 use Rattle.subscriptions.specs.Subs.{Subscribed}
 use Rattle.bus_tables.specs.Tables.{Tables}
 use Rattle.bus_tables.specs.Inside.{AreQueued, of_id, sub_in, ties}
 use Rattle.bus_tables.proofs.EndingsLists.{found_passes}
-use Rattle.bus_tables.proofs.Ties.{tied_one, tied_live, without_tied, none_tied, tied_id, route_seen, queued_left, seen_left}
+use Rattle.bus_tables.proofs.Ties.{tied_one, tied_live, without_tied, none_tied, tied_id, subscribed_seen, route_seen, queued_left, seen_left}
 use Rattle.bus_tables.proofs.tables.BusTables.unsubscribe.Goals as goal
 
 pub end_subscription-requires-clause-live : goal.end_subscription-requires-clause-live
@@ -25,6 +25,12 @@ invariant_of-self g c = record {
       ap (λ (s : Subscribed). s.room) c.end_subscription.ensures.after ∙ c.self.invariant.room
       ∙ sym (ap (λ (r : Routing). r.msgids * r.dests) c.end_subscription.ensures.same);
 }
+
+pub returns-in-Some-clause-there : goal.returns-in-Some-clause-there
+returns-in-Some-clause-there g c =
+    ap is_some (sym c.in-Some.is ∙ c.first_of.ensures.first)
+    ∙ subscribed_seen c.self.inside.subs c.args.id c.args.pipe
+    ∙ ap (λ t. is_subscribed t.subscriptions c.args.id c.args.pipe) c.self.view_is
 
 pub returns-in-Some-clause-after : goal.returns-in-Some-clause-after
 returns-in-Some-clause-after g c =
@@ -49,6 +55,12 @@ returns-in-Some-clause-cost g c =
     let live = tied_live subs c.args.id c.args.pipe c.in-Some.sub one.0 c.recall_order.ensures.rising one.1 one.2 in
     let same = tied_id c.args.id c.args.pipe one.0 (found_passes (ties c.args.id c.args.pipe) subs.live one.0 one.1) in
     omega (arith, c.first_of.ensures.cost, c.end_subscription.ensures.cost one.0 live, ap (λ id. length (of_id id subs)) same, route_seen subs c.args.id, ap (λ t. length (route t.subscriptions c.args.id)) c.self.view_is)
+
+pub returns-in_default-clause-there : goal.returns-in_default-clause-there
+returns-in_default-clause-there g c =
+    ap is_some (sym c.in_default.is ∙ c.first_of.ensures.first)
+    ∙ subscribed_seen c.self.inside.subs c.args.id c.args.pipe
+    ∙ ap (λ t. is_subscribed t.subscriptions c.args.id c.args.pipe) c.self.view_is
 
 pub returns-in_default-clause-after : goal.returns-in_default-clause-after
 returns-in_default-clause-after g c =
