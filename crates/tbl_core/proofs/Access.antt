@@ -10,7 +10,7 @@ use Rattle.tbl_words.specs.Tables.{owns}
 use Rattle.tbl_words.specs.Machine.{access_cause, share_cause, refused_if}
 use Rattle.tbl_registry.specs.declared.rows.Handle.{Handle}
 use Rattle.tbl_registry.specs.Listing.{Table, IsTied, handle_at, table_named}
-use Rattle.tbl_core.specs.declared.plain.TblCore.TheInside.{Inside}
+use Rattle.tbl_core.specs.declared.plain.PlainTables.TheInside.{Inside}
 use Rattle.tbl_core.specs.Inside.{means, table_in}
 use Rattle.tbl_core.specs.Refusals.{own_handle}
 use Rattle.tbl_core.proofs.Meaning.{alike, named_here}

@@ -19,7 +19,7 @@ use Rattle.tbl_blocks.specs.Blocks.{Stored, with_content}
 use Rattle.tbl_blocks.specs.Held.{HeldViews, held_at}
 use Rattle.tbl_blocks.specs.Versions.{LentVersion}
 use Rattle.tbl_blocks.specs.Contents.{Content, version_at, content_at, is_open, view_given, older_in}
-use Rattle.tbl_core.specs.declared.plain.TblCore.TheInside.{Inside}
+use Rattle.tbl_core.specs.declared.plain.PlainTables.TheInside.{Inside}
 use Rattle.tbl_core.specs.Core.{Plain, Holds, Acts}
 use Rattle.tbl_core.specs.Answers.{told_by}
 use Rattle.tbl_core.specs.Inside.{plain_of, means, table_in, table_with, handle_in, handle_with, Keeps}

@@ -8,7 +8,7 @@ use Rattle.tbl_words.specs.declared.history.Call.{Call}
 use Rattle.tbl_words.specs.Tables.{State}
 use Rattle.tbl_words.specs.Machine.{cause, outcome, step}
 use Rattle.tbl_blocks.specs.Held.{HeldViews}
-use Rattle.tbl_core.specs.declared.plain.TblCore.TheInside.{Inside}
+use Rattle.tbl_core.specs.declared.plain.PlainTables.TheInside.{Inside}
 use Rattle.tbl_core.specs.Core.{Plain, Holds, Acts, changes_bag}
 use Rattle.tbl_core.specs.Inside.{plain_of, means}
 

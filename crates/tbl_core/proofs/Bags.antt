@@ -13,7 +13,7 @@ use Rattle.tbl_registry.specs.Listing.{handle_at}
 use Rattle.tbl_blocks.specs.Blocks.{Stored}
 use Rattle.tbl_blocks.specs.Contents.{Content, version_at, content_at}
 use Rattle.tbl_blocks.specs.Held.{HeldViews}
-use Rattle.tbl_core.specs.declared.plain.TblCore.TheInside.{Inside}
+use Rattle.tbl_core.specs.declared.plain.PlainTables.TheInside.{Inside}
 use Rattle.tbl_core.specs.Core.{Lent, loan_of, view_of, view_due, views_due, Holds}
 use Rattle.tbl_core.specs.Inside.{plain_of, handle_in, hold_of, lent_in}
 use Rattle.tbl_core.specs.Views.{held_by}

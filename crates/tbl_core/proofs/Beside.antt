@@ -20,7 +20,7 @@ use Rattle.tbl_blocks.specs.Blocks.{Stored}
 use Rattle.tbl_blocks.specs.Versions.{LentVersion}
 use Rattle.tbl_blocks.specs.Held.{HeldViews}
 use Rattle.tbl_blocks.specs.Contents.{Content, no_content, version_at, kept_at, content_at, older_in}
-use Rattle.tbl_core.specs.declared.plain.TblCore.TheInside.{Inside}
+use Rattle.tbl_core.specs.declared.plain.PlainTables.TheInside.{Inside}
 use Rattle.tbl_core.specs.Core.{Plain, Holds, Acts}
 use Rattle.tbl_core.specs.Inside.{plain_of, means, table_in, table_with, handle_in, handle_with, hold_of, each_below, is_this, is_other, IsFilled, Keeps}
 use Rattle.tbl_core.proofs.After.{step_by, acts_from}

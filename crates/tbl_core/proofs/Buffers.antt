@@ -14,7 +14,7 @@ use Rattle.tbl_blocks.specs.declared.next.Next.{Next}
 use Rattle.tbl_blocks.specs.declared.next.Next.TheVariants.{Nothing, Inactive, Staged}
 use Rattle.tbl_blocks.specs.Blocks.{has_buffer, buffers_taken}
 use Rattle.tbl_blocks.specs.Contents.{Content, no_content, kept_at, content_at, is_staged}
-use Rattle.tbl_core.specs.declared.plain.TblCore.TheInside.{Inside}
+use Rattle.tbl_core.specs.declared.plain.PlainTables.TheInside.{Inside}
 use Rattle.tbl_core.specs.Inside.{means, table_in, staged_of, IsFilled, Keeps}
 use Rattle.tbl_core.proofs.Meaning.{count_alike}
 

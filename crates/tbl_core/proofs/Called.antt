@@ -9,7 +9,7 @@ use Rattle.tbl_words.specs.Machine.{cause, table_cause}
 use Rattle.tbl_registry.specs.declared.rows.Handle.{Handle}
 use Rattle.tbl_registry.specs.Listing.{Table, IsTied, is_registered}
 use Rattle.tbl_blocks.specs.Contents.{content_at}
-use Rattle.tbl_core.specs.declared.plain.TblCore.TheInside.{Inside}
+use Rattle.tbl_core.specs.declared.plain.PlainTables.TheInside.{Inside}
 use Rattle.tbl_core.specs.Core.{Plain, Acts}
 use Rattle.tbl_core.specs.Inside.{plain_of, means, table_with, Keeps}
 use Rattle.tbl_core.specs.Refusals.{own_table}

@@ -191,7 +191,6 @@ still_may old new app n is may =
       standing = may.standing;
       within = may.within;
       handles = may.handles;
-      draws = may.draws;
       versions = All-filter (λ (t : Table). has_handle left t.number) (λ (t : Table). t.version + 1 < 2 ^ 32) (map (after_leave left) old.state.tables)
           (All-map (λ (t : Table). t.version + 1 < 2 ^ 32) (after_leave left) old.state.tables
           (λ k d within. by_live (get_or old.state.tables k d) (is_live left (get_or old.state.tables k d).number) (may.versions k d within)));
@@ -205,7 +204,7 @@ still_may old new app n is may =
     by_live t false lt = lt
 
 pub may_leave : (core : Plain) (app n : ℕ) → MayAct core app End → MayAct core app (Unregister n)
-may_leave core app n may = record { standing = may.standing; within = may.within; handles = may.handles; draws = may.draws; versions = may.versions }
+may_leave core app n may = record { standing = may.standing; within = may.within; handles = may.handles; versions = may.versions }
 
 -- then it has ended
 pub end_made : (limits : Limits) (s left final : State) (app i : ℕ) → left ≡ without_handles (of_app app) s → i ≡ app → final ≡ record left { ended = set left.ended (i - 1) true } → step limits s app End ≡ (Done, final)

@@ -12,7 +12,7 @@ use Rattle.tbl_words.specs.Machine.{figures_of}
 use Rattle.tbl_registry.specs.declared.rows.Handle.{Handle}
 use Rattle.tbl_registry.specs.Listing.{Table, IsTied, handle_at, table_at}
 use Rattle.tbl_blocks.specs.Contents.{Content, older_in, content_at, is_open}
-use Rattle.tbl_core.specs.declared.plain.TblCore.TheInside.{Inside}
+use Rattle.tbl_core.specs.declared.plain.PlainTables.TheInside.{Inside}
 use Rattle.tbl_core.specs.Core.{Plain, Acts}
 use Rattle.tbl_core.specs.Inside.{plain_of, means, handle_in, hold_of, figures_in, is_this, is_other, IsFilled, Keeps}
 use Rattle.tbl_core.proofs.After.{step_by, acts_still}

@@ -18,7 +18,7 @@ use Rattle.tbl_registry.specs.declared.rows.Handle.{Handle}
 use Rattle.tbl_registry.specs.Listing.{Table, IsTied, handle_at, table_at, is_registered}
 use Rattle.tbl_blocks.specs.Blocks.{Stored}
 use Rattle.tbl_blocks.specs.Contents.{Content, no_content, kept_at, content_at, is_open, is_staged, older_in}
-use Rattle.tbl_core.specs.declared.plain.TblCore.TheInside.{Inside}
+use Rattle.tbl_core.specs.declared.plain.PlainTables.TheInside.{Inside}
 use Rattle.tbl_core.specs.Inside.{means, table_in, each_below, is_this, is_other, IsFilled, Keeps}
 use Rattle.tbl_core.proofs.Access.{IsOwned, access_by}
 use Rattle.tbl_core.proofs.Meaning.{table_here}

@@ -1,5 +1,5 @@
 -- A handle leaves: first what is staged for its table, where it is the owner's, and then the handle.
-use Rattle.std.proofs.Common.{◌≡◌, ◌≢◌, ℕ, zero, suc, ◌-◌, ◌^◌, ◌<◌, ◌&&◌, ◌||◌, not, min, Bool, true, false, cond, eqb, Option, Some, None, is_some, List, [], ◌∷◌, ◌++◌, map, filter, length, get_or, set, count_by, All, refl, ap, sym, ◌∙◌, subst, arith}
+use Rattle.std.proofs.Common.{◌≡◌, ◌≢◌, ℕ, zero, suc, ◌<◌, ◌&&◌, ◌||◌, not, Bool, true, false, cond, eqb, Option, Some, None, is_some, List, [], ◌∷◌, ◌++◌, map, filter, length, get_or, set, count_by, All, refl, ap, sym, ◌∙◌, subst, arith}
 use Rattle.std.specs.List.{list_any, AllPairs}
 use Rattle.std.specs.Option.{IsSome, IsSomeAnd, option_map_or}
 use Rattle.std.proofs.lemmas.Bool.Decides.{nat_tests}
@@ -29,7 +29,7 @@ use Rattle.tbl_blocks.specs.Contents.{Content, no_content, kept_at, content_at, 
 use Rattle.tbl_blocks.specs.Versions.{LentVersion}
 use Rattle.tbl_blocks.specs.declared.next.Next.{Next}
 use Rattle.tbl_blocks.specs.declared.next.Next.TheVariants.{Nothing, Inactive}
-use Rattle.tbl_core.specs.declared.plain.TblCore.TheInside.{Inside}
+use Rattle.tbl_core.specs.declared.plain.PlainTables.TheInside.{Inside}
 use Rattle.tbl_core.specs.Core.{Holds}
 use Rattle.tbl_core.specs.Inside.{plain_of, means, table_in, each_below, is_this, is_other, Keeps}
 use Rattle.tbl_core.specs.Views.{after_owner}
@@ -460,7 +460,7 @@ module _ (a : Inside) (keeps : Keeps a) (tied : IsTied a.registry) (n : ℕ) (h 
         ∙ ap (λ ts. after_returns (of_tables ts) class (state.blocks_for has.t.option)) (sym mapped_in)
 
     abbrev account_with : List ℕ → List ℕ → ℕ → Account
-    account_with out made drawn = record account { out = out; made = made; requests = min drawn (2 ^ 32 - 1) }
+    account_with out made drawn = record account { out = out; made = made; requests = drawn }
 
     account_now : IsAccountOf b.pool (state.account_of (limits_of a.config) (means (record a { registry = r; blocks = b })))
     account_now =

@@ -10,11 +10,13 @@ pub mod Changes
 pub mod Drops
 pub mod Ends
 pub mod Figures
+pub mod InUse
 pub mod Kept
 pub mod Leaves
 pub mod Loads
 pub mod Meaning
 pub mod Only
+pub mod Others
 pub mod Opened
 pub mod Pools
 pub mod RegisterCalls

@@ -10,7 +10,7 @@ use Rattle.tbl_words.specs.Machine.{refused_if, with_range, rules_cause, update_
 use Rattle.tbl_registry.specs.declared.rows.Handle.{Handle}
 use Rattle.tbl_registry.specs.Listing.{Table, IsTied, handle_at}
 use Rattle.tbl_blocks.specs.Contents.{Content, content_at, is_staged, staged_in}
-use Rattle.tbl_core.specs.declared.plain.TblCore.TheInside.{Inside}
+use Rattle.tbl_core.specs.declared.plain.PlainTables.TheInside.{Inside}
 use Rattle.tbl_core.specs.Core.{Plain}
 use Rattle.tbl_core.specs.Inside.{plain_of, means, table_in, table_with, staged_of}
 use Rattle.tbl_core.proofs.Figures.{HasContent}

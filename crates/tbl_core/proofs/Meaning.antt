@@ -13,7 +13,7 @@ use Rattle.tbl_registry.specs.Listed.{facts_of, facts_in, handle_facts_of, handl
 use Rattle.tbl_registry.proofs.Leaving.{either_way}
 use Rattle.tbl_registry.proofs.Listings.{finds_alike}
 use Rattle.tbl_blocks.specs.Contents.{Content}
-use Rattle.tbl_core.specs.declared.plain.TblCore.TheInside.{Inside}
+use Rattle.tbl_core.specs.declared.plain.PlainTables.TheInside.{Inside}
 use Rattle.tbl_core.specs.Inside.{table_in, handle_in, means}
 
 -- what holds of all holds of the one found

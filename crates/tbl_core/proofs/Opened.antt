@@ -13,7 +13,7 @@ use Rattle.tbl_registry.specs.Listing.{Table, Listing, has_handle}
 use Rattle.tbl_registry.specs.Listed.{AllHaveHandles}
 use Rattle.tbl_blocks.specs.Blocks.{Stored}
 use Rattle.tbl_blocks.specs.Contents.{is_open}
-use Rattle.tbl_core.specs.declared.plain.TblCore.TheInside.{Inside}
+use Rattle.tbl_core.specs.declared.plain.PlainTables.TheInside.{Inside}
 use Rattle.tbl_core.specs.Core.{Plain}
 use Rattle.tbl_core.specs.Inside.{plain_of, means, each_below, Keeps, IsFilled}
 

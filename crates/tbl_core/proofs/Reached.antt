@@ -7,7 +7,7 @@ use Rattle.tbl_words.specs.Tables as state
 use Rattle.tbl_words.specs.Machine.{table_cause, refused_if}
 use Rattle.tbl_registry.specs.declared.rows.Handle.{Handle}
 use Rattle.tbl_registry.specs.Listing.{Table, IsTied, handle_at, is_live, table_at}
-use Rattle.tbl_core.specs.declared.plain.TblCore.TheInside.{Inside}
+use Rattle.tbl_core.specs.declared.plain.PlainTables.TheInside.{Inside}
 use Rattle.tbl_core.specs.Inside.{means, table_in}
 use Rattle.tbl_core.specs.Refusals.{own_handle, registered_one, own_table}
 use Rattle.tbl_core.proofs.Access.{IsOwned, any_found, access_by, err_of, ok_of, app_of, refused_here, owned_here}

@@ -16,7 +16,7 @@ use Rattle.tbl_words.specs.Machine.{register_cause, new_table_cause, duplicate_c
 use Rattle.tbl_registry.specs.declared.rows.TableRow.{TableRow}
 use Rattle.tbl_registry.specs.Listing.{Table, IsTied, is_live, table_named, owner_handle, Tells}
 use Rattle.tbl_blocks.specs.Held.{HeldViews}
-use Rattle.tbl_core.specs.declared.plain.TblCore.TheInside.{Inside}
+use Rattle.tbl_core.specs.declared.plain.PlainTables.TheInside.{Inside}
 use Rattle.tbl_core.specs.Core.{Plain, Holds, Acts}
 use Rattle.tbl_core.specs.Inside.{plain_of, means, table_in, Keeps}
 use Rattle.tbl_core.specs.Refusals.{unfit_cause}

@@ -8,7 +8,7 @@ use Rattle.std.proofs.lemmas.List.Folds.{list_any-append, find-append}
 use Rattle.std.proofs.lemmas.List.Sums.{sum_by-cons}
 use Rattle.fsw_base.specs.Blocks.{are_block_sizes, class_of}
 use Rattle.fsw_base.specs.Limits.{limits_of}
-use Rattle.fsw_base.specs.PoolAccounts.{Account, after_draws}
+use Rattle.fsw_base.specs.PoolAccounts.{Account, counted_by, after_draws}
 use Rattle.es_pool.specs.Account.{IsAccountOf}
 use Rattle.es_pool.specs.Pool.{made_in}
 use Rattle.tbl_words.specs.declared.rules.Rule.{Rule}
@@ -26,7 +26,7 @@ use Rattle.tbl_blocks.specs.declared.next.Next.{Next}
 use Rattle.tbl_blocks.specs.declared.next.Next.TheVariants.{Nothing, Inactive, Staged}
 use Rattle.tbl_blocks.specs.Blocks.{Stored, Opens}
 use Rattle.tbl_blocks.specs.Contents.{Content, no_content, kept_at, content_at, is_open, is_staged, older_in}
-use Rattle.tbl_core.specs.declared.plain.TblCore.TheInside.{Inside}
+use Rattle.tbl_core.specs.declared.plain.PlainTables.TheInside.{Inside}
 use Rattle.tbl_core.specs.Inside.{means, table_in, table_with, handle_in, handle_with, staged_of, each_below, is_this, is_other, IsFilled, Keeps}
 use Rattle.tbl_core.specs.Views.{held_by}
 use Rattle.tbl_core.proofs.Bags.{held_view}
@@ -187,22 +187,15 @@ module _ (a : Inside) (keeps : Keeps a) (tied : IsTied a.registry) (app : ℕ) (
 
     -- The pool. --
 
-    module _ (class : ℕ) (here : class_of size a.config.sizes ≡ Some class) (within : class < length a.config.sizes) (draws : a.blocks.pool.requests + 2 < 2 ^ 32) (fit : are_block_sizes a.config.sizes ≡ true) where
+    module _ (class : ℕ) (here : class_of size a.config.sizes ≡ Some class) (within : class < length a.config.sizes) (fit : are_block_sizes a.config.sizes ≡ true) where
       abbrev account : Account
       account = after_draws (state.account_of (limits_of a.config) (means a)) class (state.blocks_for option)
 
       drawn_account : IsAccountOf b.pool account
       drawn_account = draws_all a.blocks.pool b.pool (state.account_of (limits_of a.config) (means a)) size option c class keeps.account here within opens.same_option opens.drawn
 
-      blocks_few : state.blocks_for option ≤ 2
-      blocks_few = by_test (eqb option 1)
-        where
-          by_test : (x : Bool) → cond {A = ℕ} x 2 1 ≤ 2
-          by_test true = omega arith
-          by_test false = omega arith
-
-      requests_now : b.pool.requests ≡ a.blocks.pool.requests + state.blocks_for option
-      requests_now = omega (arith, drawn_account.requests, draws, blocks_few)
+      requests_now : b.pool.requests ≡ counted_by a.blocks.pool.requests (state.blocks_for option)
+      requests_now = sym drawn_account.requests
 
       made_now : each_below (made_in b.pool.blocks) (length b.pool.sizes) ≡ (machine.with_blocks (limits_of a.config) (means a) size (state.blocks_for option)).made
       made_now =

@@ -10,7 +10,7 @@ use Rattle.tbl_registry.proofs.Numbered.{same_number}
 use Rattle.tbl_blocks.specs.Blocks.{Stored}
 use Rattle.tbl_blocks.specs.Held.{HeldViews, held_at}
 use Rattle.tbl_blocks.specs.Contents.{Content, no_content, version_at, content_at, kept_at, is_open, older_in}
-use Rattle.tbl_core.specs.declared.plain.TblCore.TheInside.{Inside}
+use Rattle.tbl_core.specs.declared.plain.PlainTables.TheInside.{Inside}
 use Rattle.tbl_core.specs.Core.{Holds}
 use Rattle.tbl_core.specs.Inside.{plain_of, is_this, is_other, Keeps}
 use Rattle.tbl_core.specs.Views.{held_by, views_of, after_back, with_back}

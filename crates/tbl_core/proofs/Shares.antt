@@ -20,7 +20,7 @@ use Rattle.tbl_registry.specs.Listing.{Table, Listing, IsTied, is_live, table_at
 use Rattle.tbl_registry.proofs.Leaving.{handles_go_on}
 use Rattle.tbl_registry.proofs.Numbered.{same_number, other_number}
 use Rattle.tbl_blocks.specs.Contents.{Content, content_at}
-use Rattle.tbl_core.specs.declared.plain.TblCore.TheInside.{Inside}
+use Rattle.tbl_core.specs.declared.plain.PlainTables.TheInside.{Inside}
 use Rattle.tbl_core.specs.Core.{Plain, Acts}
 use Rattle.tbl_core.specs.Inside.{plain_of, means, table_in, table_with, handle_in, is_this, is_other, IsFilled, Keeps}
 use Rattle.tbl_core.proofs.After.{step_by, acts_from, acts_refused}

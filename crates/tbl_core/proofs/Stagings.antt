@@ -15,7 +15,7 @@ use Rattle.tbl_blocks.specs.declared.next.Next.{Next}
 use Rattle.tbl_blocks.specs.declared.next.Next.TheVariants.{Nothing, Inactive, Staged}
 use Rattle.tbl_blocks.specs.Blocks.{Stored, with_content, buffers_taken, after_stage}
 use Rattle.tbl_blocks.specs.Contents.{Content, content_at, is_double, is_staged, is_inactive, older_in, staged_by}
-use Rattle.tbl_core.specs.declared.plain.TblCore.TheInside.{Inside}
+use Rattle.tbl_core.specs.declared.plain.PlainTables.TheInside.{Inside}
 use Rattle.tbl_core.specs.Inside.{means, handle_in, hold_of, staged_of, is_other, Keeps}
 use Rattle.tbl_core.specs.Refusals.{is_partial, is_lent_apart, is_lent, lacks_buffer, unstaged_cause}
 use Rattle.tbl_core.proofs.Beside.{KeepsPresent}

@@ -10,7 +10,7 @@ use Rattle.tbl_words.specs.Machine.{without_handles, after_leave}
 use Rattle.tbl_registry.specs.declared.rows.Handle.{Handle}
 use Rattle.tbl_registry.specs.Listing.{Table, IsTied, is_live, first_owned}
 use Rattle.tbl_blocks.specs.Contents.{content_at, is_staged}
-use Rattle.tbl_core.specs.declared.plain.TblCore.TheInside.{Inside}
+use Rattle.tbl_core.specs.declared.plain.PlainTables.TheInside.{Inside}
 use Rattle.tbl_core.specs.Core.{Plain}
 use Rattle.tbl_core.specs.Inside.{plain_of, means, table_in, table_with, handle_in, Keeps}
 use Rattle.tbl_core.proofs.Changes.{map-map}

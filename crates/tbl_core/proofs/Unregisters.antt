@@ -13,7 +13,7 @@ use Rattle.tbl_words.specs.Tables as state
 use Rattle.tbl_registry.specs.declared.rows.Handle as registry
 use Rattle.tbl_registry.specs.Listing as listing
 use Rattle.tbl_blocks.specs.Contents.{content_at}
-use Rattle.tbl_core.specs.declared.plain.TblCore.TheInside.{Inside}
+use Rattle.tbl_core.specs.declared.plain.PlainTables.TheInside.{Inside}
 use Rattle.tbl_core.specs.Core.{Plain}
 use Rattle.tbl_core.specs.Inside.{plain_of, handle_in, hold_of}
 use Rattle.tbl_core.proofs.Meaning.{handle_here}

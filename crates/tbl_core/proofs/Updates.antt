@@ -16,7 +16,7 @@ use Rattle.tbl_blocks.specs.declared.next.Next.TheVariants.{Nothing, Inactive}
 use Rattle.tbl_blocks.specs.Blocks.{Stored}
 use Rattle.tbl_blocks.specs.Versions.{LentVersion}
 use Rattle.tbl_blocks.specs.Contents.{Content, is_double, older_in, beside, lent, version_at, content_at, with_value}
-use Rattle.tbl_core.specs.declared.plain.TblCore.TheInside.{Inside}
+use Rattle.tbl_core.specs.declared.plain.PlainTables.TheInside.{Inside}
 use Rattle.tbl_core.specs.Core.{Plain, Acts}
 use Rattle.tbl_core.specs.Inside.{plain_of, means, table_in, table_with, handle_with, hold_of, staged_of, is_this, is_other, IsFilled, Keeps}
 use Rattle.tbl_core.proofs.Aborts.{nothing_beside}

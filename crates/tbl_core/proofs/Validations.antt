@@ -17,7 +17,7 @@ use Rattle.tbl_blocks.specs.Contents.{Content, is_staged, staged_in, older_in, c
 use Rattle.tbl_registry.specs.declared.rows.Handle.{Handle}
 use Rattle.tbl_registry.specs.declared.rows.TableRow.{TableRow}
 use Rattle.tbl_registry.specs.Listing.{Table, Tells}
-use Rattle.tbl_core.specs.declared.plain.TblCore.TheInside.{Inside}
+use Rattle.tbl_core.specs.declared.plain.PlainTables.TheInside.{Inside}
 use Rattle.tbl_core.specs.Inside.{staged_of, table_with, Keeps}
 use Rattle.tbl_core.proofs.Beside.{KeepsPresent}
 use Rattle.tbl_core.proofs.Figures.{HasContent}

@@ -74,7 +74,6 @@ pub record MayAct (core : Plain) (app : ℕ) (call : Call) : Type 0 where
   pub standing : IsTrue (may_call core.state app)
   pub within : IsTrue (is_within call)
   pub handles : core.state.handles_made + 1 < 2 ^ 32
-  pub draws : core.state.drawn + 2 < 2 ^ 32
   pub versions : All (λ t. t.version + 1 < 2 ^ 32) core.state.tables
 
 -- whether the call changes what its own application holds

@@ -14,7 +14,7 @@ use Rattle.tbl_registry.specs.Listed.{AllHaveHandles}
 use Rattle.tbl_blocks.specs.declared.next.Next.{Next}
 use Rattle.tbl_blocks.specs.declared.next.Next.TheVariants.{Nothing, Inactive, Staged}
 use Rattle.tbl_blocks.specs.Contents.{Content, older_in, is_staged, version_at, is_open, content_at}
-use Rattle.tbl_core.specs.declared.plain.TblCore.TheInside.{Inside}
+use Rattle.tbl_core.specs.declared.plain.PlainTables.TheInside.{Inside}
 use Rattle.tbl_core.specs.Core.{Lent, Plain}
 
 -- What rows and contents stand for. --

@@ -8,12 +8,12 @@ ghost use Rattle.tbl_core.specs.Answers.{shared, figures_told};
 ghost use Rattle.tbl_core.specs.Inside.{staged_of, figures_in};
 
 use crate::handles::own_handle;
-use crate::plain::TblCore;
+use crate::plain::PlainTables;
 use fsw_base::AppNo;
 use tbl_blocks::TableBlocks;
 use tbl_words::{TblState, TblStatus};
 
-impl<'r> TblCore<'r> {
+impl<'r> PlainTables<'r> {
     /// Gives the caller a handle of the registered table of this name, and answers its number.
     ///
     /// # Errors

@@ -1,5 +1,5 @@
 //! Addresses: what applications hold of tables.
-ghost use Rattle.std.specs.Prelude.{◌≡◌, ℕ, ◌==◌, ◌+◌, ◌≤◌, ◌<◌, ◌^◌, if◌then◌else◌, true, None, length, OnErr, IfSome};
+ghost use Rattle.std.specs.Prelude.{◌≡◌, ℕ, ◌==◌, ◌+◌, ◌≤◌, ◌<◌, ◌^◌, if◌then◌else◌, true, false, None, length, OnOk, OnErr, IsSome, IfSome};
 ghost use Rattle.tbl_words.specs.declared.history.Call.TheVariants.{GetAddress, ReleaseAddress};
 ghost use Rattle.tbl_blocks.specs.Contents.{is_open, content_at, version_at};
 ghost use Rattle.tbl_blocks.specs.Held.{held_at};
@@ -8,13 +8,13 @@ ghost use Rattle.tbl_core.specs.Answers.{addressed, told_by, done};
 ghost use Rattle.tbl_core.specs.Views.{held_by, views_of, after_back};
 
 use crate::handles::{own_handle, own_table};
-use crate::plain::TblCore;
+use crate::plain::PlainTables;
 use fsw_base::AppNo;
 use tbl_blocks::{HeldTables, TableBlocks};
 use tbl_registry::Handle;
 use tbl_words::{Address, TblStatus, Told};
 
-impl<'r> TblCore<'r> {
+impl<'r> PlainTables<'r> {
     /// Puts a view of the present version of the table of a handle of the caller's into the
     /// caller's bag; one that the handle has already goes back first. Answers the version, and
     /// whether it changed since the handle's last address.
@@ -33,6 +33,9 @@ impl<'r> TblCore<'r> {
         requires bag { Holds self.old app held.old }
         ensures does { Acts self.old self.new app (GetAddress handle) (addressed result) }
         ensures bag { Holds self.new app held.new }
+        ensures others { (other : ℕ) → (handle == other) ≡ false →
+            held_at held.new other ≡ held_at held.old other }
+        ensures given { OnOk result (IsSome (held_at held.new handle)) }
         ensures unchanged { OnErr result (held.new ≡ held.old) }
     {
         self.registry.recall_ties();
@@ -64,6 +67,9 @@ impl<'r> TblCore<'r> {
         requires bag { Holds self.old app held.old }
         ensures does { Acts self.old self.new app (ReleaseAddress handle) (done result) }
         ensures bag { Holds self.new app held.new }
+        ensures others { (other : ℕ) → (handle == other) ≡ false →
+            held_at held.new other ≡ held_at held.old other }
+        ensures gone { OnOk result (held_at held.new handle ≡ None) }
         ensures unchanged { OnErr result (held.new ≡ held.old) }
     {
         self.registry.recall_ties();

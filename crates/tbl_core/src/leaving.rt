@@ -1,23 +1,23 @@
 //! Handles that leave, and tables with their last one.
-ghost use Rattle.std.specs.Prelude.{◌≡◌, ◌≢◌, ℕ, ◌==◌, ◌+◌, ◌*◌, ◌≤◌, ◌<◌, true, false, None, OnErr, IsSomeAnd, option_map, find, count_by};
+ghost use Rattle.std.specs.Prelude.{◌≡◌, ◌≢◌, ℕ, ◌==◌, ◌+◌, ◌*◌, ◌≤◌, ◌<◌, true, false, None, [], OnOk, OnErr, IsSomeAnd, option_map, find, count_by};
 ghost use Rattle.std.specs.List.{AllPairs};
 ghost use Rattle.tbl_words.specs.declared.history.Call.TheVariants.{Unregister, End};
 ghost use Rattle.tbl_words.specs.declared.calls.TblAnswer.TheVariants.{Done};
 ghost use Rattle.tbl_words.specs.Tables.{handle_at};
 ghost use Rattle.tbl_words.specs.Machine.{without_handles};
 ghost use Rattle.tbl_blocks.specs.Contents.{is_open, content_at, older_in};
-ghost use Rattle.tbl_blocks.specs.Held.{HeldViews};
+ghost use Rattle.tbl_blocks.specs.Held.{HeldViews, held_at};
 ghost use Rattle.tbl_core.specs.Core.{Holds, MayAct, Acts};
 ghost use Rattle.tbl_core.specs.Answers.{done};
 ghost use Rattle.tbl_core.specs.Views.{after_owner};
 
-use crate::plain::TblCore;
+use crate::plain::PlainTables;
 use bucket_list::{Ledger, Steps};
 use fsw_base::AppNo;
 use tbl_blocks::{HeldTables, TableBlocks};
 use tbl_words::TblStatus;
 
-impl<'r> TblCore<'r> {
+impl<'r> PlainTables<'r> {
     /// Gives a handle of the caller's back, with what it holds. Where it is the owner's, the table
     /// is registered no more: its name is free, and what was staged for it is dropped. With its
     /// last handle a table leaves, and its blocks go back to the pool. At most 16 steps.
@@ -36,6 +36,9 @@ impl<'r> TblCore<'r> {
         requires bag { Holds self.old app held.old }
         ensures does { Acts self.old self.new app (Unregister handle) (done result) }
         ensures bag { Holds self.new app held.new }
+        ensures others { (other : ℕ) → (handle == other) ≡ false →
+            held_at held.new other ≡ held_at held.old other }
+        ensures gone { OnOk result (held_at held.new handle ≡ None) }
         ensures unchanged { OnErr result (held.new ≡ held.old) }
         ensures cost { steps.new ≤ steps.old + 16 }
     {
@@ -44,13 +47,14 @@ impl<'r> TblCore<'r> {
         Ok(())
     }
 
-    /// The application's last call: its handles are given back, each with what it holds. At most 16
-    /// steps for each.
+    /// The application's last call: its handles are given back, each with what it holds, so that
+    /// its bag is empty. At most 16 steps for each.
     pub fn end<L: Ledger>(&mut self, app: AppNo, held: &mut HeldTables<'r>, steps: &mut Steps<L>)
         requires may { MayAct self.old app End }
         requires bag { Holds self.old app held.old }
         ensures does { Acts self.old self.new app End Done }
         ensures bag { Holds self.new app held.new }
+        ensures views { held.new.views ≡ [] }
         ensures cost { steps.new ≤
             steps.old + 16 * count_by (λ h. h.app == app) self.old.state.handles }
     {

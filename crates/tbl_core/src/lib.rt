@@ -5,10 +5,10 @@
 //! It promises that each call answers and changes what the tables of the definitions do, whatever
 //! came before; and that what applications hold stays as it is, but for what the call itself gives
 //! or takes: then the caller's bag has the views of what its handles hold, and no others. No call
-//! but [`TblCore::new`] has an allocator, and none takes memory by its code.
+//! but [`PlainTables::new`] has an allocator, and none takes memory by its code.
 //!
 //! ```text
-//! let mut core = TblCore::new(alloc, &Config::usual(), 2, region, work)?;
+//! let mut core = PlainTables::new(alloc, &Config::usual(), 2, region, work)?;
 //! let owner = core.register(first, b"LIMITS", 4, 1, &rules, &mut steps); // Ok(New(1))
 //! let handle = core.share(second, b"LIMITS");                            // Ok(2)
 //! core.load(first, 1, 0, &[1, 2, 3, 4])?;
@@ -25,8 +25,9 @@ mod holding;
 mod leaving;
 mod loading;
 mod plain;
+mod readers;
 mod registering;
 mod staging;
 mod validation;
 
-pub use plain::TblCore;
+pub use plain::PlainTables;

@@ -4,13 +4,13 @@ ghost use Rattle.tbl_core.specs.Core.{MayAct, Acts};
 ghost use Rattle.tbl_core.specs.Answers.{done};
 
 use crate::handles::own_table;
-use crate::plain::TblCore;
+use crate::plain::PlainTables;
 use crate::staging::{is_lent, unstaged_cause};
 use crate::validation::failed_rule;
 use fsw_base::AppNo;
 use tbl_words::TblStatus;
 
-impl<'r> TblCore<'r> {
+impl<'r> PlainTables<'r> {
     /// Stages the present value of the table of a handle of the caller's with the bytes from
     /// `offset` on replaced by these.
     ///
@@ -125,9 +125,9 @@ impl<'r> TblCore<'r> {
     /// `update` in one. No working buffer is used.
     ///
     /// # Errors
-    /// Those of [`TblCore::stage`]; then `Validation` with the number, from 1, of the first rule
-    /// that the new value fails; then `InfoTableLocked` where the table is single buffered, and an
-    /// application holds it. The first that applies.
+    /// Those of [`PlainTables::stage`]; then `Validation` with the number, from 1, of the first
+    /// rule that the new value fails; then `InfoTableLocked` where the table is single buffered,
+    /// and an application holds it. The first that applies.
     pub fn load(
         &mut self,
         app: AppNo,

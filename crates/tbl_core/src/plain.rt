@@ -12,7 +12,7 @@ use tbl_registry::Registry;
 /// The tables of up to 16 applications, without a journal. By the code, all its memory is taken
 /// when it is made.
 #[derive(Drop)]
-pub struct TblCore<'r> {
+pub struct PlainTables<'r> {
     // The limits that it was made with.
     pub(crate) config: Config,
     // For each application, from 1, whether it has ended.
@@ -23,7 +23,7 @@ pub struct TblCore<'r> {
     pub(crate) blocks: TableBlocks<'r>,
 }
 
-impl<'r> Model for TblCore<'r> {
+impl<'r> Model for PlainTables<'r> {
     ghost use Rattle.tbl_core.specs.Core.{Plain};
 
     ghost Value = { Plain };
@@ -35,7 +35,7 @@ impl<'r> Model for TblCore<'r> {
     ghost invariant = { Keeps };
 }
 
-impl<'r> TblCore<'r> {
+impl<'r> PlainTables<'r> {
     /// Table Services on which no call was made, for so many applications, at most 16. The blocks
     /// of the tables are cut from `region`, the four working buffers from `work`.
     ///
@@ -47,7 +47,7 @@ impl<'r> TblCore<'r> {
         apps: usize,
         region: &'r mut [u8],
         work: &'r mut [u8],
-    ) -> Result<TblCore<'r>, AllocError>
+    ) -> Result<PlainTables<'r>, AllocError>
         requires apps { apps ≤ 16 }
         requires region { cfg.now.tablepool ≤ length region.old }
         requires work { 4 * cfg.now.tablemax ≤ length work.old }
@@ -59,7 +59,7 @@ impl<'r> TblCore<'r> {
               lent = [];
             }) }
     {
-        Ok(TblCore {
+        Ok(PlainTables {
             config: cfg.again(),
             ended: none_ended(alloc, apps)?,
             registry: Registry::new(alloc, cfg.tables, cfg.handles)?,

@@ -7,12 +7,12 @@ ghost use Rattle.tbl_core.specs.Core.{MayAct, Acts};
 ghost use Rattle.tbl_core.specs.Answers.{registered};
 ghost use Rattle.tbl_core.specs.Refusals.{unfit_cause};
 
-use crate::plain::TblCore;
+use crate::plain::PlainTables;
 use bucket_list::{Ledger, Steps};
 use fsw_base::AppNo;
 use tbl_words::{Registered, Rule, RuleList, TblStatus};
 
-impl<'r> TblCore<'r> {
+impl<'r> PlainTables<'r> {
     /// Registers a table of `size` bytes for the caller, and answers its owner's handle. A table
     /// that the caller registered with this name and size is answered as it is. The value is zeros.
     /// At most 16 steps.

@@ -1,5 +1,5 @@
 -- The account of the tables' pool behind a registration, and behind a table that leaves.
-use Rattle.std.proofs.Common.{◌≡◌, ℕ, ◌+◌, ◌-◌, ◌^◌, ◌<◌, ◌≤◌, ◌==◌, ◌&&◌, min, zero, suc, Bool, true, false, cond, List, [], ◌∷◌, ◌++◌, length, map, set, get_or, leb, Option, Some, true≢false, eqb-true, eq-eqb, refl, ap, sym, subst, ◌∙◌, arith}
+use Rattle.std.proofs.Common.{◌≡◌, ℕ, ◌+◌, ◌-◌, ◌<◌, ◌≤◌, ◌==◌, ◌&&◌, zero, suc, Bool, true, false, cond, List, [], ◌∷◌, ◌++◌, length, map, set, get_or, leb, Option, Some, true≢false, eqb-true, eq-eqb, refl, ap, sym, subst, ◌∙◌, arith}
 use Rattle.std.specs.Prelude.{nat_lt, nat_le, slice_index}
 use Rattle.std.proofs.lemmas.Bool.Decides.{nat_tests}
 use Rattle.std.proofs.lemmas.List.{length-set, length-map, get_or-map, get_or-set_same, get_or-set_other, set-set, set-get_or, ext_get_or}
@@ -7,14 +7,14 @@ use Rattle.std.proofs.lemmas.List.Quantifiers.{position-Some}
 use Rattle.std.proofs.lemmas.List.Sums.{sum_by-append, sum_by_push, sum_by-cons}
 use Rattle.std.specs.Option.{option_map_or}
 use Rattle.fsw_base.specs.Blocks.{are_rising_from, class_of}
-use Rattle.fsw_base.specs.PoolAccounts.{Account, after_draws, after_return}
+use Rattle.fsw_base.specs.PoolAccounts.{Account, counted_by, after_draws, after_return}
 use Rattle.tbl_words.specs.Tables.{Table, State, blocks_for, block_size, blocks_out, account_of}
 use Rattle.tbl_words.specs.Machine.{new_table}
 use Rattle.tbl_words.specs.Accounts.{after_returns, RegistrationsDraw, LeavingReturns}
 
 -- Block sizes rise. --
 
-in_range : (least size : ℕ) (multiple few later : Bool) → (leb least size && multiple && few && later) ≡ true → (least ≤ size) × (later ≡ true)
+pub in_range : (least size : ℕ) (multiple few later : Bool) → (leb least size && multiple && few && later) ≡ true → (least ≤ size) × (later ≡ true)
 in_range least size true true true e = (grind (arith, nat_tests), refl)
 in_range least size multiple few false e = absurd (no (leb least size) multiple few e)
   where
@@ -35,7 +35,7 @@ in_range least size false few true e = absurd (no (leb least size) few e)
     no false b e = cc
 
 -- each size is at least the least
-at_least : (sizes : List ℕ) (least class : ℕ) → are_rising_from least sizes ≡ true → class < length sizes → least ≤ get_or sizes class 0
+pub at_least : (sizes : List ℕ) (least class : ℕ) → are_rising_from least sizes ≡ true → class < length sizes → least ≤ get_or sizes class 0
 at_least [] least class e h = absurd (omega (arith, h))
 at_least (size ∷ sizes) least zero e h = (in_range least size _ _ _ e).0
 at_least (size ∷ sizes) least (suc class) e h =
@@ -55,7 +55,7 @@ apart (size ∷ sizes) least (suc i) (suc j) e less h =
     let here = in_range least size _ _ _ e in
     apart sizes (size + 1) i j here.1 (omega (arith, less)) (omega (arith, h))
 
-rise_of : (some few rise : Bool) → (some && few && rise) ≡ true → rise ≡ true
+pub rise_of : (some few rise : Bool) → (some && few && rise) ≡ true → rise ≡ true
 rise_of true true rise e = e
 rise_of true false rise e = absurd cc
 rise_of false few rise e = absurd cc
@@ -134,9 +134,6 @@ class-there sizes size class is = (position-Some (λ block. nat_le size block) s
 
 -- Registrations. --
 
-saturated : (drawn count most : ℕ) → min (drawn + count) most ≡ min (min drawn most + count) most
-saturated drawn count most = omega arith
-
 pub registrations_draw : RegistrationsDraw
 registrations_draw limits s app name size option rules class fit is =
     let count = blocks_for option in
@@ -158,9 +155,8 @@ registrations_draw limits s app name size option rules class fit is =
     (λ x.
     sum_by_push (λ (t : Table). cond {A = ℕ} (block_size sizes t.size == x) (blocks_for t.option) 0) s.tables new
     ∙ ap (λ b. blocks_out sizes s.tables x + cond {A = ℕ} (b == x) count 0) (block_size-class sizes size class is)) in
-    ap (λ (o : Option ℕ). account (option_map_or (λ c. (after_draws (account_of limits s) c count).made) o s.made) (map (blocks_out sizes (s.tables ++ new ∷ [])) sizes) (min (s.drawn + count) (2 ^ 32 - 1))) is
-    ∙ ap (λ o. account after.made o (min (s.drawn + count) (2 ^ 32 - 1))) out
-    ∙ ap (λ n. account after.made after.out n) (saturated s.drawn count (2 ^ 32 - 1))
+    ap (λ (o : Option ℕ). account (option_map_or (λ c. (after_draws (account_of limits s) c count).made) o s.made) (map (blocks_out sizes (s.tables ++ new ∷ [])) sizes) (counted_by s.drawn count)) is
+    ∙ ap (λ o. account after.made o (counted_by s.drawn count)) out
 
 -- Tables that leave. --
 

@@ -14,9 +14,9 @@ use Rattle.tbl_words.specs.Machine.{cause, accept, outcome, step, state_from, ne
 use Rattle.tbl_words.specs.Bounds.{HandlesGoByEntries, VersionsGoByEntries}
 
 -- handles and versions go no further than this
-record AreFew (n : ℕ) (s : State) : Type 0 where
-  handles : s.handles_made ≤ n
-  versions : All (λ t. t.version ≤ n) s.tables
+pub record AreFew (n : ℕ) (s : State) : Type 0 where
+  pub handles : s.handles_made ≤ n
+  pub versions : All (λ t. t.version ≤ n) s.tables
 
 one_more : (n : ℕ) (s : State) → AreFew n s → AreFew (suc n) s
 one_more n s few = record {
@@ -136,7 +136,7 @@ few-from n limits s (e ∷ es) few =
     plus-suc : (n k : ℕ) → suc n + k ≡ n + suc k
     plus-suc n k = omega arith
 
-few-after : (limits : Limits) (apps : ℕ) (history : List Entry) → AreFew (length history) (state_from limits (opening limits apps) history)
+pub few-after : (limits : Limits) (apps : ℕ) (history : List Entry) → AreFew (length history) (state_from limits (opening limits apps) history)
 few-after limits apps history =
     subst (λ m. AreFew m (state_from limits (opening limits apps) history)) (zero-plus (length history))
     (few-from 0 limits (opening limits apps) history (record { handles = omega arith; versions = λ k d within. absurd (omega (arith, within)) }))

@@ -4,7 +4,7 @@ use Rattle.std.specs.Prelude.{◌≡◌, ℕ, ◌+◌, ◌-◌, ◌==◌, ◌&&�
 use Rattle.std.specs.Option.{option_map_or}
 use Rattle.fsw_base.specs.Blocks.{class_of}
 use Rattle.fsw_base.specs.Limits.{Limits}
-use Rattle.fsw_base.specs.PoolAccounts.{after_draws}
+use Rattle.fsw_base.specs.PoolAccounts.{counted_by, after_draws}
 use Rattle.tbl_words.specs.declared.statuses.TblStatus.{TblStatus}
 use Rattle.tbl_words.specs.declared.statuses.TblStatus.TheVariants.{ErrInvalidHandle, ErrInvalidName, ErrInvalidSize, ErrInvalidOptions, ErrDuplicateNotOwned, ErrDuplicateDiffSize, ErrRegistryFull, ErrHandlesFull, ErrNoAccess, ErrUnregistered, ErrDumpOnly, ErrFileTooLarge, ErrPartialLoad, ErrLoadInProgress, ErrNoBufferAvail, InfoTableLocked, InfoNoUpdatePending, ErrMemBlockSize, NoLoad, NotValidated, Validation}
 use Rattle.tbl_words.specs.declared.rules.Rule.{Rule}
@@ -165,7 +165,7 @@ new_table number app name size option rules = record {
 abbrev pub with_blocks : Limits → State → ℕ → ℕ → State
 with_blocks limits s size count = record s {
   made = option_map_or (λ class. (after_draws (account_of limits s) class count).made) (class_of size limits.sizes) s.made;
-  drawn = s.drawn + count;
+  drawn = counted_by s.drawn count;
 }
 
 -- one table more, with its blocks and its owner's handle

@@ -1,6 +1,6 @@
 -- The state of Table Services: tables, the handles by which applications reach them, and what the memory pool of the tables has
 -- given. A value is a list of bytes, and whoever holds one has a copy: nothing here is shared, and no buffer has a place.
-use Rattle.std.specs.Prelude.{ℕ, ◌-◌, ◌*◌, ◌^◌, ◌==◌, ◌&&◌, not, min, Bool, true, false, List, [], length, map, find, count_by, sum_by, replicate, slice_index, slice_index_or, Option, Some, None, is_some, if◌then◌else◌}
+use Rattle.std.specs.Prelude.{ℕ, ◌-◌, ◌*◌, ◌==◌, ◌&&◌, not, Bool, true, false, List, [], length, map, find, count_by, sum_by, replicate, slice_index, slice_index_or, Option, Some, None, is_some, if◌then◌else◌}
 use Rattle.std.specs.List.{list_any}
 use Rattle.std.specs.Option.{option_map_or, option_and_then}
 use Rattle.std.specs.Str.{bytes_eq}
@@ -49,7 +49,7 @@ pub record Handle : Type 0 where
 
 -- Table Services: the tables that have a handle and the live handles, both in order of number; how many handles were made; for
 -- each application, from 1, whether it has ended; and of the memory pool of the tables, by block size, the greatest number of
--- blocks that were ever out at once, and how many were drawn.
+-- blocks that were ever out at once, and how many were drawn, a count that stops at 4294967295.
 pub record State : Type 0 where
   pub tables : List Table
   pub handles : List Handle
@@ -171,7 +171,7 @@ account_of limits s = record {
   sizes = limits.sizes;
   made = s.made;
   out = map (blocks_out limits.sizes s.tables) limits.sizes;
-  requests = min s.drawn (2 ^ 32 - 1);
+  requests = s.drawn;
   errors = 0;
 }
 

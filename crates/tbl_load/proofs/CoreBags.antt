@@ -1,0 +1,53 @@
+-- The bags of the core are those of the history, since what handles hold is lent by the loans that were noted.
+use Rattle.std.proofs.Common.{◌≡◌, ℕ, length, is_some, ap, sym, ◌∙◌, subst}
+use Rattle.tbl_words.specs.Holds.{hold_of}
+use Rattle.tbl_words.specs.Tables.{State, handle_at}
+use Rattle.tbl_words.proofs.Orders.{handles_rise}
+use Rattle.tbl_blocks.specs.Held.{HeldViews}
+use Rattle.tbl_core.specs.Core.{Holds, loan_of, view_due, views_due}
+use Rattle.tbl_load.specs.declared.tables.TblCore.TheInside.{Inside}
+use Rattle.tbl_load.specs.Bags.{HasBag, KeepsBags, lent_tables, loans_of}
+use Rattle.tbl_load.specs.Core.{Core, state_of}
+use Rattle.tbl_load.specs.Inside.{core_of, Stands}
+use Rattle.tbl_load.specs.Notes.{noted}
+use Rattle.tbl_load.proofs.Dues.{due_by, due_alike, told_each}
+use Rattle.tbl_load.proofs.Own.{Rise}
+
+pub rise_in : (a : Inside) → Stands a → Rise a.core.state.handles
+rise_in a stands = subst (λ (s : State). Rise s.handles) (sym stands.state) (handles_rise a.core.limits (length a.noted.log.budgets) a.noted.log.entries)
+
+-- what is due by the loans of the core is due by those that were noted
+dues_are : (a : Inside) → Stands a → (app n : ℕ) → view_due a.core app n ≡ view_due (lent_tables (core_of a)) app n
+dues_are a stands app n =
+    let handles = (state_of (core_of a)).handles in
+    let told = loan_of (loans_of (core_of a)) in
+    ap (λ (s : State). due_by (loan_of a.core.lent) app (handle_at s.handles n)) stands.state
+    ∙ due_alike (loan_of a.core.lent) told app handles
+    (λ m some.
+    stands.loans m (ap (λ (s : State). is_some (hold_of s.handles m)) stands.state ∙ some)
+    ∙ sym (told_each (λ k. noted k a.noted.log.entries a.noted.notes) handles m some)) n
+
+counts_are : (a : Inside) → Stands a → (app : ℕ) → views_due a.core app ≡ views_due (lent_tables (core_of a)) app
+counts_are a stands app = ap (λ (s : State). views_due (record a.core { state = s }) app) stands.state
+
+-- a bag of the history is one of the core
+pub bag_in : (a : Inside) (old : Core) (app : ℕ) (bag : HeldViews) → core_of a ≡ old → Stands a → HasBag old app bag → Holds a.core app bag
+bag_in a old app bag is stands has_old =
+    let has : HasBag (core_of a) app bag = subst (λ core. HasBag core app bag) (sym is) has_old in
+    record {
+      seen = λ n. has.seen n ∙ sym (dues_are a stands app n);
+      counted = has.counted ∙ sym (counts_are a stands app);
+      room = has.room;
+    }
+
+-- and the other way round
+pub bag_out : (a : Inside) (app : ℕ) (bag : HeldViews) → Stands a → Holds a.core app bag → HasBag (core_of a) app bag
+bag_out a app bag stands has = record {
+  seen = λ n. has.seen n ∙ dues_are a stands app n;
+  counted = has.counted ∙ counts_are a stands app;
+  room = has.room;
+}
+
+-- so what keeps the core's bags keeps those of the history
+pub bags_over : (a next : Inside) (old : Core) → core_of a ≡ old → Stands a → Stands next → ((app : ℕ) (bag : HeldViews) → Holds a.core app bag → Holds next.core app bag) → KeepsBags old (core_of next)
+bags_over a next old is stands stands_next keeps app bag has = bag_out next app bag stands_next (keeps app bag (bag_in a old app bag is stands has))

@@ -1,0 +1,12 @@
+pub mod Allowed
+pub mod CoreBags
+pub mod Dues
+pub mod Journals
+pub mod Made
+pub mod Notes
+pub mod Opened
+pub mod OthersBags
+pub mod Over
+pub mod Own
+pub mod Pushed
+pub mod Shown

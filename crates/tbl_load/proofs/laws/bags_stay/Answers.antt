@@ -1,0 +1,12 @@
+use Rattle.tbl_load.proofs.OthersBags.{others_keep, others_behind}
+use Rattle.tbl_load.proofs.Shown.{shown}
+use Rattle.tbl_load.proofs.laws.bags_stay.Goals as goal
+
+pub returns-clause-shown : goal.returns-clause-shown
+returns-clause-shown c = shown
+
+pub returns-clause-other_bags : goal.returns-clause-other_bags
+returns-clause-other_bags c = others_keep
+
+pub returns-clause-behind : goal.returns-clause-behind
+returns-clause-behind c = others_behind

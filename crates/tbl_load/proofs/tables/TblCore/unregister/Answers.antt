@@ -1,0 +1,36 @@
+use Rattle.std.proofs.Common.{refl}
+use Rattle.tbl_words.specs.declared.history.Call.TheVariants.{Unregister}
+use Rattle.tbl_load.proofs.Made.{made_taking, taken_stays, done-nothing}
+use Rattle.tbl_load.proofs.CoreBags.{bag_in, bag_out}
+use Rattle.tbl_load.proofs.OthersBags.{others_keep}
+use Rattle.tbl_load.proofs.Over.{may_act, stands_over, does_over}
+use Rattle.tbl_load.proofs.tables.TblCore.unregister.Goals as goal
+
+pub unregister-result-requires : goal.unregister-result-requires
+unregister-result-requires g c = record {
+  may = may_act c.self.inside c.args.self.now c.args.app (Unregister c.args.handle) c.self.view_is c.self.invariant c.requires.may;
+  bag = bag_in c.self.inside c.args.self.now c.args.app c.args.held.now c.self.view_is c.self.invariant c.requires.bag;
+}
+
+pub invariant_of-self : goal.invariant_of-self
+invariant_of-self g c =
+    stands_over c.self.inside c.unregister-result.new.self c.push.new.self c.args.self.now c.args.app (Unregister c.args.handle) _ c.self.view_is c.self.invariant c.requires.may
+    (made_taking c.self.inside c.unregister-result.new.self c.push.new.self c.args.app (Unregister c.args.handle) _ c.of_done.result c.in_use-now.result c.self.invariant c.unregister-result.ensures.does c.of_done.ensures c.in_use-now.ensures c.push.ensures.even
+    c.args.held.now c.unregister-result.new.held (bag_in c.self.inside c.args.self.now c.args.app c.args.held.now c.self.view_is c.self.invariant c.requires.bag) c.unregister-result.ensures.bag
+    (λ n none. taken_stays c.args.held.now c.unregister-result.new.held c.unregister-result.result c.args.handle c.unregister-result.ensures.others c.unregister-result.ensures.gone c.unregister-result.ensures.unchanged n)
+    c.push.ensures.pushed (done-nothing c.unregister-result.result) (λ n. refl))
+
+pub returns-clause-does : goal.returns-clause-does
+returns-clause-does g c =
+    does_over c.self.inside c.unregister-result.new.self c.push.new.self c.args.self.now c.args.app (Unregister c.args.handle) _ c.self.view_is c.self.invariant c.requires.may
+    (made_taking c.self.inside c.unregister-result.new.self c.push.new.self c.args.app (Unregister c.args.handle) _ c.of_done.result c.in_use-now.result c.self.invariant c.unregister-result.ensures.does c.of_done.ensures c.in_use-now.ensures c.push.ensures.even
+    c.args.held.now c.unregister-result.new.held (bag_in c.self.inside c.args.self.now c.args.app c.args.held.now c.self.view_is c.self.invariant c.requires.bag) c.unregister-result.ensures.bag
+    (λ n none. taken_stays c.args.held.now c.unregister-result.new.held c.unregister-result.result c.args.handle c.unregister-result.ensures.others c.unregister-result.ensures.gone c.unregister-result.ensures.unchanged n)
+    c.push.ensures.pushed (done-nothing c.unregister-result.result) (λ n. refl))
+
+pub returns-clause-bag : goal.returns-clause-bag
+returns-clause-bag g c =
+    bag_out (record { core = c.unregister-result.new.self; noted = c.push.new.self }) c.args.app c.unregister-result.new.held (invariant_of-self g c) c.unregister-result.ensures.bag
+
+pub returns-clause-other_bags : goal.returns-clause-other_bags
+returns-clause-other_bags g c = others_keep c.args.self.now _ c.args.app (Unregister c.args.handle) _ (returns-clause-does g c)

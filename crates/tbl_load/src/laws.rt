@@ -1,0 +1,19 @@
+//! What holds of every bag, whoever has it, and of the peaks.
+ghost use Rattle.std.specs.Prelude.{◌≡◌, ℕ, List, ◌++◌, false};
+ghost use Rattle.fsw_base.specs.Limits.{Limits};
+ghost use Rattle.tbl_words.specs.declared.calls.TblAnswer.{TblAnswer};
+ghost use Rattle.tbl_words.specs.declared.history.Call.{Call};
+ghost use Rattle.tbl_blocks.specs.Held.{HeldViews};
+ghost use Rattle.tbl_load.specs.Bags.{HasBag, KeepsOtherBags, CalledByOthers, bytes_seen, held_bytes};
+ghost use Rattle.tbl_load.specs.Core.{Core, Does, state_of};
+
+/// An application's bag shows the bytes of what each of its handles holds, and nothing of any other
+/// handle; and it stays its bag whatever others call, by one entry or by many. Does nothing.
+pub fn bags_stay()
+    ensures shown { (core : Core) (app number : ℕ) (bag : HeldViews) → HasBag core app bag →
+        bytes_seen bag number ≡ held_bytes (state_of core) app number }
+    ensures other_bags { (old new : Core) (app : ℕ) (call : Call) (answer : TblAnswer) →
+        Does old new app call answer → KeepsOtherBags old new app }
+    ensures behind { (old new : Core) (app : ℕ) (bag : HeldViews) →
+        CalledByOthers old new app → HasBag old app bag → HasBag new app bag }
+{}
