@@ -4,7 +4,7 @@ with a second word compares that with the file of this name.
     core_rows.py MODEL [ANSWERS]
 
 A step is spelled as the report spells a call, with pipes by their numbers: its words are the application, the call and what
-the call is given; `show` is a receipt of the pipe's last message.
+the call is given; `put` writes bytes over the first ones of a buffer, and `show` is a receipt of the pipe's last message.
 """
 import sys
 
@@ -12,7 +12,7 @@ sys.dont_write_bytecode = True  # nothing is left beside the scripts
 
 from model_answers import compared, model_of
 
-STAGE = "one-buffer-per-send"
+STAGE = "zero-copy"
 
 # A title, the limits that aren't the usual ones, the sequence counts at which ids start, and how many applications there are,
 # each with its steps.
@@ -241,6 +241,35 @@ EXAMPLES = [
         a1 pool 48
         a1 end
     """),
+    ("buffers that are sent without a copy", {"sizes": [32, 64]}, {}, 2, """
+        a1 create 4 A
+        a1 sub 0x0801 1 4
+        a2 create 4 B
+        a2 sub 0x0801 2 4
+        a1 alloc 6
+        a1 alloc 32769
+        a1 alloc 65
+        a1 alloc 16
+        a1 xmit 1
+        a1 put 1 0801c00000010b16
+        a2 xmit 1
+        a2 release 1
+        a1 xmit 2
+        a1 xmit 1
+        a1 xmit 1
+        a1 recv 1
+        a2 recv 2
+        a1 alloc 8
+        a1 release 2
+        a1 release 2
+        a1 alloc 7
+        a1 put 3 0802c000000016
+        a1 xmit 3
+        a1 alloc 7
+        a1 end
+        a2 xmit 4
+        a2 end
+    """),
 ]
 
 # The largest configuration: each application makes as many pipes as every other, each id has a subscription, and the first id
@@ -279,12 +308,25 @@ def report(model, example):
     _, limits, starts, applications, steps = example
     bus = opened(model, limits, starts, applications)
     receipts = {application: [] for application in range(1, applications + 1)}
+    unsent = {}  # the bytes of each application's unsent buffers
     for application, word, *given in (line.split() for line in steps.strip().splitlines()):
         application = int(application[1:])
+        if word == "put":
+            written = bytes.fromhex(given[1])
+            unsent[application, int(given[0])][: len(written)] = written
+            continue
         if word == "look":
             answer = bus.look(application)
+        elif word == "xmit":
+            number = int(given[0])
+            whole = bytes(unsent.get((application, number), b""))
+            answer = bus.call(application, ("xmit", number, whole, True), f"xmit {number} {len(whole)} {sum(whole)} inc")
         elif word != "show":
             answer = bus.call(application, *call_of(model, word, given))
+        if word == "alloc" and answer[0] == "number":
+            unsent[application, answer[1]] = bytearray(int(given[0]))
+        if (word, answer[0]) in (("xmit", "sent"), ("release", "done")):
+            del unsent[application, int(given[0])]
         if word == "show" or answer[0] == "got":
             pipe = int(given[0])
             item = bus.last_item(application, pipe)

@@ -10,7 +10,7 @@ sys.dont_write_bytecode = True  # nothing is left beside the scripts
 
 from model_answers import compared, model_of
 
-STAGE = "one-buffer-per-send"
+STAGE = "zero-copy"
 BYTES = {b"n": b"\n", b"r": b"\r", b"t": b"\t"}
 
 

@@ -35,7 +35,7 @@ def main():
     model, count = sys.argv[1], int(sys.argv[2])
     for seed in range(count):
         text = script(random.Random(seed))
-        wanted = printed([sys.executable, model, "--stage", "one-buffer-per-send"], text)
+        wanted = printed([sys.executable, model, "--stage", "zero-copy"], text)
         if printed(["./fsw"], text) != wanted:
             print(f"script {seed} prints something else than the model:\n{text.decode()}")
             return 1

@@ -1,15 +1,21 @@
 -- The bags of all applications: at the opening, and through one application's turn.
-use Rattle.std.proofs.Common.{◌≡◌, ℕ, zero, suc, ◌+◌, ◌<◌, ◌≤◌, Bool, true, false, List, [], ◌∷◌, length, replicate, slice_set, get_or, refl, sym, subst, inl, inr, arith}
+use Rattle.std.proofs.Common.{◌≡◌, ℕ, zero, suc, ◌+◌, ◌-◌, ◌==◌, ◌<◌, ◌≤◌, Bool, true, false, List, [], ◌∷◌, length, map, replicate, slice_set, slice_index_or, get_or, refl, ap, sym, subst, inl, inr, arith}
+use Rattle.std.specs.Prelude.{find}
+use Rattle.std.specs.Option.{option_map}
 use Rattle.lend_block.specs.Loan.{LentBytes}
 use Rattle.buf_desc.specs.Held.{Holding}
 use Rattle.bus_words.specs.declared.calls.BusAnswer.{BusAnswer}
 use Rattle.bus_words.specs.declared.history.Call.{Call}
-use Rattle.sb_calls.specs.Bags.{HasBag, KeepsOtherBags}
-use Rattle.sb_calls.specs.Core.{Core, Does}
-use Rattle.app_script.specs.Script.{ScriptText}
+use Rattle.sb_calls.specs.Bags.{HasBag, KeepsOtherBags, descs_of}
+use Rattle.sb_calls.specs.Core.{Core, Does, apps_of}
+use Rattle.bus_words.specs.Bus.{Buffer}
+use Rattle.bus_store.specs.Bag.{Shape}
+use Rattle.bus_store.specs.Words.{desc_of, size_for}
+use Rattle.script_settings.specs.Accounts.{budget_of}
+use Rattle.app_script.specs.Script.{Application, ScriptText}
 use Rattle.app_run.specs.Openings.{opened, empty_bag}
 use Rattle.app_run.specs.Rounds.{AllHold, StepsIf}
-use Rattle.app_run.specs.Runners.{Progress}
+use Rattle.app_run.specs.Runners.{Equipped}
 use Rattle.app_run.specs.Turns.{Moved}
 
 -- One application's turn. --
@@ -23,9 +29,9 @@ module _ (law : (old new : Core) (app : ℕ) (call : Call) (answer : BusAnswer) 
   moved-bags before after who (inr step) = law before after who step.0 step.1 step.2
 
   -- others' bags stay theirs
-  pub steps-bags : (ended : Bool) (old new : Progress) (before after : Core) → StepsIf ended old new before after → KeepsOtherBags before after old.running.app
-  steps-bags true old new before after step = same-bags before after old.running.app step.1
-  steps-bags false old new before after step = moved-bags before after old.running.app step.moved
+  pub steps-bags : (ended : Bool) (old new : Equipped) (before after : Core) → StepsIf ended old new before after → KeepsOtherBags before after old.progress.running.app
+  steps-bags true old new before after step = same-bags before after old.progress.running.app step.1
+  steps-bags false old new before after step = moved-bags before after old.progress.running.app step.moved
 
 hold-others : (before after : Core) (who : ℕ) → KeepsOtherBags before after who → (n : ℕ) (bags : List (Holding LentBytes)) → who < n → AllHold before n bags → AllHold after n bags
 hold-others before after who keeps n [] above holds = tt
@@ -53,9 +59,25 @@ hold-at core n (suc i) (bag ∷ bags) d holds within =
 
 -- Before the first call. --
 
-has-empty : (script : ScriptText) (app room : ℕ) → script.limits.pipes ≤ room → HasBag (opened script) app (empty_bag room)
-has-empty script app room enough = record { seen = λ pipe. refl; counted = refl; room = enough }
+no-buffers : (n i : ℕ) → slice_index_or (replicate {A = List Buffer} n []) i [] ≡ []
+no-buffers zero i = refl
+no-buffers (suc n) zero = refl
+no-buffers (suc n) (suc i) = no-buffers n i
 
-pub hold-empty : (script : ScriptText) (room n count : ℕ) → script.limits.pipes ≤ room → AllHold (opened script) n (replicate count (empty_bag room))
-hold-empty script room n zero enough = tt
-hold-empty script room n (suc count) enough = (has-empty script n room enough, hold-empty script room (n + 1) count enough)
+abbrev the_shape : ℕ → ℕ → ℕ → Shape
+the_shape desc size asked = record { desc = desc; size = size; asked = asked }
+
+has-empty : (script : ScriptText) (app buffers : ℕ) → 1 ≤ app → HasBag (opened script) app (empty_bag script.limits.pipes buffers)
+has-empty script app buffers first = record {
+  views = record { seen = λ pipe. refl; counted = refl; room = omega arith };
+  buffers = record {
+    known = first;
+    due = λ number. ap (λ bs. option_map (λ (buffer : Buffer). the_shape (desc_of (descs_of (opened script)) number) (size_for script.limits.sizes buffer.size) buffer.size) (find (λ (buffer : Buffer). buffer.number == number) bs))
+        (sym (no-buffers (apps_of (opened script)) (app - 1)));
+  };
+}
+
+pub hold-empty : (script : ScriptText) (n : ℕ) (apps : List Application) → 1 ≤ n →
+    AllHold (opened script) n (map (λ a. empty_bag script.limits.pipes (budget_of a.lines).buffers) apps)
+hold-empty script n [] first = tt
+hold-empty script n (a ∷ apps) first = (has-empty script n (budget_of a.lines).buffers first, hold-empty script (n + 1) apps (omega arith))

@@ -11,10 +11,11 @@ use Rattle.bus_words.specs.declared.history.Call.TheVariants as calls
 use Rattle.bus_words.specs.declared.history.Entry.{Entry}
 use Rattle.bus_words.specs.Bus.{State, Standing, Active, Waiting, Ended, Sending, Subscription, standing_of, with_standing, is_empty, others_idle, is_subscribed, route}
 use Rattle.bus_words.specs.Refusals.{Refusal, OfBus, OfPools}
-use Rattle.bus_words.specs.Machine.{step, cause, decided, refused_state, sent_along, received}
+use Rattle.bus_words.specs.Machine.{step, cause, decided, refused_state, buffer_gone, sent_along, passed_along, received}
 use Rattle.script_lines.specs.declared.line.Line.{Line}
-use Rattle.script_lines.specs.declared.line.Line.TheVariants.{Create, Delete, SetOpts, GetOpts, Find, PipeName, Subscribe, Unsubscribe, Send, SendRaw, Receive, Pend, PoolCreate, PoolGet, PoolPut, PoolFigures}
+use Rattle.script_lines.specs.declared.line.Line.TheVariants.{Create, Delete, SetOpts, GetOpts, Find, PipeName, Subscribe, Unsubscribe, Send, SendRaw, Receive, Pend, Allocate, TransmitBuffer, Release, PoolCreate, PoolGet, PoolPut, PoolFigures}
 use Rattle.script_runs.specs.Trace.{Registers, call_of}
+use Rattle.script_runs.specs.Written.{Written, bytes_in}
 use Rattle.app_run.specs.Lines.{pipe_waited_for}
 use Rattle.app_run.specs.Runners.{standing_for}
 
@@ -104,6 +105,14 @@ along-told : (limits : Limits) (subs : List Subscription) (sending : Sending) (s
 along-told limits [] sending s = refl
 along-told limits (sub ∷ subs) sending s = refl
 
+passed : (subs : List Subscription) (sending : Sending) (s : State) → ((passed_along subs sending s).1).standings ≡ s.standings
+passed [] sending s = refl
+passed (sub ∷ subs) sending s = refl
+
+passed-told : (subs : List Subscription) (sending : Sending) (s : State) → is_pending (passed_along subs sending s).0 ≡ false
+passed-told [] sending s = refl
+passed-told (sub ∷ subs) sending s = refl
+
 settles-transmit : (limits : Limits) (history : List Entry) (s : State) (app : ℕ) (bytes : List ℕ) (inc : Bool) → standing_of s app ≡ Active →
     Settles app (step limits history s app (calls.Transmit bytes inc)).0 (step limits history s app (calls.Transmit bytes inc)).1 None
 settles-transmit limits history s app bytes inc active =
@@ -133,46 +142,54 @@ settles-pend limits history s app r registers None active =
     settles-pended (is_empty s.pipes pipe) (others_idle s app) _ s (received s pipe) app r registers refl active
 
 -- the call of an active application's line
-pub settles-line : (limits : Limits) (history : List Entry) (s : State) (app : ℕ) (registers : Registers) (line : Line) → standing_of s app ≡ Active →
-    SettlesLine limits history s app registers line (call_of registers line)
+pub settles-line : (limits : Limits) (history : List Entry) (s : State) (app : ℕ) (registers : Registers) (written : Written) (line : Line) → standing_of s app ≡ Active →
+    SettlesLine limits history s app registers line (call_of registers written line)
 unfolding call_of pipe_waited_for
-settles-line limits history s app registers (Create pipe depth name) active =
+settles-line limits history s app registers written (Create pipe depth name) active =
     settles-decided limits history s app (calls.Create depth name) (cause limits history s app (calls.Create depth name)) (λ why. refl) refl refl active
-settles-line limits history s app registers (Delete pipe) active =
+settles-line limits history s app registers written (Delete pipe) active =
     settles-decided limits history s app (calls.Delete _) (cause limits history s app (calls.Delete (slice_index registers.pipes pipe))) (λ why. refl) refl refl active
-settles-line limits history s app registers (SetOpts pipe bits) active =
+settles-line limits history s app registers written (SetOpts pipe bits) active =
     settles-decided limits history s app (calls.SetOpts _ bits) (cause limits history s app (calls.SetOpts (slice_index registers.pipes pipe) bits)) (λ why. refl) refl refl active
-settles-line limits history s app registers (GetOpts pipe) active =
+settles-line limits history s app registers written (GetOpts pipe) active =
     settles-decided limits history s app (calls.GetOpts _) (cause limits history s app (calls.GetOpts (slice_index registers.pipes pipe))) (λ why. refl) refl refl active
-settles-line limits history s app registers (Find pipe name) active =
+settles-line limits history s app registers written (Find pipe name) active =
     settles-decided limits history s app (calls.Find name) (cause limits history s app (calls.Find name)) (λ why. refl) refl refl active
-settles-line limits history s app registers (PipeName pipe) active =
+settles-line limits history s app registers written (PipeName pipe) active =
     settles-decided limits history s app (calls.PipeName _) (cause limits history s app (calls.PipeName (slice_index registers.pipes pipe))) (λ why. refl) refl refl active
-settles-line limits history s app registers (Subscribe id pipe limit scope) active =
+settles-line limits history s app registers written (Subscribe id pipe limit scope) active =
     let at = slice_index registers.pipes pipe in
     settles-decided limits history s app (calls.Subscribe id at limit scope) (cause limits history s app (calls.Subscribe id at limit scope)) (λ why. refl)
     (either (is_subscribed s.subscriptions id at) s _ refl) refl active
-settles-line limits history s app registers (Unsubscribe id pipe) active =
+settles-line limits history s app registers written (Unsubscribe id pipe) active =
     settles-decided limits history s app (calls.Unsubscribe id _) (cause limits history s app (calls.Unsubscribe id (slice_index registers.pipes pipe))) (λ why. refl) refl refl active
-settles-line limits history s app registers (Send id size fill inc) active = settles-transmit limits history s app _ inc active
-settles-line limits history s app registers (SendRaw bytes inc) active = settles-transmit limits history s app bytes inc active
-settles-line limits history s app registers (Receive pipe) active =
+settles-line limits history s app registers written (Send id size fill inc) active = settles-transmit limits history s app _ inc active
+settles-line limits history s app registers written (SendRaw bytes inc) active = settles-transmit limits history s app bytes inc active
+settles-line limits history s app registers written (Receive pipe) active =
     let at = slice_index registers.pipes pipe in
     settles-decided limits history s app (calls.Receive at) (cause limits history s app (calls.Receive at)) (refused-receive s at) refl refl active
-settles-line limits history s app registers (Pend pipe) active =
+settles-line limits history s app registers written (Pend pipe) active =
     settles-pend limits history s app pipe registers (cause limits history s app (calls.Pend (slice_index registers.pipes pipe))) active
-settles-line limits history s app registers (PoolCreate pool bytes) active =
+settles-line limits history s app registers written (Allocate buf size) active =
+    settles-decided limits history s app (calls.Allocate size) (cause limits history s app (calls.Allocate size)) (λ why. refl) refl refl active
+settles-line limits history s app registers written (TransmitBuffer buf inc) active =
+    let call = calls.TransmitBuffer (slice_index registers.buffers buf) (bytes_in written (slice_index registers.buffers buf)) inc in
+    settles-decided limits history s app call (cause limits history s app call) (λ why. refl)
+    (passed _ _ (buffer_gone s app _)) (passed-told _ _ (buffer_gone s app _)) active
+settles-line limits history s app registers written (Release buf) active =
+    settles-decided limits history s app (calls.Release _) (cause limits history s app (calls.Release (slice_index registers.buffers buf))) (λ why. refl) refl refl active
+settles-line limits history s app registers written (PoolCreate pool bytes) active =
     settles-decided limits history s app (calls.PoolCreate bytes) (cause limits history s app (calls.PoolCreate bytes)) (λ why. refl) refl refl active
-settles-line limits history s app registers (PoolGet grant pool size) active =
+settles-line limits history s app registers written (PoolGet grant pool size) active =
     let call = calls.PoolGet (slice_index registers.pools pool) size in
     settles-decided limits history s app call (cause limits history s app call) (λ why. refl) refl refl active
-settles-line limits history s app registers (PoolPut pool grant) active =
+settles-line limits history s app registers written (PoolPut pool grant) active =
     let call = calls.PoolPut (slice_index registers.pools pool) (slice_index registers.grants grant) in
     settles-decided limits history s app call (cause limits history s app call) (λ why. refl) refl refl active
-settles-line limits history s app registers (PoolFigures pool) active =
+settles-line limits history s app registers written (PoolFigures pool) active =
     let call = calls.PoolFigures (slice_index registers.pools pool) in
     settles-decided limits history s app call (cause limits history s app call) (λ why. refl) refl refl active
-settles-line limits history s app registers line active = tt
+settles-line limits history s app registers written line active = tt
 
 -- a look that finds a message, or that none can come
 looked-active : (e o : Bool) (n : ℕ) (s t : State) (app : ℕ) (standing : Standing) → t.standings ≡ s.standings → standing_of s app ≡ standing → (standing ≡ Ended → ⊥) →

@@ -28,7 +28,7 @@ use Rattle.app_run.specs.Received.{taken_from, taken_by, newest_number, Remember
 -- the bag shows the bytes of each own last message
 seen-own : (core : Core) (app pipe : ℕ) (bag : Holding LentBytes) → HasBag core app bag → bytes_seen bag pipe ≡ option_map (λ item. item.message) (own_last (state_of core).pipes app pipe)
 seen-own core app pipe bag holds =
-    ap (option_map (λ view. view.bytes)) (holds.seen pipe)
+    ap (option_map (λ view. view.bytes)) (holds.views.seen pipe)
     ∙ elim (owns (state_of core).pipes app pipe) as (λ b.
     option_map (λ (view : LentBytes). view.bytes) (cond {A = Option LentBytes} b (option_map (λ item. record { loan = loan_of (loans_of core) pipe; bytes = item.message }) (last pipe)) None)
     ≡ option_map (λ item. item.message) (cond {A = Option Item} b (last pipe) None)) [

@@ -17,6 +17,7 @@ use Rattle.script_lines.specs.declared.line.Line.TheVariants.{ShowPipe}
 use Rattle.script_runs.specs.Rotation.{Running, SoFar, after_call, after_look, answer_to, turn, turn_in, active_turn, line_turn, behind}
 use Rattle.script_runs.specs.Told.{Seen, seen_from, got_in, receipts_of, shown, told_after, line_told, told}
 use Rattle.script_runs.specs.Trace.{Registers, call_of, registers_after}
+use Rattle.script_runs.specs.Written.{Written, written_after, written_by}
 use Rattle.bus_words.proofs.LegalSteps.{standing-ended}
 use Rattle.app_run.specs.Lines.{pipe_waited_for}
 use Rattle.app_run.specs.Runners.{standing_for}
@@ -62,12 +63,13 @@ told-answer : (limits : Limits) (sofar : SoFar) (running : Running) (line : Line
     (others : List Seen) →
     is_pending answer ≡ is_some waits →
     told_after running.app answer (record { entry = record { app = running.app; call = call; answer = answer }; after = after }) others
-    (λ s rest. told running.app (registers_after running.registers line answer) s lines rest)
-    ≡ got_in running.app after call answer ++ told_on (standing_for waits) running.app (registers_after running.registers line answer) after lines others
+    (λ s rest. told running.app (registers_after running.registers line answer) (written_after running.written call answer) s lines rest)
+    ≡ got_in running.app after call answer
+    ++ told_on (standing_for waits) running.app (registers_after running.registers line answer) (written_after running.written call answer) after lines others
 told-answer limits sofar running line lines call Pending None after others is = absurd cc
 told-answer limits sofar running line lines call Pending (Some pipe) after [] is = ap (λ g. g ++ []) (sym (got-pending running.app after call))
 told-answer limits sofar running line lines call Pending (Some pipe) after (look ∷ others) is =
-    ap (λ g. g ++ (receipts_of running.app look ++ told running.app (registers_after running.registers line Pending) look.after lines others)) (sym (got-pending running.app after call))
+    ap (λ g. g ++ (receipts_of running.app look ++ told running.app (registers_after running.registers line Pending) (written_after running.written call Pending) look.after lines others)) (sym (got-pending running.app after call))
 told-answer limits sofar running line lines call answer None after others is = refl
 told-answer limits sofar running line lines call answer (Some pipe) after others is = absurd cc
 
@@ -89,60 +91,66 @@ tells-look limits sofar running pipe answer is waits =
       added = e ∷ [];
       history = refl;
       comes = λ entries.
-          ap (λ st. told_on st app running.registers s running.lines (seen_from limits sofar.history s app (e ∷ entries))) waits
-          ∙ ap (λ seen. told_waiting app running.registers running.lines seen) (seen-own limits sofar.history s app call exact entries)
-          ∙ ap (λ a. got_in app after call a ++ told app running.registers after running.lines (seen_from limits (sofar.history ++ e ∷ []) after app entries)) is
-          ∙ ap (λ st. got_in app after call answer ++ told_on st app running.registers after running.lines (seen_from limits (sofar.history ++ e ∷ []) after app entries)) (sym active);
+          ap (λ st. told_on st app running.registers running.written s running.lines (seen_from limits sofar.history s app (e ∷ entries))) waits
+          ∙ ap (λ seen. told_waiting app running.registers running.written running.lines seen) (seen-own limits sofar.history s app call exact entries)
+          ∙ ap (λ a. got_in app after call a ++ told app running.registers running.written after running.lines (seen_from limits (sofar.history ++ e ∷ []) after app entries)) is
+          ∙ ap (λ st. got_in app after call answer ++ told_on st app running.registers running.written after running.lines (seen_from limits (sofar.history ++ e ∷ []) after app entries)) (sym active);
     }
 
 -- a line in its turn, that no service sees
 tells-local : (limits : Limits) (sofar : SoFar) (running : Running) (line : Line) (lines : List Line) → running.lines ≡ line ∷ lines →
-    call_of running.registers line ≡ None → standing_of sofar.state running.app ≡ Active →
-    TellsOn limits sofar running sofar (behind running lines running.registers) (shown running.app sofar.state running.registers line)
+    call_of running.registers running.written line ≡ None → standing_of sofar.state running.app ≡ Active →
+    TellsOn limits sofar running sofar (behind running lines running.registers (written_by running.written running.registers.buffers line))
+    (shown running.app sofar.state running.registers line)
 tells-local limits sofar running line lines next none active =
     let app = running.app in
     let s = sofar.state in
     let registers = running.registers in
+    let written = running.written in
+    let after = written_by written registers.buffers line in
     record {
       added = [];
       history = sym (append-nil sofar.history);
       comes = λ entries.
           let seen = seen_from limits sofar.history s app entries in
-          ap (λ st. told_on st app registers s running.lines seen) active
-          ∙ ap (λ ls. told app registers s ls seen) next
-          ∙ ap (λ o. line_told app o (shown app s registers line) seen (λ t rest. told app registers t lines rest)
-          (λ a t rest. told app (registers_after registers line a) t lines rest) s) none
-          ∙ ap (λ st. shown app s registers line ++ told_on st app registers s lines seen) (sym active);
+          ap (λ st. told_on st app registers written s running.lines seen) active
+          ∙ ap (λ ls. told app registers written s ls seen) next
+          ∙ ap (λ o. line_told app o (shown app s registers line) seen (λ t rest. told app registers after t lines rest)
+          (λ c a t rest. told app (registers_after registers line a) (written_after written c a) t lines rest) s) none
+          ∙ ap (λ st. shown app s registers line ++ told_on st app registers after s lines seen) (sym active);
     }
 
 -- a line in its turn, that makes a call
 tells-call : (limits : Limits) (sofar : SoFar) (running : Running) (line : Line) (lines : List Line) (call : Call) → running.lines ≡ line ∷ lines →
-    call_of running.registers line ≡ Some call → standing_of sofar.state running.app ≡ Active →
+    call_of running.registers running.written line ≡ Some call → standing_of sofar.state running.app ≡ Active →
     TellsOn limits sofar running (after_call limits sofar running.app call)
-    (behind running lines (registers_after running.registers line (answer_to limits sofar running.app call)))
+    (behind running lines (registers_after running.registers line (answer_to limits sofar running.app call))
+    (written_after running.written call (answer_to limits sofar running.app call)))
     (got_in running.app (after_call limits sofar running.app call).state call (answer_to limits sofar running.app call))
 tells-call limits sofar running line lines call next calls active =
     let app = running.app in
     let s = sofar.state in
     let registers = running.registers in
+    let written = running.written in
     let answer = answer_to limits sofar app call in
     let e : Entry = record { app = app; call = call; answer = answer } in
     let after = (step limits sofar.history s app call).1 in
     let waits = pipe_waited_for registers line answer in
     let settled : SettlesLine limits sofar.history s app registers line (Some call) =
-    subst (λ o. SettlesLine limits sofar.history s app registers line o) calls (settles-line limits sofar.history s app registers line active) in
+    subst (λ o. SettlesLine limits sofar.history s app registers line o) calls (settles-line limits sofar.history s app registers written line active) in
     record {
       added = e ∷ [];
       history = refl;
       comes = λ entries.
           let others = seen_from limits (sofar.history ++ e ∷ []) after app entries in
-          ap (λ st. told_on st app registers s running.lines (seen_from limits sofar.history s app (e ∷ entries))) active
-          ∙ ap (λ ls. told app registers s ls (seen_from limits sofar.history s app (e ∷ entries))) next
-          ∙ ap (λ seen. told app registers s (line ∷ lines) seen) (seen-own limits sofar.history s app call answer entries)
-          ∙ ap (λ o. line_told app o (shown app s registers line) (record { entry = e; after = after } ∷ others) (λ t rest. told app registers t lines rest)
-          (λ a t rest. told app (registers_after registers line a) t lines rest) s) calls
+          ap (λ st. told_on st app registers written s running.lines (seen_from limits sofar.history s app (e ∷ entries))) active
+          ∙ ap (λ ls. told app registers written s ls (seen_from limits sofar.history s app (e ∷ entries))) next
+          ∙ ap (λ seen. told app registers written s (line ∷ lines) seen) (seen-own limits sofar.history s app call answer entries)
+          ∙ ap (λ o. line_told app o (shown app s registers line) (record { entry = e; after = after } ∷ others)
+          (λ t rest. told app registers (written_by written registers.buffers line) t lines rest)
+          (λ c a t rest. told app (registers_after registers line a) (written_after written c a) t lines rest) s) calls
           ∙ told-answer limits sofar running line lines call answer waits after others settled.pending
-          ∙ ap (λ st. got_in app after call answer ++ told_on st app (registers_after registers line answer) after lines others) (sym settled.standing);
+          ∙ ap (λ st. got_in app after call answer ++ told_on st app (registers_after registers line answer) (written_after written call answer) after lines others) (sym settled.standing);
     }
 
 -- an end in its turn
@@ -157,9 +165,9 @@ tells-end limits sofar running goes_on through active same =
       added = e ∷ [];
       history = refl;
       comes = λ entries.
-          ap (λ st. told_on st app running.registers s running.lines (seen_from limits sofar.history s app (e ∷ entries))) active
-          ∙ ap (λ ls. told app running.registers s ls (seen_from limits sofar.history s app (e ∷ entries))) through
-          ∙ ap (λ st. told_on st goes_on.app goes_on.registers after goes_on.lines (seen_from limits (sofar.history ++ e ∷ []) after goes_on.app entries))
+          ap (λ st. told_on st app running.registers running.written s running.lines (seen_from limits sofar.history s app (e ∷ entries))) active
+          ∙ ap (λ ls. told app running.registers running.written s ls (seen_from limits sofar.history s app (e ∷ entries))) through
+          ∙ ap (λ st. told_on st goes_on.app goes_on.registers goes_on.written after goes_on.lines (seen_from limits (sofar.history ++ e ∷ []) after goes_on.app entries))
           (sym (ap (λ a. standing_of after a) same ∙ standing-ended s app));
     }
 
@@ -173,9 +181,9 @@ tells-active : (limits : Limits) (sofar : SoFar) (running new : Running) (lines 
     TellsOn limits sofar running (active_turn limits sofar running lines).0 new (active_tells limits sofar running lines)
 tells-active limits sofar running new [] through active goes = tells-end limits sofar running new through active goes
 tells-active limits sofar running new (line ∷ lines) next active goes =
-    by_call (call_of running.registers line) refl goes
+    by_call (call_of running.registers running.written line) refl goes
   where
-    by_call : (c : Option Call) → call_of running.registers line ≡ c → GoesOn (line_turn limits sofar running line lines c).1 running new →
+    by_call : (c : Option Call) → call_of running.registers running.written line ≡ c → GoesOn (line_turn limits sofar running line lines c).1 running new →
         TellsOn limits sofar running (line_turn limits sofar running line lines c).0 new (line_tells limits sofar running line c)
     by_call None is goes =
         subst (λ r. TellsOn limits sofar running sofar r (shown running.app sofar.state running.registers line)) (sym goes)
@@ -195,8 +203,8 @@ tells-standing limits sofar running new Ended is goes = record {
   added = [];
   history = sym (append-nil sofar.history);
   comes = λ entries.
-      ap (λ st. told_on st running.app running.registers sofar.state running.lines (seen_from limits sofar.history sofar.state running.app entries)) is
-      ∙ ap (λ st. told_on st new.app new.registers sofar.state new.lines (seen_from limits sofar.history sofar.state new.app entries))
+      ap (λ st. told_on st running.app running.registers running.written sofar.state running.lines (seen_from limits sofar.history sofar.state running.app entries)) is
+      ∙ ap (λ st. told_on st new.app new.registers new.written sofar.state new.lines (seen_from limits sofar.history sofar.state new.app entries))
       (sym (ap (λ a. standing_of sofar.state a) goes ∙ is));
 }
 
@@ -213,25 +221,27 @@ unfolding shown
 shown-same app s t registers (ShowPipe pipe) same = ap (λ r. unwrap_or r Nothing ∷ []) (same (slice_index registers.pipes pipe))
 shown-same app s t registers line same = refl
 
-told-same : (app : ℕ) (s t : State) (registers : Registers) (lines : List Line) (seen : List Seen) → ((pipe : ℕ) → receipt_in t app pipe ≡ receipt_in s app pipe) →
-    told app registers t lines seen ≡ told app registers s lines seen
-told-same app s t registers [] seen same = refl
-told-same app s t registers (line ∷ lines) seen same = by_call (λ rest. told-same app s t registers lines rest same) (call_of registers line) seen
+told-same : (app : ℕ) (s t : State) (registers : Registers) (written : Written) (lines : List Line) (seen : List Seen) → ((pipe : ℕ) → receipt_in t app pipe ≡ receipt_in s app pipe) →
+    told app registers written t lines seen ≡ told app registers written s lines seen
+told-same app s t registers written [] seen same = refl
+told-same app s t registers written (line ∷ lines) seen same =
+    by_call (λ rest. told-same app s t registers (written_by written registers.buffers line) lines rest same) (call_of registers written line) seen
   where
-    by_call : ((rest : List Seen) → told app registers t lines rest ≡ told app registers s lines rest) → (o : Option Call) (seen : List Seen) →
-        line_told app o (shown app t registers line) seen (λ after rest. told app registers after lines rest)
-        (λ answer after rest. told app (registers_after registers line answer) after lines rest) t
-        ≡ line_told app o (shown app s registers line) seen (λ after rest. told app registers after lines rest)
-        (λ answer after rest. told app (registers_after registers line answer) after lines rest) s
+    by_call : ((rest : List Seen) → told app registers (written_by written registers.buffers line) t lines rest ≡ told app registers (written_by written registers.buffers line) s lines rest) →
+        (o : Option Call) (seen : List Seen) →
+        line_told app o (shown app t registers line) seen (λ after rest. told app registers (written_by written registers.buffers line) after lines rest)
+        (λ call answer after rest. told app (registers_after registers line answer) (written_after written call answer) after lines rest) t
+        ≡ line_told app o (shown app s registers line) seen (λ after rest. told app registers (written_by written registers.buffers line) after lines rest)
+        (λ call answer after rest. told app (registers_after registers line answer) (written_after written call answer) after lines rest) s
     by_call lines_same None seen =
-        ap (λ local. local ++ told app registers t lines seen) (shown-same app s t registers line same)
+        ap (λ local. local ++ told app registers (written_by written registers.buffers line) t lines seen) (shown-same app s t registers line same)
         ∙ ap (λ rest. shown app s registers line ++ rest) (lines_same seen)
     by_call lines_same (Some call) [] = refl
     by_call lines_same (Some call) (first ∷ others) = refl
 
-pub told_on-same : (standing : Standing) (app : ℕ) (s t : State) (registers : Registers) (lines : List Line) (seen : List Seen) →
+pub told_on-same : (standing : Standing) (app : ℕ) (s t : State) (registers : Registers) (written : Written) (lines : List Line) (seen : List Seen) →
     ((pipe : ℕ) → receipt_in t app pipe ≡ receipt_in s app pipe) →
-    told_on standing app registers t lines seen ≡ told_on standing app registers s lines seen
-told_on-same Active app s t registers lines seen same = told-same app s t registers lines seen same
-told_on-same (Waiting pipe) app s t registers lines seen same = refl
-told_on-same Ended app s t registers lines seen same = refl
+    told_on standing app registers written t lines seen ≡ told_on standing app registers written s lines seen
+told_on-same Active app s t registers written lines seen same = told-same app s t registers written lines seen same
+told_on-same (Waiting pipe) app s t registers written lines seen same = refl
+told_on-same Ended app s t registers written lines seen same = refl

@@ -1,25 +1,26 @@
 -- What one turn leaves.
-use Rattle.std.proofs.Common.{◌≡◌, ℕ, zero, suc, ◌+◌, ◌-◌, ◌≤◌, Bool, true, false, cond, List, [], ◌∷◌, ◌++◌, length, map, drop, Option, Some, None, refl, ap, sym, ◌∙◌, subst, inl, inr, arith, append-nil}
-use Rattle.std.specs.Option.{is_some}
-use Rattle.std.specs.List.{range_with_len}
-use Rattle.std.proofs.lemmas.List.{get_or-set_same, length-append}
-use Rattle.std.proofs.lemmas.List.FromFn.{length-map-range_with_len}
+use Rattle.std.proofs.Common.{◌≡◌, ℕ, zero, suc, ◌+◌, ◌-◌, ◌≤◌, Bool, true, false, cond, List, [], ◌∷◌, ◌++◌, length, sum_by, drop, Option, Some, None, refl, ap, sym, ◌∙◌, subst, inl, inr, arith, append-nil}
+use Rattle.std.specs.Option.{is_some, option_map_or}
+use Rattle.sb_calls.specs.Bags.{HasBag}
+use Rattle.std.proofs.lemmas.List.{get_or-set_same}
 use Rattle.std.proofs.lemmas.List.Sums.{sum_by-cons}
 use Rattle.std.specs.List.{slice_get, All}
 use Rattle.std.proofs.lemmas.Option.{slice_get_within, get_or_from_slice_get}
 use Rattle.std.proofs.lemmas.List.Elements.{All-get_or}
 use Rattle.bus_words.specs.Bus.{waited_on}
 use Rattle.sb_core.specs.declared.pending.Pended.TheVariants as waits
-use Rattle.app_run.specs.Callers.{Answers, AnswersLook, HasOwnBag, Meets, SameBus, pipe_waited_on}
+use Rattle.lend_block.specs.Loan.{LentBytes}
+use Rattle.buf_desc.specs.Held.{Holding}
+use Rattle.app_run.specs.Callers.{Answers, AnswersLook, HasOwnBag, LeavesBuffers, FindsRoom, Meets, MayWrite, SameBus, Writes, buffers_asked, pipe_waited_on, written_in}
 use Rattle.app_run.specs.Lines.{IsRun, most_receipts}
 use Rattle.app_run.specs.Received.{Remember, taken_from, taken_by}
-use Rattle.app_run.specs.Turns.{MayTurn, TakesTurnBy}
+use Rattle.app_run.specs.Turns.{MayTurn, TakesTurnBy, with_bag}
+use Rattle.app_run.proofs.AskedLaws.{AskedLine, asked-fewer, asked-line, asked-more, given-step}
+use Rattle.app_run.proofs.Wrote.{alike-long, alike-none}
 use Rattle.app_run.proofs.Newest.{remember-step, remember-shown}
 use Rattle.app_run.proofs.OthersLaws.{stands-met}
 use Rattle.app_run.proofs.Taken.{taken-told}
 use Rattle.std.proofs.lemmas.Bool.{le-leb}
-use Rattle.ccsds_msg.specs.Message.{header_bytes}
-use Rattle.ccsds_msg.proofs.MessageLemmas.{length-header_bytes}
 use Rattle.fsw_base.specs.Limits.{Limits}
 use Rattle.bus_words.specs.declared.calls.BusAnswer.{BusAnswer}
 use Rattle.bus_words.specs.declared.calls.BusAnswer.TheVariants.{Done, Pending, Got, TimeOut}
@@ -37,16 +38,19 @@ use Rattle.bus_words.specs.Machine.{IsLegal, may_call}
 use Rattle.bus_words.proofs.LegalSteps.{AreWaiters-after, legal-last}
 use Rattle.sb_calls.specs.Core.{Core, Does, IsLegalCore, MayCall, apps_of, state_of, is_within}
 use Rattle.script_lines.specs.declared.line.Line.{Line}
-use Rattle.script_lines.specs.declared.line.Line.TheVariants.{Create, Delete, SetOpts, GetOpts, Find, PipeName, Subscribe, Unsubscribe, Send, SendRaw, Receive, Pend, PoolCreate, PoolGet, PoolPut, PoolFigures}
-use Rattle.script_settings.specs.Accounts.{waits_of}
-use Rattle.script_runs.specs.Messages.{fill_byte, sent_message}
+use Rattle.script_lines.specs.declared.line.Line.TheVariants.{Create, Delete, SetOpts, GetOpts, Find, PipeName, Subscribe, Unsubscribe, Send, SendRaw, Receive, Pend, Allocate, TransmitBuffer, Release, PoolCreate, PoolGet, PoolPut, PoolFigures}
+use Rattle.script_settings.specs.Accounts.{waits_of, buffers_of, sizes_after}
+use Rattle.script_runs.specs.Messages.{sent_message}
 use Rattle.app_script.specs.Ranges.{IsLineInRange}
 use Rattle.script_runs.specs.Rotation.{Running, SoFar, after_call, after_look, answer_to, turn, turn_in, active_turn, line_turn}
 use Rattle.script_runs.specs.Told.{got_in, shown}
 use Rattle.script_runs.specs.Trace.{Registers, call_of, registers_after}
+use Rattle.script_runs.specs.Written.{Written, bytes_in, written_after, written_by}
+use Rattle.script_runs.proofs.Buffers.{length-sent_message}
+use Rattle.std.proofs.Math.Path.{fun_ext}
 use Rattle.app_run.specs.Callers.{Caller}
-use Rattle.app_run.specs.Lines.{MayRun, pipe_waited_for, line_bytes, entries_due, bytes_due}
-use Rattle.app_run.specs.Runners.{Progress, standing_for}
+use Rattle.app_run.specs.Lines.{MayRun, pipe_waited_for, line_bytes, entries_due, bytes_due, AreAsked}
+use Rattle.app_run.specs.Runners.{Place, Progress, Equipped, running_of, standing_for}
 use Rattle.app_run.specs.Turns.{so_far, Stands, TakesTurn, tells, tells_in, line_tells, active_tells}
 use Rattle.app_run.proofs.Settling.{SettlesLine, is_pending, settles-line, settles-look, standing-set}
 
@@ -107,6 +111,17 @@ own-left before after app call answer first known does =
 pub apps-does : (before after : Core) (app : ℕ) (call : Call) (answer : BusAnswer) → Does before after app call answer → apps_of after ≡ apps_of before
 apps-does before after app call answer does = ap apps_of does.entry
 
+-- numbers that were given stay so
+given-does : (before after : Core) (app : ℕ) (call : Call) (answer : BusAnswer) → Does before after app call answer → (state_of before).numbers_given ≤ (state_of after).numbers_given
+given-does before after app call answer does =
+    subst (λ (s : State). (state_of before).numbers_given ≤ s.numbers_given) (sym does.state) (given-step before.limits before.log.entries (state_of before) app call)
+
+-- a line that makes no call asks for no buffer
+local-sizes : (registers : Registers) (written : Written) (asked : List ℕ) (line : Line) → call_of registers written line ≡ None → sizes_after asked line ≡ asked
+unfolding call_of sizes_after
+local-sizes registers written asked (Allocate buf size) none = absurd (cc none)
+local-sizes registers written asked line none = refl
+
 active_lives : Active ≡ Ended → ⊥
 active_lives h = cc h
 
@@ -119,16 +134,31 @@ going_lives (Some pipe) h = cc h
 
 -- Standings as progress has them. --
 
-pub standing-going : (progress : Progress) (core : Core) → Stands progress core → progress.ended ≡ false →
-    standing_of (state_of core) progress.running.app ≡ standing_for progress.waits_on
-standing-going progress core stands goes =
-    stands.standing ∙ ap (λ b. cond {A = Standing} b Ended (standing_for progress.waits_on)) goes
+-- an application with this bag
+abbrev pub equip : Progress → Holding LentBytes → Equipped
+equip progress bag = record { progress = progress; bag = bag }
 
-entries-going : (progress : Progress) (core : Core) → Stands progress core → progress.ended ≡ false →
-    entries_due progress.running.lines + cond (is_some progress.waits_on) 1 0 ≤ (allowance_of (left_of core.log) progress.running.app).entries
-entries-going progress core stands goes =
-    subst (λ b. cond b 0 (entries_due progress.running.lines + cond (is_some progress.waits_on) 1 0) ≤ (allowance_of (left_of core.log) progress.running.app).entries)
+pub standing-going : (one : Equipped) (core : Core) → Stands one core → one.progress.ended ≡ false →
+    standing_of (state_of core) one.progress.running.app ≡ standing_for one.progress.waits_on
+standing-going one core stands goes =
+    stands.standing ∙ ap (λ b. cond {A = Standing} b Ended (standing_for one.progress.waits_on)) goes
+
+entries-going : (one : Equipped) (core : Core) → Stands one core → one.progress.ended ≡ false →
+    entries_due one.progress.running.lines + cond (is_some one.progress.waits_on) 1 0 ≤ (allowance_of (left_of core.log) one.progress.running.app).entries
+entries-going one core stands goes =
+    subst (λ b. cond b 0 (entries_due one.progress.running.lines + cond (is_some one.progress.waits_on) 1 0) ≤ (allowance_of (left_of core.log) one.progress.running.app).entries)
     goes stands.entries
+
+-- the limits stay
+small-does : (before after : Core) (app : ℕ) (call : Call) (answer : BusAnswer) → Does before after app call answer → before.limits.msgmax ≤ 65542 → after.limits.msgmax ≤ 65542
+small-does before after app call answer does small = subst (λ (core : Core). core.limits.msgmax ≤ 65542) (sym does.entry) small
+
+abbrev the_running : ℕ → List Line → Registers → Written → Running
+the_running app lines registers written = record { app = app; lines = lines; registers = registers; written = written }
+
+-- what a call leaves in the bag
+wrote : (old new : Holding LentBytes) (call : Call) (answer : BusAnswer) → LeavesBuffers old new call answer → written_in new ≡ written_after (written_in old) call answer
+wrote old new call answer leaves = fun_ext (λ number. leaves.written number)
 
 -- Looks. --
 
@@ -146,120 +176,139 @@ looked-after : (limits : Limits) (sofar : SoFar) (app pipe : ℕ) (answer : BusA
 looked-after limits sofar app pipe Pending told = absurd cc
 looked-after limits sofar app pipe answer told = refl
 
-look-exact : (old : Progress) (before after : Core) (pipe : ℕ) → Stands old before → old.ended ≡ false → old.waits_on ≡ Some pipe →
-    Does before after old.running.app (calls.Look pipe) (answer_to before.limits (so_far before) old.running.app (calls.Look pipe)) →
-    is_pending (answer_to before.limits (so_far before) old.running.app (calls.Look pipe)) ≡ false →
+look-exact : (old : Equipped) (bag : Holding LentBytes) (before after : Core) (pipe : ℕ) → Stands old before → old.progress.ended ≡ false → old.progress.waits_on ≡ Some pipe →
+    Does before after old.progress.running.app (calls.Look pipe) (answer_to before.limits (so_far before) old.progress.running.app (calls.Look pipe)) →
+    LeavesBuffers old.bag bag (calls.Look pipe) (answer_to before.limits (so_far before) old.progress.running.app (calls.Look pipe)) →
+    is_pending (answer_to before.limits (so_far before) old.progress.running.app (calls.Look pipe)) ≡ false →
     TakesTurn old
-    (looked_on old (old.receipts ++ got_in old.running.app (state_of after) (calls.Look pipe) (answer_to before.limits (so_far before) old.running.app (calls.Look pipe))))
+    (equip (looked_on old.progress (old.progress.receipts
+    ++ got_in old.progress.running.app (state_of after) (calls.Look pipe) (answer_to before.limits (so_far before) old.progress.running.app (calls.Look pipe)))) bag)
     before after
-look-exact old before after pipe stands goes waits does told =
-    let app = old.running.app in
+look-exact old bag before after pipe stands goes waits does leaves told =
+    let place = old.progress.running in
+    let app = place.app in
     let limits = before.limits in
     let answer = answer_to limits (so_far before) app (calls.Look pipe) in
     let standing : standing_of (state_of before) app ≡ Waiting pipe = standing-going old before stands goes ∙ ap standing_for waits in
     let first = first-known (state_of before) app (Waiting pipe) standing (waiting_lives pipe) in
     let left = own-left before after app (calls.Look pipe) answer first stands.known does in
-    let turned = turn-look limits (so_far before) old.running pipe standing in
-    let due : entries_due old.running.lines + 1 ≤ (allowance_of (left_of before.log) app).entries =
-    subst (λ w. entries_due old.running.lines + cond (is_some w) 1 0 ≤ (allowance_of (left_of before.log) app).entries) waits (entries-going old before stands goes) in
+    let turned = turn-look limits (so_far before) (running_of old) pipe standing in
+    let same = wrote old.bag bag (calls.Look pipe) answer leaves in
+    let due : entries_due place.lines + 1 ≤ (allowance_of (left_of before.log) app).entries =
+    subst (λ w. entries_due place.lines + cond (is_some w) 1 0 ≤ (allowance_of (left_of before.log) app).entries) waits (entries-going old before stands goes) in
     record {
       bus = so_far-does before after app (calls.Look pipe) does
           ∙ sym (looked-after limits (so_far before) app pipe answer told)
           ∙ sym (ap (λ (t : SoFar × List Running). t.0) turned);
-      goes_on = sym (ap (λ (t : SoFar × List Running). t.1) turned);
-      receipts = ap (λ s. old.receipts ++ got_in app s (calls.Look pipe) answer)
+      goes_on = ap (λ w. the_running app place.lines place.registers w ∷ []) same ∙ sym (ap (λ (t : SoFar × List Running). t.1) turned);
+      receipts = ap (λ s. old.progress.receipts ++ got_in app s (calls.Look pipe) answer)
           (does.state ∙ sym (ap (λ (b : SoFar). b.state) (looked-after limits (so_far before) app pipe answer told)))
-          ∙ sym (ap (λ s. old.receipts ++ tells_in limits (so_far before) old.running s) standing);
+          ∙ sym (ap (λ s. old.progress.receipts ++ tells_in limits (so_far before) (running_of old) s) standing);
       same_app = refl;
       stands = record {
         known = subst (λ n. app ≤ n) (sym (apps-does before after app (calls.Look pipe) answer does)) stands.known;
         standing = ap (λ s. standing_of s app) does.state ∙ settles-look limits before.log.entries (state_of before) app pipe standing told;
-        entries = subst (λ (a : Allowance). entries_due old.running.lines + 0 ≤ a.entries) (sym left) (omega (arith, due));
-        bytes = subst (λ (a : Allowance). bytes_due old.running.lines ≤ a.bytes) (sym left) (omega (arith, stands.bytes));
-        remember = remember-does before after app (calls.Look pipe) old.receipts does stands.remember;
+        entries = subst (λ (a : Allowance). entries_due place.lines + 0 ≤ a.entries) (sym left) (omega (arith, due));
+        asked = stands.asked;
+        buffers = subst (λ w. AreAsked place.registers.buffers w (state_of after).numbers_given stands.asked) (sym same)
+            (asked-more place.registers.buffers stands.asked (written_in old.bag) (state_of before).numbers_given (state_of after).numbers_given stands.buffers
+            (given-does before after app (calls.Look pipe) answer does));
+        bytes = subst (λ (a : Allowance). bytes_due stands.asked place.lines ≤ a.bytes) (sym left) (omega (arith, stands.bytes));
+        room = omega (arith, stands.room, leaves.count, leaves.room);
+        remember = remember-does before after app (calls.Look pipe) old.progress.receipts does stands.remember;
+        small = small-does before after app (calls.Look pipe) answer does stands.small;
       };
       moved = inr (calls.Look pipe, answer, does);
     }
 
-pub takes-look : (old new : Progress) (before after : Core) (pipe : ℕ) (answer : BusAnswer) → Stands old before → old.ended ≡ false → old.waits_on ≡ Some pipe →
-    Does before after old.running.app (calls.Look pipe) answer → is_pending answer ≡ false →
-    new ≡ looked_on old (old.receipts ++ got_in old.running.app (state_of after) (calls.Look pipe) answer) → TakesTurn old new before after
-takes-look old new before after pipe answer stands goes waits does told is =
-    subst (λ n. TakesTurn old n before after)
-    (sym (is ∙ ap (λ a. looked_on old (old.receipts ++ got_in old.running.app (state_of after) (calls.Look pipe) a)) does.as_machine))
-    (look-exact old before after pipe stands goes waits (does-exact before after old.running.app (calls.Look pipe) answer does)
+pub takes-look : (old : Equipped) (new : Progress) (bag : Holding LentBytes) (before after : Core) (pipe : ℕ) (answer : BusAnswer) → Stands old before → old.progress.ended ≡ false →
+    old.progress.waits_on ≡ Some pipe → Does before after old.progress.running.app (calls.Look pipe) answer → LeavesBuffers old.bag bag (calls.Look pipe) answer → is_pending answer ≡ false →
+    new ≡ looked_on old.progress (old.progress.receipts ++ got_in old.progress.running.app (state_of after) (calls.Look pipe) answer) → TakesTurn old (equip new bag) before after
+takes-look old new bag before after pipe answer stands goes waits does leaves told is =
+    subst (λ n. TakesTurn old (equip n bag) before after)
+    (sym (is ∙ ap (λ a. looked_on old.progress (old.progress.receipts ++ got_in old.progress.running.app (state_of after) (calls.Look pipe) a)) does.as_machine))
+    (look-exact old bag before after pipe stands goes waits (does-exact before after old.progress.running.app (calls.Look pipe) answer does)
+    (subst (λ a. LeavesBuffers old.bag bag (calls.Look pipe) a) does.as_machine leaves)
     (subst (λ a. is_pending a ≡ false) does.as_machine told))
 
 -- Lines. --
 
-pub length-sent_message : (id size fill : ℕ) → 7 ≤ size → length (sent_message id size fill) ≡ size
-length-sent_message id size fill least =
-    length-append (header_bytes id 0 size) (map (fill_byte fill) (range_with_len 0 (size - 6)))
-    ∙ ap (λ n. n + length (map (fill_byte fill) (range_with_len 0 (size - 6)))) (length-header_bytes id 0 size)
-    ∙ ap (λ n. 6 + n) (length-map-range_with_len (fill_byte fill) 0 (size - 6))
-    ∙ omega arith
-
--- what a line's call brings, and that an active application may make it
-pub record Allowed (line : Line) (call : Call) : Type 0 where
-  pub bytes : call_bytes call ≡ line_bytes line
+-- what a line's call brings and asks for, and that an active application may make it
+pub record Allowed (asked : List ℕ) (line : Line) (call : Call) : Type 0 where
+  pub bytes : call_bytes call ≤ line_bytes asked line
   pub within : is_within call ≡ true
   pub active : may_call Active call ≡ true
+  pub asks : buffers_asked call ≤ buffers_of line
 
-abbrev pub AllowedLine : Line → Option Call → Type 0
-AllowedLine line None = Unit {0}
-AllowedLine line (Some call) = Allowed line call
+abbrev pub AllowedLine : List ℕ → Line → Option Call → Type 0
+AllowedLine asked line None = Unit {0}
+AllowedLine asked line (Some call) = Allowed asked line call
 
-pub allowed-line : (registers : Registers) (line : Line) → IsLineInRange line → AllowedLine line (call_of registers line)
-unfolding call_of line_bytes IsLineInRange
-allowed-line registers (Create pipe depth name) range = record { bytes = refl; within = le-leb (length name) 64 range; active = refl }
-allowed-line registers (Delete pipe) range = record { bytes = refl; within = refl; active = refl }
-allowed-line registers (SetOpts pipe bits) range = record { bytes = refl; within = refl; active = refl }
-allowed-line registers (GetOpts pipe) range = record { bytes = refl; within = refl; active = refl }
-allowed-line registers (Find pipe name) range = record { bytes = refl; within = le-leb (length name) 64 range; active = refl }
-allowed-line registers (PipeName pipe) range = record { bytes = refl; within = refl; active = refl }
-allowed-line registers (Subscribe id pipe limit scope) range = record { bytes = refl; within = refl; active = refl }
-allowed-line registers (Unsubscribe id pipe) range = record { bytes = refl; within = refl; active = refl }
-allowed-line registers (Send id size fill inc) range = record {
-  bytes = length-sent_message id size fill range.0;
-  within = le-leb (length (sent_message id size fill)) 65542 (omega (arith, length-sent_message id size fill range.0, range.1));
-  active = refl;
-}
-allowed-line registers (SendRaw bytes inc) range = record { bytes = refl; within = le-leb (length bytes) 65542 range; active = refl }
-allowed-line registers (Receive pipe) range = record { bytes = refl; within = refl; active = refl }
-allowed-line registers (Pend pipe) range = record { bytes = refl; within = refl; active = refl }
-allowed-line registers (PoolCreate pool bytes) range = record { bytes = refl; within = refl; active = refl }
-allowed-line registers (PoolGet grant pool size) range = record { bytes = refl; within = refl; active = refl }
-allowed-line registers (PoolPut pool grant) range = record { bytes = refl; within = refl; active = refl }
-allowed-line registers (PoolFigures pool) range = record { bytes = refl; within = refl; active = refl }
-allowed-line registers line range = tt
+pub allowed-line : (registers : Registers) (written : Written) (given : ℕ) (asked : List ℕ) (line : Line) → AreAsked registers.buffers written given asked → IsLineInRange line →
+    AllowedLine asked line (call_of registers written line)
+unfolding call_of line_bytes buffers_of IsLineInRange
+allowed-line registers written given asked (Create pipe depth name) are range = record { bytes = omega arith; within = le-leb (length name) 64 range; active = refl; asks = omega arith }
+allowed-line registers written given asked (Delete pipe) are range = record { bytes = omega arith; within = refl; active = refl; asks = omega arith }
+allowed-line registers written given asked (SetOpts pipe bits) are range = record { bytes = omega arith; within = refl; active = refl; asks = omega arith }
+allowed-line registers written given asked (GetOpts pipe) are range = record { bytes = omega arith; within = refl; active = refl; asks = omega arith }
+allowed-line registers written given asked (Find pipe name) are range = record { bytes = omega arith; within = le-leb (length name) 64 range; active = refl; asks = omega arith }
+allowed-line registers written given asked (PipeName pipe) are range = record { bytes = omega arith; within = refl; active = refl; asks = omega arith }
+allowed-line registers written given asked (Subscribe id pipe limit scope) are range = record { bytes = omega arith; within = refl; active = refl; asks = omega arith }
+allowed-line registers written given asked (Unsubscribe id pipe) are range = record { bytes = omega arith; within = refl; active = refl; asks = omega arith }
+allowed-line registers written given asked (Send id size fill inc) are range =
+    let long = length-sent_message id size fill range.0 in
+    record {
+      bytes = omega (arith, long);
+      within = le-leb (length (sent_message id size fill)) 65542 (omega (arith, long, range.1));
+      active = refl;
+      asks = omega arith;
+    }
+allowed-line registers written given asked (SendRaw bytes inc) are range = record { bytes = omega arith; within = le-leb (length bytes) 65542 range; active = refl; asks = omega arith }
+allowed-line registers written given asked (Receive pipe) are range = record { bytes = omega arith; within = refl; active = refl; asks = omega arith }
+allowed-line registers written given asked (Pend pipe) are range = record { bytes = omega arith; within = refl; active = refl; asks = omega arith }
+allowed-line registers written given asked (Allocate buf size) are range = record { bytes = omega arith; within = refl; active = refl; asks = omega arith }
+allowed-line registers written given asked (TransmitBuffer buf inc) are range = record { bytes = are.sizes buf; within = refl; active = refl; asks = omega arith }
+allowed-line registers written given asked (Release buf) are range = record { bytes = omega arith; within = refl; active = refl; asks = omega arith }
+allowed-line registers written given asked (PoolCreate pool bytes) are range = record { bytes = omega arith; within = refl; active = refl; asks = omega arith }
+allowed-line registers written given asked (PoolGet grant pool size) are range = record { bytes = omega arith; within = refl; active = refl; asks = omega arith }
+allowed-line registers written given asked (PoolPut pool grant) are range = record { bytes = omega arith; within = refl; active = refl; asks = omega arith }
+allowed-line registers written given asked (PoolFigures pool) are range = record { bytes = omega arith; within = refl; active = refl; asks = omega arith }
+allowed-line registers written given asked line are range = tt
+
+-- a bag that has room for what is asked for
+finds-room : (bag : Holding LentBytes) (call : Call) (more : ℕ) → buffers_asked call ≤ more → length bag.buffers + more ≤ bag.buffer_room → FindsRoom bag call
+finds-room bag (calls.Allocate size) more asks room = omega (arith, asks, room)
+finds-room bag call more asks room = tt
 
 -- the application may run its next line
-pub may-run : (progress : Progress) (caller : Caller) (line : Line) (lines : List Line) (o : Option Call) → MayTurn progress caller →
-    progress.waits_on ≡ None → progress.running.lines ≡ line ∷ lines → AllowedLine line o → MayRun caller o
+pub may-run : (progress : Progress) (caller : Caller) (line : Line) (lines : List Line) (o : Option Call) (may : MayTurn progress caller) →
+    progress.waits_on ≡ None → progress.running.lines ≡ line ∷ lines → AllowedLine may.stands.asked line o → MayRun caller o
 may-run progress caller line lines None may active next allowed = tt
 may-run progress caller line lines (Some call) may active next allowed =
     let stands = may.stands in
     let goes = may.goes_on in
     let app = progress.running.app in
     let core = caller.core in
-    let due = subst (λ ls. entries_due ls + cond (is_some progress.waits_on) 1 0 ≤ (allowance_of (left_of core.log) app).entries) next (entries-going progress core stands goes) in
-    let bytes = subst (λ ls. bytes_due ls ≤ (allowance_of (left_of core.log) app).bytes) next stands.bytes in
+    let due = subst (λ ls. entries_due ls + cond (is_some progress.waits_on) 1 0 ≤ (allowance_of (left_of core.log) app).entries) next (entries-going (with_bag progress caller) core stands goes) in
+    let bytes = subst (λ ls. bytes_due stands.asked ls ≤ (allowance_of (left_of core.log) app).bytes) next stands.bytes in
+    let room = subst (λ ls. length caller.bag.buffers + sum_by buffers_of ls ≤ caller.bag.buffer_room) next stands.room in
     record {
       may = subst (λ a. MayCall core a call) (sym may.own) (record {
         known = stands.known;
-        standing = ap (λ s. may_call s call) (standing-going progress core stands goes ∙ ap standing_for active) ∙ allowed.active;
+        standing = ap (λ s. may_call s call) (standing-going (with_bag progress caller) core stands goes ∙ ap standing_for active) ∙ allowed.active;
         room = record {
           known = omega (arith, stands.known, length-left_of core.log);
           one_entry = omega (arith, due);
-          its_bytes = omega (arith, bytes, allowed.bytes, sum_by-cons line_bytes line lines);
+          its_bytes = omega (arith, bytes, allowed.bytes);
         };
         within = allowed.within;
       });
       bag = may.bag;
+      room = finds-room caller.bag call (buffers_of line) allowed.asks (omega (arith, room, sum_by-cons buffers_of line lines));
     }
 
 -- a progress of these parts
-abbrev the_progress : Running → Option ℕ → Bool → List Receipt → Progress
+abbrev the_progress : Place → Option ℕ → Bool → List Receipt → Progress
 the_progress running waits_on ended receipts = record { running = running; waits_on = waits_on; ended = ended; receipts = receipts }
 
 -- the progress behind a line that was so answered
@@ -281,13 +330,13 @@ behind_local old lines receipts = record {
 }
 
 turn-line : (limits : Limits) (sofar : SoFar) (running : Running) (line : Line) (lines : List Line) (o : Option Call) →
-    standing_of sofar.state running.app ≡ Active → running.lines ≡ line ∷ lines → call_of running.registers line ≡ o →
+    standing_of sofar.state running.app ≡ Active → running.lines ≡ line ∷ lines → call_of running.registers running.written line ≡ o →
     turn limits sofar running ≡ line_turn limits sofar running line lines o
 turn-line limits sofar running line lines o active next call =
     ap (λ s. turn_in limits sofar running s) active ∙ ap (λ ls. active_turn limits sofar running ls) next ∙ ap (λ c. line_turn limits sofar running line lines c) call
 
 tells-line : (limits : Limits) (sofar : SoFar) (running : Running) (line : Line) (lines : List Line) (o : Option Call) →
-    standing_of sofar.state running.app ≡ Active → running.lines ≡ line ∷ lines → call_of running.registers line ≡ o →
+    standing_of sofar.state running.app ≡ Active → running.lines ≡ line ∷ lines → call_of running.registers running.written line ≡ o →
     tells limits sofar running ≡ line_tells limits sofar running line o
 tells-line limits sofar running line lines o active next call =
     ap (λ s. tells_in limits sofar running s) active ∙ ap (λ ls. active_tells limits sofar running ls) next ∙ ap (λ c. line_tells limits sofar running line c) call
@@ -299,77 +348,110 @@ waits-few registers (Pend pipe) Pending = omega arith
 waits-few registers (Pend pipe) answer = omega arith
 waits-few registers line answer = omega arith
 
-line-exact : (old : Progress) (before after : Core) (line : Line) (lines : List Line) (call : Call) → Stands old before → old.ended ≡ false → old.waits_on ≡ None →
-    old.running.lines ≡ line ∷ lines → call_of old.running.registers line ≡ Some call → Allowed line call →
-    Does before after old.running.app call (answer_to before.limits (so_far before) old.running.app call) →
+line-exact : (old : Equipped) (bag : Holding LentBytes) (before after : Core) (line : Line) (lines : List Line) (call : Call) (stands : Stands old before) →
+    old.progress.ended ≡ false → old.progress.waits_on ≡ None → old.progress.running.lines ≡ line ∷ lines →
+    call_of old.progress.running.registers (written_in old.bag) line ≡ Some call → Allowed stands.asked line call →
+    Does before after old.progress.running.app call (answer_to before.limits (so_far before) old.progress.running.app call) →
+    LeavesBuffers old.bag bag call (answer_to before.limits (so_far before) old.progress.running.app call) →
     TakesTurn old
-    (behind_line old line lines (answer_to before.limits (so_far before) old.running.app call)
-    (old.receipts ++ got_in old.running.app (state_of after) call (answer_to before.limits (so_far before) old.running.app call)))
+    (equip (behind_line old.progress line lines (answer_to before.limits (so_far before) old.progress.running.app call)
+    (old.progress.receipts ++ got_in old.progress.running.app (state_of after) call (answer_to before.limits (so_far before) old.progress.running.app call))) bag)
     before after
-line-exact old before after line lines call stands goes active next calls allowed does =
-    let app = old.running.app in
+line-exact old bag before after line lines call stands goes active next calls allowed does leaves =
+    let place = old.progress.running in
+    let app = place.app in
     let limits = before.limits in
     let answer = answer_to limits (so_far before) app call in
-    let waits_on = pipe_waited_for old.running.registers line answer in
+    let waits_on = pipe_waited_for place.registers line answer in
     let standing : standing_of (state_of before) app ≡ Active = standing-going old before stands goes ∙ ap standing_for active in
     let first = first-known (state_of before) app Active standing active_lives in
     let left = own-left before after app call answer first stands.known does in
-    let turned = turn-line limits (so_far before) old.running line lines (Some call) standing next calls in
-    let due = subst (λ ls. entries_due ls + cond (is_some old.waits_on) 1 0 ≤ (allowance_of (left_of before.log) app).entries) next (entries-going old before stands goes) in
-    let bytes = subst (λ ls. bytes_due ls ≤ (allowance_of (left_of before.log) app).bytes) next stands.bytes in
-    let few = waits-few old.running.registers line answer in
-    let settled : SettlesLine limits before.log.entries (state_of before) app old.running.registers line (Some call) =
-    subst (λ o. SettlesLine limits before.log.entries (state_of before) app old.running.registers line o) calls
-    (settles-line limits before.log.entries (state_of before) app old.running.registers line standing) in
+    let turned = turn-line limits (so_far before) (running_of old) line lines (Some call) standing next calls in
+    let due = subst (λ ls. entries_due ls + cond (is_some old.progress.waits_on) 1 0 ≤ (allowance_of (left_of before.log) app).entries) next (entries-going old before stands goes) in
+    let bytes = subst (λ ls. bytes_due stands.asked ls ≤ (allowance_of (left_of before.log) app).bytes) next stands.bytes in
+    let room = subst (λ ls. length old.bag.buffers + sum_by buffers_of ls ≤ old.bag.buffer_room) next stands.room in
+    let few = waits-few place.registers line answer in
+    let same = wrote old.bag bag call answer leaves in
+    let settled : SettlesLine limits before.log.entries (state_of before) app place.registers line (Some call) =
+    subst (λ o. SettlesLine limits before.log.entries (state_of before) app place.registers line o) calls
+    (settles-line limits before.log.entries (state_of before) app place.registers (written_in old.bag) line standing) in
+    let asks : AskedLine limits before.log.entries (state_of before) app place.registers (written_in old.bag) stands.asked line (Some call) =
+    subst (λ o. AskedLine limits before.log.entries (state_of before) app place.registers (written_in old.bag) stands.asked line o) calls
+    (asked-line limits before.log.entries (state_of before) app place.registers (written_in old.bag) stands.asked line stands.buffers) in
     record {
       bus = so_far-does before after app call does ∙ sym (ap (λ (t : SoFar × List Running). t.0) turned);
-      goes_on = sym (ap (λ (t : SoFar × List Running). t.1) turned);
-      receipts = ap (λ s. old.receipts ++ got_in app s call answer) does.state
-          ∙ sym (ap (λ t. old.receipts ++ t) (tells-line limits (so_far before) old.running line lines (Some call) standing next calls));
+      goes_on = ap (λ w. the_running app lines (registers_after place.registers line answer) w ∷ []) same ∙ sym (ap (λ (t : SoFar × List Running). t.1) turned);
+      receipts = ap (λ s. old.progress.receipts ++ got_in app s call answer) does.state
+          ∙ sym (ap (λ t. old.progress.receipts ++ t) (tells-line limits (so_far before) (running_of old) line lines (Some call) standing next calls));
       same_app = refl;
       stands = record {
         known = subst (λ n. app ≤ n) (sym (apps-does before after app call answer does)) stands.known;
         standing = ap (λ s. standing_of s app) does.state ∙ settled.standing;
         entries = subst (λ (a : Allowance). entries_due lines + cond (is_some waits_on) 1 0 ≤ a.entries) (sym left)
             (omega (arith, due, few, sum_by-cons waits_of line lines));
-        bytes = subst (λ (a : Allowance). bytes_due lines ≤ a.bytes) (sym left) (omega (arith, bytes, allowed.bytes, sum_by-cons line_bytes line lines));
-        remember = remember-does before after app call old.receipts does stands.remember;
+        asked = sizes_after stands.asked line;
+        buffers = subst (λ w. AreAsked (registers_after place.registers line answer).buffers w (state_of after).numbers_given (sizes_after stands.asked line)) (sym same)
+            (subst (λ (s : State). AreAsked (registers_after place.registers line answer).buffers (written_after (written_in old.bag) call answer) s.numbers_given (sizes_after stands.asked line))
+            (sym does.state) asks);
+        bytes = subst (λ (a : Allowance). bytes_due (sizes_after stands.asked line) lines ≤ a.bytes) (sym left) (omega (arith, bytes, allowed.bytes));
+        room = omega (arith, room, leaves.count, leaves.room, allowed.asks, sum_by-cons buffers_of line lines);
+        remember = remember-does before after app call old.progress.receipts does stands.remember;
+        small = small-does before after app call answer does stands.small;
       };
       moved = inr (call, answer, does);
     }
 
 -- a line whose call was answered
-pub takes-line : (old new : Progress) (before after : Core) (line : Line) (lines : List Line) (call : Call) (answer : BusAnswer) → Stands old before → old.ended ≡ false → old.waits_on ≡ None →
-    old.running.lines ≡ line ∷ lines → call_of old.running.registers line ≡ Some call → Allowed line call →
-    Does before after old.running.app call answer →
-    new ≡ behind_line old line lines answer (old.receipts ++ got_in old.running.app (state_of after) call answer) → TakesTurn old new before after
-takes-line old new before after line lines call answer stands goes active next calls allowed does is =
-    subst (λ n. TakesTurn old n before after)
-    (sym (is ∙ ap (λ a. behind_line old line lines a (old.receipts ++ got_in old.running.app (state_of after) call a)) does.as_machine))
-    (line-exact old before after line lines call stands goes active next calls allowed (does-exact before after old.running.app call answer does))
+pub takes-line : (old : Equipped) (new : Progress) (bag : Holding LentBytes) (before after : Core) (line : Line) (lines : List Line) (call : Call) (answer : BusAnswer) (stands : Stands old before) →
+    old.progress.ended ≡ false → old.progress.waits_on ≡ None → old.progress.running.lines ≡ line ∷ lines →
+    call_of old.progress.running.registers (written_in old.bag) line ≡ Some call → Allowed stands.asked line call →
+    Does before after old.progress.running.app call answer → LeavesBuffers old.bag bag call answer →
+    new ≡ behind_line old.progress line lines answer (old.progress.receipts ++ got_in old.progress.running.app (state_of after) call answer) → TakesTurn old (equip new bag) before after
+takes-line old new bag before after line lines call answer stands goes active next calls allowed does leaves is =
+    subst (λ n. TakesTurn old (equip n bag) before after)
+    (sym (is ∙ ap (λ a. behind_line old.progress line lines a (old.progress.receipts ++ got_in old.progress.running.app (state_of after) call a)) does.as_machine))
+    (line-exact old bag before after line lines call stands goes active next calls allowed (does-exact before after old.progress.running.app call answer does)
+    (subst (λ a. LeavesBuffers old.bag bag call a) does.as_machine leaves))
+
+-- what a line that no service sees leaves in the bag
+pub record WroteLocal (old : Equipped) (bag : Holding LentBytes) (core : Core) (line : Line) : Type 0 where
+  pub written : (number : ℕ) → written_in bag number ≡ written_by (written_in old.bag) old.progress.running.registers.buffers line number
+  pub count : length bag.buffers ≡ length old.bag.buffers
+  pub room : bag.buffer_room ≡ old.bag.buffer_room
+  pub was : HasBag core old.progress.running.app old.bag
+  pub is : HasBag core old.progress.running.app bag
 
 -- a line that no service sees
-pub takes-local : (old new : Progress) (core : Core) (line : Line) (lines : List Line) → Stands old core → old.ended ≡ false → old.waits_on ≡ None →
-    old.running.lines ≡ line ∷ lines → call_of old.running.registers line ≡ None →
-    new ≡ behind_local old lines (old.receipts ++ shown old.running.app (state_of core) old.running.registers line) → TakesTurn old new core core
-takes-local old new core line lines stands goes active next none is =
-    let app = old.running.app in
+pub takes-local : (old : Equipped) (new : Progress) (bag : Holding LentBytes) (core : Core) (line : Line) (lines : List Line) → Stands old core → old.progress.ended ≡ false →
+    old.progress.waits_on ≡ None → old.progress.running.lines ≡ line ∷ lines → call_of old.progress.running.registers (written_in old.bag) line ≡ None → WroteLocal old bag core line →
+    new ≡ behind_local old.progress lines (old.progress.receipts ++ shown old.progress.running.app (state_of core) old.progress.running.registers line) → TakesTurn old (equip new bag) core core
+takes-local old new bag core line lines stands goes active next none left is =
+    let place = old.progress.running in
+    let app = place.app in
     let limits = core.limits in
     let standing : standing_of (state_of core) app ≡ Active = standing-going old core stands goes ∙ ap standing_for active in
-    let turned = turn-line limits (so_far core) old.running line lines None standing next none in
-    let due = subst (λ ls. entries_due ls + cond (is_some old.waits_on) 1 0 ≤ (allowance_of (left_of core.log) app).entries) next (entries-going old core stands goes) in
-    let bytes = subst (λ ls. bytes_due ls ≤ (allowance_of (left_of core.log) app).bytes) next stands.bytes in
-    subst (λ n. TakesTurn old n core core) (sym is) (record {
+    let turned = turn-line limits (so_far core) (running_of old) line lines None standing next none in
+    let due = subst (λ ls. entries_due ls + cond (is_some old.progress.waits_on) 1 0 ≤ (allowance_of (left_of core.log) app).entries) next (entries-going old core stands goes) in
+    let bytes = subst (λ ls. bytes_due stands.asked ls ≤ (allowance_of (left_of core.log) app).bytes) next stands.bytes in
+    let room = subst (λ ls. length old.bag.buffers + sum_by buffers_of ls ≤ old.bag.buffer_room) next stands.room in
+    let same : written_in bag ≡ written_by (written_in old.bag) place.registers.buffers line = fun_ext (λ number. left.written number) in
+    subst (λ n. TakesTurn old (equip n bag) core core) (sym is) (record {
       bus = sym (ap (λ (t : SoFar × List Running). t.0) turned);
-      goes_on = sym (ap (λ (t : SoFar × List Running). t.1) turned);
-      receipts = sym (ap (λ t. old.receipts ++ t) (tells-line limits (so_far core) old.running line lines None standing next none));
+      goes_on = ap (λ w. the_running app lines place.registers w ∷ []) same ∙ sym (ap (λ (t : SoFar × List Running). t.1) turned);
+      receipts = sym (ap (λ t. old.progress.receipts ++ t) (tells-line limits (so_far core) (running_of old) line lines None standing next none));
       same_app = refl;
       stands = record {
         known = stands.known;
         standing = standing;
         entries = omega (arith, due, sum_by-cons waits_of line lines);
-        bytes = omega (arith, bytes, sum_by-cons line_bytes line lines);
-        remember = remember-shown (state_of core) app old.running.registers line old.receipts stands.remember;
+        asked = sizes_after stands.asked line;
+        buffers = subst (λ asked. AreAsked place.registers.buffers (written_in bag) (state_of core).numbers_given asked) (sym (local-sizes place.registers (written_in old.bag) stands.asked line none))
+            (asked-fewer place.registers.buffers stands.asked (written_in old.bag) (written_in bag) (state_of core).numbers_given (state_of core).numbers_given stands.buffers (omega arith)
+            (λ number. alike-long core app number old.bag bag left.was left.is) (alike-none core app 0 old.bag bag left.was left.is stands.buffers.none));
+        bytes = omega (arith, bytes);
+        room = omega (arith, room, left.count, left.room, sum_by-cons buffers_of line lines);
+        remember = remember-shown (state_of core) app place.registers line old.progress.receipts stands.remember;
+        small = stands.small;
       };
       moved = inl refl;
     })
@@ -380,7 +462,7 @@ takes-local old new core line lines stands goes active next none is =
 pipe-own : (old : Progress) (before : Caller) (pipe : ℕ) → MayTurn old before → old.waits_on ≡ Some pipe → pipe_waited_on before ≡ pipe
 pipe-own old before pipe may waits =
     ap (λ app. waited_on (standing_of (state_of before.core) app)) may.own
-    ∙ ap waited_on (standing-going old before.core may.stands may.goes_on ∙ ap standing_for waits)
+    ∙ ap waited_on (standing-going (with_bag old before) before.core may.stands may.goes_on ∙ ap standing_for waits)
 
 -- the look's call is the application's, on the pipe that it waits on
 looks-own : (old : Progress) (before : Caller) (now after : Core) (pipe : ℕ) (answer : BusAnswer) → MayTurn old before → old.waits_on ≡ Some pipe →
@@ -388,6 +470,12 @@ looks-own : (old : Progress) (before : Caller) (now after : Core) (pipe : ℕ) (
 looks-own old before now after pipe answer may waits does =
     subst (λ app. Does now after app (calls.Look pipe) answer) may.own
     (subst (λ p. Does now after before.app (calls.Look p) answer) (pipe-own old before pipe may waits) does)
+
+-- and so is what it leaves of the buffers
+leaves-own : (old : Progress) (before : Caller) (bag : Holding LentBytes) (pipe : ℕ) (answer : BusAnswer) → MayTurn old before → old.waits_on ≡ Some pipe →
+    LeavesBuffers before.bag bag (calls.Look (pipe_waited_on before)) answer → LeavesBuffers before.bag bag (calls.Look pipe) answer
+leaves-own old before bag pipe answer may waits leaves =
+    subst (λ p. LeavesBuffers before.bag bag (calls.Look p) answer) (pipe-own old before pipe may waits) leaves
 
 progress-looked : (p old : Progress) (r told : List Receipt) → p ≡ old → old.ended ≡ false → r ≡ told →
     record { running = p.running; waits_on = None; ended = p.ended; receipts = r } ≡ looked_on old told
@@ -417,10 +505,10 @@ progress-local p old lines r told is goes active same =
     ∙ ap (λ x. behind_local old lines x) same
 
 -- the bus that the calls meet knows the application as the one last seen did
-met : (old : Progress) (before : Caller) (now : Core) → MayTurn old before → Meets before now → Stands old now
+met : (old : Progress) (before : Caller) (now : Core) → MayTurn old before → Meets before now → Stands (with_bag old before) now
 met old before now may meets =
     stands-met old before now meets may.own
-    (first-known (state_of before.core) old.running.app (standing_for old.waits_on) (standing-going old before.core may.stands may.goes_on) (going_lives old.waits_on)) may.stands
+    (first-known (state_of before.core) old.running.app (standing_for old.waits_on) (standing-going (with_bag old before) before.core may.stands may.goes_on) (going_lives old.waits_on)) may.stands
 
 -- a look that found a message
 pub looked-got : (p old : Progress) (before after : Caller) (pipe n : ℕ) (r : List Receipt) → p ≡ old → MayTurn old before → old.waits_on ≡ Some pipe →
@@ -433,7 +521,8 @@ looked-got p old before after pipe n r is may waits answered got =
     record {
       now = answered.now;
       meets = answered.meets;
-      turn = takes-look old new answered.now after.core pipe (Got n) (met old before answered.now may answered.meets) may.goes_on waits does refl
+      turn = takes-look (with_bag old before) new after.bag answered.now after.core pipe (Got n) (met old before answered.now may answered.meets) may.goes_on waits does
+          (leaves-own old before after.bag pipe (Got n) may waits answered.buffers) refl
           (progress-looked p old r _ is may.goes_on
           (got
           ∙ ap (λ (q : Progress). q.receipts ++ taken_from after pipe n) is
@@ -451,28 +540,43 @@ looked-time_out p old before after pipe is may waits answered =
     record {
       now = answered.now;
       meets = answered.meets;
-      turn = takes-look old new answered.now after.core pipe TimeOut (met old before answered.now may answered.meets) may.goes_on waits
-          (looks-own old before answered.now after.core pipe TimeOut may waits answered.does) refl
+      turn = takes-look (with_bag old before) new after.bag answered.now after.core pipe TimeOut (met old before answered.now may answered.meets) may.goes_on waits
+          (looks-own old before answered.now after.core pipe TimeOut may waits answered.does) (leaves-own old before after.bag pipe TimeOut may waits answered.buffers) refl
           (progress-looked p old p.receipts _ is may.goes_on (ap (λ (q : Progress). q.receipts) is ∙ sym (append-nil old.receipts)));
       bag = answered.bag;
     }
 
 -- a look that finds the application still waiting
-takes-pending : (old : Progress) (now : Core) (pipe : ℕ) → Stands old now → old.ended ≡ false → old.waits_on ≡ Some pipe →
-    answer_to now.limits (so_far now) old.running.app (calls.Look pipe) ≡ Pending → TakesTurn old old now now
-takes-pending old now pipe stands goes waits pending =
-    let app = old.running.app in
+takes-pending : (old : Equipped) (bag : Holding LentBytes) (now : Core) (pipe : ℕ) → Stands old now → old.progress.ended ≡ false → old.progress.waits_on ≡ Some pipe →
+    LeavesBuffers old.bag bag (calls.Look pipe) Pending →
+    answer_to now.limits (so_far now) old.progress.running.app (calls.Look pipe) ≡ Pending → TakesTurn old (equip old.progress bag) now now
+takes-pending old bag now pipe stands goes waits leaves pending =
+    let place = old.progress.running in
+    let app = place.app in
     let limits = now.limits in
     let standing : standing_of (state_of now) app ≡ Waiting pipe = standing-going old now stands goes ∙ ap standing_for waits in
-    let turned = turn-look limits (so_far now) old.running pipe standing in
+    let turned = turn-look limits (so_far now) (running_of old) pipe standing in
+    let same = wrote old.bag bag (calls.Look pipe) Pending leaves in
     record {
       bus = sym (ap (λ a. after_look limits (so_far now) app pipe a) pending) ∙ sym (ap (λ (t : SoFar × List Running). t.0) turned);
-      goes_on = ap (λ b. cond {A = List Running} b [] (old.running ∷ [])) goes ∙ sym (ap (λ (t : SoFar × List Running). t.1) turned);
-      receipts = sym (append-nil old.receipts)
-          ∙ sym (ap (λ a. old.receipts ++ got_in app (after_look limits (so_far now) app pipe a).state (calls.Look pipe) a) pending)
-          ∙ sym (ap (λ s. old.receipts ++ tells_in limits (so_far now) old.running s) standing);
+      goes_on = ap (λ b. cond {A = List Running} b [] (the_running app place.lines place.registers (written_in bag) ∷ [])) goes
+          ∙ ap (λ w. the_running app place.lines place.registers w ∷ []) same
+          ∙ sym (ap (λ (t : SoFar × List Running). t.1) turned);
+      receipts = sym (append-nil old.progress.receipts)
+          ∙ sym (ap (λ a. old.progress.receipts ++ got_in app (after_look limits (so_far now) app pipe a).state (calls.Look pipe) a) pending)
+          ∙ sym (ap (λ s. old.progress.receipts ++ tells_in limits (so_far now) (running_of old) s) standing);
       same_app = refl;
-      stands = stands;
+      stands = record {
+        known = stands.known;
+        standing = stands.standing;
+        entries = stands.entries;
+        asked = stands.asked;
+        buffers = subst (λ w. AreAsked place.registers.buffers w (state_of now).numbers_given stands.asked) (sym same) stands.buffers;
+        bytes = stands.bytes;
+        room = omega (arith, stands.room, leaves.count, leaves.room);
+        remember = stands.remember;
+        small = stands.small;
+      };
       moved = inl refl;
     }
 
@@ -483,8 +587,9 @@ looked-pending old before after pipe may waits answered =
     record {
       now = now;
       meets = answered.meets;
-      turn = subst (λ core. TakesTurn old old now core) (sym answered.does.0)
-          (takes-pending old now pipe (met old before now may answered.meets) may.goes_on waits
+      turn = subst (λ core. TakesTurn (with_bag old before) (with_bag old after) now core) (sym answered.does.0)
+          (takes-pending (with_bag old before) after.bag now pipe (met old before now may answered.meets) may.goes_on waits
+          (leaves-own old before after.bag pipe Pending may waits answered.buffers)
           (sym (ap (λ app. answer_to now.limits (so_far now) app (calls.Look pipe)) may.own)
           ∙ sym (ap (λ w. answer_to now.limits (so_far now) before.app (calls.Look w)) (pipe-own old before pipe may waits))
           ∙ answered.does.1));
@@ -497,29 +602,40 @@ looked-pending old before after pipe may waits answered =
 abbrev ended_on : Progress → Progress
 ended_on old = record { running = old.running; waits_on = old.waits_on; ended = true; receipts = old.receipts }
 
-end-exact : (old : Progress) (before after : Core) → Stands old before → old.ended ≡ false → old.waits_on ≡ None → old.running.lines ≡ [] →
-    Does before after old.running.app calls.End (answer_to before.limits (so_far before) old.running.app calls.End) → TakesTurn old (ended_on old) before after
-end-exact old before after stands goes active through does =
-    let app = old.running.app in
+end-exact : (old : Equipped) (bag : Holding LentBytes) (before after : Core) → Stands old before → old.progress.ended ≡ false → old.progress.waits_on ≡ None → old.progress.running.lines ≡ [] →
+    Does before after old.progress.running.app calls.End (answer_to before.limits (so_far before) old.progress.running.app calls.End) →
+    LeavesBuffers old.bag bag calls.End Done → TakesTurn old (equip (ended_on old.progress) bag) before after
+end-exact old bag before after stands goes active through does leaves =
+    let place = old.progress.running in
+    let app = place.app in
     let limits = before.limits in
+    let answer = answer_to limits (so_far before) app calls.End in
     let standing : standing_of (state_of before) app ≡ Active = standing-going old before stands goes ∙ ap standing_for active in
-    let turned : turn limits (so_far before) old.running ≡ active_turn limits (so_far before) old.running [] =
-    ap (λ s. turn_in limits (so_far before) old.running s) standing ∙ ap (λ ls. active_turn limits (so_far before) old.running ls) through in
+    let turned : turn limits (so_far before) (running_of old) ≡ active_turn limits (so_far before) (running_of old) [] =
+    ap (λ s. turn_in limits (so_far before) (running_of old) s) standing ∙ ap (λ ls. active_turn limits (so_far before) (running_of old) ls) through in
     record {
       bus = so_far-does before after app calls.End does ∙ sym (ap (λ (t : SoFar × List Running). t.0) turned);
       goes_on = sym (ap (λ (t : SoFar × List Running). t.1) turned);
-      receipts = sym (append-nil old.receipts)
-          ∙ sym (ap (λ t. old.receipts ++ t) (ap (λ s. tells_in limits (so_far before) old.running s) standing ∙ ap (λ ls. active_tells limits (so_far before) old.running ls) through));
+      receipts = sym (append-nil old.progress.receipts)
+          ∙ sym (ap (λ t. old.progress.receipts ++ t) (ap (λ s. tells_in limits (so_far before) (running_of old) s) standing
+          ∙ ap (λ ls. active_tells limits (so_far before) (running_of old) ls) through));
       same_app = refl;
       stands = record {
-        known = subst (λ n. app ≤ n) (sym (apps-does before after app calls.End (answer_to limits (so_far before) app calls.End) does)) stands.known;
+        known = subst (λ n. app ≤ n) (sym (apps-does before after app calls.End answer does)) stands.known;
         standing = ap (λ s. standing_of s app) does.state
             ∙ standing-set (state_of before) (state_of before) app Active Ended refl standing active_lives;
         entries = omega arith;
-        bytes = subst (λ ls. bytes_due ls ≤ (allowance_of (left_of after.log) app).bytes) (sym through) (omega arith);
-        remember = subst (λ rs. Remember rs (state_of after) app) (append-nil old.receipts) (remember-does before after app calls.End old.receipts does stands.remember);
+        asked = stands.asked;
+        buffers = asked-fewer place.registers.buffers stands.asked (written_in old.bag) (written_in bag) (state_of before).numbers_given (state_of after).numbers_given stands.buffers
+            (given-does before after app calls.End answer does)
+            (λ number. subst (λ found. length (option_map_or (λ bytes. bytes) found []) ≤ length (bytes_in (written_in old.bag) number)) (sym (leaves.written number)) (omega arith))
+            (leaves.written 0);
+        bytes = subst (λ ls. bytes_due stands.asked ls ≤ (allowance_of (left_of after.log) app).bytes) (sym through) (omega arith);
+        room = omega (arith, stands.room, leaves.count, leaves.room);
+        remember = subst (λ rs. Remember rs (state_of after) app) (append-nil old.progress.receipts) (remember-does before after app calls.End old.progress.receipts does stands.remember);
+        small = small-does before after app calls.End answer does stands.small;
       };
-      moved = inr (calls.End, answer_to limits (so_far before) app calls.End, does);
+      moved = inr (calls.End, answer, does);
     }
 
 -- the application's last call
@@ -530,9 +646,9 @@ ran-end p old before after is may active through answered =
     record {
       now = now;
       meets = answered.meets;
-      turn = subst (λ q. TakesTurn old (ended_on q) now after.core) (sym is)
-          (end-exact old now after.core (met old before now may answered.meets) may.goes_on active through
-          (subst (λ app. Does now after.core app calls.End Done) may.own answered.does));
+      turn = subst (λ q. TakesTurn (with_bag old before) (with_bag (ended_on q) after) now after.core) (sym is)
+          (end-exact (with_bag old before) after.bag now after.core (met old before now may answered.meets) may.goes_on active through
+          (subst (λ app. Does now after.core app calls.End Done) may.own answered.does) answered.buffers);
       bag = answered.bag;
     }
 
@@ -549,22 +665,25 @@ get_at P xs i x there all = subst P (get_or_from_slice_get xs i x x there) (All-
 -- a line that was run
 pub ran-line : (p old : Progress) (before after : Caller) (line : Line) (lines : List Line) (answer : BusAnswer) (registers : Registers) (waits_on : Option ℕ) (r : List Receipt) (o : Option Call) →
     p ≡ old → MayTurn old before → old.waits_on ≡ None → p.running.lines ≡ line ∷ lines → IsLineInRange line →
-    call_of p.running.registers line ≡ o → IsRun before after o (Some answer) →
+    call_of p.running.registers (written_in before.bag) line ≡ o → IsRun before after o (Some answer) →
     r ≡ p.receipts ++ taken_by after o answer → registers ≡ registers_after p.running.registers line answer →
     waits_on ≡ pipe_waited_for p.running.registers line answer →
     TakesTurnBy old (record { running = record { app = p.running.app; lines = lines; registers = registers }; waits_on = waits_on; ended = p.ended; receipts = r }) before after
 ran-line p old before after line lines answer registers waits_on r None is may active next range calls run got noted waiting = absurd run
 ran-line p old before after line lines answer registers waits_on r (Some call) is may active next range calls run got noted waiting =
     let new : Progress = record { running = record { app = p.running.app; lines = lines; registers = registers }; waits_on = waits_on; ended = p.ended; receipts = r } in
-    let calls-old : call_of old.running.registers line ≡ Some call = subst (λ (q : Progress). call_of q.running.registers line ≡ Some call) is calls in
+    let written = written_in before.bag in
+    let calls-old : call_of old.running.registers written line ≡ Some call = subst (λ (q : Progress). call_of q.running.registers written line ≡ Some call) is calls in
     let next-old : old.running.lines ≡ line ∷ lines = subst (λ (q : Progress). q.running.lines ≡ line ∷ lines) is next in
     let does : Does run.now after.core old.running.app call answer = subst (λ app. Does run.now after.core app call answer) may.own run.does in
-    let allowed : Allowed line call = subst (λ o. AllowedLine line o) calls-old (allowed-line old.running.registers line range) in
+    let stands = met old before run.now may run.meets in
+    let allowed : Allowed stands.asked line call =
+    subst (λ o. AllowedLine stands.asked line o) calls-old (allowed-line old.running.registers written (state_of run.now).numbers_given stands.asked line stands.buffers range) in
     let own : after.app ≡ old.running.app = run.same.app ∙ may.own in
     record {
       now = run.now;
       meets = run.meets;
-      turn = takes-line old new run.now after.core line lines call answer (met old before run.now may run.meets) may.goes_on active next-old calls-old allowed does
+      turn = takes-line (with_bag old before) new after.bag run.now after.core line lines call answer stands may.goes_on active next-old calls-old allowed does run.buffers
           (progress-behind p old line lines answer registers waits_on r (old.receipts ++ got_in old.running.app (state_of after.core) call answer) is may.goes_on noted waiting
           (got
           ∙ ap (λ (q : Progress). q.receipts ++ taken_by after (Some call) answer) is
@@ -573,28 +692,44 @@ ran-line p old before after line lines answer registers waits_on r (Some call) i
       bag = run.bag;
     }
 
+-- what a line that no service sees left in the bag of the calls
+wrote-local : (old : Progress) (before after : Caller) (line : Line) → MayTurn old before → Writes before after (written_by (written_in before.bag) old.running.registers.buffers line) →
+    WroteLocal (with_bag old before) after.bag before.core line
+wrote-local old before after line may writes = record {
+  written = writes.written;
+  count = writes.count;
+  room = writes.room;
+  was = subst (λ app. HasBag before.core app before.bag) may.own may.bag;
+  is = subst (λ core. HasBag core old.running.app after.bag) writes.core (subst (λ app. HasBag after.core app after.bag) (writes.same.app ∙ may.own) writes.bag);
+}
+
 -- a line that no service sees
-pub ran-local : (p old : Progress) (before after : Caller) (line : Line) (lines : List Line) (r : List Receipt) (o : Option Call) →
+pub ran-local : (p old : Progress) (before mid after : Caller) (line : Line) (lines : List Line) (r : List Receipt) (o : Option Call) →
     p ≡ old → MayTurn old before → old.waits_on ≡ None → p.running.lines ≡ line ∷ lines →
-    call_of p.running.registers line ≡ o → IsRun before after o None →
+    call_of p.running.registers (written_in before.bag) line ≡ o → IsRun before mid o None →
+    Writes mid after (written_by (written_in mid.bag) p.running.registers.buffers line) →
     r ≡ p.receipts ++ shown after.app (state_of after.core) p.running.registers line →
     TakesTurnBy old (record { running = record { app = p.running.app; lines = lines; registers = p.running.registers }; waits_on = p.waits_on; ended = p.ended; receipts = r }) before after
-ran-local p old before after line lines r (Some call) is may active next calls run told = absurd run
-ran-local p old before after line lines r None is may active next calls run told =
+ran-local p old before mid after line lines r (Some call) is may active next calls run writes told = absurd run
+ran-local p old before mid after line lines r None is may active next calls run writes told =
     let new : Progress = record { running = record { app = p.running.app; lines = lines; registers = p.running.registers }; waits_on = p.waits_on; ended = p.ended; receipts = r } in
-    let calls-old : call_of old.running.registers line ≡ None = subst (λ (q : Progress). call_of q.running.registers line ≡ None) is calls in
+    let written = written_in before.bag in
+    let calls-old : call_of old.running.registers written line ≡ None = subst (λ (q : Progress). call_of q.running.registers written line ≡ None) is calls in
     let next-old : old.running.lines ≡ line ∷ lines = subst (λ (q : Progress). q.running.lines ≡ line ∷ lines) is next in
+    let wrote-old : Writes before after (written_by written old.running.registers.buffers line) =
+    subst (λ (q : Progress). Writes before after (written_by written q.running.registers.buffers line)) is
+    (subst (λ (caller : Caller). Writes caller after (written_by (written_in caller.bag) p.running.registers.buffers line)) run writes) in
     record {
       now = before.core;
       meets = inl refl;
-      turn = subst (λ caller. TakesTurn old new before.core caller.core) (sym run)
-          (takes-local old new before.core line lines may.stands may.goes_on active next-old calls-old
+      turn = subst (λ core. TakesTurn (with_bag old before) (with_bag new after) before.core core) (sym wrote-old.core)
+          (takes-local (with_bag old before) new after.bag before.core line lines may.stands may.goes_on active next-old calls-old (wrote-local old before after line may wrote-old)
           (progress-local p old lines r (old.receipts ++ shown old.running.app (state_of before.core) old.running.registers line) is may.goes_on active
           (told
-          ∙ ap (λ (caller : Caller). p.receipts ++ shown caller.app (state_of caller.core) p.running.registers line) run
-          ∙ ap (λ (q : Progress). q.receipts ++ shown before.app (state_of before.core) q.running.registers line) is
-          ∙ ap (λ app. old.receipts ++ shown app (state_of before.core) old.running.registers line) may.own)));
-      bag = subst (λ caller. HasOwnBag caller) (sym run) may.bag;
+          ∙ ap (λ core. p.receipts ++ shown after.app (state_of core) p.running.registers line) wrote-old.core
+          ∙ ap (λ app. p.receipts ++ shown app (state_of before.core) p.running.registers line) (wrote-old.same.app ∙ may.own)
+          ∙ ap (λ (q : Progress). q.receipts ++ shown old.running.app (state_of before.core) q.running.registers line) is)));
+      bag = wrote-old.bag;
     }
 
 -- a line's call leaves the application and its bus the same, and the bag its own
@@ -610,14 +745,24 @@ run-bag before after None (Some answer) run bag = absurd run
 run-bag before after (Some call) None run bag = absurd run
 run-bag before after (Some call) (Some answer) run bag = run.bag
 
--- behind a line that no service sees the receipts still tell what was received last
-pub run-remember : (p old : Progress) (before after : Caller) (o : Option Call) → p ≡ old → MayTurn old before → IsRun before after o None →
+-- what was written leaves them so too
+pub wrote-same : (before mid after : Caller) (o : Option Call) (written : Written) → IsRun before mid o None → Writes mid after written → SameBus before after
+wrote-same before mid after None written run writes = subst (λ caller. SameBus caller after) run writes.same
+wrote-same before mid after (Some call) written run writes = absurd run
+
+-- behind a line that no service sees the application may write into its buffers
+pub run-write : (old : Progress) (before mid : Caller) (o : Option Call) → MayTurn old before → IsRun before mid o None → MayWrite mid
+run-write old before mid None may run = subst (λ caller. MayWrite caller) (sym run) (record { bag = may.bag; small = may.stands.small })
+run-write old before mid (Some call) may run = absurd run
+
+-- and the receipts still tell what was received last
+pub run-remember : (p old : Progress) (before mid after : Caller) (o : Option Call) (written : Written) → p ≡ old → MayTurn old before → IsRun before mid o None → Writes mid after written →
     Remember p.receipts (state_of after.core) after.app
-run-remember p old before after None is may run =
-    subst (λ (caller : Caller). Remember p.receipts (state_of caller.core) caller.app) (sym run)
-    (subst (λ (q : Progress). Remember q.receipts (state_of before.core) before.app) (sym is)
-    (subst (λ app. Remember old.receipts (state_of before.core) app) (sym may.own) may.stands.remember))
-run-remember p old before after (Some call) is may run = absurd run
+run-remember p old before mid after None written is may run writes =
+    subst (λ core. Remember p.receipts (state_of core) after.app) (sym (writes.core ∙ ap (λ (caller : Caller). caller.core) run))
+    (subst (λ app. Remember p.receipts (state_of before.core) app) (sym (writes.same.app ∙ ap (λ (caller : Caller). caller.app) run ∙ may.own))
+    (subst (λ (q : Progress). Remember q.receipts (state_of before.core) old.running.app) (sym is) may.stands.remember))
+run-remember p old before mid after (Some call) written is may run writes = absurd run
 
 -- a line that waits got nothing yet
 pub waits-or-got : (registers : Registers) (line : Line) (answer : BusAnswer) → cond (is_some (pipe_waited_for registers line answer)) 1 0 + most_receipts answer ≤ 1

@@ -1,4 +1,5 @@
 pub mod Callers
+pub mod Buffers
 pub mod Lines
 pub mod Openings
 pub mod Received

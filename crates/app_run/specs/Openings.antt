@@ -15,9 +15,14 @@ budgets_for script = map (λ a. budget_of a.lines) script.apps
 abbrev pub opened : ScriptText → Core
 opened script = record { limits = script.limits; log = record { budgets = budgets_for script; entries = [] }; notes = [] }
 
--- a bag with nothing in it, and room for so many views
-abbrev pub empty_bag : ℕ → Holding LentBytes
-empty_bag room = record { views = []; buffers = []; view_room = room; buffer_room = 0 }
+-- a bag with nothing in it, and room for so many views and buffers
+abbrev pub empty_bag : ℕ → ℕ → Holding LentBytes
+empty_bag views buffers = record { views = []; buffers = []; view_room = views; buffer_room = buffers }
+
+-- the bags of a script's applications before the first call: room for a view of each pipe that there may be, and for each
+-- buffer that the application asks for
+abbrev pub empty_bags : ScriptText → List (Holding LentBytes)
+empty_bags script = map (λ a. empty_bag script.limits.pipes (budget_of a.lines).buffers) script.apps
 
 -- the sizes of a run's regions, in bytes: that of the bus's pool
 pub record RegionSizes : Type 0 where

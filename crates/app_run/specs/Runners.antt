@@ -1,15 +1,25 @@
 -- How far an application has come.
 use Rattle.std.specs.Prelude.{ℕ, Bool, false, List, [], ◌∷◌, Option, Some, None, if◌then◌else◌}
+use Rattle.lend_block.specs.Loan.{LentBytes}
+use Rattle.buf_desc.specs.Held.{Holding}
 use Rattle.bus_words.specs.declared.receipts.Receipt.{Receipt}
 use Rattle.bus_words.specs.Bus.{Standing, Active, Waiting, Ended}
 use Rattle.app_script.specs.Script.{ScriptText, app_at}
-use Rattle.script_runs.specs.Trace.{first_registers}
+use Rattle.script_lines.specs.declared.line.Line.{Line}
+use Rattle.script_runs.specs.Trace.{Registers, first_registers}
 use Rattle.script_runs.specs.Rotation.{Running}
+use Rattle.app_run.specs.Callers.{written_in}
 
--- An application of a run: its number, the lines left and its registers; the pipe that it waits on; whether it has ended;
--- and its receipts so far.
+-- Where an application is in its script: its number, the lines left and its registers.
+pub record Place : Type 0 where
+  pub app : ℕ
+  pub lines : List Line
+  pub registers : Registers
+
+-- An application of a run: where it is in its script; the pipe that it waits on; whether it has ended; and its receipts so
+-- far.
 pub record Progress : Type 0 where
-  pub running : Running
+  pub running : Place
   pub waits_on : Option ℕ
   pub ended : Bool
   pub receipts : List Receipt
@@ -32,6 +42,20 @@ standing_for (Some pipe) = Waiting pipe
 abbrev pub standing_in : Progress → Standing
 standing_in progress = if progress.ended then Ended else standing_for progress.waits_on
 
+-- An application of a run with its bag, which has what it wrote.
+pub record Equipped : Type 0 where
+  pub progress : Progress
+  pub bag : Holding LentBytes
+
+-- the application, with what its bag has of its buffers
+abbrev pub running_of : Equipped → Running
+running_of one = record {
+  app = one.progress.running.app;
+  lines = one.progress.running.lines;
+  registers = one.progress.running.registers;
+  written = written_in one.bag;
+}
+
 -- the application, where it goes on
-abbrev pub going : Progress → List Running
-going progress = if progress.ended then [] else progress.running ∷ []
+abbrev pub going : Equipped → List Running
+going one = if one.progress.ended then [] else running_of one ∷ []

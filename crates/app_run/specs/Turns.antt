@@ -1,5 +1,5 @@
 -- One turn of an application.
-use Rattle.std.specs.Prelude.{◌≡◌, ℕ, ◌+◌, ◌≤◌, ◌++◌, ◌⊎◌, false, List, [], ◌∷◌, Option, Some, None, is_some, if◌then◌else◌}
+use Rattle.std.specs.Prelude.{◌≡◌, ℕ, ◌+◌, ◌≤◌, ◌++◌, length, sum_by, ◌⊎◌, false, List, [], ◌∷◌, Option, Some, None, is_some, if◌then◌else◌}
 use Rattle.fsw_base.specs.Limits.{Limits}
 use Rattle.bus_words.specs.declared.calls.BusAnswer.{BusAnswer}
 use Rattle.bus_words.specs.declared.history.Call.{Call}
@@ -15,10 +15,11 @@ use Rattle.script_runs.specs.Rotation.{Running, SoFar, after_call, after_look, a
 use Rattle.script_runs.specs.Told.{got_in, shown}
 use Rattle.app_run.specs.declared.runner.Turned.{Turned}
 use Rattle.app_run.specs.declared.runner.Turned.TheVariants as turned
-use Rattle.app_run.specs.Callers.{Caller, Meets, SameBus, HasOwnBag}
-use Rattle.app_run.specs.Lines.{entries_due, bytes_due}
+use Rattle.script_settings.specs.Accounts.{buffers_of}
+use Rattle.app_run.specs.Callers.{Caller, Meets, SameBus, HasOwnBag, written_in}
+use Rattle.app_run.specs.Lines.{entries_due, bytes_due, AreAsked}
 use Rattle.app_run.specs.Received.{Remember}
-use Rattle.app_run.specs.Runners.{Progress, standing_in, going}
+use Rattle.app_run.specs.Runners.{Progress, Equipped, standing_in, running_of, going}
 
 -- the bus so far
 abbrev pub so_far : Core → SoFar
@@ -35,7 +36,7 @@ line_tells limits sofar running line (Some call) =
 -- the next line; the end tells nothing
 abbrev pub active_tells : Limits → SoFar → Running → List Line → List Receipt
 active_tells limits sofar running [] = []
-active_tells limits sofar running (line ∷ lines) = line_tells limits sofar running line (call_of running.registers line)
+active_tells limits sofar running (line ∷ lines) = line_tells limits sofar running line (call_of running.registers running.written line)
 
 -- a turn of an application in this standing
 abbrev pub tells_in : Limits → SoFar → Running → Standing → List Receipt
@@ -56,20 +57,28 @@ abbrev pub entries_to_come : Progress → ℕ
 entries_to_come progress =
     if progress.ended then 0 else entries_due progress.running.lines + (if is_some progress.waits_on then 1 else 0)
 
--- The bus knows the application as it is, and has room for all that it may still do; and the application's receipts tell which
--- messages it received last.
-pub record Stands (progress : Progress) (core : Core) : Type 0 where
-  pub known : progress.running.app ≤ apps_of core
-  pub standing : standing_of (state_of core) progress.running.app ≡ standing_in progress
-  pub entries : entries_to_come progress ≤ (allowance_of (left_of core.log) progress.running.app).entries
-  pub bytes : bytes_due progress.running.lines ≤ (allowance_of (left_of core.log) progress.running.app).bytes
-  pub remember : Remember progress.receipts (state_of core) progress.running.app
+-- The bus knows the application as it is, and has room for all that it may still do, as its bag has for the buffers; the
+-- application's receipts tell which messages it received last; and no message is longer than a packet can be.
+pub record Stands (one : Equipped) (core : Core) : Type 0 where
+  pub known : one.progress.running.app ≤ apps_of core
+  pub standing : standing_of (state_of core) one.progress.running.app ≡ standing_in one.progress
+  pub entries : entries_to_come one.progress ≤ (allowance_of (left_of core.log) one.progress.running.app).entries
+  pub asked : List ℕ
+  pub buffers : AreAsked one.progress.running.registers.buffers (written_in one.bag) (state_of core).numbers_given asked
+  pub bytes : bytes_due asked one.progress.running.lines ≤ (allowance_of (left_of core.log) one.progress.running.app).bytes
+  pub room : length one.bag.buffers + sum_by buffers_of one.progress.running.lines ≤ one.bag.buffer_room
+  pub remember : Remember one.progress.receipts (state_of core) one.progress.running.app
+  pub small : core.limits.msgmax ≤ 65542
+
+-- the application with its calls' bag
+abbrev pub with_bag : Progress → Caller → Equipped
+with_bag progress caller = record { progress = progress; bag = caller.bag }
 
 -- the application may take a turn by these calls: they are its own, with its own bag, and it has not ended
 pub record MayTurn (progress : Progress) (caller : Caller) : Type 0 where
   pub own : caller.app ≡ progress.running.app
   pub goes_on : progress.ended ≡ false
-  pub stands : Stands progress caller.core
+  pub stands : Stands (with_bag progress caller) caller.core
   pub bag : HasOwnBag caller
 
 -- the bus made one entry of the application, or none
@@ -77,13 +86,13 @@ abbrev pub Moved : Core → Core → ℕ → Type 0
 Moved old new app = (new ≡ old) ⊎ ((call : Call) × (answer : BusAnswer) × Does old new app call answer)
 
 -- The application took one turn.
-pub record TakesTurn (old new : Progress) (before after : Core) : Type 0 where
-  pub bus : so_far after ≡ (turn before.limits (so_far before) old.running).0
-  pub goes_on : going new ≡ (turn before.limits (so_far before) old.running).1
-  pub receipts : new.receipts ≡ old.receipts ++ tells before.limits (so_far before) old.running
-  pub same_app : new.running.app ≡ old.running.app
+pub record TakesTurn (old new : Equipped) (before after : Core) : Type 0 where
+  pub bus : so_far after ≡ (turn before.limits (so_far before) (running_of old)).0
+  pub goes_on : going new ≡ (turn before.limits (so_far before) (running_of old)).1
+  pub receipts : new.progress.receipts ≡ old.progress.receipts ++ tells before.limits (so_far before) (running_of old)
+  pub same_app : new.progress.running.app ≡ old.progress.running.app
   pub stands : Stands new after
-  pub moved : Moved before after old.running.app
+  pub moved : Moved before after old.progress.running.app
 
 -- how an application stands after its turn
 abbrev pub turned_of : Progress → Turned
@@ -93,7 +102,7 @@ turned_of progress = if progress.ended then turned.Ended else if is_some progres
 pub record TakesTurnBy (old new : Progress) (before after : Caller) : Type 0 where
   pub now : Core
   pub meets : Meets before now
-  pub turn : TakesTurn old new now after.core
+  pub turn : TakesTurn (with_bag old before) (with_bag new after) now after.core
   pub bag : HasOwnBag after
 
 -- The application took one turn by these calls, and that is how it stands.

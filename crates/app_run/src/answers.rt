@@ -1,6 +1,6 @@
 //! The answers of the calls, as entries of the journal have them.
 ghost use Rattle.std.specs.Prelude.{◌≡◌};
-ghost use Rattle.sb_core.specs.Answers.{created, done, named, sent, got, waited, pended, pool_told, grant_back, figures_told};
+ghost use Rattle.sb_core.specs.Answers.{created, done, named, sent, got, waited, pended, allocated, pool_told, grant_back, figures_told};
 
 use bus_words::{BusAnswer, PipeText};
 use fsw_base::{EsStatus, PoolStats, SbStatus};
@@ -9,6 +9,16 @@ use sb_calls::{Pended, Sent};
 /// A number that was asked for, or the refusal.
 pub(crate) fn number(answer: Result<u32, SbStatus>) -> BusAnswer
     ensures { result ≡ created answer }
+{
+    match answer {
+        Ok(number) => BusAnswer::Number(number),
+        Err(status) => BusAnswer::Sb(status),
+    }
+}
+
+/// The number of a buffer, or the refusal.
+pub(crate) fn buffer(answer: Result<u32, SbStatus>) -> BusAnswer
+    ensures { result ≡ allocated answer }
 {
     match answer {
         Ok(number) => BusAnswer::Number(number),

@@ -1,9 +1,12 @@
 //! The calls of one application.
-ghost use Rattle.std.specs.Prelude.{◌≡◌};
+ghost use Rattle.std.specs.Prelude.{◌≡◌, length};
 ghost use Rattle.std.specs.Option.{option_map};
-ghost use Rattle.sb_core.specs.Answers.{created, found, done, bits_told, named, sent, got, pended, pool_told, grant_back, figures_told};
+ghost use Rattle.buf_desc.specs.Held.{bytes_at};
+ghost use Rattle.sb_core.specs.Answers.{created, found, done, bits_told, named, sent, got, pended, allocated, pool_told, grant_back, figures_told};
 ghost use Rattle.sb_calls.specs.Views.{bytes_seen};
-ghost use Rattle.app_run.specs.Callers.{Caller, MayCallBus, Answers, AnswersLook, pipe_waited_on};
+ghost use Rattle.script_runs.specs.Messages.{sent_message};
+ghost use Rattle.script_runs.specs.Written.{with_bytes, put_in};
+ghost use Rattle.app_run.specs.Callers.{Caller, MayCallBus, MayWrite, Answers, AnswersLook, Writes, written_in, pipe_waited_on};
 
 use bus_words::{BusAnswer, Call, PipeText};
 use fsw_base::{EsStatus, PoolStats, SbStatus, Scope};
@@ -120,6 +123,36 @@ pub trait Calls {
         ensures { AnswersLook (caller self.old) (caller self.new) (pipe_waited_on (caller self.old))
             result };
 
+    /// Asks for a buffer of so many bytes, all zero, and answers its number. There must be room for
+    /// it in the bag.
+    ///
+    /// # Errors
+    /// As `BusCore::allocate`.
+    fn allocate(&mut self, size: u32) -> Result<u32, SbStatus>
+        requires { MayCallBus (caller self.old) (Call.Allocate size) }
+        ensures { Answers (caller self.old) (caller self.new) (Call.Allocate size)
+            (allocated result) };
+
+    /// Sends the message that a buffer of the application's begins with, as its bag has the bytes,
+    /// without a copy; `inc` gives it the id's next sequence count. Once it is sent the buffer
+    /// isn't the application's any more.
+    ///
+    /// # Errors
+    /// As `BusCore::transmit_buffer`.
+    fn transmit_buffer(&mut self, buf: u32, inc: bool) -> Result<Sent, SbStatus>
+        requires { MayCallBus (caller self.old)
+            (Call.TransmitBuffer buf (bytes_at (caller self.old).bag buf) inc) }
+        ensures { Answers (caller self.old) (caller self.new)
+            (Call.TransmitBuffer buf (bytes_at (caller self.old).bag buf) inc) (sent result) };
+
+    /// Gives a buffer of the application's back unsent.
+    ///
+    /// # Errors
+    /// As `BusCore::release`.
+    fn release(&mut self, buf: u32) -> Result<(), SbStatus>
+        requires { MayCallBus (caller self.old) (Call.Release buf) }
+        ensures { Answers (caller self.old) (caller self.new) (Call.Release buf) (done result) };
+
     /// Makes a memory pool of so many bytes, and answers its number.
     ///
     /// # Errors
@@ -157,7 +190,7 @@ pub trait Calls {
             (figures_told result) };
 
     /// The application's last call: its pipes leave with their subscriptions and messages, and its
-    /// grants come back to their pools.
+    /// unsent buffers; its grants come back to their pools.
     fn bus_end(&mut self)
         requires { MayCallBus (caller self.old) Call.End }
         ensures { Answers (caller self.old) (caller self.new) Call.End BusAnswer.Done };
@@ -166,4 +199,21 @@ pub trait Calls {
     /// bag shows it; None exactly where the bag has no view of that pipe. It is no call of the bus.
     fn last(&self, pipe: u32) -> Option<&[u8]>
         ensures { option_map (λ bytes. bytes.now) result ≡ bytes_seen (caller self.now).bag pipe };
+
+    /// Makes the whole of a buffer that the application hasn't sent a message of this id, with
+    /// sequence count 0 and a payload that counts up from `fill`; nothing where the application has
+    /// no such buffer. It is no call of the bus.
+    fn form_buffer(&mut self, buf: u32, id: u16, fill: u8)
+        requires { MayWrite (caller self.old) }
+        ensures { Writes (caller self.old) (caller self.new)
+            (with_bytes (written_in (caller self.old).bag) buf
+            (λ old. sent_message id (length old) fill)) };
+
+    /// Writes bytes into a buffer that the application hasn't sent, from an offset on; nothing
+    /// where they don't fit, or the application has no such buffer. It is no call of the bus.
+    fn put_bytes(&mut self, buf: u32, offset: u32, bytes: &[u8])
+        requires { MayWrite (caller self.old) }
+        ensures { Writes (caller self.old) (caller self.new)
+            (with_bytes (written_in (caller self.old).bag) buf
+            (λ old. put_in old offset bytes.now)) };
 }

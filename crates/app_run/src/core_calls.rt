@@ -1,6 +1,7 @@
 //! The calls of one application straight on a core.
 ghost use Rattle.std.specs.Prelude.{◌≡◌, true};
 
+use crate::buffers::{form_in, put_bytes_in};
 use crate::calls::Calls;
 use bucket_list::{Ledger, Steps};
 use buf_desc::Held;
@@ -102,6 +103,19 @@ impl<L: Ledger> Calls for CoreCalls<'_, '_, L> {
         self.core.look(self.app, self.held)
     }
 
+    fn allocate(&mut self, size: u32) -> Result<u32, SbStatus> {
+        self.core.allocate(self.app, size, self.held, self.steps)
+    }
+
+    fn transmit_buffer(&mut self, buf: u32, inc: bool) -> Result<Sent, SbStatus> {
+        self.core
+            .transmit_buffer(self.app, buf, inc, self.held, self.steps)
+    }
+
+    fn release(&mut self, buf: u32) -> Result<(), SbStatus> {
+        self.core.release(self.app, buf, self.held, self.steps)
+    }
+
     fn pool_create(&mut self, bytes: u32) -> Result<u32, EsStatus> {
         self.core.pool_create(self.app, bytes)
     }
@@ -127,5 +141,13 @@ impl<L: Ledger> Calls for CoreCalls<'_, '_, L> {
             Some(view) => Some(view.bytes()),
             None => None,
         }
+    }
+
+    fn form_buffer(&mut self, buf: u32, id: u16, fill: u8) {
+        form_in(self.held, buf, id, fill);
+    }
+
+    fn put_bytes(&mut self, buf: u32, offset: u32, bytes: &[u8]) {
+        put_bytes_in(self.held, buf, offset, bytes);
     }
 }

@@ -15,6 +15,7 @@
 #![tactic(auto)]
 
 mod answers;
+mod buffers;
 mod calls;
 mod core_calls;
 mod line_calls;

@@ -3,7 +3,9 @@ ghost use Rattle.std.specs.Prelude.{◌≡◌, ◌≤◌, length};
 ghost use Rattle.script_runs.specs.Messages.{sent_message};
 ghost use Rattle.app_script.specs.Ranges.{IsLineInRange};
 ghost use Rattle.script_runs.specs.Trace.{call_of};
-ghost use Rattle.app_run.specs.Callers.{MayCallBus, Answers};
+ghost use Rattle.buf_desc.specs.Held.{bytes_at};
+ghost use Rattle.script_runs.specs.Written.{written_by};
+ghost use Rattle.app_run.specs.Callers.{MayCallBus, MayWrite, Answers, Writes, written_in};
 ghost use Rattle.app_run.specs.Lines.{MayRun, IsRun, message_size};
 
 use crate::answers;
@@ -23,11 +25,12 @@ pub(crate) fn run_line<C: Calls>(
     message: &mut Vec<u8>,
     line: &Line,
 ) -> Option<BusAnswer>
-    requires may { MayRun (C.caller calls.old) (call_of registers.now line.now) }
+    requires may { MayRun (C.caller calls.old)
+        (call_of registers.now (written_in (C.caller calls.old).bag) line.now) }
     requires range { IsLineInRange line.now }
     requires message { message_size line.now ≤ length message.old.items }
-    ensures call { IsRun (C.caller calls.old) (C.caller calls.new) (call_of registers.now line.now)
-        result }
+    ensures call { IsRun (C.caller calls.old) (C.caller calls.new)
+        (call_of registers.now (written_in (C.caller calls.old).bag) line.now) result }
     ensures message { length message.new.items ≡ length message.old.items }
 {
     match line {
@@ -53,6 +56,11 @@ pub(crate) fn run_line<C: Calls>(
         Line::SendRaw { bytes, inc } => Some(transmit(calls, bytes.as_slice(), *inc)),
         Line::Receive { pipe } => Some(receive(calls, registers.pipe(*pipe))),
         Line::Pend { pipe } => Some(pend(calls, registers.pipe(*pipe))),
+        Line::Allocate { size, .. } => Some(allocate(calls, *size)),
+        Line::TransmitBuffer { buf, inc } => {
+            Some(transmit_buffer(calls, registers.buffer(*buf), *inc))
+        }
+        Line::Release { buf } => Some(release(calls, registers.buffer(*buf))),
         Line::PoolCreate { bytes, .. } => Some(pool_create(calls, *bytes)),
         Line::PoolGet { pool, size, .. } => Some(pool_get(calls, registers.pool(*pool), *size)),
         Line::PoolPut { pool, grant } => {
@@ -61,6 +69,22 @@ pub(crate) fn run_line<C: Calls>(
         }
         Line::PoolFigures { pool } => Some(pool_figures(calls, registers.pool(*pool))),
         _ => None,
+    }
+}
+
+/// Writes what a line writes into the application's buffers; nothing for all but `form` and `put`.
+#[tactic(auto, unfolding(script_runs::specs::Written::written_by))]
+pub(crate) fn write_line<C: Calls>(calls: &mut C, registers: &Registers, line: &Line)
+    requires { MayWrite (C.caller calls.old) }
+    ensures { Writes (C.caller calls.old) (C.caller calls.new)
+        (written_by (written_in (C.caller calls.old).bag) registers.now.buffers line.now) }
+{
+    match line {
+        Line::Form { buf, id, fill } => calls.form_buffer(registers.buffer(*buf), *id, *fill),
+        Line::Put { buf, offset, bytes } => {
+            calls.put_bytes(registers.buffer(*buf), *offset, bytes.as_slice());
+        }
+        _ => {}
     }
 }
 
@@ -175,6 +199,32 @@ fn pend<C: Calls>(calls: &mut C, pipe: u32) -> BusAnswer
 {
     let answer = calls.pend(pipe);
     answers::pended(answer)
+}
+
+fn allocate<C: Calls>(calls: &mut C, size: u32) -> BusAnswer
+    requires { MayCallBus (C.caller calls.old) (Call.Allocate size) }
+    ensures { Answers (C.caller calls.old) (C.caller calls.new) (Call.Allocate size) result }
+{
+    let answer = calls.allocate(size);
+    answers::buffer(answer)
+}
+
+fn transmit_buffer<C: Calls>(calls: &mut C, buf: u32, inc: bool) -> BusAnswer
+    requires { MayCallBus (C.caller calls.old)
+        (Call.TransmitBuffer buf (bytes_at (C.caller calls.old).bag buf) inc) }
+    ensures { Answers (C.caller calls.old) (C.caller calls.new)
+        (Call.TransmitBuffer buf (bytes_at (C.caller calls.old).bag buf) inc) result }
+{
+    let answer = calls.transmit_buffer(buf, inc);
+    answers::sent(answer)
+}
+
+fn release<C: Calls>(calls: &mut C, buf: u32) -> BusAnswer
+    requires { MayCallBus (C.caller calls.old) (Call.Release buf) }
+    ensures { Answers (C.caller calls.old) (C.caller calls.new) (Call.Release buf) result }
+{
+    let answer = calls.release(buf);
+    answers::done(answer)
 }
 
 fn pool_create<C: Calls>(calls: &mut C, bytes: u32) -> BusAnswer

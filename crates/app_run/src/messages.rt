@@ -1,7 +1,8 @@
-//! The message that a `send` line makes.
+//! What lines write: messages, and bytes.
 ghost use Rattle.std.specs.Prelude.{◌≡◌, ◌≤◌, length, map};
 ghost use Rattle.std.specs.List.{range_with_len};
 ghost use Rattle.script_runs.specs.Messages.{fill_byte, sent_message};
+ghost use Rattle.script_runs.specs.Written.{put_in};
 
 use ccsds_msg::write_header;
 
@@ -22,5 +23,15 @@ fn fill_payload(payload: &mut [u8], fill: u8)
 {
     for i in 0..payload.len() {
         payload[i] = ((fill as usize + i % 256) % 256) as u8;
+    }
+}
+
+/// Writes the bytes from an offset on, where they fit.
+pub(crate) fn put_in(target: &mut [u8], offset: u32, bytes: &[u8])
+    ensures { target.new ≡ put_in target.old offset bytes.now }
+{
+    let start = offset as usize;
+    if start <= target.len() && bytes.len() <= target.len() - start {
+        target[start..start + bytes.len()].copy_from_slice(bytes);
     }
 }

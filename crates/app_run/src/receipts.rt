@@ -5,6 +5,7 @@ ghost use Rattle.bus_words.specs.declared.receipts.Receipt.TheVariants.{Nothing}
 ghost use Rattle.sb_calls.specs.Core.{state_of};
 ghost use Rattle.script_runs.specs.Told.{shown};
 ghost use Rattle.script_runs.specs.Trace.{call_of};
+ghost use Rattle.script_runs.specs.Written.{Written};
 ghost use Rattle.app_run.specs.Callers.{HasOwnBag};
 ghost use Rattle.app_run.specs.Lines.{most_receipts};
 ghost use Rattle.app_run.specs.Received.{taken_from, taken_by, number_from, newest_number, Remember};
@@ -25,8 +26,8 @@ pub(crate) fn take_got<C: Calls>(
 )
     requires bag { HasOwnBag (C.caller calls.now) }
     requires room { 1 ≤ receipts.old.room }
-    ensures receipts { receipts.new.receipts ≡ receipts.old.receipts ++
-        taken_by (C.caller calls.now) (call_of registers.now line.now) answer.now }
+    ensures receipts { (written : Written) → receipts.new.receipts ≡ receipts.old.receipts ++
+        taken_by (C.caller calls.now) (call_of registers.now written line.now) answer.now }
     ensures room { receipts.old.room ≤ receipts.new.room + most_receipts answer.now }
 {
     let BusAnswer::Got(number) = answer else {

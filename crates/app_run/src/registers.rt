@@ -6,7 +6,8 @@ use bus_words::BusAnswer;
 use script_lines::{Line, REGISTERS};
 use std::marker::Model;
 
-// How many registers of pools an application has; of pipes and of grants it has `REGISTERS` each.
+// How many registers of pools an application has; of pipes, of buffers and of grants it has
+// `REGISTERS` each.
 const POOL_REGISTERS: usize = 8;
 
 /// An application's registers, which hold the numbers that its calls answered.
@@ -14,6 +15,8 @@ const POOL_REGISTERS: usize = 8;
 pub(crate) struct Registers {
     // Of pipes, `p0` to `p63`.
     pipes: [u32; REGISTERS],
+    // Of unsent buffers, `b0` to `b63`.
+    buffers: [u32; REGISTERS],
     // Of memory pools, `q0` to `q7`.
     pools: [u32; POOL_REGISTERS],
     // Of the pools' grants, `m0` to `m63`.
@@ -25,7 +28,8 @@ impl Model for Registers {
 
     ghost Value = { Registers };
 
-    ghost view = { λ r. record { pipes = r.pipes; pools = r.pools; grants = r.grants } };
+    ghost view = { λ r.
+        record { pipes = r.pipes; buffers = r.buffers; pools = r.pools; grants = r.grants } };
 }
 
 impl Registers {
@@ -35,6 +39,7 @@ impl Registers {
     {
         Registers {
             pipes: [0; REGISTERS],
+            buffers: [0; REGISTERS],
             pools: [0; POOL_REGISTERS],
             grants: [0; REGISTERS],
         }
@@ -45,6 +50,13 @@ impl Registers {
         ensures { result ≡ slice_index self.now.pipes register }
     {
         value_in(&self.pipes, register)
+    }
+
+    /// The number in a register of buffers; 0 where there is no such register.
+    pub(crate) fn buffer(&self, register: u32) -> u32
+        ensures { result ≡ slice_index self.now.buffers register }
+    {
+        value_in(&self.buffers, register)
     }
 
     /// The number in a register of pools; 0 where there is no such register.
@@ -69,6 +81,7 @@ impl Registers {
         match line {
             Line::Create { pipe, .. } => set(&mut self.pipes, *pipe, number_of(answer)),
             Line::Find { pipe, .. } => set(&mut self.pipes, *pipe, number_of(answer)),
+            Line::Allocate { buf, .. } => set(&mut self.buffers, *buf, number_of(answer)),
             Line::PoolCreate { pool, .. } => set(&mut self.pools, *pool, number_of(answer)),
             Line::PoolGet { grant, .. } => set(&mut self.grants, *grant, number_of(answer)),
             _ => {}

@@ -7,9 +7,9 @@ ghost use Rattle.script_settings.specs.Accounts.{budget_of};
 ghost use Rattle.script_runs.specs.Rotation.{rotation, rotations, enough};
 ghost use Rattle.script_runs.specs.Told.{receipts_told};
 ghost use Rattle.app_script.specs.Script.{ScriptText};
-ghost use Rattle.app_run.specs.Openings.{opened, empty_bag};
+ghost use Rattle.app_run.specs.Openings.{opened, empty_bags};
 ghost use Rattle.app_run.specs.Turns.{so_far, Stands};
-ghost use Rattle.app_run.specs.Rounds.{all_beginning, all_going, AllStand, AllTold, AllHold, MovesOn, Rotates, RotatesTimes};
+ghost use Rattle.app_run.specs.Rounds.{all_beginning, all_going, equipped, AllStand, AllTold, AllHold, MovesOn, Rotates, RotatesTimes};
 
 use crate::core_calls::CoreCalls;
 use crate::regions::Regions;
@@ -80,10 +80,10 @@ fn open<'s, 'r>(
     ensures script { IfOk result (λ run. run.script.now ≡ script.now) }
     ensures bus { IfOk result (λ run. run.bus ≡ opened script.now) }
     ensures runners { IfOk result (λ run. run.runners.items ≡ all_beginning script.now) }
-    ensures bags { IfOk result (λ run. run.bags.items ≡
-        replicate (length script.now.apps) (empty_bag script.now.limits.pipes)) }
+    ensures bags { IfOk result (λ run. run.bags.items ≡ empty_bags script.now) }
     ensures receipts { IfOk result (λ run. run.receipts.items ≡ []) }
     ensures room { IfOk result (λ run. length script.now.apps ≤ vec_capacity run.receipts) }
+    ensures small { IfOk result (λ run. run.script.now.limits.msgmax ≤ 65542) }
 {
     script.recall_ranges();
     let apps = script.apps() as usize;
@@ -106,10 +106,10 @@ fn open<'s, 'r>(
 fn run<'r>(run: OpenedRun<'_, 'r>) -> Finished<'r>
     requires bus { run.bus ≡ opened run.script.now }
     requires runners { run.runners.items ≡ all_beginning run.script.now }
-    requires bags { run.bags.items ≡
-        replicate (length run.script.now.apps) (empty_bag run.script.now.limits.pipes) }
+    requires bags { run.bags.items ≡ empty_bags run.script.now }
     requires receipts { run.receipts.items ≡ [] }
     requires room { length run.script.now.apps ≤ vec_capacity run.receipts }
+    requires small { run.script.now.limits.msgmax ≤ 65542 }
     ensures history { result.bus.log.entries ≡ rotation run.entry.script.now }
     ensures limits { result.bus.limits ≡ run.entry.script.now.limits }
     ensures apps { apps_of result.bus ≡ length run.entry.script.now.apps }
@@ -155,14 +155,15 @@ fn runners_of(alloc: Global, script: &Script) -> Result<Vec<Runner<'_>>, AllocEr
     Ok(runners)
 }
 
-// The bag of each application, empty, with room for a view of each pipe that there may be.
+// The bag of each application, empty, with room for a view of each pipe that there may be, and for
+// each buffer that it asks for.
 fn bags_of<'r>(alloc: Global, script: &Script) -> Result<Vec<Held<'r>>, AllocError>
-    ensures { IfOk result (λ bags. bags.items ≡
-        replicate (length script.now.apps) (empty_bag script.now.limits.pipes)) }
+    ensures { IfOk result (λ bags. bags.items ≡ empty_bags script.now) }
 {
     let mut bags = Vec::with_capacity(alloc, script.apps() as usize)?;
-    for _app in 0..script.apps() {
-        let bag: Held<'r> = Held::new(alloc, script.config().pipes, 0)?;
+    for i in 0..script.apps() {
+        let buffers = script.budget(app_at(i)).buffers;
+        let bag: Held<'r> = Held::new(alloc, script.config().pipes, buffers)?;
         bags.push_reserved(bag);
     }
     Ok(bags)
@@ -199,10 +200,13 @@ fn run_counted<'r, L: Ledger>(
     requires name { blank.name ≡ L.name }
     requires parts { blank.parts ≡ L.parts }
     requires some_part { 0 < blank.parts }
-    requires stand { AllStand bus.old runners.old.items }
+    requires stand { AllStand bus.old (equipped runners.old.items bags.old.items) }
     requires bags { AllHold bus.old 1 bags.old.items }
     requires as_many { length bags.old.items ≡ length runners.old.items }
-    ensures { RotatesTimes turns bus.old runners.old.items bus.new runners.new.items }
+    ensures rotates { RotatesTimes turns bus.old (equipped runners.old.items bags.old.items) bus.new
+        (equipped runners.new.items bags.new.items) }
+    ensures as_many { length bags.new.items ≡ length runners.new.items }
+    ensures runners { length runners.new.items ≡ length runners.old.items }
 {
     let mut steps = Steps::<L>::new(blank);
     run_all(bus, runners, bags, turns, &mut steps);
@@ -216,10 +220,13 @@ fn run_all<'r, L: Ledger>(
     turns: u32,
     steps: &mut Steps<L>,
 )
-    requires stand { AllStand bus.old runners.old.items }
+    requires stand { AllStand bus.old (equipped runners.old.items bags.old.items) }
     requires bags { AllHold bus.old 1 bags.old.items }
     requires as_many { length bags.old.items ≡ length runners.old.items }
-    ensures { RotatesTimes turns bus.old runners.old.items bus.new runners.new.items }
+    ensures rotates { RotatesTimes turns bus.old (equipped runners.old.items bags.old.items) bus.new
+        (equipped runners.new.items bags.new.items) }
+    ensures as_many { length bags.new.items ≡ length runners.new.items }
+    ensures runners { length runners.new.items ≡ length runners.old.items }
 {
     for _round in 0..turns {
         rotate(bus, runners, bags, steps);
@@ -233,12 +240,14 @@ fn rotate<'r, L: Ledger>(
     bags: &mut Vec<Held<'r>>,
     steps: &mut Steps<L>,
 )
-    requires stand { AllStand bus.old runners.old.items }
+    requires stand { AllStand bus.old (equipped runners.old.items bags.old.items) }
     requires bags { AllHold bus.old 1 bags.old.items }
     requires as_many { length bags.old.items ≡ length runners.old.items }
-    ensures rotates { Rotates bus.old runners.old.items bus.new runners.new.items }
+    ensures rotates { Rotates bus.old (equipped runners.old.items bags.old.items) bus.new
+        (equipped runners.new.items bags.new.items) }
     ensures bags { AllHold bus.new 1 bags.new.items }
-    ensures as_many { length bags.new.items ≡ length bags.old.items }
+    ensures as_many { length bags.new.items ≡ length runners.new.items }
+    ensures runners { length runners.new.items ≡ length runners.old.items }
 {
     // Does nothing; the proof learns of it that the others' bags stay theirs.
     bags_stay();
@@ -254,9 +263,10 @@ fn take_turn<'r, L: Ledger>(
     held: &mut Held<'r>,
     steps: &mut Steps<L>,
 )
-    requires stands { Stands runner.old bus.old }
+    requires stands { Stands (record { progress = runner.old; bag = held.old }) bus.old }
     requires bag { HasBag bus.old runner.old.running.app held.old }
-    ensures moves { MovesOn runner.old runner.new bus.old bus.new }
+    ensures moves { MovesOn (record { progress = runner.old; bag = held.old })
+        (record { progress = runner.new; bag = held.new }) bus.old bus.new }
     ensures bag { HasBag bus.new runner.old.running.app held.new }
 {
     if !runner.has_ended() {

@@ -5,7 +5,7 @@ ghost use Rattle.app_run.specs.Lines.{message_size, pipe_waited_for};
 ghost use Rattle.app_run.specs.Runners.{beginning};
 
 use crate::calls::Calls;
-use crate::line_calls::run_line;
+use crate::line_calls::{run_line, write_line};
 use crate::receipts::{show, take_got, take_receipt};
 use crate::registers::Registers;
 use app_script::Script;
@@ -158,7 +158,10 @@ impl<'s> Runner<'s> {
                 self.waits_on = pipe_waited_for(&self.registers, line, &answer);
                 self.registers.note(line, &answer);
             }
-            None => show(calls, &self.registers, line, &mut self.receipts),
+            None => {
+                write_line(calls, &self.registers, line);
+                show(calls, &self.registers, line, &mut self.receipts);
+            }
         }
     }
 

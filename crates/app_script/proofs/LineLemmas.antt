@@ -2,7 +2,7 @@
 use Rattle.std.proofs.Common.{◌≡◌, ℕ, Bool, false, List, refl}
 use Rattle.fsw_base.specs.declared.config.Scope.{Scope}
 use Rattle.script_lines.specs.declared.line.Line.{Line}
-use Rattle.script_lines.specs.declared.line.Line.TheVariants.{Create, Delete, SetOpts, GetOpts, Find, PipeName, Subscribe, Unsubscribe, Send, SendRaw, Receive, Pend, PoolCreate, PoolGet, PoolPut, PoolFigures, ShowPipe}
+use Rattle.script_lines.specs.declared.line.Line.TheVariants.{Create, Delete, SetOpts, GetOpts, Find, PipeName, Subscribe, Unsubscribe, Send, SendRaw, Receive, Pend, Allocate, TransmitBuffer, Release, PoolCreate, PoolGet, PoolPut, PoolFigures, Form, Put, ShowPipe}
 use Rattle.app_script.specs.Built.{is_built}
 
 -- a line that is none of those built
@@ -19,10 +19,15 @@ pub record IsLater (line : Line) : Type 0 where
   pub sendraw : (bytes : List ℕ) (inc : Bool) → line ≡ SendRaw bytes inc → ⊥
   pub recv : (pipe : ℕ) → line ≡ Receive pipe → ⊥
   pub pend : (pipe : ℕ) → line ≡ Pend pipe → ⊥
+  pub alloc : (buf size : ℕ) → line ≡ Allocate buf size → ⊥
+  pub xmit : (buf : ℕ) (inc : Bool) → line ≡ TransmitBuffer buf inc → ⊥
+  pub release : (buf : ℕ) → line ≡ Release buf → ⊥
   pub pool : (pool bytes : ℕ) → line ≡ PoolCreate pool bytes → ⊥
   pub pget : (grant pool size : ℕ) → line ≡ PoolGet grant pool size → ⊥
   pub pput : (pool grant : ℕ) → line ≡ PoolPut pool grant → ⊥
   pub pstats : (pool : ℕ) → line ≡ PoolFigures pool → ⊥
+  pub form : (buf id fill : ℕ) → line ≡ Form buf id fill → ⊥
+  pub put : (buf offset : ℕ) (bytes : List ℕ) → line ≡ Put buf offset bytes → ⊥
   pub show : (pipe : ℕ) → line ≡ ShowPipe pipe → ⊥
 
 pub built_default : (line : Line) → IsLater line → false ≡ is_built line
@@ -39,9 +44,14 @@ built_default (Send id size fill inc) never = absurd (never.send id size fill in
 built_default (SendRaw bytes inc) never = absurd (never.sendraw bytes inc refl)
 built_default (Receive pipe) never = absurd (never.recv pipe refl)
 built_default (Pend pipe) never = absurd (never.pend pipe refl)
+built_default (Allocate buf size) never = absurd (never.alloc buf size refl)
+built_default (TransmitBuffer buf inc) never = absurd (never.xmit buf inc refl)
+built_default (Release buf) never = absurd (never.release buf refl)
 built_default (PoolCreate pool bytes) never = absurd (never.pool pool bytes refl)
 built_default (PoolGet grant pool size) never = absurd (never.pget grant pool size refl)
 built_default (PoolPut pool grant) never = absurd (never.pput pool grant refl)
 built_default (PoolFigures pool) never = absurd (never.pstats pool refl)
+built_default (Form buf id fill) never = absurd (never.form buf id fill refl)
+built_default (Put buf offset bytes) never = absurd (never.put buf offset bytes refl)
 built_default (ShowPipe pipe) never = absurd (never.show pipe refl)
 built_default line never = refl

@@ -22,10 +22,15 @@ is_built (lines.Send id size fill inc) = true
 is_built (lines.SendRaw bytes inc) = true
 is_built (lines.Receive pipe) = true
 is_built (lines.Pend pipe) = true
+is_built (lines.Allocate buf size) = true
+is_built (lines.TransmitBuffer buf inc) = true
+is_built (lines.Release buf) = true
 is_built (lines.PoolCreate pool bytes) = true
 is_built (lines.PoolGet grant pool size) = true
 is_built (lines.PoolPut pool grant) = true
 is_built (lines.PoolFigures pool) = true
+is_built (lines.Form buf id fill) = true
+is_built (lines.Put buf offset bytes) = true
 is_built (lines.ShowPipe pipe) = true
 is_built line = false
 

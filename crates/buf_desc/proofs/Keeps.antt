@@ -24,13 +24,13 @@ block class out = record { class = class; out = out }
 -- a slot fits another pool in which its block is the same
 fits_same : (a b : PoolState) (d : ℕ) (s : Slot) → is_out b d ≡ is_out a d → size_at b d ≡ size_at a d → Fits a d s → Fits b d s
 fits_same a b d (Free size) out whole f = (out ∙ f.0, f.1 ∙ sym whole)
-fits_same a b d (Unsent number) out whole f = out ∙ f
+fits_same a b d (Unsent number asked) out whole f = out ∙ f
 fits_same a b d (Sealed sent) out whole f = (out ∙ f.0, f.1 ∙ sym whole)
 
 -- what isn't out is free, with the block's size
 pub free_there : (pool : PoolState) (d : ℕ) (s : Slot) → Fits pool d s → is_out pool d ≡ false → (is_free s ≡ true) × (free_size s ≡ size_at pool d)
 free_there pool d (Free size) f out = (refl, f.1)
-free_there pool d (Unsent number) f out = absurd (no (is_out pool d) f out)
+free_there pool d (Unsent number asked) f out = absurd (no (is_out pool d) f out)
   where
     no : (b : Bool) → b ≡ true → b ≡ false → ⊥
     no b e h = cc
@@ -42,13 +42,13 @@ free_there pool d (Sealed sent) f out = absurd (no (is_out pool d) f.0 out)
 -- what is live is out
 pub live_out : (pool : PoolState) (d : ℕ) (s : Slot) → Fits pool d s → is_live s ≡ is_out pool d
 live_out pool d (Free size) f = sym f.0
-live_out pool d (Unsent number) f = sym f
+live_out pool d (Unsent number asked) f = sym f
 live_out pool d (Sealed sent) f = sym f.0
 
 -- a sealed block has the pool's size for it
 pub sealed_there : (pool : PoolState) (d : ℕ) (s : Slot) → Fits pool d s → is_sealed s ≡ true → (is_out pool d ≡ true) × ((sealed_in s).size ≡ size_at pool d)
 sealed_there pool d (Free size) f e = absurd cc
-sealed_there pool d (Unsent number) f e = absurd cc
+sealed_there pool d (Unsent number asked) f e = absurd cc
 sealed_there pool d (Sealed sent) f e = f
 
 -- The pool with a block set. --
@@ -119,7 +119,7 @@ pub record Reused (old new : PoolState) (slots : List Slot) (rest capacity size 
   pub free : is_free (slot_at slots desc) ≡ true
   pub enough : size ≤ free_size (slot_at slots desc)
   pub whole : free_size (slot_at slots desc) ≡ size_at new desc
-  pub kept : IsKept new (set slots desc (Unsent number)) rest capacity
+  pub kept : IsKept new (set slots desc (Unsent number size)) rest capacity
 
 reused_class : (old new : PoolState) (slots : List Slot) (rest capacity size class desc number : ℕ) → IsKept old slots rest capacity → class_of size old.sizes ≡ Some class → Draws old new class desc → is_out old desc ≡ false → desc < length slots → Reused old new slots rest capacity size desc number
 reused_class old new slots rest capacity size class desc number k fit (Cuts none next e) was h = absurd (omega (arith, h, next, k.all))
@@ -133,8 +133,8 @@ reused_class old new slots rest capacity size class desc number k fit (Reuses wi
       free = there.0;
       enough = omega (arith, large size class old.sizes fit, there.1, whole);
       whole = there.1 ∙ (whole ∙ sym now_whole);
-      kept = subst (λ (p : PoolState). IsKept p (set slots desc (Unsent number)) rest capacity) (sym e)
-          (kept_set old slots rest capacity desc (counted old.requests) b (Unsent number) k h same (set_out old desc (counted old.requests) b within));
+      kept = subst (λ (p : PoolState). IsKept p (set slots desc (Unsent number size)) rest capacity) (sym e)
+          (kept_set old slots rest capacity desc (counted old.requests) b (Unsent number size) k h same (set_out old desc (counted old.requests) b within));
     }
 
 pub reused : (old new : PoolState) (slots : List Slot) (rest capacity size desc number : ℕ) → IsKept old slots rest capacity → DrawsFor old new size desc → is_out old desc ≡ false → desc < length slots → Reused old new slots rest capacity size desc number
@@ -151,7 +151,7 @@ pub record CutOff (old new : PoolState) (slots : List Slot) (rest capacity size 
   pub space : length slots < capacity
   pub enough : size ≤ size_at new desc
   pub within : size_at new desc ≤ rest
-  pub kept : IsKept new (slots ++ Unsent number ∷ []) (rest - size_at new desc) capacity
+  pub kept : IsKept new (slots ++ Unsent number size ∷ []) (rest - size_at new desc) capacity
 
 cut_class : (old new : PoolState) (slots : List Slot) (rest capacity size class desc number : ℕ) → IsKept old slots rest capacity → IsWhole new → class_of size old.sizes ≡ Some class → Draws old new class desc → length slots ≤ desc → CutOff old new slots rest capacity size desc number
 cut_class old new slots rest capacity size class desc number k w fit (Reuses within found e) h = absurd (omega (arith, h, within, k.all))
@@ -173,10 +173,10 @@ cut_class old new slots rest capacity size class desc number k w fit (Cuts none 
       enough = omega (arith, whole, large size class old.sizes fit);
       within = omega (arith, whole, wa.paid, more, k.region);
       kept = record {
-        all = omega (arith, length_push slots (Unsent number), longer, k.all);
+        all = omega (arith, length_push slots (Unsent number size), longer, k.all);
         room = k.room;
         region = omega (arith, whole, wa.paid, more, k.region);
-        fits = λ d inside. at d (omega (arith, inside, length_push slots (Unsent number))) (cases_lt d (length slots));
+        fits = λ d inside. at d (omega (arith, inside, length_push slots (Unsent number size))) (cases_lt d (length slots));
       };
     })
   where
@@ -186,15 +186,15 @@ cut_class old new slots rest capacity size class desc number k w fit (Cuts none 
     after' : PoolState
     after' = with_blocks old (old.blocks ++ b' ∷ []) (counted old.requests)
 
-    at : (d : ℕ) → d < length slots + 1 → (d < length slots) ⊎ (length slots ≤ d) → Fits after' d (slot_at (slots ++ Unsent number ∷ []) d)
+    at : (d : ℕ) → d < length slots + 1 → (d < length slots) ⊎ (length slots ≤ d) → Fits after' d (slot_at (slots ++ Unsent number size ∷ []) d)
     at d inside (inl front) =
         let old_place : d < length old.blocks = omega (arith, front, k.all) in
-        subst (Fits after' d) (sym (get_or_append_left slots (Unsent number ∷ []) (Free 0) d front))
+        subst (Fits after' d) (sym (get_or_append_left slots (Unsent number size ∷ []) (Free 0) d front))
         (fits_same old after' d (slot_at slots d) (ap (λ (x : CutBlock). x.out) (get_or_append_left old.blocks (b' ∷ []) (block 0 false) d old_place)) (ap (λ (x : CutBlock). get_or old.sizes x.class 0) (get_or_append_left old.blocks (b' ∷ []) (block 0 true) d old_place)) (k.fits d front))
     at d inside (inr back) =
         let e' : d ≡ length slots = omega (arith, inside, back) in
         let e'' : d ≡ length old.blocks = omega (arith, e', k.all) in
-        subst (Fits after' d) (sym (ap (λ i. slot_at (slots ++ Unsent number ∷ []) i) e' ∙ get_or_push slots (Unsent number) (Free 0) (length slots) refl))
+        subst (Fits after' d) (sym (ap (λ i. slot_at (slots ++ Unsent number size ∷ []) i) e' ∙ get_or_push slots (Unsent number size) (Free 0) (length slots) refl))
         (ap (λ (x : CutBlock). x.out) (ap (λ i. get_or (old.blocks ++ b' ∷ []) i (block 0 false)) e'' ∙ get_or_push old.blocks b' (block 0 false) (length old.blocks) refl))
 
 pub cut_off : (old new : PoolState) (slots : List Slot) (rest capacity size desc number : ℕ) → IsKept old slots rest capacity → IsWhole new → DrawsFor old new size desc → length slots ≤ desc → CutOff old new slots rest capacity size desc number
@@ -210,13 +210,13 @@ kept_at pool slots slots' rest rest' capacity capacity' es er ec k =
     subst (λ (s : List Slot). IsKept pool s rest' capacity') (sym es) (subst (λ (r : ℕ). IsKept pool slots r capacity') (sym er) (subst (λ (n : ℕ). IsKept pool slots rest n) (sym ec) k))
 
 -- what a draw is, as the desk's user sees it
-pub taken_again : (old : Buffers) (pool new : PoolState) (slots slots' : List Slot) (rest capacity size desc number : ℕ) (b : UnsentBlock) → record { pool = pool; slots = slots } ≡ old → IsKept pool slots rest capacity → DrawsFor pool new size desc → is_out pool desc ≡ false → desc < length slots → slots' ≡ set slots desc (Unsent number) → b.desc ≡ desc → b.number ≡ number → b.size ≡ size_at new desc → length b.bytes ≡ size → Takes old (record { pool = new; slots = slots' }) size number b
+pub taken_again : (old : Buffers) (pool new : PoolState) (slots slots' : List Slot) (rest capacity size desc number : ℕ) (b : UnsentBlock) → record { pool = pool; slots = slots } ≡ old → IsKept pool slots rest capacity → DrawsFor pool new size desc → is_out pool desc ≡ false → desc < length slots → slots' ≡ set slots desc (Unsent number size) → b.desc ≡ desc → b.number ≡ number → b.size ≡ size_at new desc → length b.bytes ≡ size → Takes old (record { pool = new; slots = slots' }) size number b
 taken_again old pool new slots slots' rest capacity size desc number b seen k drawn was h e ed en ew el =
     subst (λ (o : Buffers). Takes o (record { pool = new; slots = slots' }) size number b) seen
     (record {
       drawn = subst (λ d. DrawsFor pool new size d) (sym ed) drawn;
       was_not_live = ap (λ d. is_live (slot_at slots d)) ed ∙ (live_out pool desc (slot_at slots desc) (k.fits desc h) ∙ was);
-      slots = e ∙ (sym (placed_inside slots desc (Unsent number) h) ∙ sym (ap (λ d. placed slots d (Unsent number)) ed));
+      slots = e ∙ (sym (placed_inside slots desc (Unsent number size) h) ∙ sym (ap (λ d. placed slots d (Unsent number size)) ed));
       sent_as = en;
       whole = ew ∙ sym (ap (size_at new) ed);
       long = el;
@@ -228,13 +228,13 @@ taken_again old pool new slots slots' rest capacity size desc number b seen k dr
         yes : (x y : ℕ) → x < y → nat_lt x y ≡ true
         yes x y l = grind (arith, nat_tests)
 
-pub taken_new : (old : Buffers) (pool new : PoolState) (slots slots' : List Slot) (size desc number : ℕ) (b : UnsentBlock) → record { pool = pool; slots = slots } ≡ old → DrawsFor pool new size desc → desc ≡ length slots → slots' ≡ slots ++ Unsent number ∷ [] → b.desc ≡ desc → b.number ≡ number → b.size ≡ size_at new desc → length b.bytes ≡ size → Takes old (record { pool = new; slots = slots' }) size number b
+pub taken_new : (old : Buffers) (pool new : PoolState) (slots slots' : List Slot) (size desc number : ℕ) (b : UnsentBlock) → record { pool = pool; slots = slots } ≡ old → DrawsFor pool new size desc → desc ≡ length slots → slots' ≡ slots ++ Unsent number size ∷ [] → b.desc ≡ desc → b.number ≡ number → b.size ≡ size_at new desc → length b.bytes ≡ size → Takes old (record { pool = new; slots = slots' }) size number b
 taken_new old pool new slots slots' size desc number b seen drawn next e ed en ew el =
     subst (λ (o : Buffers). Takes o (record { pool = new; slots = slots' }) size number b) seen
     (record {
       drawn = subst (λ d. DrawsFor pool new size d) (sym ed) drawn;
       was_not_live = ap is_live (get_or_past slots b.desc (Free 0) (omega (arith, ed, next)));
-      slots = e ∙ (sym (placed_after slots desc (Unsent number) next) ∙ sym (ap (λ d. placed slots d (Unsent number)) ed));
+      slots = e ∙ (sym (placed_after slots desc (Unsent number size) next) ∙ sym (ap (λ d. placed slots d (Unsent number size)) ed));
       sent_as = en;
       whole = ew ∙ sym (ap (size_at new) ed);
       long = el;
@@ -279,8 +279,8 @@ on_ok (Err e) ok p = absurd (off ok)
     off : false ≡ true → ⊥
     off x = cc
 
-unsent_within : (slots : List Slot) (d number : ℕ) → slot_at slots d ≡ Unsent number → d < length slots
-unsent_within slots d number e = at (cases_lt d (length slots))
+unsent_within : (slots : List Slot) (d number asked : ℕ) → slot_at slots d ≡ Unsent number asked → d < length slots
+unsent_within slots d number asked e = at (cases_lt d (length slots))
   where
     at : (d < length slots) ⊎ (length slots ≤ d) → d < length slots
     at (inl h) = h
@@ -289,24 +289,24 @@ unsent_within slots d number e = at (cases_lt d (length slots))
         off : false ≡ true → ⊥
         off x = cc
 
-pub unsent_out : (pool : PoolState) (slots : List Slot) (rest capacity d number : ℕ) → IsKept pool slots rest capacity → slot_at slots d ≡ Unsent number → is_out pool d ≡ true
-unsent_out pool slots rest capacity d number k e = subst (Fits pool d) e (k.fits d (unsent_within slots d number e))
+pub unsent_out : (pool : PoolState) (slots : List Slot) (rest capacity d number asked : ℕ) → IsKept pool slots rest capacity → slot_at slots d ≡ Unsent number asked → is_out pool d ≡ true
+unsent_out pool slots rest capacity d number asked k e = subst (Fits pool d) e (k.fits d (unsent_within slots d number asked e))
 
 -- a block of an application was given back
-pub kept_given : (pool new : PoolState) (slots slots' : List Slot) (rest capacity capacity' d number whole : ℕ) → IsKept pool slots rest capacity → slot_at slots d ≡ Unsent number → whole ≡ size_at pool d → slots' ≡ set slots d (Free whole) → capacity' ≡ capacity → new ≡ given_back pool d → IsKept new slots' rest capacity'
-kept_given pool new slots slots' rest capacity capacity' d number whole k e ew es ec en =
-    let h = unsent_within slots d number e in
+pub kept_given : (pool new : PoolState) (slots slots' : List Slot) (rest capacity capacity' d number asked whole : ℕ) → IsKept pool slots rest capacity → slot_at slots d ≡ Unsent number asked → whole ≡ size_at pool d → slots' ≡ set slots d (Free whole) → capacity' ≡ capacity → new ≡ given_back pool d → IsKept new slots' rest capacity'
+kept_given pool new slots slots' rest capacity capacity' d number asked whole k e ew es ec en =
+    let h = unsent_within slots d number asked e in
     subst (λ (p : PoolState). IsKept p slots' rest capacity') (sym en)
     (kept_at (given_back pool d) _ slots' rest rest capacity capacity' es refl ec (kept_freed pool slots rest capacity d whole k h ew))
 
 -- the block drawn is of the desk
-pub own_again : (new : PoolState) (slots slots' : List Slot) (desc number : ℕ) (b : UnsentBlock) → desc < length slots → slots' ≡ set slots desc (Unsent number) → b.desc ≡ desc → b.number ≡ number → b.size ≡ size_at new desc → (slot_at slots' b.desc ≡ Unsent b.number) × (b.size ≡ size_at new b.desc)
-own_again new slots slots' desc number b h e ed en ew =
-    (ap (λ d. slot_at slots' d) ed ∙ (ap (λ l. slot_at l desc) e ∙ (get_or-set_same slots desc (Unsent number) (Free 0) h ∙ ap Unsent (sym en))), ew ∙ sym (ap (size_at new) ed))
+pub own_again : (new : PoolState) (slots slots' : List Slot) (desc number size : ℕ) (b : UnsentBlock) → desc < length slots → slots' ≡ set slots desc (Unsent number size) → b.desc ≡ desc → b.number ≡ number → b.size ≡ size_at new desc → length b.bytes ≡ size → (slot_at slots' b.desc ≡ Unsent b.number (length b.bytes)) × (b.size ≡ size_at new b.desc)
+own_again new slots slots' desc number size b h e ed en ew el =
+    (ap (λ d. slot_at slots' d) ed ∙ (ap (λ l. slot_at l desc) e ∙ (get_or-set_same slots desc (Unsent number size) (Free 0) h ∙ (ap (λ n. Unsent n size) (sym en) ∙ ap (Unsent b.number) (sym el)))), ew ∙ sym (ap (size_at new) ed))
 
-pub own_new : (new : PoolState) (slots slots' : List Slot) (desc number : ℕ) (b : UnsentBlock) → desc ≡ length slots → slots' ≡ slots ++ Unsent number ∷ [] → b.desc ≡ desc → b.number ≡ number → b.size ≡ size_at new desc → (slot_at slots' b.desc ≡ Unsent b.number) × (b.size ≡ size_at new b.desc)
-own_new new slots slots' desc number b h e ed en ew =
-    (ap (λ d. slot_at slots' d) (ed ∙ h) ∙ (ap (λ l. slot_at l (length slots)) e ∙ (get_or_push slots (Unsent number) (Free 0) (length slots) refl ∙ ap Unsent (sym en))), ew ∙ sym (ap (size_at new) ed))
+pub own_new : (new : PoolState) (slots slots' : List Slot) (desc number size : ℕ) (b : UnsentBlock) → desc ≡ length slots → slots' ≡ slots ++ Unsent number size ∷ [] → b.desc ≡ desc → b.number ≡ number → b.size ≡ size_at new desc → length b.bytes ≡ size → (slot_at slots' b.desc ≡ Unsent b.number (length b.bytes)) × (b.size ≡ size_at new b.desc)
+own_new new slots slots' desc number size b h e ed en ew el =
+    (ap (λ d. slot_at slots' d) (ed ∙ h) ∙ (ap (λ l. slot_at l (length slots)) e ∙ (get_or_push slots (Unsent number size) (Free 0) (length slots) refl ∙ (ap (λ n. Unsent n size) (sym en) ∙ ap (Unsent b.number) (sym el)))), ew ∙ sym (ap (size_at new) ed))
 
 -- the live blocks are those that are out
 pub all_live : (pool : PoolState) (slots : List Slot) (rest capacity : ℕ) → IsKept pool slots rest capacity → (d : ℕ) → is_live (slot_at slots d) ≡ is_out pool d

@@ -81,10 +81,10 @@ slot_placed slots d s live other = at (cases_lt d (length slots))
         ap (λ l. slot_at l other) e ∙ slot_pushed slots d s (omega (arith, h, there, length_push slots s)) other
 
 -- a draw changes the slot of the block drawn
-pub slot_drawn : (old new : Buffers) (size number : ℕ) (block : UnsentBlock) → Takes old new size number block → IsOf new block → (other : ℕ) → slot_at new.slots other ≡ cond (eqb block.desc other) (Unsent number) (slot_at old.slots other)
+pub slot_drawn : (old new : Buffers) (size number : ℕ) (block : UnsentBlock) → Takes old new size number block → IsOf new block → (other : ℕ) → slot_at new.slots other ≡ cond (eqb block.desc other) (Unsent number size) (slot_at old.slots other)
 slot_drawn old new size number block taken own other =
     ap (λ l. slot_at l other) taken.slots
-    ∙ slot_placed old.slots block.desc (Unsent number) (ap is_live (sym (ap (λ l. slot_at l block.desc) taken.slots) ∙ own.0)) other
+    ∙ slot_placed old.slots block.desc (Unsent number size) (ap is_live (sym (ap (λ l. slot_at l block.desc) taken.slots) ∙ own.0)) other
 
 -- Numbers of sends. --
 
@@ -105,7 +105,7 @@ numbers_kept slots after d s seen new own a b la lb same = at (cases_eq d a) (ca
 
 pub numbers_drawn : (old new : Buffers) (size number : ℕ) (block : UnsentBlock) → Takes old new size number block → IsOf new block → HaveOwnNumbers old.slots → ((other : ℕ) → is_live (slot_at old.slots other) ≡ true → number_in (slot_at old.slots other) ≢ number) → HaveOwnNumbers new.slots
 numbers_drawn old new size number block taken own kept new_there =
-    numbers_kept old.slots new.slots block.desc (Unsent number) (slot_drawn old new size number block taken own) (λ _ other _ live. new_there other live) kept
+    numbers_kept old.slots new.slots block.desc (Unsent number size) (slot_drawn old new size number block taken own) (λ _ other _ live. new_there other live) kept
 
 pub numbers_changed : (slots : List Slot) (d : ℕ) (s : Slot) → is_live (slot_at slots d) ≡ true → (is_live s ≡ true → number_in s ≡ number_in (slot_at slots d)) → HaveOwnNumbers slots → HaveOwnNumbers (set slots d s)
 numbers_changed slots d s live same own =

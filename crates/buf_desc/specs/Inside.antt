@@ -15,7 +15,7 @@ ended reference bytes = record { ref_ptr = reference.ref_ptr; ghost_name = refer
 -- a slot agrees with the pool on whether its block is out, and on its size
 abbrev pub Fits : PoolState → ℕ → Slot → Type 0
 Fits pool desc (Free size) = (is_out pool desc ≡ false) × (size ≡ size_at pool desc)
-Fits pool desc (Unsent number) = is_out pool desc ≡ true
+Fits pool desc (Unsent number asked) = is_out pool desc ≡ true
 Fits pool desc (Sealed sent) = (is_out pool desc ≡ true) × (sent.size ≡ size_at pool desc)
 
 -- every block of the pool has a slot that fits it, there is room for the others, and the region has the bytes for them

@@ -1,14 +1,14 @@
 //! The desk: which block is where, and when it goes back to the pool.
 ghost use Rattle.std.specs.Prelude.{◌≡◌, ℕ, ◌+◌, ◌-◌, ◌<◌, ◌≤◌, ◌↔◌, true, false, length, take, replicate, IsTrue, IsOk, IfOk, IfErr, OnErr};
 ghost use Rattle.es_pool.specs.Pool.{fits, is_out, size_at};
-ghost use Rattle.buf_desc.specs.Slots.{slot_at, sealed_at, is_sealed, is_live, number_in};
+ghost use Rattle.buf_desc.specs.Slots.{slot_at, sealed_at, is_sealed, is_live, number_in, asked_in};
 ghost use Rattle.buf_desc.specs.Desk.{Buffers, Takes, IsOf, uncut, sealed, freed, resealed, after_drop, after_settle};
 
 use crate::block::Block;
 use crate::sent::Sent;
 use crate::slot::{
-    Slot, Space, count_use, count_uses, discount_use, number_at, put_free, put_sealed, reopen,
-    return_view, take_free, uses_at, view_of,
+    Slot, Space, asked_at, count_use, count_uses, discount_use, number_at, put_free, put_sealed,
+    reopen, return_view, take_free, uses_at, view_of,
 };
 use bucket_list::{Ledger, Steps};
 use es_pool::Pool;
@@ -20,9 +20,9 @@ use std::marker::Model;
 /// The descriptors of a bus's message buffers. A descriptor is the number of a block of the pool.
 ///
 /// Contracts see the pool's account, and what became of each block by its number: it is free, an
-/// application's that has it unsent, or sealed, and then its send, size, bytes, uses, loan and
-/// views that are out. Live is what is unsent or sealed. Each call takes a bounded number of
-/// counted steps, however many blocks are out.
+/// application's that has it unsent, for a send and a size asked for, or sealed, and then its
+/// send, sizes, bytes, uses, loan and views that are out. Live is what is unsent or sealed. Each
+/// call takes a bounded number of counted steps, however many blocks are out.
 #[derive(Drop)]
 pub struct Desk<'r> {
     /// Which blocks are out.
@@ -139,7 +139,8 @@ impl<'r> Desk<'r> {
     {
         let desc = block.desc();
         let number = block.number();
-        let sent = Sent::seal(number, block.into_space(), len as usize);
+        let asked = block.len();
+        let sent = Sent::seal(number, asked, block.into_space(), len as usize);
         put_sealed(&mut self.slots, desc, sent);
         desc
     }
@@ -243,6 +244,14 @@ impl<'r> Desk<'r> {
         number_at(&self.slots, desc)
     }
 
+    /// How many bytes of a live block were asked for, when it was taken.
+    pub fn size_asked(&self, desc: u32) -> u32
+        requires { is_live (slot_at self.now.slots desc) ≡ true }
+        ensures { result ≡ asked_in (slot_at self.now.slots desc) }
+    {
+        asked_at(&self.slots, desc)
+    }
+
     /// Gives a view of a sealed block.
     pub fn view(&mut self, desc: u32) -> View<'r>
         requires sealed { is_sealed (slot_at self.old.slots desc) ≡ true }
@@ -299,11 +308,14 @@ impl<'r> Desk<'r> {
             Ok(desc) => {
                 self.pool.recall_whole();
                 if (desc as usize) < self.slots.len() {
-                    let space = take_free(&mut self.slots, desc, number);
+                    let space = take_free(&mut self.slots, desc, number, size);
                     return Ok(Block::new(desc, number, space, size));
                 }
                 let whole = self.pool.size_of(desc);
-                self.slots.push_reserved(Slot::Unsent(number));
+                self.slots.push_reserved(Slot::Unsent {
+                    number,
+                    asked: size,
+                });
                 let space = self.rest.cut(whole as usize);
                 Ok(Block::new(desc, number, space, size))
             }

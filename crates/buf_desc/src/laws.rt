@@ -1,9 +1,13 @@
-//! What a change of one block leaves of a desk. These functions do nothing, and are there for what
-//! they ensure.
-ghost use Rattle.std.specs.Prelude.{◌≡◌, ◌≢◌, ℕ, ◌==◌, if◌then◌else◌, true, List, slice_set};
+//! What a change of one block leaves of a desk and of a bag. These functions do nothing, and are
+//! there for what they ensure.
+ghost use Rattle.std.specs.Prelude.{◌≡◌, ◌≢◌, ℕ, ◌==◌, if◌then◌else◌, true, List, length, slice_set};
+ghost use Rattle.std.specs.Option.{option_map};
+ghost use Rattle.lend_block.specs.Loan.{LentBytes};
 ghost use Rattle.es_pool.specs.Pool.{PoolState, is_out, size_at, given_back};
 ghost use Rattle.buf_desc.specs.Block.{Unsent as UnsentBlock};
 ghost use Rattle.buf_desc.specs.Slots.{slot_at, is_live, number_in, HaveOwnNumbers};
+ghost use Rattle.buf_desc.specs.Fronts.{overwritten, with_bytes};
+ghost use Rattle.buf_desc.specs.Held.{Holding, buffer_at, with_bytes_at};
 ghost use Rattle.buf_desc.specs.Desk.{Buffers, Takes, IsOf, after_drop};
 ghost use Rattle.buf_desc.specs.declared.slot.Slot.{Slot};
 ghost use Rattle.buf_desc.specs.declared.slot.Slot.TheVariants.{Unsent};
@@ -15,7 +19,7 @@ pub fn recall_draw()
     ensures slots { (old new : Buffers) (size number : ℕ) (block : UnsentBlock) →
         Takes old new size number block → IsOf new block → (other : ℕ) →
         slot_at new.slots other ≡
-        (if block.desc == other then Unsent number else slot_at old.slots other) }
+        (if block.desc == other then Unsent number size else slot_at old.slots other) }
     ensures sizes { (old new : Buffers) (size number : ℕ) (block : UnsentBlock) →
         Takes old new size number block → (other : ℕ) → is_out old.pool other ≡ true →
         size_at new.pool other ≡ size_at old.pool other }
@@ -40,4 +44,14 @@ pub fn recall_change()
         is_live (slot_at slots desc) ≡ true →
         (is_live slot ≡ true → number_in slot ≡ number_in (slot_at slots desc)) →
         HaveOwnNumbers slots → HaveOwnNumbers (slice_set slots desc slot) }
+{}
+
+/// Bytes that are written over those of a block in a bag change that block alone, and leave as many
+/// of them open.
+pub fn recall_written()
+    ensures seen { (bag : Holding LentBytes) (number : ℕ) (w : List ℕ) (other : ℕ) →
+        buffer_at (with_bytes_at bag number w) other ≡
+        (if number == other then option_map (λ block. with_bytes block w) (buffer_at bag other)
+        else buffer_at bag other) }
+    ensures long { (bytes w : List ℕ) → length (overwritten bytes w) ≡ length bytes }
 {}

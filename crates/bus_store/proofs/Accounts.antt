@@ -2,14 +2,14 @@
 use Rattle.std.proofs.Common.{◌≡◌, ℕ, zero, suc, Bool, true, false, cond, leb, List, ◌∷◌, length, count_by, Option, Some, None, refl, ap, ◌∙◌, sym}
 use Rattle.std.specs.Option.{option_map_or}
 use Rattle.fsw_base.specs.Blocks.{class_of}
-use Rattle.fsw_base.specs.PoolAccounts.{Account, after_request, after_return}
+use Rattle.fsw_base.specs.PoolAccounts.{Account, after_return}
 use Rattle.es_pool.specs.Pool.{is_out, out_in}
 use Rattle.buf_desc.specs.Slots.{slot_at, is_live}
-use Rattle.bus_words.specs.Bus.{Item, Pipe}
+use Rattle.bus_words.specs.Bus.{Item, Pipe, Buffer}
 use Rattle.bus_store.specs.declared.store.BusStore.TheInside.{Inside}
-use Rattle.bus_words.specs.Held.{is_held, held, has_class, each_below}
+use Rattle.bus_words.specs.Held.{is_on_pipes, held, has_class, each_below}
 use Rattle.bus_store.specs.Words.{with_held}
-use Rattle.bus_store.specs.Inside.{store_of, Keeps, pipes_in, account_in, returned, after_send, after_release}
+use Rattle.bus_store.specs.Inside.{store_of, Keeps, account_in, returned, after_send, after_release}
 use Rattle.bus_store.proofs.Blocked.{out_held}
 
 each-same : (f g : ℕ → ℕ) → ((i : ℕ) → f i ≡ g i) → (n : ℕ) → each_below f n ≡ each_below g n
@@ -20,11 +20,11 @@ each-same f g same (suc n) =
 
 -- the account of a store is the one by what its pipes hold
 pub held_law : (a : Inside) → Keeps a → ((d : ℕ) → is_live (slot_at a.desk.slots d) ≡ is_out a.desk.pool d) →
-    (store_of a).account ≡ with_held (store_of a).account (store_of a).pipes a.given
+    (store_of a).account ≡ with_held (store_of a).account (store_of a).pipes (store_of a).unsent a.given
 held_law a keeps live_out =
     ap (λ (l : List ℕ). let v : Account = record (account_in a.desk.pool) { out = l } in v)
-    (each-same (out_in a.desk.pool.blocks) (λ class. count_by (has_class (pipes_in a.desk.slots a.tables.pipes) a.desk.pool.sizes class) (held (pipes_in a.desk.slots a.tables.pipes) a.given))
-    (λ class. out_held a.desk a.tables.pipes a.given keeps.backed live_out class) (length a.desk.pool.sizes))
+    (each-same (out_in a.desk.pool.blocks) (λ class. count_by (has_class (store_of a).pipes (store_of a).unsent a.desk.pool.sizes class) (held (store_of a).pipes (store_of a).unsent a.given))
+    (λ class. out_held a.desk a.tables.pipes a.lists.lists a.given keeps.backed keeps.listed live_out class) (length a.desk.pool.sizes))
 
 -- What changes in the number of blocks that are out alone. --
 
@@ -32,8 +32,8 @@ abbrev pub OutAlone : Account → Account → Type 0
 OutAlone old new = new ≡ record old { out = new.out }
 
 -- such an account is told by another and by what is held
-pub held_now : (old new : Account) (pipes : List Pipe) (given : ℕ) → OutAlone old new → new ≡ with_held new pipes given → new ≡ with_held old pipes given
-held_now old new pipes given alone law = law ∙ ap (λ (c : Account). with_held c pipes given) alone
+pub held_now : (old new : Account) (pipes : List Pipe) (unsent : List (List Buffer)) (given : ℕ) → OutAlone old new → new ≡ with_held new pipes unsent given → new ≡ with_held old pipes unsent given
+held_now old new pipes unsent given alone law = law ∙ ap (λ (c : Account). with_held c pipes unsent given) alone
 
 returned_alone : (account : Account) (size : ℕ) → OutAlone account (returned account size)
 returned_alone account size = by_class (class_of size account.sizes)
@@ -44,22 +44,22 @@ returned_alone account size = by_class (class_of size account.sizes)
 
 pub released_alone : (account : Account) (item : Option Item) (pipes : List Pipe) → OutAlone account (after_release account item pipes)
 released_alone account None pipes = refl
-released_alone account (Some item) pipes = by_held (is_held pipes item.number)
+released_alone account (Some item) pipes = by_named (is_on_pipes pipes item.number)
   where
-    by_held : (b : Bool) → cond {A = Account} b account (returned account item.asked) ≡ record account { out = (cond {A = Account} b account (returned account item.asked)).out }
-    by_held true = refl
-    by_held false = returned_alone account item.asked
+    by_named : (b : Bool) → cond {A = Account} b account (returned account item.asked) ≡ record account { out = (cond {A = Account} b account (returned account item.asked)).out }
+    by_named true = refl
+    by_named false = returned_alone account item.asked
 
-pub sent_alone : (account : Account) (size reached : ℕ) → OutAlone (after_request account size) (after_send account size reached)
+pub sent_alone : (account : Account) (size reached : ℕ) → OutAlone account (after_send account size reached)
 sent_alone account size reached = by_reached (leb 1 reached)
   where
-    drawn : Account
-    drawn = after_request account size
-
-    by_reached : (b : Bool) → cond {A = Account} b drawn (returned drawn size) ≡ record drawn { out = (cond {A = Account} b drawn (returned drawn size)).out }
+    by_reached : (b : Bool) → cond {A = Account} b account (returned account size) ≡ record account { out = (cond {A = Account} b account (returned account size)).out }
     by_reached true = refl
-    by_reached false = returned_alone drawn size
+    by_reached false = returned_alone account size
 
 -- an account that is the same as one of those
 pub alone_as : (old next new : Account) → OutAlone old next → new ≡ next → OutAlone old new
 alone_as old next new alone is = is ∙ alone ∙ ap (λ (c : Account). let v : Account = record old { out = c.out } in v) (sym is)
+
+pub returned_is_alone : (account : Account) (size : ℕ) → OutAlone account (returned account size)
+returned_is_alone account size = returned_alone account size

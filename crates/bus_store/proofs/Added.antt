@@ -5,16 +5,16 @@ use Rattle.std.proofs.lemmas.Bool.{eqb-true}
 use Rattle.ccsds_msg.specs.Message.{with_count}
 use Rattle.ccsds_msg.proofs.MessageLemmas.{length-with_count}
 use Rattle.fsw_base.specs.Starts.{start_of}
-use Rattle.es_pool.specs.Pool.{DrawsFor}
+use Rattle.es_pool.specs.Pool.{DrawsFor, size_at}
 use Rattle.buf_desc.specs.Block.{Unsent as UnsentBlock, Sealed as SealedBlock}
-use Rattle.buf_desc.specs.Slots.{slot_at, sealed_in, is_sealed, is_live, number_in}
+use Rattle.buf_desc.specs.Slots.{slot_at, sealed_in, is_sealed, is_live, number_in, HaveOwnNumbers}
 use Rattle.buf_desc.specs.Desk.{Buffers, Takes, IsOf, sealed}
 use Rattle.buf_desc.specs.declared.slot.Slot.TheVariants.{Unsent, Sealed}
 use Rattle.buf_desc.proofs.Others.{slot_drawn, numbers_drawn, numbers_changed}
 use Rattle.bus_words.specs.Acts.{NextCount, next_in}
 use Rattle.bus_tables.specs.Rows.{RouteRow, has_way, counted_in}
 use Rattle.bus_store.specs.Words.{next_of}
-use Rattle.bus_store.specs.Inside.{Adds}
+use Rattle.bus_store.specs.Inside.{Seals, Adds}
 use Rattle.bus_store.proofs.Tied.{here_set, others_set, eqb_other}
 
 take_all : (xs : List ℕ) (n : ℕ) → n ≡ length xs → take n xs ≡ xs
@@ -32,7 +32,7 @@ added old mid new size number len loan block sent message taken own is long same
     (subst (λ b. Adds old b number message block.desc) (sym placed) there)
   where
     what : SealedBlock
-    what = record { number = block.number; size = block.size; bytes = take len message; uses = 0; loan = loan; views = 0 }
+    what = record { number = block.number; asked = length message; size = block.size; bytes = take len message; uses = 0; loan = loan; views = 0 }
 
     live : is_live (slot_at mid.slots block.desc) ≡ true
     live = ap is_live own.0
@@ -44,16 +44,73 @@ added old mid new size number len loan block sent message taken own is long same
     there = record {
       fresh = taken.was_not_live;
       drawn = subst (λ n. DrawsFor old.pool mid.pool n block.desc) same taken.drawn;
-      sealed = ap is_sealed here;
-      sent = subst (λ s. sealed_in s ≡ record (sealed_in s) { number = number; bytes = message; uses = 0; views = 0 }) (sym here)
-          (ap (λ n. record what { number = n }) taken.sent_as ∙ ap (λ l. record what { number = number; bytes = l }) (take_all message len long));
-      others = λ other apart.
-          others_set mid.slots block.desc (Sealed what) live other apart
-          ∙ slot_drawn old mid size number block taken own other
-          ∙ ap (λ c. cond c (Unsent number) (slot_at old.slots other)) (eqb_other block.desc other apart);
+      seals = record {
+        sealed = ap is_sealed here;
+        sent = subst (λ s. sealed_in s ≡ record (sealed_in s) { number = number; asked = length message; bytes = message; uses = 0; views = 0 }) (sym here)
+            (ap (λ n. record what { number = n }) taken.sent_as ∙ ap (λ l. record what { number = number; bytes = l }) (take_all message len long));
+        others = λ other apart.
+            others_set mid.slots block.desc (Sealed what) live other apart
+            ∙ slot_drawn old mid size number block taken own other
+            ∙ ap (λ c. cond c (Unsent number size) (slot_at old.slots other)) (eqb_other block.desc other apart);
+      };
       numbers = λ kept new_there.
           numbers_changed mid.slots block.desc (Sealed what) live (λ _. sym (ap number_in own.0)) (numbers_drawn old mid size number block taken own kept new_there);
     }
+
+-- the block is of the desk where other bytes are in it, as many as before
+pub own_as : (b : Buffers) (block sent : UnsentBlock) (message : List ℕ) → sent ≡ record block { bytes = message } → length sent.bytes ≡ length block.bytes → IsOf b block → IsOf b sent
+own_as b block sent message is long own = (
+  ap (λ (x : UnsentBlock). slot_at b.slots x.desc) is ∙ own.0 ∙ ap (Unsent block.number) (sym long) ∙ ap (λ (x : UnsentBlock). Unsent x.number (length sent.bytes)) (sym is),
+  ap (λ (x : UnsentBlock). x.size) is ∙ own.1 ∙ ap (λ (x : UnsentBlock). size_at b.pool x.desc) (sym is),
+)
+
+-- the front of a message with a count is the front with the count
+pub count_front : (bytes : List ℕ) (count n : ℕ) → 4 ≤ n → 4 ≤ length bytes → take n (with_count bytes count) ≡ with_count (take n bytes) count
+unfolding with_count
+count_front [] count n h l = absurd (omega (arith, l))
+count_front (a ∷ []) count n h l = absurd (omega (arith, l))
+count_front (a ∷ (b ∷ [])) count n h l = absurd (omega (arith, l))
+count_front (a ∷ (b ∷ (c ∷ []))) count n h l = absurd (omega (arith, l))
+count_front (a ∷ (b ∷ (c ∷ (d ∷ bytes)))) count zero h l = absurd (omega (arith, h))
+count_front (a ∷ (b ∷ (c ∷ (d ∷ bytes)))) count (suc zero) h l = absurd (omega (arith, h))
+count_front (a ∷ (b ∷ (c ∷ (d ∷ bytes)))) count (suc (suc zero)) h l = absurd (omega (arith, h))
+count_front (a ∷ (b ∷ (c ∷ (d ∷ bytes)))) count (suc (suc (suc zero))) h l = absurd (omega (arith, h))
+count_front (a ∷ (b ∷ (c ∷ (d ∷ bytes)))) count (suc (suc (suc (suc n)))) h l = refl
+
+pub counted_front : (bytes : List ℕ) (count : Option ℕ) (n : ℕ) → 4 ≤ n → 4 ≤ length bytes → take n (option_map_or (with_count bytes) count bytes) ≡ option_map_or (with_count (take n bytes)) count (take n bytes)
+counted_front bytes None n h l = refl
+counted_front bytes (Some count) n h l = count_front bytes count n h l
+
+-- An unsent block that is sealed at a message that it begins with. --
+
+pub fronted : (old new : Buffers) (block sent : UnsentBlock) (message written : List ℕ) (len loan : ℕ) → IsOf old block → sent ≡ record block { bytes = written } →
+    length written ≡ length block.bytes → take len written ≡ message → new ≡ sealed old sent len loan → Seals old new block.number (length block.bytes) message block.desc
+fronted old new block sent message written len loan own is long front after =
+    subst (λ b. Seals old b block.number (length block.bytes) message block.desc) (sym (after ∙ ap (λ b. sealed old b len loan) is)) there
+  where
+    what : SealedBlock
+    what = record { number = block.number; asked = length written; size = block.size; bytes = take len written; uses = 0; loan = loan; views = 0 }
+
+    live : is_live (slot_at old.slots block.desc) ≡ true
+    live = ap is_live own.0
+
+    here : slot_at (set old.slots block.desc (Sealed what)) block.desc ≡ Sealed what
+    here = here_set old.slots block.desc (Sealed what) live
+
+    there : Seals old (sealed old (record block { bytes = written }) len loan) block.number (length block.bytes) message block.desc
+    there = record {
+      sealed = ap is_sealed here;
+      sent = subst (λ s. sealed_in s ≡ record (sealed_in s) { number = block.number; asked = length block.bytes; bytes = message; uses = 0; views = 0 }) (sym here)
+          (ap (λ n. record what { asked = n }) long ∙ ap (λ l. record what { asked = length block.bytes; bytes = l }) front);
+      others = λ other apart. others_set old.slots block.desc (Sealed what) live other apart;
+    }
+
+pub fronted_numbers : (old new : Buffers) (block sent : UnsentBlock) (written : List ℕ) (len loan : ℕ) → IsOf old block → sent ≡ record block { bytes = written } →
+    new ≡ sealed old sent len loan → HaveOwnNumbers old.slots → HaveOwnNumbers new.slots
+fronted_numbers old new block sent written len loan own is after =
+    subst (λ (b : Buffers). HaveOwnNumbers old.slots → HaveOwnNumbers b.slots) (sym (after ∙ ap (λ b. sealed old b len loan) is))
+    (numbers_changed old.slots block.desc (Sealed (record { number = block.number; asked = length written; size = block.size; bytes = take len written; uses = 0; loan = loan; views = 0 }))
+    (ap is_live own.0) (λ _. sym (ap number_in own.0)))
 
 -- the next count that the routes tell
 pub next_in-rows : (starts : List (ℕ × ℕ)) (routes : List RouteRow) (id : ℕ) → has_way routes id ≡ true →

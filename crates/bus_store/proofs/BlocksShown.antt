@@ -1,9 +1,10 @@
 -- The blocks, told by what the pipes hold.
-use Rattle.std.proofs.Common.{◌≡◌, ℕ, ◌+◌, true, List, [], ◌∷◌, length, map, sum_by, AllPairs, get_or, Option, Some, None, refl, ap, sym, ◌∙◌, subst, arith}
+use Rattle.std.proofs.Common.{◌≡◌, ℕ, ◌+◌, true, List, [], ◌∷◌, map, sum_by, AllPairs, get_or, Option, Some, None, refl, ap, sym, ◌∙◌, subst, arith}
 use Rattle.std.specs.List.{All}
-use Rattle.std.specs.Option.{IfSome, option_map, option_map_or, option_to_list}
-use Rattle.std.proofs.lemmas.List.Elements.{All-nil, All-cons, All-head, All-tail, All-append, All-map, All-weaker}
+use Rattle.std.specs.Option.{IfSome, option_map, option_map_or}
+use Rattle.std.proofs.lemmas.List.Elements.{All-weaker}
 use Rattle.std.proofs.lemmas.List.Sums.{sum_by-cons}
+use Rattle.fsw_base.specs.Blocks.{class_of}
 use Rattle.es_pool.specs.Pool.{size_at}
 use Rattle.buf_desc.specs.Slots.{slot_at, sealed_at, is_sealed}
 use Rattle.buf_desc.specs.Desk.{Buffers}
@@ -15,33 +16,15 @@ use Rattle.bus_tables.specs.Rows.{Row, last_item}
 use Rattle.bus_tables.specs.Uses.{item_use}
 use Rattle.bus_store.specs.Words.{last_of, loan_of}
 use Rattle.bus_store.specs.Blocks.{IsGiven, AreOfOneSend, last_by, AreBlocks}
-use Rattle.bus_store.specs.Inside.{item_in, pipe_by, pipes_in, loan_at, loan_in, OfItems, AllItems, IsNamed, lasts_of, Backed}
+use Rattle.bus_store.specs.Inside.{item_in, pipe_by, pipes_in, unsent_in, descs_in, loan_at, loan_in, AllItems, IsNamed, lasts_of, Backed, AreListed}
 use Rattle.bus_store.proofs.Bags.{loan-rows}
-use Rattle.bus_store.proofs.Blocked.{lies, item_found, block_held, block_class}
+use Rattle.bus_store.proofs.Blocked.{lies, item_found, block_named}
 use Rattle.bus_store.proofs.Counted.{names-row, named-rows}
-use Rattle.bus_store.proofs.Items.{items_weaker, last_found}
+use Rattle.bus_store.proofs.Items.{items_weaker, last_found, of_items}
+use Rattle.bus_store.proofs.Listed.{is_unsent_here, unsent_block, member_open, desc_told, size_told}
 use Rattle.bus_store.proofs.Meaning.{last_of-rows}
 use Rattle.bus_store.proofs.OneLoan.{one_block}
-use Rattle.bus_store.proofs.Tied.{sealed_live, sealed_number}
-
--- Items. --
-
--- what is true of each row's item is so of each item
-module _ (slots : List Slot) (P : Item → Type 0) where
-  abbrev Reads : ItemRow → Type 0
-  Reads i = P (item_in slots i)
-
-  of_last : (o : Option ItemRow) → IfSome o Reads → All P (option_to_list (option_map (item_in slots) o))
-  of_last None is = All-nil P
-  of_last (Some i) is = All-cons P (item_in slots i) [] is (All-nil P)
-
-  pub of_items : (rows : List Row) → AllItems Reads rows → All P (items_of (pipes_in slots rows))
-  of_items [] all = All-nil P
-  of_items (row ∷ rows) all =
-      let one = All-head (OfItems Reads) row rows all in
-      All-append P (option_to_list (option_map (item_in slots) row.last)) _ (of_last row.last one.last)
-      (All-append P (map (item_in slots) row.queue) (items_of (pipes_in slots rows)) (All-map P (item_in slots) row.queue one.queue)
-      (of_items rows (All-tail (OfItems Reads) row rows all)))
+use Rattle.bus_store.proofs.Tied.{sealed_live, sealed_number, sealed_asked, open_live}
 
 -- how often the pipes received a send last
 last-rows : (slots : List Slot) (n : ℕ) (rows : List Row) → sum_by (last_by n) (pipes_in slots rows) ≡ lasts_of n rows
@@ -60,7 +43,7 @@ record IsRead (slots : List Slot) (item : Item) : Type 0 where
   pub named : IsNamed slots row
   pub is : item ≡ item_in slots row
 
-module _ (b : Buffers) (rows : List Row) (given : ℕ) (backed : Backed b rows given) where
+module _ (b : Buffers) (rows : List Row) (lists : List (List ℕ)) (given : ℕ) (backed : Backed b rows given) (listed : AreListed b.slots lists) where
   abbrev pipes : List Pipe
   pipes = pipes_in b.slots rows
 
@@ -77,7 +60,7 @@ module _ (b : Buffers) (rows : List Row) (given : ℕ) (backed : Backed b rows g
     number = (sealed_at b.slots desc).number
 
     abbrev lies_here : (i : ItemRow) → IsNamed b.slots i → i.number ≡ number → i.desc ≡ desc
-    lies_here i named same = lies b rows given backed desc sealed i named same
+    lies_here i named same = lies b rows lists given backed listed desc sealed i named same
 
     block_bytes : All (λ (item : Item). item.number ≡ number → item.message ≡ (sealed_at b.slots desc).bytes) (items_of pipes)
     block_bytes =
@@ -85,6 +68,14 @@ module _ (b : Buffers) (rows : List Row) (given : ℕ) (backed : Backed b rows g
         (λ item read same.
         ap (λ (i : Item). i.message) read.is
         ∙ ap (λ d. (sealed_at b.slots d).bytes) (lies_here read.row read.named (sym (ap (λ (i : Item). i.number) read.is) ∙ same)))
+        (items_of pipes) all_read
+
+    block_asked_for : All (λ (item : Item). item.number ≡ number → item.asked ≡ (sealed_at b.slots desc).asked) (items_of pipes)
+    block_asked_for =
+        All-weaker (IsRead b.slots) (λ (item : Item). item.number ≡ number → item.asked ≡ (sealed_at b.slots desc).asked)
+        (λ item read same.
+        ap (λ (i : Item). i.asked) read.is
+        ∙ ap (λ d. (sealed_at b.slots d).asked) (lies_here read.row read.named (sym (ap (λ (i : Item). i.number) read.is) ∙ same)))
         (items_of pipes) all_read
 
     block_loan : (pipe : ℕ) (item : Item) → last_of pipes pipe ≡ Some item → item.number ≡ number → loan_of (map (loan_in b.slots) rows) pipe ≡ (sealed_at b.slots desc).loan
@@ -97,19 +88,31 @@ module _ (b : Buffers) (rows : List Row) (given : ℕ) (backed : Backed b rows g
         by_last (Some i) named f =
             ap (λ d. (sealed_at b.slots d).loan) (lies_here i named (ap (λ o. option_map_or {U = ℕ} (λ (x : Item). x.number) o 0) f ∙ same))
 
-  -- the blocks are those of the sends that the pipes hold
-  pub are_blocks : ((desc : ℕ) → is_sealed (slot_at b.slots desc) ≡ true → (sealed_at b.slots desc).size ≡ size_at b.pool desc) → AreBlocks b pipes (map (loan_in b.slots) rows)
+  -- the blocks are those of the sends that the pipes hold, and of the unsent buffers
+  pub are_blocks : ((desc : ℕ) → is_sealed (slot_at b.slots desc) ≡ true → (sealed_at b.slots desc).size ≡ size_at b.pool desc) →
+      AreBlocks b pipes (map (loan_in b.slots) rows) (unsent_in b.slots lists) (descs_in b.slots lists)
   are_blocks whole = record {
-    sealed = backed.tied.sealed;
-    each = λ desc sealed. record {
-      held = block_held b rows given backed desc sealed;
-      size = whole desc sealed ∙ sym (ap (λ (o : Option ℕ). option_map_or {U = ℕ} (λ c. get_or b.pool.sizes c 0) o 0) (block_class b rows given backed desc sealed));
+    each_sealed = λ desc sealed. record {
+      named = block_named b rows lists given backed listed desc sealed;
+      size = whole desc sealed
+          ∙ sym (ap (λ (o : Option ℕ). option_map_or {U = ℕ} (λ c. get_or b.pool.sizes c 0) o 0)
+          (ap (λ n. class_of n b.pool.sizes) (sym (sealed_asked (slot_at b.slots desc) sealed)) ∙ backed.tied.sizes desc (sealed_live (slot_at b.slots desc) sealed)));
+      asked = block_asked_for desc sealed;
       bytes = block_bytes desc sealed;
       uses = backed.tied.uses desc sealed ∙ sym (named-rows b.slots (sealed_at b.slots desc).number rows);
       views = backed.tied.views desc sealed ∙ sym (last-rows b.slots (sealed_at b.slots desc).number rows);
       loan = block_loan desc sealed;
     };
-    all = λ n is. let it = item_found b rows given backed n is in record { desc = it.item.desc; sealed = it.fact.sealed; number = it.fact.number ∙ it.number };
+    each_unsent = λ desc is. record {
+      of_buffer = is_unsent_here b.slots lists listed backed.tied.numbers desc is;
+      desc_told = desc_told b.slots lists listed backed.tied.numbers desc is;
+      asked = sym (size_told b.slots lists listed backed.tied.numbers desc is);
+      size = sym (ap (λ (o : Option ℕ). option_map_or {U = ℕ} (λ c. get_or b.pool.sizes c 0) o 0) (backed.tied.sizes desc (open_live (slot_at b.slots desc) is)));
+    };
+    all_sends = λ n is. let it = item_found b rows lists given backed listed n is in record { desc = it.item.desc; sealed = it.fact.sealed; has_number = it.fact.number ∙ it.number };
+    all_buffers = λ n is.
+        let m = unsent_block b.slots lists listed backed.tied.numbers n is in
+        record { desc = m.desc; open_block = member_open b.slots lists listed backed.tied.numbers n m; has_number = m.has_key };
     one = backed.tied.numbers;
   }
 
@@ -135,5 +138,5 @@ module _ (b : Buffers) (rows : List Row) (given : ℕ) (backed : Backed b rows g
           let named : read.row.number ≡ also.row.number = sym (ap (λ (x : Item). x.number) read.is) ∙ same ∙ ap (λ (x : Item). x.number) also.is in
           let desc = one_block b.slots backed.tied.numbers read.row also.row read.named also.named named in (
             ap (λ (x : Item). x.message) read.is ∙ ap (λ n. (sealed_at b.slots n).bytes) desc ∙ sym (ap (λ (x : Item). x.message) also.is),
-            ap (λ (x : Item). x.asked) read.is ∙ ap (λ n. length (sealed_at b.slots n).bytes) desc ∙ sym (ap (λ (x : Item). x.asked) also.is),
+            ap (λ (x : Item). x.asked) read.is ∙ ap (λ n. (sealed_at b.slots n).asked) desc ∙ sym (ap (λ (x : Item). x.asked) also.is),
           )

@@ -56,6 +56,8 @@ module _ (a : Inside) (old : Store) (next : Tables) (number bits : ℕ) (is : ne
               (items_with_row (IsNamed a.desk.slots) (row_with_bits bits) number (λ row one. record { queue = one.queue; last = one.last }) a.tables.pipes keeps.backed.tied.items);
           used = keeps.backed.used;
         };
+        listed = keeps.listed;
+        places = keeps.places;
         misses = keeps.misses;
         pipes_live = omega (arith, length-with_row (row_with_bits bits) number a.tables.pipes, keeps.pipes_live);
         pipes_few = keeps.pipes_few;
@@ -87,6 +89,8 @@ fewer_keeps a next subs is few keeps =
     subst (λ t. Keeps (record a { tables = t })) (sym is)
     (record {
       backed = keeps.backed;
+      listed = keeps.listed;
+      places = keeps.places;
       misses = keeps.misses;
       pipes_live = keeps.pipes_live;
       pipes_few = keeps.pipes_few;

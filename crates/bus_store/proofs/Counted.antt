@@ -9,7 +9,7 @@ use Rattle.bus_tables.specs.declared.tables.ItemRow.{ItemRow}
 use Rattle.bus_tables.specs.Rows.{Row}
 use Rattle.bus_tables.specs.Uses.{item_use, uses_in, uses_of}
 use Rattle.bus_store.specs.Inside.{item_in, pipe_by, pipes_in}
-use Rattle.bus_words.specs.Held.{names, named_by, is_held}
+use Rattle.bus_words.specs.Held.{names, named_by, is_on_pipes}
 
 pub names-row : (slots : List Slot) (n : ℕ) (o : Option ItemRow) → names n (option_map (item_in slots) o) ≡ item_use n o
 names-row slots n None = refl
@@ -29,5 +29,5 @@ named-rows slots n (row ∷ rows) =
     ∙ ap (λ k. uses_in n row + k) (named-rows slots n rows)
     ∙ sym (sum_by-cons (uses_in n) row rows)
 
-pub is_held-rows : (slots : List Slot) (rows : List Row) (n : ℕ) → is_held (pipes_in slots rows) n ≡ leb 1 (uses_of n rows)
-is_held-rows slots rows n = ap (leb 1) (named-rows slots n rows)
+pub is_on_pipes-rows : (slots : List Slot) (rows : List Row) (n : ℕ) → is_on_pipes (pipes_in slots rows) n ≡ leb 1 (uses_of n rows)
+is_on_pipes-rows slots rows n = ap (leb 1) (named-rows slots n rows)

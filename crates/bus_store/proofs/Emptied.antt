@@ -97,7 +97,7 @@ abbrev pub Alone : Store → Store → Type 0
 Alone old new = new ≡ record old { pipes = new.pipes; account = new.account; loans = new.loans }
 
 module _ (first before after : Store) (pipe : ℕ)
-    (is : after ≡ record before { pipes = with_pipe after_receive pipe before.pipes; account = with_held before.account after.pipes before.numbers_given; loans = after.loans }) where
+    (is : after ≡ record before { pipes = with_pipe after_receive pipe before.pipes; account = with_held before.account after.pipes before.unsent before.numbers_given; loans = after.loans }) where
   abbrev other : Pipe → Bool
   other p = not (eqb p.number pipe)
 
@@ -114,15 +114,15 @@ module _ (first before after : Store) (pipe : ℕ)
       ∙ ap
       (λ (o : Store). let v : Store = record o {
         pipes = with_pipe after_receive pipe before.pipes;
-        account = with_held before.account after.pipes before.numbers_given;
+        account = with_held before.account after.pipes before.unsent before.numbers_given;
         loans = after.loans;
       } in v) were
-      ∙ ap (λ (l : List Pipe). let v : Store = record first { pipes = l; account = with_held before.account after.pipes before.numbers_given; loans = after.loans } in v) (sym pipes_are)
+      ∙ ap (λ (l : List Pipe). let v : Store = record first { pipes = l; account = with_held before.account after.pipes before.unsent before.numbers_given; loans = after.loans } in v) (sym pipes_are)
       ∙ ap (λ (c : Account). let v : Store = record first { pipes = after.pipes; account = c; loans = after.loans } in v) (sym (ap (λ (o : Store). o.account) is))
 
   pub round_account : OutAlone first.account before.account → OutAlone first.account after.account
   round_account were =
-      let next : Account = with_held before.account after.pipes before.numbers_given in
+      let next : Account = with_held before.account after.pipes before.unsent before.numbers_given in
       alone_as before.account next after.account refl (ap (λ (o : Store). o.account) is)
       ∙ ap (λ (c : Account). let v : Account = record c { out = after.account.out } in v) were
 

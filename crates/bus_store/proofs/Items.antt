@@ -1,19 +1,21 @@
 -- What is true of each item of the pipes, and what changes of the pipes leave of it.
-use Rattle.std.proofs.Common.{◌≡◌, ℕ, ◌+◌, ◌≤◌, Bool, true, false, cond, eqb, List, [], ◌∷◌, ◌++◌, length, count_by, Option, Some, None, refl, ap, ◌∙◌, arith}
+use Rattle.std.proofs.Common.{◌≡◌, ℕ, ◌+◌, ◌≤◌, Bool, true, false, cond, eqb, List, [], ◌∷◌, ◌++◌, length, map, count_by, Option, Some, None, refl, ap, ◌∙◌, arith}
 use Rattle.std.specs.List.{All}
-use Rattle.std.specs.Option.{IfSome, option_map_or, option_and_then}
+use Rattle.std.specs.Option.{IfSome, option_map, option_map_or, option_and_then, option_to_list}
 use Rattle.std.proofs.lemmas.Bool.{eqb-true}
 use Rattle.std.proofs.lemmas.Bool.Decides.{nat_tests}
-use Rattle.std.proofs.lemmas.List.Elements.{All-nil, All-cons, All-head, All-tail, All-push, All-weaker, All-drop}
+use Rattle.std.proofs.lemmas.List.Elements.{All-nil, All-cons, All-head, All-tail, All-push, All-weaker, All-drop, All-append, All-map}
 use Rattle.std.proofs.lemmas.List.Sums.{sum_by-cons}
-use Rattle.bus_words.specs.Bus.{Subscription}
+use Rattle.buf_desc.specs.declared.slot.Slot.{Slot}
+use Rattle.bus_words.specs.Bus.{Item, Subscription}
+use Rattle.bus_words.specs.Held.{items_of}
 use Rattle.bus_tables.specs.declared.message.Message.{Message}
 use Rattle.bus_tables.specs.declared.tables.ItemRow.{ItemRow}
 use Rattle.bus_tables.specs.Rows.{Row, row_of, with_row, after_take, without_front, without_last, first_item, oldest_item, last_item, takes, item_of, offered_row, deliver_rows}
 use Rattle.bus_tables.specs.Tables.{IsRising}
 use Rattle.bus_tables.specs.Uses.{item_use, uses_in, uses_of}
 use Rattle.bus_tables.proofs.UsesCounted.{with_row_sum}
-use Rattle.bus_store.specs.Inside.{OfItems, AllItems, lasts_of}
+use Rattle.bus_store.specs.Inside.{item_in, pipes_in, OfItems, AllItems, lasts_of}
 
 -- One pipe. --
 
@@ -230,3 +232,22 @@ lasts_unlasted n number rows rises = at (row_of rows number) (with_row_sum (λ (
         lasts_of n (with_row without_last number rows) + item_use n (option_and_then (λ (row : Row). row.last) o) ≡ lasts_of n rows
     at None e = omega (arith, e)
     at (Some row) e = omega (arith, e)
+
+-- What they are read as. --
+
+-- what is true of each row's item is so of each item
+module _ (slots : List Slot) (P : Item → Type 0) where
+  abbrev Reads : ItemRow → Type 0
+  Reads i = P (item_in slots i)
+
+  of_last : (o : Option ItemRow) → IfSome o Reads → All P (option_to_list (option_map (item_in slots) o))
+  of_last None is = All-nil P
+  of_last (Some i) is = All-cons P (item_in slots i) [] is (All-nil P)
+
+  pub of_items : (rows : List Row) → AllItems Reads rows → All P (items_of (pipes_in slots rows))
+  of_items [] all = All-nil P
+  of_items (row ∷ rows) all =
+      let one = All-head (OfItems Reads) row rows all in
+      All-append P (option_to_list (option_map (item_in slots) row.last)) _ (of_last row.last one.last)
+      (All-append P (map (item_in slots) row.queue) (items_of (pipes_in slots rows)) (All-map P (item_in slots) row.queue one.queue)
+      (of_items rows (All-tail (OfItems Reads) row rows all)))

@@ -8,7 +8,7 @@ use Rattle.bus_words.specs.Bus.{Item, Pipe, Subscription, Sending, pipe_at, owns
 use Rattle.bus_tables.specs.Tables.{Room}
 use Rattle.bus_store.specs.Store.{Store, LastLoan}
 use Rattle.bus_store.specs.Words.{last_of, loan_of}
-use Rattle.bus_store.specs.Bag.{Holds, view_due, views_due}
+use Rattle.bus_store.specs.Bag.{HoldsViews, view_due, views_due}
 
 -- a change of a pipe that keeps its number, its owner and its last message
 pub record Keeping (change : Pipe → Pipe) : Type 0 where
@@ -107,7 +107,7 @@ like_delivered sending (sub ∷ subs) pipes =
 
 -- a bag has what is due of a store's pipes
 abbrev pub HasDue : Store → ℕ → Holding LentBytes → Type 0
-HasDue store app bag = Holds store.pipes store.loans store.room.pipes app bag
+HasDue store app bag = HoldsViews store.pipes store.loans store.room.pipes app bag
 
 -- and so where the same is due
 pub holds_same : (old new : Store) (app : ℕ) (bag : Holding LentBytes) → ((number : ℕ) → view_due new.pipes new.loans app number ≡ view_due old.pipes old.loans app number) → views_due new.pipes app ≡ views_due old.pipes app → new.room ≡ old.room →

@@ -6,7 +6,7 @@ use Rattle.std.proofs.lemmas.Grind.{get_or-set_at}
 use Rattle.std.proofs.lemmas.List.{get_or_push, get_or_past, get_or-set_other, get_or_append_left, get_or_default, set_past}
 use Rattle.fsw_base.specs.Blocks.{class_of}
 use Rattle.fsw_base.specs.PoolAccounts.{Account, has_room, after_draw, after_request, after_return}
-use Rattle.es_pool.specs.Pool.{PoolState, Draws, Reuses, Cuts, DrawsFor, DrawsIf, is_out, class_at, given_back, made_in, out_in, fits}
+use Rattle.es_pool.specs.Pool.{PoolState, Draws, Reuses, Cuts, DrawsFor, DrawsIf, is_out, class_at, given_back, made_in, out_in, most_cut, fits}
 use Rattle.es_pool.specs.Account.{IsAccountOf}
 use Rattle.es_pool.specs.declared.blocks.CutBlock.{CutBlock}
 use Rattle.es_pool.proofs.Law.{room_alike, draws_alike, returns_alike, account_new, moved_drawn}
@@ -112,6 +112,18 @@ class_here old new class n (Cuts none next e) =
 sizes_stay : (old new : PoolState) (class number : ℕ) → Draws old new class number → new.sizes ≡ old.sizes
 sizes_stay old new class number (Reuses within was e) = ap (λ (p : PoolState). p.sizes) e
 sizes_stay old new class number (Cuts none next e) = ap (λ (p : PoolState). p.sizes) e
+
+-- the pool keeps the most that can be cut
+pub most_drawn : (old new : PoolState) (size number : ℕ) → DrawsFor old new size number → most_cut new ≡ most_cut old
+most_drawn old new size number draws = at (class_of size old.sizes) draws
+  where
+    by_draw : (class : ℕ) → Draws old new class number → most_cut new ≡ most_cut old
+    by_draw class (Reuses within was e) = ap most_cut e
+    by_draw class (Cuts none next e) = ap most_cut e
+
+    at : (o : Option ℕ) → DrawsIf old new number o → most_cut new ≡ most_cut old
+    at None d = absurd d
+    at (Some class) d = by_draw class d
 
 -- A draw and a return. --
 

@@ -1,27 +1,28 @@
 -- What a receive leaves of the store and of the application's bag.
-use Rattle.std.proofs.Common.{◌≡◌, ℕ, ◌+◌, ◌<◌, ◌≤◌, ◌⊎◌, inl, inr, Bool, true, false, cond, eqb, List, length, count_by, Option, Some, None, is_some, refl, ap, sym, ◌∙◌, subst, arith}
+use Rattle.std.proofs.Common.{◌≡◌, ℕ, ◌+◌, ◌<◌, ◌≤◌, ◌⊎◌, inl, inr, Bool, true, false, cond, eqb, List, length, map, count_by, Option, Some, None, is_some, refl, ap, sym, ◌∙◌, subst, arith}
 use Rattle.std.specs.Option.{IfSome, option_map, option_map_or}
 use Rattle.std.proofs.lemmas.Bool.{cases_eq, eqb-true}
 use Rattle.std.proofs.lemmas.Bool.Decides.{nat_tests}
 use Rattle.fsw_base.specs.PoolAccounts.{Account}
-use Rattle.es_pool.specs.Pool.{is_out}
+use Rattle.es_pool.specs.Pool.{is_out, most_cut}
 use Rattle.lend_block.specs.Loan.{LentBytes}
 use Rattle.buf_desc.specs.Slots.{slot_at, sealed_at, is_sealed, is_live}
 use Rattle.buf_desc.specs.Desk.{Buffers}
 use Rattle.buf_desc.specs.Held.{Holding, view_at}
-use Rattle.bus_words.specs.Bus.{Item, Pipe, owns, with_pipe, after_receive}
+use Rattle.bus_words.specs.Bus.{Item, Pipe, Buffer, owns, with_pipe, after_receive}
 use Rattle.bus_tables.specs.declared.tables.ItemRow.{ItemRow}
 use Rattle.bus_tables.specs.Rows.{Row, row_of, with_row, after_take, oldest_item, last_item, owns_row}
 use Rattle.bus_tables.specs.Tables.{Tables, IsRising}
 use Rattle.bus_store.specs.declared.store.BusStore.TheInside.{Inside}
 use Rattle.bus_store.specs.Bag.{view_due, views_due}
-use Rattle.bus_store.specs.Store.{Store, LastLoan}
+use Rattle.bus_store.specs.Store.{Store, LastLoan, BufferDesc}
 use Rattle.bus_store.specs.Words.{oldest_of, last_of, loan_of, with_held}
-use Rattle.bus_store.specs.Inside.{store_of, Keeps, account_in, item_in, pipes_in, loan_at, view_in, IsNamed, let_go, shown, after_release}
+use Rattle.bus_store.specs.Inside.{store_of, Keeps, account_in, item_in, pipes_in, descs_in, loan_in, loan_at, view_in, IsNamed, let_go, shown, after_release}
 use Rattle.bus_store.proofs.Bags.{due, due-rows, loan-rows, view_alike, last_item-taken, last_item-other, owns-changed, has_view, views-rows, views-taken, views-few, views-others, own_found}
 use Rattle.bus_store.proofs.Accounts.{held_law, held_now, alone_as, released_alone}
 use Rattle.bus_store.proofs.Items.{last_found, lasts_few, lasts_most}
 use Rattle.bus_store.proofs.Lasts.{HasDue, holds_same}
+use Rattle.bus_store.proofs.Listed.{listed_kept, unsent_kept, descs_kept}
 use Rattle.bus_store.proofs.Meaning.{owns-rows, oldest_of-rows, last_of-rows, pipes_with_row, pipe_by-after_take}
 use Rattle.bus_store.proofs.Receives.{IsReleased, IsReceived, released, received, front_named}
 use Rattle.bus_store.proofs.Stores.{length-with_row}
@@ -120,6 +121,8 @@ module _ (a : Inside) (old : Store) (app pipe : ℕ) (before front : Option Item
           subst (λ t. Keeps (record a { tables = t; desk = final })) (sym taken)
           (record {
             backed = now.kept;
+            listed = listed_kept a.desk.slots a.lists.lists keeps.listed final.slots now.opened;
+            places = ap most_cut now.pool ∙ was.most ∙ keeps.places;
             misses = keeps.misses;
             pipes_live = omega (arith, length-with_row after_take pipe rows, keeps.pipes_live);
             pipes_few = keeps.pipes_few;
@@ -151,6 +154,10 @@ module _ (a : Inside) (old : Store) (app pipe : ℕ) (before front : Option Item
       received_store =
           let to : List Pipe → Account → Store = λ ps c. record (store_of a) { pipes = ps; account = c; loans = after.loans } in
           after_is
+          ∙ ap (λ (l : List (List Buffer)). let v : Store = record (store_of a) { pipes = pipes_in final.slots rows'; account = account_in final.pool; loans = map (loan_in final.slots) rows'; unsent = l; descs = descs_in final.slots a.lists.lists } in v)
+          (unsent_kept a.desk.slots a.lists.lists keeps.listed final.slots now.opened)
+          ∙ ap (λ (l : List BufferDesc). let v : Store = record (store_of a) { pipes = pipes_in final.slots rows'; account = account_in final.pool; loans = map (loan_in final.slots) rows'; descs = l } in v)
+          (descs_kept a.desk.slots a.lists.lists keeps.listed final.slots now.opened)
           ∙ ap (λ (l : List LastLoan). let v : Store = record (store_of a) { pipes = pipes_in final.slots rows'; account = account_in final.pool; loans = l } in v) (sym (ap (λ (o : Store). o.loans) after_is))
           ∙ ap (λ c. to (pipes_in final.slots rows') c) (account_is ∙ ap (λ l. after_release (account_in a.desk.pool) (last_of (pipes_in a.desk.slots rows) pipe) l) (sym (ap (λ (o : Store). o.pipes) after_is)))
           ∙ ap (λ l. to l (after_release (account_in a.desk.pool) (last_of (pipes_in a.desk.slots rows) pipe) after.pipes)) pipes_are
@@ -162,16 +169,19 @@ module _ (a : Inside) (old : Store) (app pipe : ℕ) (before front : Option Item
 
       pub received_held : ((d : ℕ) → is_live (slot_at final.slots d) ≡ is_out final.pool d) → after ≡ record old {
         pipes = with_pipe after_receive pipe old.pipes;
-        account = with_held old.account after.pipes old.numbers_given;
+        account = with_held old.account after.pipes old.unsent old.numbers_given;
         loans = after.loans;
       }
       received_held still_out =
           let is = ap (λ (o : Store). o.account) received_store in
           let alone = alone_as old.account (after_release old.account (last_of old.pipes pipe) after.pipes) after.account (released_alone old.account (last_of old.pipes pipe) after.pipes) is in
-          let law = held_law (record a { tables = next; desk = final }) received_keeps still_out ∙ ap (λ (o : Store). with_held after.account after.pipes o.numbers_given) viewed in
+          let law =
+          held_law (record a { tables = next; desk = final }) received_keeps still_out
+          ∙ ap (λ l. with_held after.account after.pipes l a.given) (ap (λ (o : Store). o.unsent) received_store)
+          ∙ ap (λ (o : Store). with_held after.account after.pipes old.unsent o.numbers_given) viewed in
           received_store
           ∙ ap (λ (c : Account). let v : Store = record old { pipes = with_pipe after_receive pipe old.pipes; account = c; loans = after.loans } in v)
-          (sym is ∙ held_now old.account after.account after.pipes old.numbers_given alone law)
+          (sym is ∙ held_now old.account after.account after.pipes old.unsent old.numbers_given alone law)
 
       pub received_loans : (other : ℕ) → (pipe ≡ other → ⊥) → loan_of after.loans other ≡ loan_of old.loans other
       received_loans other apart =

@@ -1,10 +1,11 @@
 -- What a receive leaves of the blocks, the pipes and the account.
-use Rattle.std.proofs.Common.{◌≡◌, ℕ, ◌+◌, ◌-◌, ◌≤◌, ◌⊎◌, inl, inr, Bool, true, false, cond, eqb, leb, List, length, set, Option, Some, None, refl, ap, sym, ◌∙◌, subst, arith}
+use Rattle.std.proofs.Common.{◌≡◌, ℕ, ◌+◌, ◌-◌, ◌≤◌, ◌⊎◌, inl, inr, Bool, true, false, cond, eqb, leb, List, set, Option, Some, None, refl, ap, sym, ◌∙◌, subst, arith}
 use Rattle.std.specs.Option.{IfSome, option_map, option_map_or, option_and_then}
 use Rattle.std.proofs.lemmas.Bool.{cases_eq, eqb-true}
 use Rattle.std.proofs.lemmas.Bool.Decides.{nat_tests}
+use Rattle.fsw_base.specs.Blocks.{class_of}
 use Rattle.fsw_base.specs.PoolAccounts.{Account}
-use Rattle.es_pool.specs.Pool.{is_out, size_at}
+use Rattle.es_pool.specs.Pool.{is_out, size_at, most_cut}
 use Rattle.buf_desc.specs.Block.{Sealed as SealedBlock}
 use Rattle.buf_desc.specs.Slots.{slot_at, sealed_at, sealed_in, is_sealed, is_live}
 use Rattle.buf_desc.specs.Desk.{Buffers, resealed, freed}
@@ -17,10 +18,10 @@ use Rattle.bus_tables.specs.Uses.{item_use, uses_of}
 use Rattle.bus_tables.proofs.UsesCounted.{taken_uses}
 use Rattle.bus_store.specs.Inside.{item_in, pipes_in, account_in, AllItems, IsNamed, lasts_of, AreTied, Backed, let_go, shown, returned, after_release}
 use Rattle.bus_store.proofs.Bags.{last_item-taken}
-use Rattle.bus_store.proofs.Counted.{is_held-rows}
+use Rattle.bus_store.proofs.Counted.{is_on_pipes-rows}
 use Rattle.bus_store.proofs.Items.{items_weaker, items_both, items_taken, unused, lasts_taken, lasts_unlasted, last_found}
 use Rattle.bus_store.proofs.Pool.{returned_for}
-use Rattle.bus_store.proofs.Tied.{Stays, sealed_live, here_set, others_set, stays_resealed, stays_freed, named_stay, tied_resealed, tied_freed}
+use Rattle.bus_store.proofs.Tied.{Stays, KeepsOpen, sealed_live, sealed_number, sealed_asked, open_still, open_then, open_resealed, open_freed, here_set, others_set, stays_resealed, stays_freed, named_stay, tied_resealed, tied_freed}
 
 -- Ties. --
 
@@ -29,7 +30,6 @@ pub retied : (b : Buffers) (rows rows' : List Row) (uses views uses' views' : �
     ((n : ℕ) → uses' n ≡ uses n) → ((n : ℕ) → views' n ≡ views n) → AllItems (IsNamed b.slots) rows' → AreTied b rows' uses' views' given
 retied b rows rows' uses views uses' views' given tied same_uses same_views items = record {
   items = items;
-  sealed = tied.sealed;
   uses = λ d is. tied.uses d is ∙ sym (same_uses (sealed_at b.slots d).number);
   views = λ d is. tied.views d is ∙ sym (same_views (sealed_at b.slots d).number);
   numbers = tied.numbers;
@@ -94,7 +94,9 @@ pub record IsLetGo (b : Buffers) (item : ItemRow) (rows' : List Row) (uses' view
   pub tied : AreTied after rows' uses' views' given
   pub used : AreUsed after
   pub stay : AllItems (Stays b.slots after.slots) rows'
-  pub account : account_in after.pool ≡ cond {A = Account} (leb 1 (uses' item.number)) (account_in b.pool) (returned (account_in b.pool) (length (sealed_at b.slots item.desc).bytes))
+  pub opened : KeepsOpen b.slots after.slots
+  pub most : most_cut after.pool ≡ most_cut b.pool
+  pub account : account_in after.pool ≡ cond {A = Account} (leb 1 (uses' item.number)) (account_in b.pool) (returned (account_in b.pool) (sealed_at b.slots item.desc).asked)
 
 module _ (b : Buffers) (item : ItemRow) (rows rows' : List Row) (uses views uses' views' : ℕ → ℕ) (given : ℕ)
     (tied : AreTied b rows uses views given) (used : AreUsed b) (is : IsNamed b.slots item) (out : is_out b.pool item.desc ≡ true)
@@ -125,7 +127,10 @@ module _ (b : Buffers) (item : ItemRow) (rows rows' : List Row) (uses views uses
   views_now = let e = tied.views d is.sealed in let f = fewer_views item.number in let one = item_use-here item in omega (arith, e, f, one, ap views is.number, ap views' is.number)
 
   stay_mid : (i : ItemRow) → IsNamed b.slots i → Stays b.slots mid.slots i
-  stay_mid i = stays_resealed b.slots d back is.sealed refl refl refl i
+  stay_mid i = stays_resealed b.slots d back is.sealed refl refl refl refl i
+
+  open_mid : KeepsOpen b.slots mid.slots
+  open_mid = open_resealed b.slots d back is.sealed
 
   items_mid : AllItems (IsNamed mid.slots) rows
   items_mid = items_weaker (IsNamed b.slots) (IsNamed mid.slots) (λ i n. (stay_mid i n).named) rows tied.items
@@ -172,23 +177,28 @@ module _ (b : Buffers) (item : ItemRow) (rows rows' : List Row) (uses views uses
         (items_weaker (IsNamed b.slots) (IsNamed (set mid.slots d (Sealed fewer))) (λ i n. (stay i n).named) rows' items);
     used = used_resealed mid d fewer sealed_mid (omega (arith, uses_mid, some 1 (uses' item.number) is_some)) used_mid;
     stay = items_weaker (IsNamed b.slots) (Stays b.slots (set mid.slots d (Sealed fewer))) stay rows' items;
-    account = sym (ap (λ c. cond {A = Account} c (account_in b.pool) (returned (account_in b.pool) (length (sealed_at b.slots item.desc).bytes))) is_some);
+    opened = open_then b.slots mid.slots (set mid.slots d (Sealed fewer)) open_mid (open_resealed mid.slots d fewer sealed_mid);
+    most = refl;
+    account = sym (ap (λ c. cond {A = Account} c (account_in b.pool) (returned (account_in b.pool) (sealed_at b.slots item.desc).asked)) is_some);
   }
     where
       stay : (i : ItemRow) → IsNamed b.slots i → Stays b.slots (set mid.slots d (Sealed fewer)) i
-      stay i n = let first = stay_mid i n in stays_then b.slots mid.slots (set mid.slots d (Sealed fewer)) i first (stays_resealed mid.slots d fewer sealed_mid refl refl refl i first.named)
+      stay i n = let first = stay_mid i n in stays_then b.slots mid.slots (set mid.slots d (Sealed fewer)) i first (stays_resealed mid.slots d fewer sealed_mid refl refl refl refl i first.named)
 
   -- the last one
   let_go_last : leb 1 (uses' item.number) ≡ false → IsLetGo b item rows' uses' views' given (freed mid d)
   let_go_last is_none = record {
     tied =
-        tied_freed mid d rows rows' uses views' uses' views' given tied_mid sealed_mid out uses_other (λ n apart. refl)
+        tied_freed mid d rows rows' uses views' uses' views' given tied_mid (sealed_live (slot_at mid.slots d) sealed_mid) out
+        (λ n apart. uses_other n (λ e. apart (sealed_number (slot_at mid.slots d) sealed_mid ∙ e))) (λ n apart. refl)
         (named_stay b.slots after rows' stay);
     used = used_freed mid d sealed_mid used_mid;
     stay = stay;
+    opened = open_then b.slots mid.slots after open_mid (open_freed mid.slots d (size_at b.pool d) sealed_mid);
+    most = refl;
     account =
-        (returned_for b.pool (length (sealed_at b.slots item.desc).bytes) d tied.account out (tied.sizes d is.sealed)).account
-        ∙ sym (ap (λ c. cond {A = Account} c (account_in b.pool) (returned (account_in b.pool) (length (sealed_at b.slots item.desc).bytes))) is_none);
+        (returned_for b.pool (sealed_at b.slots item.desc).asked d tied.account out (ap (λ n. class_of n b.pool.sizes) (sym (sealed_asked (slot_at b.slots d) is.sealed)) ∙ tied.sizes d live)).account
+        ∙ sym (ap (λ c. cond {A = Account} c (account_in b.pool) (returned (account_in b.pool) (sealed_at b.slots item.desc).asked)) is_none);
   }
     where
       after : List Slot
@@ -247,6 +257,8 @@ module _ (b : Buffers) (rows : List Row) (given pipe : ℕ) (backed : Backed b r
     pub tied : AreTied after rows' (λ n. uses_of n rows') views_left given
     pub used : AreUsed after
     pub stay : AllItems (Stays b.slots after.slots) rows'
+    pub opened : KeepsOpen b.slots after.slots
+    pub most : most_cut after.pool ≡ most_cut b.pool
     pub account : (slots : List Slot) → account_in after.pool ≡ after_release (account_in b.pool) (option_map (item_in b.slots) (last_item rows pipe)) (pipes_in slots rows')
 
   released_none : last_item rows pipe ≡ None → IsReleased b
@@ -257,6 +269,8 @@ module _ (b : Buffers) (rows : List Row) (given pipe : ℕ) (backed : Backed b r
             (λ n. omega (arith, fewer_uses n, no_use n)) (λ n. omega (arith, fewer_views n, no_use n)) items';
         used = backed.used;
         stay = items_weaker (IsNamed b.slots) (Stays b.slots b.slots) (stays_still b.slots) rows' items';
+        opened = open_still b.slots;
+        most = refl;
         account = λ slots. sym (ap (λ o. after_release (account_in b.pool) (option_map (item_in b.slots) o) (pipes_in slots rows')) none);
       }
 
@@ -273,9 +287,11 @@ module _ (b : Buffers) (rows : List Row) (given pipe : ℕ) (backed : Backed b r
         tied = went.tied;
         used = went.used;
         stay = went.stay;
+        opened = went.opened;
+        most = went.most;
         account = λ slots.
             went.account
-            ∙ sym (ap (λ c. cond {A = Account} c (account_in b.pool) (returned (account_in b.pool) (length (sealed_at b.slots item.desc).bytes))) (is_held-rows slots rows' item.number))
+            ∙ sym (ap (λ c. cond {A = Account} c (account_in b.pool) (returned (account_in b.pool) (sealed_at b.slots item.desc).asked)) (is_on_pipes-rows slots rows' item.number))
             ∙ sym (ap (λ o. after_release (account_in b.pool) (option_map (item_in b.slots) o) (pipes_in slots rows')) is);
       }
 
@@ -291,6 +307,7 @@ module _ (b : Buffers) (rows : List Row) (given pipe : ℕ) (backed : Backed b r
     pub kept : Backed after rows' given
     pub stay : AllItems (Stays b.slots after.slots) rows'
     pub since : AllItems (Stays mid.slots after.slots) rows'
+    pub opened : KeepsOpen b.slots after.slots
     pub pool : after.pool ≡ mid.pool
 
   received_none : (mid : Buffers) → IsReleased mid → oldest_item rows pipe ≡ None → IsReceived mid mid
@@ -302,6 +319,7 @@ module _ (b : Buffers) (rows : List Row) (given pipe : ℕ) (backed : Backed b r
     };
     stay = was.stay;
     since = items_weaker (IsNamed mid.slots) (Stays mid.slots mid.slots) (stays_still mid.slots) rows' was.tied.items;
+    opened = was.opened;
     pool = refl;
   }
 
@@ -311,7 +329,7 @@ module _ (b : Buffers) (rows : List Row) (given pipe : ℕ) (backed : Backed b r
       let sent : SealedBlock = record (sealed_at mid.slots d) { views = (sealed_at mid.slots d).views + 1 } in
       let more : (n : ℕ) → lasts_of n rows' ≡ views_left n + item_use n (Some item) = λ n. more_views n ∙ ap (λ o. views_left n + item_use n o) is in
       let since : AllItems (Stays mid.slots (set mid.slots d (Sealed sent))) rows' =
-      items_weaker (IsNamed mid.slots) (Stays mid.slots (set mid.slots d (Sealed sent))) (stays_resealed mid.slots d sent named.sealed refl refl refl) rows' was.tied.items in
+      items_weaker (IsNamed mid.slots) (Stays mid.slots (set mid.slots d (Sealed sent))) (stays_resealed mid.slots d sent named.sealed refl refl refl refl) rows' was.tied.items in
       record {
         kept = record {
           tied = tied_resealed mid d sent rows' rows' (λ n. uses_of n rows') views_left (λ n. uses_of n rows') (λ n. lasts_of n rows') given was.tied named.sealed refl refl
@@ -327,6 +345,7 @@ module _ (b : Buffers) (rows : List Row) (given pipe : ℕ) (backed : Backed b r
             (λ i both. stays_then b.slots mid.slots (set mid.slots d (Sealed sent)) i both.0 both.1) rows'
             (items_both (Stays b.slots mid.slots) (Stays mid.slots (set mid.slots d (Sealed sent))) rows' was.stay since);
         since = since;
+        opened = open_then b.slots mid.slots (set mid.slots d (Sealed sent)) was.opened (open_resealed mid.slots d sent named.sealed);
         pool = refl;
       }
 

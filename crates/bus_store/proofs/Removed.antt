@@ -190,6 +190,8 @@ module _ (a : Inside) (old : Store) (next : Tables) (number : ℕ)
               (All-filter (λ (r : Row). not (eqb r.number number)) (OfItems (IsNamed a.desk.slots)) a.tables.pipes kept.backed.tied.items);
           used = kept.backed.used;
         };
+        listed = kept.listed;
+        places = kept.places;
         misses = kept.misses;
         pipes_live = omega (arith, pipes, kept.pipes_live);
         pipes_few = kept.pipes_few;
@@ -237,11 +239,11 @@ pub deleted_store : (old mid new : Store) (number : ℕ) →
       pipes = filter (λ (p : Pipe). not (eqb p.number number)) mid.pipes;
       subscriptions = filter (λ (s : Subscription). not (eqb s.pipe number)) mid.subscriptions;
       loans = filter (λ (one : LastLoan). not (eqb one.pipe number)) mid.loans;
-    } → new.account ≡ with_held new.account new.pipes new.numbers_given →
+    } → new.account ≡ with_held new.account new.pipes new.unsent new.numbers_given →
     new ≡ record old {
       pipes = filter (λ (p : Pipe). not (eqb p.number number)) old.pipes;
       subscriptions = filter (λ (s : Subscription). not (eqb s.pipe number)) old.subscriptions;
-      account = with_held old.account new.pipes old.numbers_given;
+      account = with_held old.account new.pipes old.unsent old.numbers_given;
       loans = new.loans;
     }
 deleted_store old mid new number others same account is law =
@@ -253,5 +255,7 @@ deleted_store old mid new number others same account is law =
     ∙ ap (λ (o : Store). let v : Store = record o { pipes = left; subscriptions = rest o; loans = new.loans } in v) same
     ∙ ap (λ (c : Account). let v : Store = record old { pipes = left; subscriptions = rest old; account = c; loans = new.loans } in v)
     (sym (ap (λ (o : Store). o.account) is)
-    ∙ held_now old.account new.account new.pipes old.numbers_given (alone_as old.account mid.account new.account account (ap (λ (o : Store). o.account) is))
-    (law ∙ ap (with_held new.account new.pipes) (ap (λ (o : Store). o.numbers_given) is ∙ ap (λ (o : Store). o.numbers_given) same)))
+    ∙ held_now old.account new.account new.pipes old.unsent old.numbers_given (alone_as old.account mid.account new.account account (ap (λ (o : Store). o.account) is))
+    (law
+    ∙ ap (λ l. with_held new.account new.pipes l new.numbers_given) (ap (λ (o : Store). o.unsent) is ∙ ap (λ (o : Store). o.unsent) same)
+    ∙ ap (with_held new.account new.pipes old.unsent) (ap (λ (o : Store). o.numbers_given) is ∙ ap (λ (o : Store). o.numbers_given) same)))

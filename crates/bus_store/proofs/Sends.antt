@@ -1,18 +1,20 @@
 -- What a send leaves of the blocks, the pipes and the account.
-use Rattle.std.proofs.Common.{◌≡◌, ℕ, ◌+◌, ◌≤◌, ◌⊎◌, inl, inr, Bool, true, false, cond, eqb, leb, List, [], ◌∷◌, ◌++◌, length, map, refl, ap, sym, ◌∙◌, subst, arith}
+use Rattle.std.proofs.Common.{◌≡◌, ℕ, ◌+◌, ◌≤◌, ◌⊎◌, inl, inr, Some, Bool, true, false, cond, eqb, leb, List, [], ◌∷◌, ◌++◌, map, refl, ap, sym, ◌∙◌, subst, arith}
 use Rattle.std.proofs.lemmas.Bool.{cases_eq}
 use Rattle.std.proofs.lemmas.Bool.Decides.{nat_tests}
 use Rattle.fsw_base.specs.Blocks.{class_of}
-use Rattle.fsw_base.specs.PoolAccounts.{Account, has_room, after_request}
-use Rattle.es_pool.specs.Pool.{is_out, size_at}
+use Rattle.fsw_base.specs.PoolAccounts.{Account}
+use Rattle.es_pool.specs.Pool.{is_out, class_at, size_at, most_cut}
+use Rattle.es_pool.specs.Account.{IsAccountOf}
 use Rattle.buf_desc.specs.Block.{Sealed as SealedBlock}
-use Rattle.buf_desc.specs.Slots.{slot_at, sealed_at, sealed_in, is_sealed, is_live, number_in}
+use Rattle.buf_desc.specs.Slots.{slot_at, sealed_at, sealed_in, is_sealed, is_open, is_live, number_in, asked_in, HaveOwnNumbers}
 use Rattle.buf_desc.specs.Desk.{Buffers, resealed, freed, after_settle}
 use Rattle.buf_desc.specs.declared.slot.Slot.{Slot}
 use Rattle.buf_desc.specs.declared.slot.Slot.TheVariants.{Free, Sealed}
 use Rattle.buf_desc.proofs.Others.{numbers_changed}
 use Rattle.bus_words.specs.Bus.{Subscription, Sending, deliver, reached}
 use Rattle.bus_tables.specs.declared.message.Message.{Message}
+use Rattle.bus_tables.specs.declared.tables.ItemRow.{ItemRow}
 use Rattle.bus_tables.specs.Rows.{Row, with_row, takes, item_of, offered_row, deliver_rows, reached_rows, missed_rows}
 use Rattle.bus_tables.specs.Tables.{IsRising}
 use Rattle.bus_tables.specs.Uses.{uses_of}
@@ -20,11 +22,11 @@ use Rattle.bus_tables.proofs.UsesCounted.{delivered_uses}
 use Rattle.bus_store.specs.Store.{LastLoan}
 use Rattle.bus_store.specs.Words.{missed}
 use Rattle.bus_store.specs.Blocks.{IsGiven}
-use Rattle.bus_store.specs.Inside.{pipes_in, loan_in, account_in, AllItems, IsNamed, lasts_of, AreTied, Backed, Adds, returned, after_send}
+use Rattle.bus_store.specs.Inside.{pipes_in, loan_in, account_in, AllItems, IsNamed, lasts_of, AreTied, Backed, Seals, returned, after_send}
 use Rattle.bus_store.proofs.Items.{items_weaker, items_both, items_delivered, no_uses, unused, lasts_few, lasts_delivered}
 use Rattle.bus_store.proofs.Meaning.{IsSending, message_of, deliver-rows, reached-rows, missed-rows}
-use Rattle.bus_store.proofs.Pool.{IsDrawn, drawn_for, returned_for}
-use Rattle.bus_store.proofs.Tied.{Stays, Moves, sealed_live, sealed_number, here_set, others_set, stays_apart, stays_freed, added_apart, pipes_stay, named_stay, loans_stay, tied_moved, tied_freed}
+use Rattle.bus_store.proofs.Pool.{returned_for}
+use Rattle.bus_store.proofs.Tied.{Stays, Moves, sealed_live, sealed_number, here_set, others_set, stays_apart, stays_freed, pipes_stay, named_stay, loans_stay, tied_moved, tied_freed}
 
 -- a delivery changes no last message
 loans_delivered : (slots : List Slot) (message : Message) (subs : List Subscription) (rows : List Row) → map (loan_in slots) (deliver_rows message subs rows) ≡ map (loan_in slots) rows
@@ -43,19 +45,35 @@ loans_delivered slots message (sub ∷ subs) rows =
         ap (λ (l : LastLoan). l ∷ map (loan_in slots) (with_row (offered_row message sub) sub.pipe xs)) (offer row (eqb row.number sub.pipe) (takes row sub message.sender))
         ∙ ap (λ (l : List LastLoan). loan_in slots row ∷ l) (one_offer xs)
 
+-- what is known once a message's block was sealed, for a number that no item has
+pub record Begins (b mid : Buffers) (sending : Sending) (desc given given' : ℕ) : Type 0 where
+  pub seals : Seals b mid sending.number sending.asked sending.message desc
+  pub unsealed : is_sealed (slot_at b.slots desc) ≡ false
+  pub number_new : (d : ℕ) → is_sealed (slot_at b.slots d) ≡ true → sending.number ≡ (sealed_at b.slots d).number → ⊥
+  pub numbers : HaveOwnNumbers mid.slots
+  pub number_given : IsGiven given' sending.number
+  pub more : given ≤ given'
+  pub sizes : mid.pool.sizes ≡ b.pool.sizes
+  pub here : class_of sending.asked mid.pool.sizes ≡ Some (class_at mid.pool desc)
+  pub others : (other : ℕ) → (desc ≡ other → ⊥) → is_live (slot_at b.slots other) ≡ true → class_at mid.pool other ≡ class_at b.pool other
+  pub account : IsAccountOf mid.pool (account_in mid.pool)
+
 -- what a send leaves
-pub record IsSent (b final : Buffers) (rows : List Row) (subs : List Subscription) (sending : Sending) (given desc count : ℕ) : Type 0 where
-  pub backed : Backed final (deliver_rows (message_of sending desc) subs rows) (given + 1)
+pub record IsSent (b mid final : Buffers) (rows : List Row) (subs : List Subscription) (sending : Sending) (given' desc count : ℕ) : Type 0 where
+  pub backed : Backed final (deliver_rows (message_of sending desc) subs rows) given'
   pub pipes : pipes_in final.slots (deliver_rows (message_of sending desc) subs rows) ≡ deliver sending subs (pipes_in b.slots rows)
   pub loans : map (loan_in final.slots) (deliver_rows (message_of sending desc) subs rows) ≡ map (loan_in b.slots) rows
-  pub account : account_in final.pool ≡ after_send (account_in b.pool) (length sending.message) count
+  pub account : account_in final.pool ≡ after_send (account_in mid.pool) sending.asked count
   pub arrived : count ≡ reached sending subs (pipes_in b.slots rows)
   pub misses : missed_rows (message_of sending desc) subs rows ≡ missed sending subs (pipes_in b.slots rows)
+  pub others : (other : ℕ) → (desc ≡ other → ⊥) → slot_at final.slots other ≡ slot_at b.slots other
+  pub closed : is_open (slot_at final.slots desc) ≡ false
+  pub most : most_cut final.pool ≡ most_cut mid.pool
+  pub sizes : final.pool.sizes ≡ mid.pool.sizes
 
-module _ (b mid : Buffers) (rows : List Row) (subs : List Subscription) (sending : Sending) (given desc count : ℕ)
-    (backed : Backed b rows given) (adds : Adds b mid sending.number sending.message desc) (rises : IsRising 0 rows)
-    (next : sending.number ≡ given + 1) (size : sending.asked ≡ length sending.message) (room : has_room (account_in b.pool) (length sending.message) ≡ true)
-    (out : is_out mid.pool desc ≡ true) (live_out : (d : ℕ) → is_live (slot_at b.slots d) ≡ is_out b.pool d)
+module _ (b mid : Buffers) (rows : List Row) (subs : List Subscription) (sending : Sending) (given given' desc count : ℕ)
+    (backed : Backed b rows given) (begins : Begins b mid sending desc given given') (rises : IsRising 0 rows)
+    (out : is_out mid.pool desc ≡ true)
     (took : count ≡ reached_rows (message_of sending desc) subs rows) where
   abbrev message : Message
   message = message_of sending desc
@@ -69,30 +87,27 @@ module _ (b mid : Buffers) (rows : List Row) (subs : List Subscription) (sending
   abbrev counted : Buffers
   counted = resealed mid desc sent
 
-  drawn : IsDrawn b.pool mid.pool (length sending.message) desc
-  drawn = drawn_for b.pool mid.pool (length sending.message) desc backed.tied.account room adds.drawn
-
   live : is_live (slot_at mid.slots desc) ≡ true
-  live = sealed_live (slot_at mid.slots desc) adds.sealed
+  live = sealed_live (slot_at mid.slots desc) begins.seals.sealed
 
   here : slot_at counted.slots desc ≡ Sealed sent
   here = here_set mid.slots desc (Sealed sent) live
 
   others : (other : ℕ) → (desc ≡ other → ⊥) → slot_at counted.slots other ≡ slot_at b.slots other
-  others other apart = others_set mid.slots desc (Sealed sent) live other apart ∙ adds.others other apart
+  others other apart = others_set mid.slots desc (Sealed sent) live other apart ∙ begins.seals.others other apart
 
   numbered : sent.number ≡ sending.number
-  numbered = ap (λ (s : SealedBlock). s.number) adds.sent
+  numbered = ap (λ (s : SealedBlock). s.number) begins.seals.sent
+
+  sized : sent.asked ≡ sending.asked
+  sized = ap (λ (s : SealedBlock). s.asked) begins.seals.sent
 
   filled : sent.bytes ≡ sending.message
-  filled = ap (λ (s : SealedBlock). s.bytes) adds.sent
+  filled = ap (λ (s : SealedBlock). s.bytes) begins.seals.sent
 
   -- the number is new
-  given_number : (d : ℕ) → is_sealed (slot_at b.slots d) ≡ true → (sealed_at b.slots d).number ≤ given
-  given_number d is = let one = backed.tied.given d (sealed_live (slot_at b.slots d) is) in omega (arith, one.last, sealed_number (slot_at b.slots d) is)
-
   is_new : (d : ℕ) → is_sealed (slot_at b.slots d) ≡ true → sending.number ≡ (sealed_at b.slots d).number → ⊥
-  is_new d is same = absurd (omega (arith, given_number d is, same, next))
+  is_new d is same = begins.number_new d is same
 
   not_used : uses_of sending.number rows ≡ 0
   not_used = no_uses sending.number rows
@@ -123,47 +138,50 @@ module _ (b mid : Buffers) (rows : List Row) (subs : List Subscription) (sending
   lasts_here : lasts_of sending.number after ≡ 0
   lasts_here = omega (arith, lasts_delivered sending.number message subs rows, lasts_few sending.number rows, not_used)
 
+  -- an item lies in another block
+  item_apart : (item : ItemRow) → IsNamed b.slots item → desc ≡ item.desc → ⊥
+  item_apart item is same = off (is_sealed (slot_at b.slots desc)) begins.unsealed (ap (λ i. is_sealed (slot_at b.slots i)) same ∙ is.sealed)
+    where
+      off : (c : Bool) → c ≡ false → c ≡ true → ⊥
+      off c x y = cc
+
   stay : AllItems (Stays b.slots counted.slots) rows
   stay = items_weaker (IsNamed b.slots) (Stays b.slots counted.slots)
-      (λ i is. stays_apart b.slots counted.slots desc others i (added_apart b mid sending.number sending.message desc adds i is) is) rows backed.tied.items
+      (λ i is. stays_apart b.slots counted.slots desc others i (item_apart i is) is) rows backed.tied.items
 
   named : AllItems (IsNamed counted.slots) after
   named = items_delivered (IsNamed counted.slots) message
       (λ sub. record { sealed = ap is_sealed here; number = ap (λ s. (sealed_in s).number) here ∙ numbered }) subs rows
       (named_stay b.slots counted.slots rows stay)
 
-  moves : Moves b counted desc (λ n. uses_of n rows) (λ n. lasts_of n rows) (λ n. uses_of n after) (λ n. lasts_of n after) given (given + 1)
+  moves : Moves b counted desc (λ n. uses_of n rows) (λ n. lasts_of n rows) (λ n. uses_of n after) (λ n. lasts_of n after) given given'
   moves = record {
     others = others;
-    sealed = λ _. ap is_sealed here;
     uses_here = λ _. ap (λ s. (sealed_in s).uses) here ∙ sym uses_here ∙ sym (ap (λ n. uses_of n after) (ap (λ s. (sealed_in s).number) here ∙ numbered));
-    views_here = λ _. ap (λ s. (sealed_in s).views) here ∙ ap (λ (s : SealedBlock). s.views) adds.sent ∙ sym lasts_here ∙ sym (ap (λ n. lasts_of n after) (ap (λ s. (sealed_in s).number) here ∙ numbered));
-    number = λ _. subst (IsGiven (given + 1)) (sym (ap number_in here ∙ numbered)) (record { first = omega (arith, next); last = omega (arith, next) });
+    views_here = λ _. ap (λ s. (sealed_in s).views) here ∙ ap (λ (s : SealedBlock). s.views) begins.seals.sent ∙ sym lasts_here ∙ sym (ap (λ n. lasts_of n after) (ap (λ s. (sealed_in s).number) here ∙ numbered));
+    number = λ _. subst (IsGiven given') (sym (ap number_in here ∙ numbered)) begins.number_given;
     size = λ _.
-        ap (λ s. class_of (length (sealed_in s).bytes) mid.pool.sizes) here
-        ∙ ap (λ (l : List ℕ). class_of (length l) mid.pool.sizes) filled
-        ∙ drawn.here;
-    numbers = numbers_changed mid.slots desc (Sealed sent) live (λ _. sym (sealed_number (slot_at mid.slots desc) adds.sealed)) (adds.numbers backed.tied.numbers new_there);
+        ap (λ s. class_of (asked_in s) mid.pool.sizes) here
+        ∙ ap (λ n. class_of n mid.pool.sizes) sized
+        ∙ begins.here;
+    numbers = numbers_changed mid.slots desc (Sealed sent) live (λ _. sym (sealed_number (slot_at mid.slots desc) begins.seals.sealed)) begins.numbers;
     uses_same = λ other apart is. uses_there (sealed_at b.slots other).number (is_new other is);
     views_same = λ other apart is. lasts_delivered (sealed_at b.slots other).number message subs rows;
-    more = omega arith;
-    sizes_same = drawn.sizes;
-    class_same = λ other apart is. drawn.others other (sym (live_out other) ∙ sealed_live (slot_at b.slots other) is);
-    account = drawn.is;
+    more = begins.more;
+    sizes_same = begins.sizes;
+    class_same = begins.others;
+    account = begins.account;
   }
-    where
-      new_there : (other : ℕ) → is_live (slot_at b.slots other) ≡ true → number_in (slot_at b.slots other) ≡ sending.number → ⊥
-      new_there other is same = absurd (omega (arith, (backed.tied.given other is).last, same, next))
 
-  tied : AreTied counted after (λ n. uses_of n after) (λ n. lasts_of n after) (given + 1)
-  tied = tied_moved b counted desc rows after (λ n. uses_of n rows) (λ n. lasts_of n rows) (λ n. uses_of n after) (λ n. lasts_of n after) given (given + 1) backed.tied moves named
+  tied : AreTied counted after (λ n. uses_of n after) (λ n. lasts_of n after) given'
+  tied = tied_moved b counted desc rows after (λ n. uses_of n rows) (λ n. lasts_of n rows) (λ n. uses_of n after) (λ n. lasts_of n after) given given' backed.tied moves named
 
   is_sending : IsSending counted.slots sending desc
   is_sending = record {
     item = λ sub.
-        ap (λ s. record { number = sending.number; asked = length (sealed_in s).bytes; subscription = sub.number; message = (sealed_in s).bytes }) here
-        ∙ ap (λ (l : List ℕ). record { number = sending.number; asked = length l; subscription = sub.number; message = l }) filled
-        ∙ ap (λ n. record { number = sending.number; asked = n; subscription = sub.number; message = sending.message }) (sym size);
+        ap (λ s. record { number = sending.number; asked = (sealed_in s).asked; subscription = sub.number; message = (sealed_in s).bytes }) here
+        ∙ ap (λ (l : List ℕ). record { number = sending.number; asked = sent.asked; subscription = sub.number; message = l }) filled
+        ∙ ap (λ n. record { number = sending.number; asked = n; subscription = sub.number; message = sending.message }) sized;
   }
 
   was : pipes_in counted.slots rows ≡ pipes_in b.slots rows
@@ -193,14 +211,18 @@ module _ (b mid : Buffers) (rows : List Row) (subs : List Subscription) (sending
       subst (λ s. 1 ≤ (sealed_in s).uses) (sym e) (backed.used other (sym (ap is_sealed e) ∙ is))
 
   -- where some pipe took it
-  sent_some : leb 1 count ≡ true → IsSent b counted rows subs sending given desc count
+  sent_some : leb 1 count ≡ true → IsSent b mid counted rows subs sending given' desc count
   sent_some is = record {
     backed = record { tied = tied; used = λ other sealed. used other sealed (cases_eq desc other) };
     pipes = pipes_are;
     loans = loans_are;
-    account = drawn.account ∙ sym (ap (λ c. cond {A = Account} c (after_request (account_in b.pool) (length sending.message)) (returned (after_request (account_in b.pool) (length sending.message)) (length sending.message))) is);
+    account = sym (ap (λ c. cond {A = Account} c (account_in mid.pool) (returned (account_in mid.pool) sending.asked)) is);
     arrived = arrived_is;
     misses = missed_is;
+    others = others;
+    closed = ap is_open here;
+    most = refl;
+    sizes = refl;
   }
     where
       used : (other : ℕ) → is_sealed (slot_at counted.slots other) ≡ true → (desc ≡ other) ⊎ (desc ≡ other → ⊥) → 1 ≤ (sealed_at counted.slots other).uses
@@ -214,21 +236,24 @@ module _ (b mid : Buffers) (rows : List Row) (subs : List Subscription) (sending
   is_sealed_here : is_sealed (slot_at counted.slots desc) ≡ true
   is_sealed_here = ap is_sealed here
 
-  sent_none : leb 1 count ≡ false → IsSent b gone rows subs sending given desc count
+  sent_none : leb 1 count ≡ false → IsSent b mid gone rows subs sending given' desc count
   sent_none is = record {
     backed = record {
-      tied = tied_freed counted desc after after (λ n. uses_of n after) (λ n. lasts_of n after) (λ n. uses_of n after) (λ n. lasts_of n after) (given + 1)
-          tied is_sealed_here out (λ n apart. refl) (λ n apart. refl) (named_stay counted.slots gone.slots after stay_gone);
+      tied = tied_freed counted desc after after (λ n. uses_of n after) (λ n. lasts_of n after) (λ n. uses_of n after) (λ n. lasts_of n after) given'
+          tied (sealed_live (slot_at counted.slots desc) is_sealed_here) out (λ n apart. refl) (λ n apart. refl) (named_stay counted.slots gone.slots after stay_gone);
       used = λ other sealed. used other sealed (cases_eq desc other);
     };
     pipes = pipes_stay counted.slots gone.slots after stay_gone ∙ pipes_are;
     loans = loans_stay counted.slots gone.slots after stay_gone ∙ loans_are;
     account =
-        (returned_for mid.pool (length sending.message) desc drawn.is out drawn.here).account
-        ∙ ap (λ a. returned a (length sending.message)) drawn.account
-        ∙ sym (ap (λ c. cond {A = Account} c (after_request (account_in b.pool) (length sending.message)) (returned (after_request (account_in b.pool) (length sending.message)) (length sending.message))) is);
+        (returned_for mid.pool sending.asked desc begins.account out begins.here).account
+        ∙ sym (ap (λ c. cond {A = Account} c (account_in mid.pool) (returned (account_in mid.pool) sending.asked)) is);
     arrived = arrived_is;
     misses = missed_is;
+    others = λ other apart. others_set counted.slots desc slot (sealed_live (slot_at counted.slots desc) is_sealed_here) other apart ∙ others other apart;
+    closed = ap is_open clear;
+    most = refl;
+    sizes = refl;
   }
     where
       slot : Slot
@@ -253,12 +278,12 @@ module _ (b mid : Buffers) (rows : List Row) (subs : List Subscription) (sending
           subst (λ s. 1 ≤ (sealed_in s).uses) (sym e) (used_there other apart (sym (ap is_sealed e) ∙ sealed))
 
   -- the block is settled
-  pub is_sent : (final : Buffers) → final ≡ after_settle counted desc → IsSent b final rows subs sending given desc count
+  pub is_sent : (final : Buffers) → final ≡ after_settle counted desc → IsSent b mid final rows subs sending given' desc count
   is_sent final is = at (leb 1 count) refl
     where
       uses_are : (sealed_at counted.slots desc).uses ≡ count
       uses_are = ap (λ s. (sealed_in s).uses) here
 
-      at : (c : Bool) → leb 1 count ≡ c → IsSent b final rows subs sending given desc count
-      at true e = subst (λ f. IsSent b f rows subs sending given desc count) (sym (is ∙ ap (λ n. cond {A = Buffers} (leb 1 n) counted gone) uses_are ∙ ap (λ c. cond {A = Buffers} c counted gone) e)) (sent_some e)
-      at false e = subst (λ f. IsSent b f rows subs sending given desc count) (sym (is ∙ ap (λ n. cond {A = Buffers} (leb 1 n) counted gone) uses_are ∙ ap (λ c. cond {A = Buffers} c counted gone) e)) (sent_none e)
+      at : (c : Bool) → leb 1 count ≡ c → IsSent b mid final rows subs sending given' desc count
+      at true e = subst (λ f. IsSent b mid f rows subs sending given' desc count) (sym (is ∙ ap (λ n. cond {A = Buffers} (leb 1 n) counted gone) uses_are ∙ ap (λ c. cond {A = Buffers} c counted gone) e)) (sent_some e)
+      at false e = subst (λ f. IsSent b mid f rows subs sending given' desc count) (sym (is ∙ ap (λ n. cond {A = Buffers} (leb 1 n) counted gone) uses_are ∙ ap (λ c. cond {A = Buffers} c counted gone) e)) (sent_none e)

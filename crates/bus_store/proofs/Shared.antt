@@ -9,11 +9,11 @@ use Rattle.lend_block.specs.Loan.{LentBytes}
 use Rattle.buf_desc.specs.Desk.{Buffers}
 use Rattle.buf_desc.specs.Held.{Holding, view_at}
 use Rattle.buf_desc.specs.Slots.{sealed_at}
-use Rattle.bus_words.specs.Bus.{Item, Pipe, owns, pipe_at}
-use Rattle.bus_words.specs.Held.{names, named_by, is_held, items_of}
-use Rattle.bus_store.specs.Bag.{Holds, last_view}
+use Rattle.bus_words.specs.Bus.{Item, Pipe, Buffer, owns, pipe_at}
+use Rattle.bus_words.specs.Held.{names, named_by, is_on_pipes, items_of}
+use Rattle.bus_store.specs.Bag.{HoldsViews, last_view}
 use Rattle.bus_store.specs.Blocks.{AreBlocks}
-use Rattle.bus_store.specs.Store.{LastLoan}
+use Rattle.bus_store.specs.Store.{LastLoan, BufferDesc}
 use Rattle.bus_store.specs.Words.{last_of, loan_of}
 
 back : (P : Item → Type 0) (xs ys : List Item) → All P (xs ++ ys) → All P ys
@@ -35,7 +35,7 @@ last_among P (pipe ∷ pipes) number item e all = by_test (eqb pipe.number numbe
     by_test false f ih = ih f (back P pipe.queue (items_of pipes) (back P (option_to_list pipe.last) (pipe.queue ++ items_of pipes) all))
 
 -- so its send is held
-last_held : (pipes : List Pipe) (number : ℕ) (item : Item) → last_of pipes number ≡ Some item → is_held pipes item.number ≡ true
+last_held : (pipes : List Pipe) (number : ℕ) (item : Item) → last_of pipes number ≡ Some item → is_on_pipes pipes item.number ≡ true
 last_held pipes number item e = some (sum_by (named_by item.number) pipes) (named pipes e)
   where
     some : (n : ℕ) → 1 ≤ n → leb 1 n ≡ true
@@ -60,23 +60,23 @@ last_held pipes number item e = some (sum_by (named_by item.number) pipes) (name
         by_test false g ih = let later = ih g in omega (arith, split, later)
 
 -- the view that is due of a pipe whose last message is this item
-seen_is : (pipes : List Pipe) (loans : List LastLoan) (most app pipe : ℕ) (bag : Holding LentBytes) (item : Item) → Holds pipes loans most app bag → owns pipes app pipe ≡ true → last_of pipes pipe ≡ Some item →
+seen_is : (pipes : List Pipe) (loans : List LastLoan) (most app pipe : ℕ) (bag : Holding LentBytes) (item : Item) → HoldsViews pipes loans most app bag → owns pipes app pipe ≡ true → last_of pipes pipe ≡ Some item →
     view_at bag pipe ≡ Some (record { loan = loan_of loans pipe; bytes = item.message })
 seen_is pipes loans most app pipe bag item holds own is =
     holds.seen pipe
     ∙ ap (λ b. cond {A = Option LentBytes} b (last_view pipes loans pipe) None) own
     ∙ ap (option_map (λ (i : Item). record { loan = loan_of loans pipe; bytes = i.message })) is
 
-pub one_view : (buffers : Buffers) (pipes : List Pipe) (loans : List LastLoan) (most app other pipe its : ℕ) (bag another : Holding LentBytes) (item same : Item) →
-    AreBlocks buffers pipes loans → Holds pipes loans most app bag → Holds pipes loans most other another →
+pub one_view : (buffers : Buffers) (pipes : List Pipe) (loans : List LastLoan) (unsent : List (List Buffer)) (descs : List BufferDesc) (most app other pipe its : ℕ) (bag another : Holding LentBytes) (item same : Item) →
+    AreBlocks buffers pipes loans unsent descs → HoldsViews pipes loans most app bag → HoldsViews pipes loans most other another →
     owns pipes app pipe ≡ true → owns pipes other its ≡ true →
     last_of pipes pipe ≡ Some item → last_of pipes its ≡ Some same → item.number ≡ same.number → view_at bag pipe ≡ view_at another its
-one_view buffers pipes loans most app other pipe its bag another item same blocks holds also own theirs is alike number =
-    let has = blocks.all item.number (last_held pipes pipe item is) in
+one_view buffers pipes loans unsent descs most app other pipe its bag another item same blocks holds also own theirs is alike number =
+    let has = blocks.all_sends item.number (last_held pipes pipe item is) in
     let block = sealed_at buffers.slots has.desc in
-    let told = blocks.each has.desc has.sealed in
+    let told = blocks.each_sealed has.desc has.sealed in
     let view : ℕ → List ℕ → Option LentBytes = λ n l. Some (record { loan = n; bytes = l }) in
-    let here : item.number ≡ block.number = sym has.number in
+    let here : item.number ≡ block.number = sym has.has_number in
     let there : same.number ≡ block.number = sym number ∙ here in
     seen_is pipes loans most app pipe bag item holds own is
     ∙ ap (λ n. view n item.message) (told.loan pipe item is here ∙ sym (told.loan its same alike there))

@@ -4,10 +4,10 @@ use Rattle.std.specs.Option.{option_map_or}
 use Rattle.std.proofs.lemmas.List.{length-map}
 use Rattle.fsw_base.specs.PoolAccounts.{Account, has_room, after_request}
 use Rattle.ccsds_msg.specs.Message.{message_id, with_count}
-use Rattle.es_pool.specs.Pool.{is_out}
-use Rattle.buf_desc.specs.Slots.{slot_at, sealed_at, is_live}
+use Rattle.es_pool.specs.Pool.{DrawsFor, is_out}
+use Rattle.buf_desc.specs.Slots.{slot_at, sealed_at, is_sealed, is_live}
 use Rattle.buf_desc.specs.Desk.{Buffers, resealed, after_settle}
-use Rattle.bus_words.specs.Bus.{Pipe, Subscription, Sending, route, deliver, reached}
+use Rattle.bus_words.specs.Bus.{Pipe, Subscription, Buffer, Sending, route, deliver, reached}
 use Rattle.bus_words.specs.Machine.{stamped}
 use Rattle.bus_words.specs.Acts.{next_in}
 use Rattle.bus_tables.specs.declared.message.Message.{Message}
@@ -16,23 +16,26 @@ use Rattle.bus_tables.specs.Missed.{Missed}
 use Rattle.bus_tables.specs.Rows.{Row, with_row, offered_row, deliver_rows, reached_rows, missed_rows}
 use Rattle.bus_tables.specs.Tables.{Tables, IsRising}
 use Rattle.bus_store.specs.declared.store.BusStore.TheInside.{Inside}
-use Rattle.bus_store.specs.Store.{Store, LastLoan}
+use Rattle.bus_store.specs.Store.{Store, LastLoan, BufferDesc}
 use Rattle.bus_store.specs.Words.{next_of, reads_of, sending_of, missed, counted_up, with_held}
-use Rattle.bus_store.specs.Inside.{store_of, Keeps, Backed, Adds, account_in, pipes_in, loan_in, after_send}
+use Rattle.bus_store.specs.Inside.{store_of, Keeps, Backed, Seals, Adds, account_in, pipes_in, descs_in, loan_in, after_send}
 use Rattle.bus_store.proofs.Added.{length-counted}
 use Rattle.lend_block.specs.Loan.{LentBytes}
 use Rattle.buf_desc.specs.Held.{Holding}
 use Rattle.bus_store.proofs.Accounts.{held_law, held_now, alone_as, sent_alone}
 use Rattle.bus_store.proofs.Lasts.{AreLike, HasDue, holds_like, like_delivered}
 use Rattle.bus_store.proofs.Meaning.{message_of}
-use Rattle.bus_store.proofs.Sends.{IsSent, is_sent}
+use Rattle.bus_store.proofs.Listed.{listed_kept, unsent_kept, descs_kept}
+use Rattle.bus_store.proofs.Pool.{IsDrawn, drawn_for, most_drawn}
+use Rattle.bus_store.proofs.Sends.{Begins, IsSent, is_sent}
+use Rattle.bus_store.proofs.Tied.{KeepsOpen, sealed_live, sealed_number, dead_closed, dead_unsealed, open_apart}
 
 -- Lengths. --
 
 pub length-with_row : (change : Row → Row) (number : ℕ) (rows : List Row) → length (with_row change number rows) ≡ length rows
 length-with_row change number rows = length-map rows (λ row. cond {A = Row} (eqb row.number number) (change row) row)
 
-length-deliver : (message : Message) (subs : List Subscription) (rows : List Row) → length (deliver_rows message subs rows) ≡ length rows
+pub length-deliver : (message : Message) (subs : List Subscription) (rows : List Row) → length (deliver_rows message subs rows) ≡ length rows
 length-deliver message [] rows = refl
 length-deliver message (sub ∷ subs) rows =
     length-deliver message subs (with_row (offered_row message sub) sub.pipe rows) ∙ length-with_row (offered_row message sub) sub.pipe rows
@@ -73,20 +76,36 @@ module _ (a : Inside) (old : Store) (sender : ℕ) (bytes : List ℕ) (inc : Boo
   is_message : option_map_or (with_count bytes) count bytes ≡ sending.message
   is_message = as_sent a bytes inc id count same told
 
-  size : sending.asked ≡ length sending.message
-  size = sym (length-counted bytes count (omega (arith, long))) ∙ ap length is_message
-
   -- the tables, once the id and the number are known
   abbrev rows_for : ℕ → ℕ → Tables → List Row
   rows_for n i t = deliver_rows (record { sender = sender; number = n; desc = desc }) (route t.subscriptions i) t.pipes
 
-  sent : IsSent a.desk final a.tables.pipes subs sending a.given desc arrived
+  drawn : IsDrawn a.desk.pool mid.pool (length bytes) desc
+  drawn = drawn_for a.desk.pool mid.pool (length bytes) desc keeps.backed.tied.account (ap (λ (o : Store). has_room o.account (length bytes)) viewed ∙ room) (subst (λ n. DrawsFor a.desk.pool mid.pool n desc) (length-counted bytes count (omega (arith, long))) adds.drawn)
+
+  begins : Begins a.desk mid sending desc a.given (a.given + 1)
+  begins = record {
+    seals = subst (λ n. Seals a.desk mid n (length bytes) sending.message desc) numbered
+        (subst (λ l. Seals a.desk mid number (length bytes) l desc) is_message
+        (subst (λ k. Seals a.desk mid number k (option_map_or (with_count bytes) count bytes) desc) (length-counted bytes count (omega (arith, long))) adds.seals));
+    unsealed = dead_unsealed (slot_at a.desk.slots desc) adds.fresh;
+    number_new = λ d is same. absurd (omega (arith, given_number d is, same));
+    numbers = adds.numbers keeps.backed.tied.numbers (λ other is same. absurd (omega (arith, (keeps.backed.tied.given other is).last, same, numbered)));
+    number_given = record { first = omega arith; last = omega arith };
+    more = omega arith;
+    sizes = drawn.sizes;
+    here = drawn.here;
+    others = λ other apart is. drawn.others other (sym (live_out other) ∙ is);
+    account = drawn.is;
+  }
+    where
+      given_number : (d : ℕ) → is_sealed (slot_at a.desk.slots d) ≡ true → (sealed_at a.desk.slots d).number ≤ a.given
+      given_number d is = let one = keeps.backed.tied.given d (sealed_live (slot_at a.desk.slots d) is) in omega (arith, one.last, sealed_number (slot_at a.desk.slots d) is)
+
+  sent : IsSent a.desk mid final a.tables.pipes subs sending (a.given + 1) desc arrived
   sent =
-      is_sent a.desk mid a.tables.pipes subs sending a.given desc arrived keeps.backed
-      (subst (λ l. Adds a.desk mid (a.given + 1) l desc) is_message (subst (λ n. Adds a.desk mid n (option_map_or (with_count bytes) count bytes) desc) numbered adds))
-      rises refl size
-      (ap (has_room (account_in a.desk.pool)) (sym size) ∙ ap (λ (o : Store). has_room o.account (length bytes)) viewed ∙ room)
-      (sym (now_out desc) ∙ live) live_out
+      is_sent a.desk mid a.tables.pipes subs sending a.given (a.given + 1) desc arrived keeps.backed begins rises
+      (sym (now_out desc) ∙ live)
       (took
       ∙ ap (λ (t : Tables). reached_rows (record { sender = sender; number = number; desc = desc }) (route t.subscriptions id) t.pipes) counts
       ∙ ap (λ i. reached_rows (record { sender = sender; number = number; desc = desc }) (route a.tables.subscriptions i) a.tables.pipes) same
@@ -110,12 +129,17 @@ module _ (a : Inside) (old : Store) (sender : ℕ) (bytes : List ℕ) (inc : Boo
       ∙ ap (λ i. let v : Missed = record a.misses { items = missed_rows (record { sender = sender; number = number; desc = desc }) (route a.tables.subscriptions i) a.tables.pipes } in v) same
       ∙ ap (λ n. let v : Missed = record a.misses { items = missed_rows (record { sender = sender; number = n; desc = desc }) subs a.tables.pipes } in v) numbered
 
+  opened : KeepsOpen a.desk.slots final.slots
+  opened = open_apart a.desk.slots final.slots desc sent.others (dead_closed (slot_at a.desk.slots desc) adds.fresh) sent.closed
+
   pub sent_keeps : Keeps (record a { tables = next; desk = final; misses = misses; given = number })
   sent_keeps =
       subst (λ t. Keeps (record a { tables = t; desk = final; misses = misses; given = number })) (sym next_is)
       (subst (λ m. Keeps (record a { tables = record a.tables { routes = counted_up a.tables.routes (message_id bytes) inc; pipes = after }; desk = final; misses = m; given = number })) (sym misses_are)
       (record {
         backed = subst (Backed final after) (sym numbered) sent.backed;
+        listed = listed_kept a.desk.slots a.lists.lists keeps.listed final.slots opened;
+        places = sent.most ∙ most_drawn a.desk.pool mid.pool (length bytes) desc (subst (λ n. DrawsFor a.desk.pool mid.pool n desc) (length-counted bytes count (omega (arith, long))) adds.drawn) ∙ keeps.places;
         misses = keeps.misses;
         pipes_live = omega (arith, length-deliver (message_of sending desc) subs a.tables.pipes, keeps.pipes_live);
         pipes_few = keeps.pipes_few;
@@ -130,8 +154,10 @@ module _ (a : Inside) (old : Store) (sender : ℕ) (bytes : List ℕ) (inc : Boo
   sent_reached = reached_as ∙ ap (λ (o : Store). reached (sending_of o sender bytes inc) (route o.subscriptions (message_id bytes)) o.pipes) viewed
 
   -- what the fields stand for then
-  abbrev to : List Pipe → List Miss → ℕ → Account → List LastLoan → Store
-  to pipes items given account loans = record (store_of a) {
+  abbrev to : List (List Buffer) → List BufferDesc → List Pipe → List Miss → ℕ → Account → List LastLoan → Store
+  to unsent descs pipes items given account loans = record (store_of a) {
+    unsent = unsent;
+    descs = descs;
     pipes = pipes;
     routes = counted_up a.tables.routes (message_id bytes) inc;
     missed = items;
@@ -145,23 +171,27 @@ module _ (a : Inside) (old : Store) (sender : ℕ) (bytes : List ℕ) (inc : Boo
     routes = counted_up old.routes (message_id bytes) inc;
     missed = missed (sending_of old sender bytes inc) (route old.subscriptions (message_id bytes)) old.pipes;
     numbers_given = old.numbers_given + 1;
-    account = after_send old.account (length bytes) arrived;
+    account = after_send (after_request old.account (length bytes)) (length bytes) arrived;
   }
   sent_store =
       ap (λ t. store_of (record a { tables = t; desk = final; misses = misses; given = number })) next_is
       ∙ ap (λ m. store_of (record a { tables = record a.tables { routes = counted_up a.tables.routes (message_id bytes) inc; pipes = after }; desk = final; misses = m; given = number })) misses_are
-      ∙ ap (λ l. to l (missed_rows (message_of sending desc) subs a.tables.pipes) number (account_in final.pool) (map (loan_in final.slots) after)) sent.pipes
-      ∙ ap (λ l. to (deliver sending subs (pipes_in a.desk.slots a.tables.pipes)) l number (account_in final.pool) (map (loan_in final.slots) after)) sent.misses
-      ∙ ap (λ n. to (deliver sending subs (pipes_in a.desk.slots a.tables.pipes)) (missed sending subs (pipes_in a.desk.slots a.tables.pipes)) n (account_in final.pool) (map (loan_in final.slots) after)) numbered
-      ∙ ap (λ c. to (deliver sending subs (pipes_in a.desk.slots a.tables.pipes)) (missed sending subs (pipes_in a.desk.slots a.tables.pipes)) (a.given + 1) c (map (loan_in final.slots) after))
-      (sent.account ∙ ap (λ n. after_send (account_in a.desk.pool) n arrived) (sym size))
-      ∙ ap (λ l. to (deliver sending subs (pipes_in a.desk.slots a.tables.pipes)) (missed sending subs (pipes_in a.desk.slots a.tables.pipes)) (a.given + 1) (after_send (account_in a.desk.pool) (length bytes) arrived) l) sent.loans
+      ∙ ap (λ l. to l (descs_in final.slots a.lists.lists) (pipes_in final.slots after) (missed_rows (message_of sending desc) subs a.tables.pipes) number (account_in final.pool) (map (loan_in final.slots) after))
+      (unsent_kept a.desk.slots a.lists.lists keeps.listed final.slots opened)
+      ∙ ap (λ l. to (store_of a).unsent l (pipes_in final.slots after) (missed_rows (message_of sending desc) subs a.tables.pipes) number (account_in final.pool) (map (loan_in final.slots) after))
+      (descs_kept a.desk.slots a.lists.lists keeps.listed final.slots opened)
+      ∙ ap (λ l. to (store_of a).unsent (store_of a).descs l (missed_rows (message_of sending desc) subs a.tables.pipes) number (account_in final.pool) (map (loan_in final.slots) after)) sent.pipes
+      ∙ ap (λ l. to (store_of a).unsent (store_of a).descs (deliver sending subs (pipes_in a.desk.slots a.tables.pipes)) l number (account_in final.pool) (map (loan_in final.slots) after)) sent.misses
+      ∙ ap (λ n. to (store_of a).unsent (store_of a).descs (deliver sending subs (pipes_in a.desk.slots a.tables.pipes)) (missed sending subs (pipes_in a.desk.slots a.tables.pipes)) n (account_in final.pool) (map (loan_in final.slots) after)) numbered
+      ∙ ap (λ c. to (store_of a).unsent (store_of a).descs (deliver sending subs (pipes_in a.desk.slots a.tables.pipes)) (missed sending subs (pipes_in a.desk.slots a.tables.pipes)) (a.given + 1) c (map (loan_in final.slots) after))
+      (sent.account ∙ ap (λ c. after_send c (length bytes) arrived) drawn.account)
+      ∙ ap (λ l. to (store_of a).unsent (store_of a).descs (deliver sending subs (pipes_in a.desk.slots a.tables.pipes)) (missed sending subs (pipes_in a.desk.slots a.tables.pipes)) (a.given + 1) (after_send (after_request (account_in a.desk.pool) (length bytes)) (length bytes) arrived) l) sent.loans
       ∙ ap (λ (o : Store). let v : Store = record o {
         pipes = deliver (sending_of o sender bytes inc) (route o.subscriptions (message_id bytes)) o.pipes;
         routes = counted_up o.routes (message_id bytes) inc;
         missed = missed (sending_of o sender bytes inc) (route o.subscriptions (message_id bytes)) o.pipes;
         numbers_given = o.numbers_given + 1;
-        account = after_send o.account (length bytes) arrived;
+        account = after_send (after_request o.account (length bytes)) (length bytes) arrived;
       } in v) viewed
 
   pub sent_held : ((d : ℕ) → is_live (slot_at final.slots d) ≡ is_out final.pool d) →
@@ -170,14 +200,16 @@ module _ (a : Inside) (old : Store) (sender : ℕ) (bytes : List ℕ) (inc : Boo
         routes = counted_up old.routes (message_id bytes) inc;
         missed = missed (sending_of old sender bytes inc) (route old.subscriptions (message_id bytes)) old.pipes;
         numbers_given = old.numbers_given + 1;
-        account = with_held (after_request old.account (length bytes)) (pipes_in final.slots next.pipes) number;
+        account = with_held (after_request old.account (length bytes)) (pipes_in final.slots next.pipes) old.unsent number;
       }
   sent_held still_out =
       let new : Store = store_of (record a { tables = next; desk = final; misses = misses; given = number }) in
       let drawn : Account = after_request old.account (length bytes) in
       let is = ap (λ (o : Store). o.account) sent_store in
-      let alone = alone_as drawn (after_send old.account (length bytes) arrived) new.account (sent_alone old.account (length bytes) arrived) is in
-      let law = held_law (record a { tables = next; desk = final; misses = misses; given = number }) sent_keeps still_out in
+      let alone = alone_as drawn (after_send drawn (length bytes) arrived) new.account (sent_alone drawn (length bytes) arrived) is in
+      let law =
+      held_law (record a { tables = next; desk = final; misses = misses; given = number }) sent_keeps still_out
+      ∙ ap (λ l. with_held new.account new.pipes l number) (ap (λ (o : Store). o.unsent) sent_store) in
       sent_store
       ∙ ap (λ (c : Account). let v : Store = record old {
         pipes = deliver (sending_of old sender bytes inc) (route old.subscriptions (message_id bytes)) old.pipes;
@@ -185,7 +217,7 @@ module _ (a : Inside) (old : Store) (sender : ℕ) (bytes : List ℕ) (inc : Boo
         missed = missed (sending_of old sender bytes inc) (route old.subscriptions (message_id bytes)) old.pipes;
         numbers_given = old.numbers_given + 1;
         account = c;
-      } in v) (sym is ∙ held_now drawn new.account new.pipes number alone law)
+      } in v) (sym is ∙ held_now drawn new.account new.pipes old.unsent number alone law)
 
   pub sent_bags : (app : ℕ) (bag : Holding LentBytes) → HasDue old app bag → HasDue (store_of (record a { tables = next; desk = final; misses = misses; given = number })) app bag
   sent_bags app bag =

@@ -1,32 +1,32 @@
 -- How the pipes' items and the blocks belong together, and what the fields stand for.
-use Rattle.std.specs.Prelude.{◌≡◌, ℕ, ◌+◌, ◌-◌, ◌^◌, ◌<◌, ◌≤◌, nat_le, true, false, List, length, map, sum_by, Option, Some, None, IfSome, if◌then◌else◌}
+use Rattle.std.specs.Prelude.{◌≡◌, ℕ, ◌+◌, ◌-◌, ◌^◌, ◌<◌, ◌≤◌, nat_le, true, false, List, length, map, flat_map, sum_by, Option, Some, None, IfSome, if◌then◌else◌}
 use Rattle.std.specs.List.{All}
 use Rattle.std.specs.Option.{option_map, option_map_or}
 use Rattle.fsw_base.specs.Blocks.{class_of}
-use Rattle.fsw_base.specs.PoolAccounts.{Account, after_request, after_return}
-use Rattle.es_pool.specs.Pool.{PoolState, DrawsFor, made_in, out_in, class_at}
+use Rattle.fsw_base.specs.PoolAccounts.{Account, after_return}
+use Rattle.bucket_list.specs.Lists.{times}
+use Rattle.es_pool.specs.Pool.{PoolState, DrawsFor, made_in, out_in, class_at, most_cut}
 use Rattle.es_pool.specs.Account.{IsAccountOf}
 use Rattle.lend_block.specs.Loan.{LentBytes}
-use Rattle.buf_desc.specs.Slots.{slot_at, sealed_at, is_sealed, is_live, number_in, HaveOwnNumbers}
+use Rattle.buf_desc.specs.Slots.{slot_at, sealed_at, is_sealed, is_open, is_live, number_in, asked_in, HaveOwnNumbers}
 use Rattle.buf_desc.specs.Desk.{Buffers, resealed, after_drop}
 use Rattle.buf_desc.specs.declared.slot.Slot.{Slot}
-use Rattle.bus_words.specs.Bus.{Item, Pipe}
+use Rattle.bus_words.specs.Bus.{Item, Pipe, Buffer}
 use Rattle.bus_tables.specs.declared.tables.ItemRow.{ItemRow}
 use Rattle.bus_tables.specs.Rows.{Row}
 use Rattle.bus_tables.specs.Uses.{item_use, uses_of}
 use Rattle.bus_store.specs.declared.store.BusStore.TheInside.{Inside}
 use Rattle.bus_store.specs.Blocks.{IsGiven}
-use Rattle.bus_store.specs.Store.{Store, LastLoan}
-use Rattle.bus_words.specs.Held.{is_held, each_below}
+use Rattle.bus_store.specs.Store.{Store, LastLoan, BufferDesc}
+use Rattle.bus_words.specs.Held.{is_on_pipes, each_below}
 
 -- What rows stand for. --
 
--- the item that a row's item stands for: its message are the bytes of the block. A copying send asks for as many bytes as its
--- message has.
+-- the item that a row's item stands for: its message are the bytes of the block
 abbrev pub item_in : List Slot → ItemRow → Item
 item_in slots item = record {
   number = item.number;
-  asked = length (sealed_at slots item.desc).bytes;
+  asked = (sealed_at slots item.desc).asked;
   subscription = item.subscription;
   message = (sealed_at slots item.desc).bytes;
 }
@@ -58,6 +58,23 @@ loan_in slots row = record { pipe = row.number; loan = loan_at slots row.last }
 abbrev pub view_in : List Slot → ItemRow → LentBytes
 view_in slots item = record { loan = (sealed_at slots item.desc).loan; bytes = (sealed_at slots item.desc).bytes }
 
+-- What lists of descriptors stand for. --
+
+-- the unsent buffer that a block is
+abbrev pub buffer_in : List Slot → ℕ → Buffer
+buffer_in slots desc = record { number = number_in (slot_at slots desc); size = asked_in (slot_at slots desc) }
+
+-- of each application, its unsent buffers
+abbrev pub unsent_in : List Slot → List (List ℕ) → List (List Buffer)
+unsent_in slots lists = map (map (buffer_in slots)) lists
+
+abbrev pub desc_in : List Slot → ℕ → BufferDesc
+desc_in slots desc = record { number = number_in (slot_at slots desc); desc = desc }
+
+-- the descriptor of each unsent buffer
+abbrev pub descs_in : List Slot → List (List ℕ) → List BufferDesc
+descs_in slots lists = flat_map (map (desc_in slots)) lists
+
 -- The pool. --
 
 -- the account of a pool, counted anew
@@ -75,14 +92,14 @@ account_in pool = record {
 abbrev pub returned : Account → ℕ → Account
 returned account size = option_map_or (after_return account) (class_of size account.sizes) account
 
--- a send that so many pipes took drew a block for its size; where none took it, the block came back
+-- a block for this size was sent, and so many pipes took it; where none did, it came back
 abbrev pub after_send : Account → ℕ → ℕ → Account
-after_send account size reached = if nat_le 1 reached then after_request account size else returned (after_request account size) size
+after_send account size reached = if nat_le 1 reached then account else returned account size
 
 -- an item of a pipe was let go: where that was the last use of its send, the block came back
 abbrev pub after_release : Account → Option Item → List Pipe → Account
 after_release account None pipes = account
-after_release account (Some item) pipes = if is_held pipes item.number then account else returned account item.asked
+after_release account (Some item) pipes = if is_on_pipes pipes item.number then account else returned account item.asked
 
 -- Blocks and items. --
 
@@ -104,22 +121,25 @@ pub record IsNamed (slots : List Slot) (item : ItemRow) : Type 0 where
 abbrev pub lasts_of : ℕ → List Row → ℕ
 lasts_of number rows = sum_by (λ row. item_use number row.last) rows
 
--- The items name blocks that were sealed for them; each live block is sealed, has so many uses and so many views out as its
--- send counts, a number of its own, one of those given, and the size for its message.
+-- The items name blocks that were sealed for them; each sealed block has so many uses and so many views out as its send counts;
+-- each live one has a number of its own, one of those given, and the size for what was asked.
 pub record AreTied (buffers : Buffers) (rows : List Row) (uses_due views_due : ℕ → ℕ) (last : ℕ) : Type 0 where
   pub items : AllItems (IsNamed buffers.slots) rows
-  pub sealed : (desc : ℕ) → is_live (slot_at buffers.slots desc) ≡ true → is_sealed (slot_at buffers.slots desc) ≡ true
   pub uses : (desc : ℕ) → is_sealed (slot_at buffers.slots desc) ≡ true → (sealed_at buffers.slots desc).uses ≡ uses_due (sealed_at buffers.slots desc).number
   pub views : (desc : ℕ) → is_sealed (slot_at buffers.slots desc) ≡ true → (sealed_at buffers.slots desc).views ≡ views_due (sealed_at buffers.slots desc).number
   pub numbers : HaveOwnNumbers buffers.slots
   pub given : (desc : ℕ) → is_live (slot_at buffers.slots desc) ≡ true → IsGiven last (number_in (slot_at buffers.slots desc))
-  pub sizes : (desc : ℕ) → is_sealed (slot_at buffers.slots desc) ≡ true → class_of (length (sealed_at buffers.slots desc).bytes) buffers.pool.sizes ≡ Some (class_at buffers.pool desc)
+  pub sizes : (desc : ℕ) → is_live (slot_at buffers.slots desc) ≡ true → class_of (asked_in (slot_at buffers.slots desc)) buffers.pool.sizes ≡ Some (class_at buffers.pool desc)
   pub account : IsAccountOf buffers.pool (account_in buffers.pool)
 
--- Each block that is out has a use: so many as the pipes name its send; and so many views are out as pipes received it last.
+-- Each sealed block has a use: so many as the pipes name its send; and so many views are out as pipes received it last.
 pub record Backed (buffers : Buffers) (rows : List Row) (given : ℕ) : Type 0 where
   pub tied : AreTied buffers rows (λ n. uses_of n rows) (λ n. lasts_of n rows) given
   pub used : (desc : ℕ) → is_sealed (slot_at buffers.slots desc) ≡ true → 1 ≤ (sealed_at buffers.slots desc).uses
+
+-- the unsent blocks are those in the lists, each once
+abbrev pub AreListed : List Slot → List (List ℕ) → Type 0
+AreListed slots lists = (desc : ℕ) → times lists desc ≡ (if is_open (slot_at slots desc) then 1 else 0)
 
 -- The store. --
 
@@ -132,13 +152,18 @@ store_of a = record {
   routes = a.tables.routes;
   room = a.tables.room;
   missed = a.misses.items;
+  unsent = unsent_in a.desk.slots a.lists.lists;
   numbers_given = a.given;
   account = account_in a.desk.pool;
   loans = map (loan_in a.desk.slots) a.tables.pipes;
+  descs = descs_in a.desk.slots a.lists.lists;
 }
 
 pub record Keeps (a : Inside) : Type 0 where
   pub backed : Backed a.desk a.tables.pipes a.given
+  pub listed : AreListed a.desk.slots a.lists.lists
+  -- there is a place in the lists for each block that may be cut
+  pub places : most_cut a.desk.pool ≡ a.lists.descs
   -- there is room for all that may miss a message
   pub misses : a.tables.room.dests ≤ a.misses.room
   -- numbers
@@ -149,13 +174,17 @@ pub record Keeps (a : Inside) : Type 0 where
 
 -- Steps. --
 
+-- a block was sealed for a send, with this message, no use and no view yet; the others stay
+pub record Seals (old new : Buffers) (number asked : ℕ) (message : List ℕ) (desc : ℕ) : Type 0 where
+  pub sealed : is_sealed (slot_at new.slots desc) ≡ true
+  pub sent : sealed_at new.slots desc ≡ record (sealed_at new.slots desc) { number = number; asked = asked; bytes = message; uses = 0; views = 0 }
+  pub others : (other : ℕ) → (desc ≡ other → ⊥) → slot_at new.slots other ≡ slot_at old.slots other
+
 -- a message's block was drawn, written and sealed, and is one more than before
 pub record Adds (old new : Buffers) (number : ℕ) (message : List ℕ) (desc : ℕ) : Type 0 where
   pub fresh : is_live (slot_at old.slots desc) ≡ false
   pub drawn : DrawsFor old.pool new.pool (length message) desc
-  pub sealed : is_sealed (slot_at new.slots desc) ≡ true
-  pub sent : sealed_at new.slots desc ≡ record (sealed_at new.slots desc) { number = number; bytes = message; uses = 0; views = 0 }
-  pub others : (other : ℕ) → (desc ≡ other → ⊥) → slot_at new.slots other ≡ slot_at old.slots other
+  pub seals : Seals old new number (length message) message desc
   pub numbers : HaveOwnNumbers old.slots → ((other : ℕ) → is_live (slot_at old.slots other) ≡ true → number_in (slot_at old.slots other) ≡ number → ⊥) → HaveOwnNumbers new.slots
 
 -- a view of an item came back, and the use of its block that the item was

@@ -2,7 +2,7 @@
 use Rattle.std.specs.Prelude.{ℕ, List, [], replicate, length}
 use Rattle.fsw_base.specs.Limits.{Limits}
 use Rattle.fsw_base.specs.PoolAccounts.{Account}
-use Rattle.bus_words.specs.Bus.{Pipe, Subscription}
+use Rattle.bus_words.specs.Bus.{Pipe, Subscription, Buffer}
 use Rattle.bus_tables.specs.declared.misses.Miss.{Miss}
 use Rattle.bus_tables.specs.Rows.{RouteRow}
 use Rattle.bus_tables.specs.Tables.{Room, room_for}
@@ -12,9 +12,15 @@ pub record LastLoan : Type 0 where
   pub pipe : ℕ
   pub loan : ℕ
 
+-- An unsent buffer's number, and the descriptor of its block.
+pub record BufferDesc : Type 0 where
+  pub number : ℕ
+  pub desc : ℕ
+
 -- The live pipes with their messages and how many were created, the live subscriptions and how many were made, each in order
--- of number; the routes in order of making; the room for them; the pipes that missed the message sent last; how many send
--- numbers were given; the account of the pool; and the loan of each pipe's last message, in order of pipes.
+-- of number; the routes in order of making; the room for them; the pipes that missed the message sent last; of each application,
+-- from 1, the buffers that it hasn't sent, the newest first; how many send numbers were given; the account of the pool; the loan
+-- of each pipe's last message, in order of pipes; and the descriptor of each unsent buffer.
 pub record Store : Type 0 where
   pub pipes : List Pipe
   pub pipes_created : ℕ
@@ -23,9 +29,11 @@ pub record Store : Type 0 where
   pub routes : List RouteRow
   pub room : Room
   pub missed : List Miss
+  pub unsent : List (List Buffer)
   pub numbers_given : ℕ
   pub account : Account
   pub loans : List LastLoan
+  pub descs : List BufferDesc
 
 -- the account of a pool of which nothing was drawn
 abbrev pub unused : ℕ → List ℕ → Account
@@ -38,9 +46,9 @@ unused bytes sizes = record {
   errors = 0;
 }
 
--- nothing was created or sent yet
-abbrev pub opened : Limits → Store
-opened limits = record {
+-- nothing was created, sent or allocated yet, by so many applications
+abbrev pub opened : Limits → ℕ → Store
+opened limits apps = record {
   pipes = [];
   pipes_created = 0;
   subscriptions = [];
@@ -48,7 +56,9 @@ opened limits = record {
   routes = [];
   room = room_for limits;
   missed = [];
+  unsent = replicate apps [];
   numbers_given = 0;
   account = unused limits.pool limits.sizes;
   loans = [];
+  descs = [];
 }

@@ -1,18 +1,19 @@
--- What is sent, who misses it, and what the sends that are held do to the pool.
-use Rattle.std.specs.Prelude.{ℕ, ◌+◌, ◌%◌, ◌<◌, ◌==◌, Bool, List, [], ◌∷◌, ◌++◌, length, map, find, Option, Some, None, if◌then◌else◌}
+-- What is sent, who misses it, which buffer has which block, and what the numbers that are held do to the pool.
+use Rattle.std.specs.Prelude.{ℕ, ◌+◌, ◌%◌, ◌<◌, ◌==◌, Bool, List, [], ◌∷◌, ◌++◌, length, map, find, slice_index, Option, Some, None, if◌then◌else◌}
 use Rattle.std.specs.Option.{option_map_or, option_and_then}
+use Rattle.fsw_base.specs.Blocks.{class_of}
 use Rattle.fsw_base.specs.Starts.{start_of}
 use Rattle.fsw_base.specs.PoolAccounts.{Account}
-use Rattle.bus_words.specs.Bus.{Item, Pipe, Subscription, Sending, Verdict, Skip, In, verdict, pipe_at, with_pipe, offered, oldest}
+use Rattle.bus_words.specs.Bus.{Item, Pipe, Subscription, Buffer, Sending, Verdict, Skip, In, verdict, pipe_at, with_pipe, offered, oldest, unsent_size}
 use Rattle.bus_words.specs.Bus as bus
 use Rattle.bus_words.specs.Held.{blocks_held}
-use Rattle.bus_words.specs.Machine.{Reads, stamped}
+use Rattle.bus_words.specs.Machine.{Reads, stamped, front_of}
 use Rattle.bus_words.specs.Acts.{NextCount, next_in}
 use Rattle.bus_tables.specs.declared.misses.Miss.{Miss}
 use Rattle.bus_tables.specs.declared.misses.MissCause.{MissCause}
 use Rattle.bus_tables.specs.declared.misses.MissCause.TheVariants as causes
 use Rattle.bus_tables.specs.Rows.{RouteRow, counted_on}
-use Rattle.bus_store.specs.Store.{Store, LastLoan}
+use Rattle.bus_store.specs.Store.{Store, LastLoan, BufferDesc}
 
 -- Pipes. --
 
@@ -36,6 +37,16 @@ waiting_on pipes number = option_map_or (λ pipe. length pipe.queue) (pipe_at pi
 -- the loan of the last message of the pipe of this number
 abbrev pub loan_of : List LastLoan → ℕ → ℕ
 loan_of loans number = option_map_or (λ one. one.loan) (find (λ one. one.pipe == number) loans) 0
+
+-- Buffers. --
+
+-- the descriptor of the unsent buffer of this number
+abbrev pub desc_of : List BufferDesc → ℕ → ℕ
+desc_of descs number = option_map_or (λ one. one.desc) (find (λ one. one.number == number) descs) 0
+
+-- the size of the smallest block for so many bytes; 0 where none is large enough
+abbrev pub size_for : List ℕ → ℕ → ℕ
+size_for sizes asked = option_map_or (slice_index sizes) (class_of asked sizes) 0
 
 -- Sequence counts. --
 
@@ -65,6 +76,15 @@ sending_of store sender bytes inc = record {
   message = stamped (reads_of store) bytes inc;
 }
 
+-- what the application sends of a buffer: the message that its bytes begin with, under the buffer's number
+abbrev pub passing_of : Store → ℕ → ℕ → List ℕ → Bool → Sending
+passing_of store sender buf bytes inc = record {
+  sender = sender;
+  number = buf;
+  asked = unsent_size store.unsent sender buf;
+  message = stamped (reads_of store) (front_of bytes) inc;
+}
+
 -- why a pipe misses a message; none where it takes it or ignores its sender
 abbrev pub cause_of : Verdict → Option MissCause
 cause_of Skip = None
@@ -85,6 +105,7 @@ missed sending (sub ∷ subs) pipes = missed_by sending sub pipes ++ missed send
 
 -- The pool. --
 
--- this account, with as many blocks of each size out as sends are held by these pipes, of so many given
-abbrev pub with_held : Account → List Pipe → ℕ → Account
-with_held account pipes given = record account { out = blocks_held account.sizes pipes given }
+-- this account, with as many blocks of each size out as numbers are held, of so many given: by these pipes, or as these unsent
+-- buffers
+abbrev pub with_held : Account → List Pipe → List (List Buffer) → ℕ → Account
+with_held account pipes unsent given = record account { out = blocks_held account.sizes pipes unsent given }

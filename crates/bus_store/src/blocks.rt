@@ -1,17 +1,18 @@
-//! What becomes of the block of one message.
-ghost use Rattle.std.specs.Prelude.{◌≡◌, ℕ, ◌+◌, ◌-◌, ◌<◌, ◌≤◌, true, Some, None, length, if◌then◌else◌, ◌==◌, is_some, IfSome};
+//! What becomes of the block of one message, or of one buffer.
+ghost use Rattle.std.specs.Prelude.{◌≡◌, ℕ, replicate, ◌+◌, ◌-◌, ◌<◌, ◌≤◌, true, Some, None, length, if◌then◌else◌, ◌==◌, is_some, IfSome};
 ghost use Rattle.std.specs.Option.{option_map, option_map_or};
-ghost use Rattle.ccsds_msg.specs.Message.{message_id, with_count};
+ghost use Rattle.ccsds_msg.specs.Message.{message_id, message_size, with_count};
+ghost use Rattle.bus_words.specs.Machine.{front_of};
 ghost use Rattle.es_pool.specs.Pool.{fits};
 ghost use Rattle.buf_desc.specs.Desk.{Takes, IsOf, resealed, after_settle};
 ghost use Rattle.buf_desc.specs.Held.{view_at};
-ghost use Rattle.buf_desc.specs.Slots.{slot_at, sealed_at, is_sealed};
-ghost use Rattle.bus_store.specs.Inside.{Adds, let_go, shown, view_in};
+ghost use Rattle.buf_desc.specs.Slots.{slot_at, sealed_at, is_sealed, HaveOwnNumbers};
+ghost use Rattle.bus_store.specs.Inside.{Adds, Seals, let_go, shown, view_in};
 
 use bucket_list::{Ledger, Steps};
 use buf_desc::{Block, Desk, Held};
 use bus_tables::ItemRow;
-use ccsds_msg::set_count;
+use ccsds_msg::{set_count, size_of};
 
 // The block with this sequence count in its message.
 fn with_count<'r>(block: Block<'r>, count: u16) -> Block<'r>
@@ -76,6 +77,41 @@ pub(crate) fn put_message<L: Ledger>(
     let copy = drawn(desk, bytes, number, steps);
     let message = with_its_count(copy, count);
     desk.seal(message, bytes.len() as u32)
+}
+
+/// Draws a block of zeros for a buffer of this size and number. At most 8 steps.
+pub(crate) fn drawn_empty<'r, L: Ledger>(
+    desk: &mut Desk<'r>,
+    size: u32,
+    number: u32,
+    steps: &mut Steps<L>,
+) -> Block<'r>
+    requires room { fits desk.old.pool size 1 ≡ true }
+    ensures taken { Takes desk.old desk.new size number result }
+    ensures own { IsOf desk.new result }
+    ensures zeros { result.bytes ≡ replicate size 0 }
+    ensures cost { steps.new ≤ steps.old + 8 }
+{
+    desk.take(size, number, steps).unwrap()
+}
+
+/// Seals an unsent block at the message that its bytes begin with, which gets the count where there
+/// is one. Answers its descriptor, which has no use yet.
+pub(crate) fn seal_front<'r>(desk: &mut Desk<'r>, block: Block<'r>, count: Option<u16>) -> u32
+    requires own { IsOf desk.old block }
+    requires header { 7 ≤ length block.bytes }
+    requires within { message_size block.bytes ≤ length block.bytes }
+    requires count { IfSome count (λ n. n < 16384) }
+    ensures desc { result ≡ block.entry.desc }
+    ensures seals { Seals desk.old desk.new block.entry.number (length block.entry.bytes)
+        (option_map_or (with_count (front_of block.entry.bytes)) count
+        (front_of block.entry.bytes)) block.entry.desc }
+    ensures pool { desk.new.pool ≡ desk.old.pool }
+    ensures numbers { HaveOwnNumbers desk.old.slots → HaveOwnNumbers desk.new.slots }
+{
+    let size = size_of(block.bytes());
+    let message = with_its_count(block, count);
+    desk.seal(message, size)
 }
 
 /// Counts a use of the block for each pipe that took the message. Where none did, the block goes

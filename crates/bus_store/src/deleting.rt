@@ -3,7 +3,7 @@ ghost use Rattle.std.specs.Prelude.{◌≡◌, ◌≢◌, ℕ, ◌==◌, ◌+◌
 ghost use Rattle.bus_words.specs.Bus.{owns};
 ghost use Rattle.buf_desc.specs.Held.{Holding};
 ghost use Rattle.lend_block.specs.Loan.{LentBytes};
-ghost use Rattle.bus_store.specs.Bag.{Holds};
+ghost use Rattle.bus_store.specs.Bag.{HoldsViews};
 ghost use Rattle.bus_store.specs.Words.{oldest_of, last_of, loan_of, waiting_on, with_held};
 
 use crate::store::BusStore;
@@ -20,7 +20,7 @@ fn empty_pipe<'r, L: Ledger>(
     steps: &mut Steps<L>,
 )
     requires own { owns store.old.pipes app pipe ≡ true }
-    requires bag { Holds store.old.pipes store.old.loans store.old.room.pipes app held.old }
+    requires bag { HoldsViews store.old.pipes store.old.loans store.old.room.pipes app held.old }
     ensures waits { oldest_of store.new.pipes pipe ≡ None }
     ensures last { last_of store.new.pipes pipe ≡ None }
     ensures others { filter (λ one. not (one.number == pipe)) store.new.pipes ≡
@@ -34,10 +34,10 @@ fn empty_pipe<'r, L: Ledger>(
         record store.old.account { out = store.new.account.out } }
     ensures loans { (other : ℕ) → pipe ≢ other →
         loan_of store.new.loans other ≡ loan_of store.old.loans other }
-    ensures bag { Holds store.new.pipes store.new.loans store.new.room.pipes app held.new }
+    ensures bag { HoldsViews store.new.pipes store.new.loans store.new.room.pipes app held.new }
     ensures other_bags { (other : ℕ) (bag : Holding LentBytes) → other ≢ app →
-        Holds store.old.pipes store.old.loans store.old.room.pipes other bag →
-        Holds store.new.pipes store.new.loans store.new.room.pipes other bag }
+        HoldsViews store.old.pipes store.old.loans store.old.room.pipes other bag →
+        HoldsViews store.new.pipes store.new.loans store.new.room.pipes other bag }
     ensures buffers { held.new ≡ record held.old { views = held.new.views } }
     ensures cost { steps.new ≤ steps.old + 8 * waiting_on store.old.pipes pipe + 8 }
 {
@@ -55,8 +55,8 @@ impl<'r> BusStore<'r> {
           loans = filter (λ one. not (one.pipe == pipe)) self.old.loans;
         } }
         ensures bags { (app : ℕ) (bag : Holding LentBytes) →
-            Holds self.old.pipes self.old.loans self.old.room.pipes app bag →
-            Holds self.new.pipes self.new.loans self.new.room.pipes app bag }
+            HoldsViews self.old.pipes self.old.loans self.old.room.pipes app bag →
+            HoldsViews self.new.pipes self.new.loans self.new.room.pipes app bag }
     {
         // Does nothing; the proof learns of it that no other pipe has this number.
         self.tables.recall_order();
@@ -76,19 +76,20 @@ impl<'r> BusStore<'r> {
         steps: &mut Steps<L>,
     )
         requires own { owns self.old.pipes app pipe ≡ true }
-        requires bag { Holds self.old.pipes self.old.loans self.old.room.pipes app held.old }
+        requires bag { HoldsViews self.old.pipes self.old.loans self.old.room.pipes app held.old }
         ensures after { self.new ≡ record self.old {
           pipes = filter (λ one. not (one.number == pipe)) self.old.pipes;
           subscriptions = filter (λ sub. not (sub.pipe == pipe)) self.old.subscriptions;
-          account = with_held self.old.account self.new.pipes self.old.numbers_given;
+          account = with_held self.old.account self.new.pipes self.old.unsent
+              self.old.numbers_given;
           loans = self.new.loans;
         } }
         ensures loans { (other : ℕ) → pipe ≢ other →
             loan_of self.new.loans other ≡ loan_of self.old.loans other }
-        ensures bag { Holds self.new.pipes self.new.loans self.new.room.pipes app held.new }
+        ensures bag { HoldsViews self.new.pipes self.new.loans self.new.room.pipes app held.new }
         ensures other_bags { (other : ℕ) (bag : Holding LentBytes) → other ≢ app →
-            Holds self.old.pipes self.old.loans self.old.room.pipes other bag →
-            Holds self.new.pipes self.new.loans self.new.room.pipes other bag }
+            HoldsViews self.old.pipes self.old.loans self.old.room.pipes other bag →
+            HoldsViews self.new.pipes self.new.loans self.new.room.pipes other bag }
         ensures buffers { held.new ≡ record held.old { views = held.new.views } }
     {
         empty_pipe(self, app, pipe, held, steps);

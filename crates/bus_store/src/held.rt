@@ -1,14 +1,14 @@
-//! Which sends are held, and which blocks that takes.
+//! Which numbers are held, and which blocks that takes.
 ghost use Rattle.std.specs.Prelude.{◌≡◌, ℕ, true, List, Some, All, AllPairs, sum_by};
-ghost use Rattle.bus_words.specs.Bus.{Item, Pipe, owns};
+ghost use Rattle.bus_words.specs.Bus.{Item, Pipe, Buffer, owns};
 ghost use Rattle.bus_words.specs.Held.{items_of, held, block_of};
 ghost use Rattle.es_pool.specs.Account.{IsAccountOf};
 ghost use Rattle.es_pool.specs.Pool.{in_use_by};
 ghost use Rattle.lend_block.specs.Loan.{LentBytes};
 ghost use Rattle.buf_desc.specs.Desk.{Buffers};
 ghost use Rattle.buf_desc.specs.Held.{Holding, view_at};
-ghost use Rattle.bus_store.specs.Bag.{Holds};
-ghost use Rattle.bus_store.specs.Store.{LastLoan};
+ghost use Rattle.bus_store.specs.Bag.{HoldsViews};
+ghost use Rattle.bus_store.specs.Store.{LastLoan, BufferDesc};
 ghost use Rattle.bus_store.specs.Blocks.{IsGiven, AreOfOneSend, AreBlocks};
 ghost use Rattle.bus_store.specs.Words.{last_of, loan_of, with_held};
 
@@ -20,20 +20,22 @@ use es_pool::Pool;
 /// same bytes by the same loan. Does nothing.
 pub fn receivers_share_views()
     ensures { (buffers : Buffers) (pipes : List Pipe) (loans : List LastLoan)
-        (most app other pipe its : ℕ) (bag another : Holding LentBytes) (item same : Item) →
-        AreBlocks buffers pipes loans → Holds pipes loans most app bag →
-        Holds pipes loans most other another → owns pipes app pipe ≡ true →
+        (unsent : List (List Buffer)) (descs : List BufferDesc) (most app other pipe its : ℕ)
+        (bag another : Holding LentBytes) (item same : Item) →
+        AreBlocks buffers pipes loans unsent descs → HoldsViews pipes loans most app bag →
+        HoldsViews pipes loans most other another → owns pipes app pipe ≡ true →
         owns pipes other its ≡ true → last_of pipes pipe ≡ Some item →
         last_of pipes its ≡ Some same → item.number ≡ same.number →
         view_at bag pipe ≡ view_at another its }
 {}
 
 impl<'r> BusStore<'r> {
-    /// As many blocks of each size are out as sends are held whose block has that size: each send
-    /// that is held has one block, and there are no others. Does nothing.
+    /// As many blocks of each size are out as numbers are held whose block has that size: each
+    /// number that is held, of a send or of an unsent buffer, has one block, and there are no
+    /// others. Does nothing.
     pub fn recall_held(&self)
         ensures { self.now.account ≡
-            with_held self.now.account self.now.pipes self.now.numbers_given }
+            with_held self.now.account self.now.pipes self.now.unsent self.now.numbers_given }
     {
         self.desk.recall_live();
     }
@@ -58,9 +60,11 @@ impl<'r> BusStore<'r> {
         let _ = &self.desk;
     }
 
-    /// The blocks that messages lie in: one for each send that is held, and no others.
+    /// The blocks of messages and of unsent buffers: one for each number that is held, and no
+    /// others.
     pub fn desk(&self) -> &Desk<'r>
-        ensures blocks { AreBlocks result.now self.now.pipes self.now.loans }
+        ensures blocks { AreBlocks result.now self.now.pipes self.now.loans self.now.unsent
+            self.now.descs }
         ensures account { IsAccountOf result.now.pool self.now.account }
     {
         // Does nothing; the proof learns of it that each sealed block has the pool's size for it.
@@ -68,13 +72,13 @@ impl<'r> BusStore<'r> {
         &self.desk
     }
 
-    /// The pool that the messages' blocks are drawn from: its bytes in use are those of the blocks
-    /// for the sends that are held, one for each.
+    /// The pool that the blocks are drawn from: its bytes in use are those of the blocks for the
+    /// numbers that are held, one for each.
     pub fn pool(&self) -> &Pool
         ensures account { IsAccountOf result.now self.now.account }
         ensures in_use { in_use_by result.now.sizes result.now.blocks ≡
-            sum_by (block_of self.now.account.sizes self.now.pipes)
-            (held self.now.pipes self.now.numbers_given) }
+            sum_by (block_of self.now.account.sizes self.now.pipes self.now.unsent)
+            (held self.now.pipes self.now.unsent self.now.numbers_given) }
     {
         // Does nothing; the proof learns of it which blocks are out.
         self.desk.recall_live();

@@ -1,10 +1,13 @@
 //! The pipes of a software bus with their messages in buffers of the memory pool. A message lies in
 //! one block, whoever receives it: each item that names it is one use of the block, and what a
-//! receiver reads is a view of it.
+//! receiver reads is a view of it. An application may also be given a block as a buffer, to write a
+//! message into: sent, the block is the message's, with nothing copied; given back, it is the
+//! pool's.
 //!
 //! Contracts see pipes with copies of their messages: each call does what the definitions of the
 //! bus say of copies, a block goes back exactly where no pipe names its send any more, and each
-//! application's bag has the views of its pipes' last messages and no others.
+//! application's bag has the views of its pipes' last messages, the blocks of its unsent buffers,
+//! and no others.
 //!
 //! ```text
 //!   pipe 1 (application 1)  [ send 5 | send 6 ]  last: send 4 --- view ---.
@@ -25,8 +28,9 @@
 //!     steps: &mut Steps<L>,
 //! ) -> usize
 //!     requires own { owns store.old.pipes app pipe ≡ true }
-//!     requires bag { Holds store.old.pipes store.old.loans store.old.room.pipes app held.old }
-//!     ensures { Holds store.new.pipes store.new.loans store.new.room.pipes app held.new }
+//!     requires bag { HoldsViews store.old.pipes store.old.loans store.old.room.pipes app
+//!         held.old }
+//!     ensures { HoldsViews store.new.pipes store.new.loans store.new.room.pipes app held.new }
 //! {
 //!     store.receive(app, pipe, held, steps);
 //!     match held.view_of(pipe) {
@@ -38,6 +42,7 @@
 #![tactic(auto)]
 
 mod blocks;
+mod buffers;
 mod deleting;
 mod held;
 mod pipes;
@@ -46,6 +51,7 @@ mod sending;
 mod store;
 mod subscribing;
 
+pub use buffers::recall_written;
 pub use held::receivers_share_views;
 pub use sending::Sent;
 pub use store::BusStore;

@@ -4,7 +4,7 @@ ghost use Rattle.std.specs.Option.{option_map};
 ghost use Rattle.bus_words.specs.Bus.{owns, pipe_at, pipe_named, with_pipe, with_bits};
 ghost use Rattle.buf_desc.specs.Held.{Holding};
 ghost use Rattle.lend_block.specs.Loan.{LentBytes};
-ghost use Rattle.bus_store.specs.Bag.{Holds};
+ghost use Rattle.bus_store.specs.Bag.{HoldsViews};
 ghost use Rattle.bus_store.specs.Words.{IsRising, oldest_of, last_of};
 
 use crate::store::BusStore;
@@ -105,8 +105,8 @@ impl<'r> BusStore<'r> {
           loans = self.old.loans ++ record { pipe = self.old.pipes_created + 1; loan = 0 } ∷ [];
         } }
         ensures bags { (app : ℕ) (bag : Holding LentBytes) →
-            Holds self.old.pipes self.old.loans self.old.room.pipes app bag →
-            Holds self.new.pipes self.new.loans self.new.room.pipes app bag }
+            HoldsViews self.old.pipes self.old.loans self.old.room.pipes app bag →
+            HoldsViews self.new.pipes self.new.loans self.new.room.pipes app bag }
     {
         let number = self.tables.create_pipe(name, owner, depth);
         // Does nothing; the proof learns of it that no other pipe has the number.
@@ -119,8 +119,8 @@ impl<'r> BusStore<'r> {
         ensures after { self.new ≡
             record self.old { pipes = with_pipe (with_bits bits) number self.old.pipes } }
         ensures bags { (app : ℕ) (bag : Holding LentBytes) →
-            Holds self.old.pipes self.old.loans self.old.room.pipes app bag →
-            Holds self.new.pipes self.new.loans self.new.room.pipes app bag }
+            HoldsViews self.old.pipes self.old.loans self.old.room.pipes app bag →
+            HoldsViews self.new.pipes self.new.loans self.new.room.pipes app bag }
     {
         self.tables.set_bits(number, bits);
     }

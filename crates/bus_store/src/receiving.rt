@@ -4,7 +4,7 @@ ghost use Rattle.std.specs.Option.{option_map};
 ghost use Rattle.bus_words.specs.Bus.{owns, with_pipe, after_receive};
 ghost use Rattle.buf_desc.specs.Held.{Holding};
 ghost use Rattle.lend_block.specs.Loan.{LentBytes};
-ghost use Rattle.bus_store.specs.Bag.{Holds};
+ghost use Rattle.bus_store.specs.Bag.{HoldsViews};
 ghost use Rattle.bus_store.specs.Words.{oldest_of, last_of, loan_of, with_held};
 
 use crate::blocks::{put_back, show};
@@ -26,20 +26,21 @@ impl<'r> BusStore<'r> {
         steps: &mut Steps<L>,
     ) -> Option<u32>
         requires own { owns self.old.pipes app pipe ≡ true }
-        requires bag { Holds self.old.pipes self.old.loans self.old.room.pipes app held.old }
+        requires bag { HoldsViews self.old.pipes self.old.loans self.old.room.pipes app held.old }
         ensures number { result ≡
             option_map (λ item. item.number) (oldest_of self.old.pipes pipe) }
         ensures after { self.new ≡ record self.old {
           pipes = with_pipe after_receive pipe self.old.pipes;
-          account = with_held self.old.account self.new.pipes self.old.numbers_given;
+          account = with_held self.old.account self.new.pipes self.old.unsent
+              self.old.numbers_given;
           loans = self.new.loans;
         } }
         ensures loans { (other : ℕ) → pipe ≢ other →
             loan_of self.new.loans other ≡ loan_of self.old.loans other }
-        ensures bag { Holds self.new.pipes self.new.loans self.new.room.pipes app held.new }
+        ensures bag { HoldsViews self.new.pipes self.new.loans self.new.room.pipes app held.new }
         ensures other_bags { (other : ℕ) (bag : Holding LentBytes) → other ≢ app →
-            Holds self.old.pipes self.old.loans self.old.room.pipes other bag →
-            Holds self.new.pipes self.new.loans self.new.room.pipes other bag }
+            HoldsViews self.old.pipes self.old.loans self.old.room.pipes other bag →
+            HoldsViews self.new.pipes self.new.loans self.new.room.pipes other bag }
         ensures buffers { held.new ≡ record held.old { views = held.new.views } }
         ensures cost { steps.new ≤ steps.old + 8 }
     {
@@ -59,20 +60,21 @@ impl<'r> BusStore<'r> {
     pub fn receive_first(&mut self, app: AppNo, pipe: u32, held: &mut Held<'r>) -> Option<u32>
         requires own { owns self.old.pipes app pipe ≡ true }
         requires none { last_of self.old.pipes pipe ≡ None }
-        requires bag { Holds self.old.pipes self.old.loans self.old.room.pipes app held.old }
+        requires bag { HoldsViews self.old.pipes self.old.loans self.old.room.pipes app held.old }
         ensures number { result ≡
             option_map (λ item. item.number) (oldest_of self.old.pipes pipe) }
         ensures after { self.new ≡ record self.old {
           pipes = with_pipe after_receive pipe self.old.pipes;
-          account = with_held self.old.account self.new.pipes self.old.numbers_given;
+          account = with_held self.old.account self.new.pipes self.old.unsent
+              self.old.numbers_given;
           loans = self.new.loans;
         } }
         ensures loans { (other : ℕ) → pipe ≢ other →
             loan_of self.new.loans other ≡ loan_of self.old.loans other }
-        ensures bag { Holds self.new.pipes self.new.loans self.new.room.pipes app held.new }
+        ensures bag { HoldsViews self.new.pipes self.new.loans self.new.room.pipes app held.new }
         ensures other_bags { (other : ℕ) (bag : Holding LentBytes) → other ≢ app →
-            Holds self.old.pipes self.old.loans self.old.room.pipes other bag →
-            Holds self.new.pipes self.new.loans self.new.room.pipes other bag }
+            HoldsViews self.old.pipes self.old.loans self.old.room.pipes other bag →
+            HoldsViews self.new.pipes self.new.loans self.new.room.pipes other bag }
         ensures buffers { held.new ≡ record held.old { views = held.new.views } }
     {
         // Do nothing, as above.

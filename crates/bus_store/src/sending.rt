@@ -7,7 +7,7 @@ ghost use Rattle.bus_tables.specs.Rows.{has_way};
 ghost use Rattle.bus_words.specs.Acts.{next_in};
 ghost use Rattle.buf_desc.specs.Held.{Holding};
 ghost use Rattle.lend_block.specs.Loan.{LentBytes};
-ghost use Rattle.bus_store.specs.Bag.{Holds};
+ghost use Rattle.bus_store.specs.Bag.{HoldsViews};
 ghost use Rattle.bus_store.specs.Words.{next_of, sending_of, missed, counted_up, with_held};
 
 use crate::blocks::{put_message, settle_message};
@@ -26,8 +26,8 @@ pub struct Sent {
     pub reached: u32,
 }
 
-// The id's next count, which then counts as given, where the send asks for it.
-fn next_count(tables: &mut BusTables, id: u16, inc: bool) -> Option<u16>
+/// The id's next count, which then counts as given, where the send asks for it.
+pub(crate) fn next_count(tables: &mut BusTables, id: u16, inc: bool) -> Option<u16>
     requires { has_way tables.old.routes id ≡ true }
     ensures count { result ≡
         (if inc then Some (next_in (map (next_of tables.old.room.starts) tables.old.routes) id)
@@ -93,11 +93,11 @@ impl<'r> BusStore<'r> {
               (route self.old.subscriptions (message_id bytes.now)) self.old.pipes;
           numbers_given = self.old.numbers_given + 1;
           account = with_held (after_request self.old.account (length bytes.now)) self.new.pipes
-              self.new.numbers_given;
+              self.old.unsent self.new.numbers_given;
         } }
         ensures bags { (app : ℕ) (bag : Holding LentBytes) →
-            Holds self.old.pipes self.old.loans self.old.room.pipes app bag →
-            Holds self.new.pipes self.new.loans self.new.room.pipes app bag }
+            HoldsViews self.old.pipes self.old.loans self.old.room.pipes app bag →
+            HoldsViews self.new.pipes self.new.loans self.new.room.pipes app bag }
         ensures cost { steps.new
             ≤ steps.old + 32 + 4 * length (route self.old.subscriptions (message_id bytes.now)) }
     {

@@ -4,7 +4,7 @@ ghost use Rattle.bus_words.specs.Bus.{route, is_live, is_subscribed};
 ghost use Rattle.lend_block.specs.Loan.{LentBytes};
 ghost use Rattle.buf_desc.specs.Held.{Holding};
 ghost use Rattle.bus_tables.specs.Rows.{has_way, with_route};
-ghost use Rattle.bus_store.specs.Bag.{Holds};
+ghost use Rattle.bus_store.specs.Bag.{HoldsViews};
 
 use crate::store::BusStore;
 use bucket_list::{Ledger, Steps};
@@ -87,8 +87,8 @@ impl<'r> BusStore<'r> {
           routes = with_route self.old.routes id;
         } }
         ensures bags { (app : ℕ) (bag : Holding LentBytes) →
-            Holds self.old.pipes self.old.loans self.old.room.pipes app bag →
-            Holds self.new.pipes self.new.loans self.new.room.pipes app bag }
+            HoldsViews self.old.pipes self.old.loans self.old.room.pipes app bag →
+            HoldsViews self.new.pipes self.new.loans self.new.room.pipes app bag }
         ensures cost { steps.new ≤ steps.old + 8 }
     {
         self.tables.subscribe(id, pipe, limit, scope, steps);
@@ -104,8 +104,8 @@ impl<'r> BusStore<'r> {
                   self.old.subscriptions;
             } }
         ensures bags { (app : ℕ) (bag : Holding LentBytes) →
-            Holds self.old.pipes self.old.loans self.old.room.pipes app bag →
-            Holds self.new.pipes self.new.loans self.new.room.pipes app bag }
+            HoldsViews self.old.pipes self.old.loans self.old.room.pipes app bag →
+            HoldsViews self.new.pipes self.new.loans self.new.room.pipes app bag }
         ensures cost { steps.new ≤ steps.old + 3 * length (route self.old.subscriptions id) + 10 }
     {
         self.tables.unsubscribe(id, pipe, steps);

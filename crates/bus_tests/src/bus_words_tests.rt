@@ -133,7 +133,7 @@ fn call_len(call: &BusCall<'_>) -> usize
 {
     match call {
         BusCall::Create { name, .. } | BusCall::Find { name } => name.len(),
-        BusCall::Transmit { bytes, .. } => bytes.len(),
+        BusCall::Transmit { bytes, .. } | BusCall::TransmitBuffer { bytes, .. } => bytes.len(),
         BusCall::Delete { .. }
         | BusCall::SetOpts { .. }
         | BusCall::GetOpts { .. }
@@ -143,6 +143,8 @@ fn call_len(call: &BusCall<'_>) -> usize
         | BusCall::Receive { .. }
         | BusCall::Pend { .. }
         | BusCall::Look { .. }
+        | BusCall::Allocate { .. }
+        | BusCall::Release { .. }
         | BusCall::PoolCreate { .. }
         | BusCall::PoolGet { .. }
         | BusCall::PoolPut { .. }

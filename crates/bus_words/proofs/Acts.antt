@@ -7,18 +7,19 @@ use Rattle.std.proofs.lemmas.Bool.{eqb-true}
 use Rattle.std.proofs.lemmas.Bool.Decides.{nat_tests}
 use Rattle.std.proofs.lemmas.List.{map_push}
 use Rattle.std.proofs.lemmas.List.Sums.{sum_by-append}
-use Rattle.ccsds_msg.specs.Message.{message_id, with_count}
+use Rattle.ccsds_msg.specs.Message.{message_id, message_size, with_count}
+use Rattle.ccsds_msg.proofs.MessageLemmas.{header_of-take}
 use Rattle.fsw_base.specs.declared.config.Scope.{Scope}
 use Rattle.fsw_base.specs.Limits.{Limits}
 use Rattle.fsw_base.specs.Starts.{start_of}
 use Rattle.bus_words.specs.declared.calls.BusAnswer.{BusAnswer}
 use Rattle.bus_words.specs.declared.calls.BusAnswer.TheVariants.{Done, Sent}
 use Rattle.bus_words.specs.declared.history.Call.{Call}
-use Rattle.bus_words.specs.declared.history.Call.TheVariants.{Create, Delete, SetOpts, GetOpts, Find, PipeName, Subscribe, Unsubscribe, Transmit, Receive, Pend, Look, PoolCreate, PoolGet, PoolPut, PoolFigures, End}
+use Rattle.bus_words.specs.declared.history.Call.TheVariants.{Create, Delete, SetOpts, GetOpts, Find, PipeName, Subscribe, Unsubscribe, Transmit, Receive, Pend, Look, Allocate, TransmitBuffer, Release, PoolCreate, PoolGet, PoolPut, PoolFigures, End}
 use Rattle.bus_words.specs.declared.history.Entry.{Entry}
-use Rattle.bus_words.specs.Bus.{Subscription, State, Sending, Active, Waiting, opening, with_standing, is_empty, others_idle, route, is_subscribed, has_route, reached}
+use Rattle.bus_words.specs.Bus.{Subscription, State, Sending, Active, Waiting, opening, with_standing, is_empty, others_idle, route, is_subscribed, has_route, reached, unsent_size, deliver}
 use Rattle.bus_words.specs.Refusals.{Refusal, OfBus, OfPools, refusal_answer}
-use Rattle.bus_words.specs.Machine.{Reads, reads_after, counts_for, next_count, stamped, delivered, sent_along, transmitted, received, refused_state, accept, accept_with, decided, decided_with, cause, cause_with, step, step_with, state_from, state_after, LegalFrom, IsLegal}
+use Rattle.bus_words.specs.Machine.{Reads, reads_after, counts_for, next_count, stamped, front_of, delivered, sent_along, transmitted, buffer_gone, passed_along, buffer_transmitted, received, refused_state, accept, accept_with, decided, decided_with, cause, cause_with, step, step_with, state_from, state_after, LegalFrom, IsLegal}
 use Rattle.bus_words.specs.Acts.{NextCount, Whole, AreAlike, reads_in, next_in, has_next, moved_on, first_next, nexts_after, completed, act, whole_from, whole_after, nexts_of, whole_of}
 use Rattle.bus_words.proofs.Finds.{Each, Each-push, Each-drop, Each-filter, any-push, any-map, same-self, same-sym}
 use Rattle.bus_words.proofs.Steps.{after_step, after_refusal, after_choice, with_subscription, with_sent, state_from-keeps}
@@ -64,6 +65,9 @@ HaveWays-step limits history s app call ways =
       stands = λ pipe standing going. ways;
       ends = Each-filter Way _ s.subscriptions ways;
       pools = λ next follows. ways;
+      allocates = λ size none. ways;
+      leaves = λ buf has. ways;
+      passes = λ sending id who has asked. ways;
     })
 
 -- a subscription of an id, whatever else is asked of it, shows the id's route
@@ -104,6 +108,26 @@ sends_alike reads other limits s app bytes inc same ways = by_route (route s.sub
         ap (λ m. sent_along limits (first ∷ more) (record { sender = app; number = s.numbers_given + 1; asked = length bytes; message = m }) s)
         (stamp inc (way_of s.routed (message_id bytes) s.subscriptions first more ways is))
 
+-- the message that bytes begin with has their id
+id-front : (bytes : List ℕ) → message_id (front_of bytes) ≡ message_id bytes
+id-front bytes = ap (λ h. h.id) (header_of-take (message_size bytes) bytes (omega arith))
+
+buffers_alike : (reads other : Reads) (s : State) (app buf : ℕ) (bytes : List ℕ) (inc : Bool) → AreAlike reads other s → HaveWays s →
+    buffer_transmitted reads s app buf bytes inc ≡ buffer_transmitted other s app buf bytes inc
+buffers_alike reads other s app buf bytes inc same ways = by_route (route s.subscriptions (message_id bytes)) refl
+  where
+    stamp : (counts : Bool) → has_route s.routed (message_id bytes) ≡ true → stamped reads (front_of bytes) counts ≡ stamped other (front_of bytes) counts
+    stamp true there = ap (with_count (front_of bytes)) (same.next (message_id (front_of bytes)) (ap (has_route s.routed) (id-front bytes) ∙ there))
+    stamp false there = refl
+
+    by_route : (subs : List Subscription) → route s.subscriptions (message_id bytes) ≡ subs →
+        passed_along subs (record { sender = app; number = buf; asked = unsent_size s.unsent app buf; message = stamped reads (front_of bytes) inc }) (buffer_gone s app buf)
+        ≡ passed_along subs (record { sender = app; number = buf; asked = unsent_size s.unsent app buf; message = stamped other (front_of bytes) inc }) (buffer_gone s app buf)
+    by_route [] is = refl
+    by_route (first ∷ more) is =
+        ap (λ m. passed_along (first ∷ more) (record { sender = app; number = buf; asked = unsent_size s.unsent app buf; message = m }) (buffer_gone s app buf))
+        (stamp inc (way_of s.routed (message_id bytes) s.subscriptions first more ways is))
+
 accepts_alike : (reads other : Reads) (limits : Limits) (s : State) (app : ℕ) (call : Call) → AreAlike reads other s → HaveWays s →
     accept_with reads limits s app call ≡ accept_with other limits s app call
 accepts_alike reads other limits s app (Create depth name) same ways = refl
@@ -118,6 +142,9 @@ accepts_alike reads other limits s app (Transmit bytes inc) same ways = sends_al
 accepts_alike reads other limits s app (Receive pipe) same ways = refl
 accepts_alike reads other limits s app (Pend pipe) same ways = refl
 accepts_alike reads other limits s app (Look pipe) same ways = refl
+accepts_alike reads other limits s app (Allocate size) same ways = refl
+accepts_alike reads other limits s app (TransmitBuffer buf bytes inc) same ways = buffers_alike reads other s app buf bytes inc same ways
+accepts_alike reads other limits s app (Release buf) same ways = refl
 accepts_alike reads other limits s app (PoolCreate bytes) same ways = refl
 accepts_alike reads other limits s app (PoolGet pool size) same ways = refl
 accepts_alike reads other limits s app (PoolPut pool grant) same ways = refl
@@ -137,6 +164,9 @@ causes_alike reads other limits s app (Transmit bytes inc) = refl
 causes_alike reads other limits s app (Receive pipe) = refl
 causes_alike reads other limits s app (Pend pipe) = refl
 causes_alike reads other limits s app (Look pipe) = refl
+causes_alike reads other limits s app (Allocate size) = refl
+causes_alike reads other limits s app (TransmitBuffer buf bytes inc) = refl
+causes_alike reads other limits s app (Release buf) = refl
 causes_alike reads other limits s app (PoolCreate bytes) = refl
 causes_alike reads other limits s app (PoolGet pool size) = refl
 causes_alike reads other limits s app (PoolPut pool grant) = refl
@@ -244,6 +274,10 @@ module _ (limits : Limits) (history : List Entry) (s : State) (app : ℕ) (ways 
       unsent id bytes inc (OfBus status) = refl
       unsent id bytes inc (OfPools status) = refl
 
+      unpassed : (id buf : ℕ) (bytes : List ℕ) (inc : Bool) (because : Refusal) → counts_for id (TransmitBuffer buf bytes inc) (refusal_answer because) ≡ false
+      unpassed id buf bytes inc (OfBus status) = refl
+      unpassed id buf bytes inc (OfPools status) = refl
+
       uncounted : (id : ℕ) (made : Call) (because : Refusal) → counts_for id made (refusal_answer because) ≡ false
       uncounted id (Create depth name) because = refl
       uncounted id (Delete pipe) because = refl
@@ -257,6 +291,9 @@ module _ (limits : Limits) (history : List Entry) (s : State) (app : ℕ) (ways 
       uncounted id (Receive pipe) because = refl
       uncounted id (Pend pipe) because = refl
       uncounted id (Look pipe) because = refl
+      uncounted id (Allocate size) because = refl
+      uncounted id (TransmitBuffer buf bytes inc) because = unpassed id buf bytes inc because
+      uncounted id (Release buf) because = refl
       uncounted id (PoolCreate bytes) because = refl
       uncounted id (PoolGet pool size) because = refl
       uncounted id (PoolPut pool grant) because = refl
@@ -273,6 +310,11 @@ module _ (limits : Limits) (history : List Entry) (s : State) (app : ℕ) (ways 
       unstamped bytes inc (OfBus status) = refl
       unstamped bytes inc (OfPools status) = refl
 
+      unwritten : (buf : ℕ) (bytes : List ℕ) (inc : Bool) (because : Refusal) →
+          nexts_after limits (nexts_of limits history s.routed) (TransmitBuffer buf bytes inc) (refusal_answer because) ≡ nexts_of limits history s.routed
+      unwritten buf bytes inc (OfBus status) = refl
+      unwritten buf bytes inc (OfPools status) = refl
+
       unmoved : (made : Call) (because : Refusal) → nexts_after limits (nexts_of limits history s.routed) made (refusal_answer because) ≡ nexts_of limits history s.routed
       unmoved (Create depth name) because = refl
       unmoved (Delete pipe) because = refl
@@ -286,6 +328,9 @@ module _ (limits : Limits) (history : List Entry) (s : State) (app : ℕ) (ways 
       unmoved (Receive pipe) because = refl
       unmoved (Pend pipe) because = refl
       unmoved (Look pipe) because = refl
+      unmoved (Allocate size) because = refl
+      unmoved (TransmitBuffer buf bytes inc) because = unwritten buf bytes inc because
+      unmoved (Release buf) because = refl
       unmoved (PoolCreate bytes) because = refl
       unmoved (PoolGet pool size) because = refl
       unmoved (PoolPut pool grant) because = refl
@@ -378,6 +423,58 @@ module _ (limits : Limits) (history : List Entry) (s : State) (app : ℕ) (ways 
           let sending : Sending = record { sender = app; number = s.numbers_given + 1; asked = length bytes; message = delivered limits history bytes inc } in
           counted s.numbers_given (reached sending (first ∷ more) s.pipes) (with_sent limits s sending (first ∷ more)) refl (way_of s.routed (message_id bytes) s.subscriptions first more ways is) inc
 
+  -- so does an accepted transmission of a buffer
+  passes : (buf : ℕ) (bytes : List ℕ) (inc : Bool) → Moves limits history s app (TransmitBuffer buf bytes inc) (accept limits history s app (TransmitBuffer buf bytes inc))
+  passes buf bytes inc = by_route (route s.subscriptions (message_id bytes)) refl
+    where
+      moved : ℕ
+      moved = message_id bytes
+
+      nobody : (n number reached : ℕ) (counts : Bool) → nat_le 1 number ≡ false → counts_for n (TransmitBuffer buf bytes counts) (Sent number reached) ≡ false
+      nobody n number reached false is = refl
+      nobody n number reached true is = ap (λ b. (moved == n) && b) is ∙ elim (moved == n) as (λ b. (b && false) ≡ false) [ true ↦ refl | false ↦ refl ]
+
+      unmoved : (number reached : ℕ) (counts : Bool) → nat_le 1 number ≡ false →
+          nexts_after limits (nexts_of limits history s.routed) (TransmitBuffer buf bytes counts) (Sent number reached) ≡ nexts_of limits history s.routed
+      unmoved number reached false is = refl
+      unmoved number reached true is = ap (λ b. cond {A = List NextCount} b (map (moved_on moved) (nexts_of limits history s.routed)) (nexts_of limits history s.routed)) is
+
+      mover : (n number reached : ℕ) → nat_le 1 number ≡ true → counts_for n (TransmitBuffer buf bytes true) (Sent number reached) ≡ (n == moved)
+      mover n number reached is =
+          ap (λ b. (moved == n) && b) is
+          ∙ elim (moved == n) as (λ b. (b && true) ≡ b) [ true ↦ refl | false ↦ refl ]
+          ∙ same-sym moved n
+
+      counted : (number reached : ℕ) (t : State) → t.routed ≡ s.routed → has_route s.routed moved ≡ true → (some : Bool) → nat_le 1 number ≡ some → (counts : Bool) →
+          Moves limits history s app (TransmitBuffer buf bytes counts) (Sent number reached, t)
+      counted number reached t routed there some is false = stays (TransmitBuffer buf bytes false) (Sent number reached, t) routed (λ n. refl) refl
+      counted number reached t routed there false is true =
+          stays (TransmitBuffer buf bytes true) (Sent number reached, t) routed (λ n. nobody n number reached true is) (unmoved number reached true is)
+      counted number reached t routed there true is true =
+          let e : Entry = record { app = app; call = TransmitBuffer buf bytes true; answer = Sent number reached } in
+          record {
+            nexts =
+                ap (λ b. cond {A = List NextCount} b (map (moved_on moved) (nexts_of limits history s.routed)) (nexts_of limits history s.routed)) is
+                ∙ nexts_moved limits history e moved s.routed (λ n. mover n number reached is)
+                ∙ ap (nexts_of limits (history ++ e ∷ [])) (sym routed);
+            silent = λ n none.
+                let lacks : has_route s.routed n ≡ false = ap (λ l. has_route l n) (sym routed) ∙ none in
+                counted_still history e n (mover n number reached is ∙ other n lacks (n == moved) refl) ∙ quiet n lacks;
+          }
+        where
+          other : (n : ℕ) → has_route s.routed n ≡ false → (b : Bool) → (n == moved) ≡ b → (n == moved) ≡ false
+          other n lacks true same = absurd (true≢false (sym there ∙ ap (has_route s.routed) (sym (eqb-true n moved same)) ∙ lacks))
+          other n lacks false same = same
+
+      by_route : (subs : List Subscription) → route s.subscriptions moved ≡ subs →
+          Moves limits history s app (TransmitBuffer buf bytes inc)
+          (passed_along subs (record { sender = app; number = buf; asked = unsent_size s.unsent app buf; message = delivered limits history (front_of bytes) inc }) (buffer_gone s app buf))
+      by_route [] is = stays (TransmitBuffer buf bytes inc) (Sent 0 0, buffer_gone s app buf) refl (λ n. nobody n 0 0 inc refl) (unmoved 0 0 inc refl)
+      by_route (first ∷ more) is =
+          let sending : Sending = record { sender = app; number = buf; asked = unsent_size s.unsent app buf; message = delivered limits history (front_of bytes) inc } in
+          counted buf (reached sending (first ∷ more) s.pipes) (record (buffer_gone s app buf) { pipes = deliver sending (first ∷ more) s.pipes }) refl
+          (way_of s.routed moved s.subscriptions first more ways is) (nat_le 1 buf) refl inc
+
   accepts : (call : Call) → Moves limits history s app call (accept limits history s app call)
   accepts (Create depth name) = stays (Create depth name) (accept limits history s app (Create depth name)) refl (λ id. refl) refl
   accepts (Delete pipe) = stays (Delete pipe) (accept limits history s app (Delete pipe)) refl (λ id. refl) refl
@@ -397,6 +494,9 @@ module _ (limits : Limits) (history : List Entry) (s : State) (app : ℕ) (ways 
       stays (Look pipe) (accept limits history s app (Look pipe))
       (after_choice (λ t. t.routed ≡ s.routed) (is_empty s.pipes pipe && not (others_idle s app)) s (with_standing (received s pipe) app Active) refl refl)
       (λ id. refl) refl
+  accepts (Allocate size) = stays (Allocate size) (accept limits history s app (Allocate size)) refl (λ id. refl) refl
+  accepts (TransmitBuffer buf bytes inc) = passes buf bytes inc
+  accepts (Release buf) = stays (Release buf) (accept limits history s app (Release buf)) refl (λ id. refl) refl
   accepts (PoolCreate bytes) = stays (PoolCreate bytes) (accept limits history s app (PoolCreate bytes)) refl (λ id. refl) refl
   accepts (PoolGet pool size) = stays (PoolGet pool size) (accept limits history s app (PoolGet pool size)) refl (λ id. refl) refl
   accepts (PoolPut pool grant) = stays (PoolPut pool grant) (accept limits history s app (PoolPut pool grant)) refl (λ id. refl) refl
@@ -433,7 +533,7 @@ whole_from-legal limits history s (e ∷ es) legal ways quiet =
     let longer : BusAnswer → List Entry = λ a. history ++ record { app = e.app; call = e.call; answer = a } ∷ [] in
     ap (λ (made : BusAnswer × Whole). whole_from limits made.1 es) (acts limits history s e.app ways quiet e.call)
     ∙ ap (λ a. whole_from limits (whole_of limits (longer a) next) es) (sym legal.1)
-    ∙ whole_from-legal limits (history ++ e ∷ []) next es legal.3 (HaveWays-step limits history s e.app e.call ways)
+    ∙ whole_from-legal limits (history ++ e ∷ []) next es legal.4 (HaveWays-step limits history s e.app e.call ways)
     (subst (λ a. AreSilent (longer a) next) (sym legal.1) (silent_after limits history s e.app ways quiet e.call))
     ∙ ap (λ h. whole_of limits h (state_from limits (history ++ e ∷ []) next es)) (append_assoc history (e ∷ []) es)
 
@@ -444,7 +544,7 @@ silent_from limits history s (e ∷ es) legal ways quiet =
     let next = (step limits history s e.app e.call).1 in
     let longer : BusAnswer → List Entry = λ a. history ++ record { app = e.app; call = e.call; answer = a } ∷ [] in
     subst (λ h. AreSilent h (state_from limits (history ++ e ∷ []) next es)) (append_assoc history (e ∷ []) es)
-    (silent_from limits (history ++ e ∷ []) next es legal.3 (HaveWays-step limits history s e.app e.call ways)
+    (silent_from limits (history ++ e ∷ []) next es legal.4 (HaveWays-step limits history s e.app e.call ways)
     (subst (λ a. AreSilent (longer a) next) (sym legal.1) (silent_after limits history s e.app ways quiet e.call)))
 
 -- each subscription's id has a route after every history

@@ -271,6 +271,14 @@ IsWithin-step limits history s app call within =
         routes = λ id. let fewer = length-filter_of_filter (λ (x : Subscription). not (owns s.pipes app x.pipe)) (λ (x : Subscription). x.id == id) s.subscriptions in omega (arith, within.routes id);
       };
       pools = λ next follows. record { pipes = within.pipes; each = within.each; routed = within.routed; routes = within.routes };
+      allocates = λ size none. record { pipes = within.pipes; each = within.each; routed = within.routed; routes = within.routes };
+      leaves = λ buf has. record { pipes = within.pipes; each = within.each; routed = within.routed; routes = within.routes };
+      passes = λ sending id who has asked. record {
+        pipes = omega (arith, length-deliver sending (route s.subscriptions id) s.pipes);
+        each = all-deliver limits sending (route s.subscriptions id) s.pipes within.each;
+        routed = within.routed;
+        routes = within.routes;
+      };
     })
 
 -- every history stays within the limits

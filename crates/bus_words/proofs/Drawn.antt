@@ -1,17 +1,21 @@
--- What a draw leaves of an account, and how much was made and drawn after every history.
-use Rattle.std.proofs.Common.{◌≡◌, ℕ, zero, suc, ◌+◌, ◌-◌, ◌*◌, ◌^◌, ◌<◌, ◌≤◌, ◌⊎◌, inl, inr, min, max, Bool, true, false, cond, true≢false, leb, List, [], ◌∷◌, length, get_or, set, replicate, Option, Some, None, refl, ap, sym, ◌∙◌, arith}
+-- What a draw leaves of an account, and how much was made and drawn after every history: a send draws a block, and so does an
+-- allocation.
+use Rattle.std.proofs.Common.{◌≡◌, ℕ, zero, suc, ◌+◌, ◌-◌, ◌*◌, ◌^◌, ◌<◌, ◌≤◌, ◌⊎◌, inl, inr, not, min, max, Bool, true, false, cond, true≢false, leb, List, [], ◌∷◌, length, get_or, set, replicate, Option, Some, None, refl, ap, sym, ◌∙◌, arith}
+use Rattle.std.specs.Prelude.{nat_lt}
 use Rattle.std.proofs.lemmas.Bool.{cases_lt}
 use Rattle.std.proofs.lemmas.Bool.Decides.{nat_tests}
 use Rattle.std.proofs.lemmas.List.{length-set, length-replicate, set_past}
 use Rattle.fsw_base.specs.Blocks.{class_of}
+use Rattle.fsw_base.specs.declared.statuses.SbStatus.TheVariants.{BadArgument, MsgTooBig, BufAlocErr}
 use Rattle.fsw_base.specs.Limits.{Limits}
 use Rattle.fsw_base.specs.PoolAccounts.{Account, overhead, counted, cost_of, has_room, has_room_for, has_room_if, after_draw, after_request, after_request_if}
 use Rattle.bus_words.specs.declared.history.Call.{Call}
 use Rattle.bus_words.specs.declared.history.Entry.{Entry}
-use Rattle.bus_words.specs.Bus.{State, Sending, opening}
+use Rattle.bus_words.specs.Bus.{State, opening}
 use Rattle.bus_words.specs.Held.{account_of, account_drawn}
-use Rattle.bus_words.specs.Machine.{step, state_after}
-use Rattle.bus_words.proofs.Steps.{after_step, state_from-keeps}
+use Rattle.bus_words.specs.Machine.{allocate_cause, step, state_after}
+use Rattle.bus_words.proofs.Finds.{not_false}
+use Rattle.bus_words.proofs.Steps.{refused_if-none, after_step, state_from-keeps}
 
 -- One draw. --
 
@@ -102,6 +106,26 @@ request_counted account size = by_class (class_of size account.sizes)
     by_class None none = absurd (true≢false (sym none))
     by_class (Some class) room = by_room class (has_room_for account class 1) room
 
+-- what the refusals of an allocation that don't come say
+pub record MayAllocate (limits : Limits) (s : State) (size : ℕ) : Type 0 where
+  pub least : 7 ≤ size
+  pub most : size ≤ limits.msgmax
+  pub room : has_room (account_of limits s) size ≡ true
+
+pub may_allocate : (limits : Limits) (s : State) (size : ℕ) → allocate_cause limits s size ≡ None → MayAllocate limits s size
+may_allocate limits s size none =
+    let room = has_room (account_of limits s) size in
+    let first = refused_if-none (nat_lt size 7) BadArgument _ none in
+    let second = refused_if-none (nat_lt limits.msgmax size) MsgTooBig _ first.1 in
+    record {
+      least = not_less size 7 first.0;
+      most = not_less limits.msgmax size second.0;
+      room = not_false room (refused_if-none (not room) BufAlocErr None second.1).0;
+    }
+  where
+    not_less : (a b : ℕ) → nat_lt a b ≡ false → b ≤ a
+    not_less a b is = grind (arith, nat_tests)
+
 -- Histories. --
 
 -- what a history keeps of these numbers
@@ -113,15 +137,14 @@ pub record AreDrawn (limits : Limits) (made : List ℕ) (requests given : ℕ) :
 one_more : (drawn given top : ℕ) → drawn ≡ min given top → min (drawn + 1) top ≡ min (given + 1) top
 one_more drawn given top is = omega (arith, is)
 
-AreDrawn-sent : (limits : Limits) (s : State) (sending : Sending) → sending.number ≡ s.numbers_given + 1 → has_room (account_of limits s) sending.asked ≡ true →
-    AreDrawn limits s.made s.drawn s.numbers_given →
-    AreDrawn limits (account_drawn limits s sending.asked).made (account_drawn limits s sending.asked).requests sending.number
-AreDrawn-sent limits s sending number room drawn =
-    let asked = asked_for (account_of limits s) sending.asked in
+AreDrawn-more : (limits : Limits) (s : State) (size given : ℕ) → given ≡ s.numbers_given + 1 → has_room (account_of limits s) size ≡ true →
+    AreDrawn limits s.made s.drawn s.numbers_given → AreDrawn limits (account_drawn limits s size).made (account_drawn limits s size).requests given
+AreDrawn-more limits s size given number room drawn =
+    let asked = asked_for (account_of limits s) size in
     record {
       made_all = asked.made_all ∙ drawn.made_all;
       paid = asked.paid drawn.made_all drawn.paid;
-      drawn = request_counted (account_of limits s) sending.asked room
+      drawn = request_counted (account_of limits s) size room
           ∙ one_more s.drawn s.numbers_given (2 ^ 32 - 1) drawn.drawn
           ∙ ap (λ n. min n (2 ^ 32 - 1)) (sym number);
     }
@@ -133,7 +156,7 @@ AreDrawn-step limits history s app call drawn =
       same = drawn;
       creates = λ depth name none. drawn;
       subscribes = λ id pipe limit scope none other. drawn;
-      sends = λ sending id who number room. AreDrawn-sent limits s sending number room drawn;
+      sends = λ sending id who number room. AreDrawn-more limits s sending.asked sending.number number room drawn;
       receives = λ pipe. drawn;
       deletes = λ pipe none. drawn;
       sets = λ pipe bits none. drawn;
@@ -141,6 +164,9 @@ AreDrawn-step limits history s app call drawn =
       stands = λ pipe standing going. drawn;
       ends = drawn;
       pools = λ next follows. drawn;
+      allocates = λ size none. AreDrawn-more limits s size (s.numbers_given + 1) refl (may_allocate limits s size none).room drawn;
+      leaves = λ buf has. drawn;
+      passes = λ sending id who has asked. drawn;
     })
 
 -- after every history

@@ -48,6 +48,18 @@ pub Each-drop : {X : Type 0} (P Q : X → Type 0) (xs : List X) → ((x : X) →
 Each-drop P Q [] gives each = tt
 Each-drop P Q (x ∷ xs) gives each = (gives x each.0, Each-drop P Q xs gives each.1)
 
+pub Each-append : {X : Type 0} (P : X → Type 0) (xs ys : List X) → Each P xs → Each P ys → Each P (xs ++ ys)
+Each-append P [] ys first second = second
+Each-append P (x ∷ xs) ys first second = (first.0, Each-append P xs ys first.1 second)
+
+pub Each-front : {X : Type 0} (P : X → Type 0) (xs ys : List X) → Each P (xs ++ ys) → Each P xs
+Each-front P [] ys each = tt
+Each-front P (x ∷ xs) ys each = (each.0, Each-front P xs ys each.1)
+
+pub Each-back : {X : Type 0} (P : X → Type 0) (xs ys : List X) → Each P (xs ++ ys) → Each P ys
+Each-back P [] ys each = each
+Each-back P (x ∷ xs) ys each = Each-back P xs ys each.1
+
 -- the same change of each item
 pub map-each : {X Y : Type 0} (P : X → Type 0) (f g : X → Y) (xs : List X) → ((x : X) → P x → f x ≡ g x) → Each P xs → map f xs ≡ map g xs
 map-each P f g [] same each = refl

@@ -1,13 +1,16 @@
--- The bytes of the pool that are in use, told by the sends that are held; and that nothing is held where no pipe is live.
+-- The bytes of the pool that are in use, told by the numbers that are held; and that nothing is held where no pipe is live and no
+-- buffer is unsent.
 use Rattle.std.proofs.Common.{◌≡◌, ℕ, zero, suc, ◌+◌, ◌*◌, ◌==◌, false, cond, List, [], ◌∷◌, length, replicate, filter, slice_index, Option, Some, None, refl, ap, sym, ◌∙◌, arith}
 use Rattle.std.specs.Prelude.{count_by, sum_by}
+use Rattle.std.specs.List.{list_any}
 use Rattle.std.specs.Option.{option_map_or}
 use Rattle.std.proofs.lemmas.Bool.Decides.{nat_tests}
 use Rattle.std.proofs.lemmas.List.Sums.{sum_by-cons}
 use Rattle.fsw_base.specs.Blocks.{class_of}
 use Rattle.fsw_base.specs.Limits.{Limits}
-use Rattle.bus_words.specs.Bus.{Pipe, State}
-use Rattle.bus_words.specs.Held.{is_held, numbers_to, held, asked_of, has_class, each_below, block_of, account_of, bytes_of, bytes_in_use, HoldsNothing}
+use Rattle.bus_words.specs.Bus.{Pipe, Buffer, State}
+use Rattle.bus_words.specs.Held.{is_unsent, is_held, numbers_to, held, buffers_in, asked_of, has_class, each_below, block_of, account_of, bytes_of, bytes_in_use, HoldsNothing}
+use Rattle.bus_words.proofs.Buffers.{unsent_in}
 
 -- Bytes. --
 
@@ -62,31 +65,37 @@ bytes-one None sizes = bytes-none (length sizes) sizes
 bytes-one (Some class) sizes = bytes-class class sizes
 
 -- those of these numbers
-bytes-all : (pipes : List Pipe) (sizes numbers : List ℕ) →
-    bytes_of (each_below (λ class. count_by (has_class pipes sizes class) numbers) (length sizes)) sizes ≡ sum_by (block_of sizes pipes) numbers
-bytes-all pipes sizes [] = bytes-none (length sizes) sizes
-bytes-all pipes sizes (n ∷ numbers) =
-    let one : ℕ → ℕ = λ class. cond {A = ℕ} (has_class pipes sizes class n) 1 0 in
-    let rest : ℕ → ℕ = λ class. count_by (has_class pipes sizes class) numbers in
-    bytes-same (λ class. count_by (has_class pipes sizes class) (n ∷ numbers)) (λ class. one class + rest class)
-    (λ class. sum_by-cons (λ m. cond {A = ℕ} (has_class pipes sizes class m) 1 0) n numbers) (length sizes) sizes
+bytes-all : (pipes : List Pipe) (unsent : List (List Buffer)) (sizes numbers : List ℕ) →
+    bytes_of (each_below (λ class. count_by (has_class pipes unsent sizes class) numbers) (length sizes)) sizes ≡ sum_by (block_of sizes pipes unsent) numbers
+bytes-all pipes unsent sizes [] = bytes-none (length sizes) sizes
+bytes-all pipes unsent sizes (n ∷ numbers) =
+    let one : ℕ → ℕ = λ class. cond {A = ℕ} (has_class pipes unsent sizes class n) 1 0 in
+    let rest : ℕ → ℕ = λ class. count_by (has_class pipes unsent sizes class) numbers in
+    bytes-same (λ class. count_by (has_class pipes unsent sizes class) (n ∷ numbers)) (λ class. one class + rest class)
+    (λ class. sum_by-cons (λ m. cond {A = ℕ} (has_class pipes unsent sizes class m) 1 0) n numbers) (length sizes) sizes
     ∙ bytes-sum one rest (length sizes) sizes
-    ∙ ap (λ k. k + bytes_of (each_below rest (length sizes)) sizes) (bytes-one (class_of (asked_of pipes n) sizes) sizes)
-    ∙ ap (λ k. block_of sizes pipes n + k) (bytes-all pipes sizes numbers)
-    ∙ sym (sum_by-cons (block_of sizes pipes) n numbers)
+    ∙ ap (λ k. k + bytes_of (each_below rest (length sizes)) sizes) (bytes-one (class_of (asked_of pipes unsent n) sizes) sizes)
+    ∙ ap (λ k. block_of sizes pipes unsent n + k) (bytes-all pipes unsent sizes numbers)
+    ∙ sym (sum_by-cons (block_of sizes pipes unsent) n numbers)
 
--- the bytes in use are those of the blocks for the sends that are held
-pub bytes_of_sends : (limits : Limits) (s : State) → bytes_in_use (account_of limits s) ≡ sum_by (block_of limits.sizes s.pipes) (held s.pipes s.numbers_given)
-bytes_of_sends limits s = bytes-all s.pipes limits.sizes (held s.pipes s.numbers_given)
+-- the bytes in use are those of the blocks for the numbers that are held
+pub bytes_of_sends : (limits : Limits) (s : State) →
+    bytes_in_use (account_of limits s) ≡ sum_by (block_of limits.sizes s.pipes s.unsent) (held s.pipes s.unsent s.numbers_given)
+bytes_of_sends limits s = bytes-all s.pipes s.unsent limits.sizes (held s.pipes s.unsent s.numbers_given)
 
--- No live pipe. --
+-- No live pipe, and no unsent buffer. --
 
-none_held : (given : ℕ) → held [] given ≡ []
-none_held given = none (numbers_to given)
+none_held : (unsent : List (List Buffer)) → buffers_in unsent ≡ [] → (given : ℕ) → held [] unsent given ≡ []
+none_held unsent empty given = none (numbers_to given)
   where
-    none : (numbers : List ℕ) → filter (is_held []) numbers ≡ []
+    not_unsent : (n : ℕ) → is_unsent unsent n ≡ false
+    not_unsent n = unsent_in unsent n ∙ ap (list_any (λ (buffer : Buffer). buffer.number == n)) empty
+
+    none : (numbers : List ℕ) → filter (is_held [] unsent) numbers ≡ []
     none [] = refl
-    none (n ∷ numbers) = none numbers
+    none (n ∷ numbers) =
+        ap (λ b. cond {A = List ℕ} b (n ∷ filter (is_held [] unsent) numbers) (filter (is_held [] unsent) numbers)) (not_unsent n)
+        ∙ none numbers
 
 no_blocks : (f : ℕ → ℕ) → ((class : ℕ) → f class ≡ 0) → (n : ℕ) → each_below f n ≡ replicate n 0
 no_blocks f none zero = refl
@@ -94,14 +103,16 @@ no_blocks f none (suc n) =
     ap (λ k. k ∷ each_below (λ i. f (suc i)) n) (none 0)
     ∙ ap (λ (l : List ℕ). 0 ∷ l) (no_blocks (λ i. f (suc i)) (λ i. none (suc i)) n)
 
--- where no pipe is live nothing is held
-pub holds_nothing : (limits : Limits) (s : State) → s.pipes ≡ [] → HoldsNothing limits s
-holds_nothing limits s is =
-    let none : held s.pipes s.numbers_given ≡ [] = ap (λ (pipes : List Pipe). held pipes s.numbers_given) is ∙ none_held s.numbers_given in
+-- where no pipe is live and no buffer is unsent nothing is held
+pub holds_nothing : (limits : Limits) (s : State) → s.pipes ≡ [] → buffers_in s.unsent ≡ [] → HoldsNothing limits s
+holds_nothing limits s is empty =
+    let none : held s.pipes s.unsent s.numbers_given ≡ [] =
+    ap (λ (pipes : List Pipe). held pipes s.unsent s.numbers_given) is ∙ none_held s.unsent empty s.numbers_given in
     record {
       pipes = is;
+      buffers = empty;
       sends = none;
-      blocks = no_blocks (λ class. count_by (has_class s.pipes limits.sizes class) (held s.pipes s.numbers_given))
-          (λ class. ap (count_by (has_class s.pipes limits.sizes class)) none) (length limits.sizes);
-      bytes = bytes_of_sends limits s ∙ ap (sum_by (block_of limits.sizes s.pipes)) none;
+      blocks = no_blocks (λ class. count_by (has_class s.pipes s.unsent limits.sizes class) (held s.pipes s.unsent s.numbers_given))
+          (λ class. ap (count_by (has_class s.pipes s.unsent limits.sizes class)) none) (length limits.sizes);
+      bytes = bytes_of_sends limits s ∙ ap (sum_by (block_of limits.sizes s.pipes s.unsent)) none;
     }

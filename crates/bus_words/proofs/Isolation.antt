@@ -1,5 +1,5 @@
 -- Each pipe stands alone: through every legal history it stays alike the pipe alone that gets its inputs.
-use Rattle.std.proofs.Common.{◌≡◌, ℕ, ◌+◌, ◌==◌, ◌&&◌, not, Bool, true, false, cond, true≢false, eqb-true, le-leb, leb-false, append-nil, append_assoc, List, [], ◌∷◌, ◌++◌, length, Option, Some, None, is_some, IsTrue, refl, ap, sym, ◌∙◌, subst, arith}
+use Rattle.std.proofs.Common.{◌≡◌, ℕ, ◌+◌, ◌≤◌, ◌==◌, ◌&&◌, not, Bool, true, false, cond, true≢false, eqb-true, le-leb, leb-false, append-nil, append_assoc, List, [], ◌∷◌, ◌++◌, length, Option, Some, None, is_some, IsTrue, refl, ap, sym, ◌∙◌, subst, arith}
 use Rattle.std.specs.Option.{option_map, option_map_or}
 use Rattle.fsw_base.specs.declared.config.Scope.{Scope}
 use Rattle.fsw_base.specs.declared.statuses.SbStatus.{SbStatus}
@@ -9,13 +9,14 @@ use Rattle.ccsds_msg.specs.Message.{message_id}
 use Rattle.bus_words.specs.declared.calls.BusAnswer.{BusAnswer}
 use Rattle.bus_words.specs.declared.calls.BusAnswer.TheVariants.{Done, Got, TimeOut, Pending, Sb}
 use Rattle.bus_words.specs.declared.history.Call.{Call}
-use Rattle.bus_words.specs.declared.history.Call.TheVariants.{Create, Delete, SetOpts, GetOpts, Find, PipeName, Subscribe, Unsubscribe, Transmit, Receive, Pend, Look, PoolCreate, PoolGet, PoolPut, PoolFigures, End}
+use Rattle.bus_words.specs.declared.history.Call.TheVariants.{Create, Delete, SetOpts, GetOpts, Find, PipeName, Subscribe, Unsubscribe, Transmit, Receive, Pend, Look, Allocate, TransmitBuffer, Release, PoolCreate, PoolGet, PoolPut, PoolFigures, End}
 use Rattle.bus_words.specs.declared.history.Entry.{Entry}
-use Rattle.bus_words.specs.Bus.{Item, Pipe, Subscription, State, Sending, Waiting, Active, opening, pipe_at, with_pipe, is_empty, is_subscribed, others_idle, owns, route, deliver, oldest, after_receive, with_standing}
+use Rattle.bus_words.specs.Bus.{Item, Pipe, Subscription, State, Sending, Waiting, Active, opening, pipe_at, with_pipe, is_empty, is_subscribed, others_idle, owns, route, unsent_size, deliver, oldest, after_receive, with_standing}
 use Rattle.bus_words.specs.Refusals.{Refusal, OfBus, OfPools, refusal_answer}
-use Rattle.bus_words.specs.Machine.{delivered, refused_if, unowned_cause, receive_cause, subscribed, sent_along, received, oldest_number, cause, accept, decided, refused_state, step, makes_entry, state_from, LegalFrom, IsLegal}
+use Rattle.bus_words.specs.Machine.{delivered, front_of, refused_if, unowned_cause, receive_cause, transmit_buffer_cause, subscribed, sent_along, buffer_gone, passed_along, received, oldest_number, cause, accept, decided, refused_state, step, makes_entry, state_from, LegalFrom, IsLegal}
 use Rattle.bus_words.specs.Alone.{Alone, Input, Send, Received, unmade, solo, solo_receipts, input_alone, given, inputs_of, gets_from, was_made, cut_from, cut, last_on, receipts_from, receipts, received_of, last_of, Gives}
-use Rattle.bus_words.proofs.Steps.{AreNumbered, AreNumbered-step, with_subscription, by_bus-none, by_bus-some}
+use Rattle.bus_words.proofs.Steps.{AreNumbered, AreNumbered-step, with_subscription, by_bus-none, by_bus-some, transmit_buffer_cause-none}
+use Rattle.bus_words.proofs.Firsts.{AreFirst, AreFirst-step, AreFirst-opening, first-of}
 use Rattle.bus_words.proofs.Ties.{AreTied, AreTied-step}
 use Rattle.bus_words.proofs.Solo.{newest_on, changed_here, Stand, Goes, goes_by, goes-create, goes-delete, goes-opts, goes-duplicate, goes-subscribe, goes-unsubscribe, goes-got, goes-empty, goes-send, goes-early, goes-end}
 
@@ -23,6 +24,7 @@ use Rattle.bus_words.proofs.Solo.{newest_on, changed_here, Stand, Goes, goes_by,
 pub record AreOrdered (s : State) : Type 0 where
   pub numbered : AreNumbered s
   pub tied : AreTied s
+  pub buffers : AreFirst s
 
 -- what this call, so answered, does to pipe p and to the pipe alone
 abbrev Does : Limits → List Entry → State → ℕ → Alone → ℕ → Call → BusAnswer × State → Type 0
@@ -93,6 +95,9 @@ does-refused limits history s p a own app (Receive pipe) (OfBus status) alike is
 does-refused limits history s p a own app (Pend pipe) (OfBus status) alike is =
     subst (λ x. Does limits history s p a app (Pend pipe) (Sb x, s)) (bad_argument s app pipe status (by_bus-some (unowned_cause s app pipe) status is)) (goes_by own p s.subscriptions_made s.pipes s.subscriptions a alike)
 does-refused limits history s p a own app (Look pipe) (OfBus status) alike is = absurd (some_none (OfBus status) (sym is))
+does-refused limits history s p a own app (Allocate size) (OfBus status) alike is = goes_by own p s.subscriptions_made s.pipes s.subscriptions a alike
+does-refused limits history s p a own app (TransmitBuffer buf bytes inc) (OfBus status) alike is = goes_by own p s.subscriptions_made s.pipes s.subscriptions a alike
+does-refused limits history s p a own app (Release buf) (OfBus status) alike is = goes_by own p s.subscriptions_made s.pipes s.subscriptions a alike
 does-refused limits history s p a own app (PoolCreate bytes) (OfBus status) alike is = goes_by own p s.subscriptions_made s.pipes s.subscriptions a alike
 does-refused limits history s p a own app (PoolGet pool size) (OfBus status) alike is = goes_by own p s.subscriptions_made s.pipes s.subscriptions a alike
 does-refused limits history s p a own app (PoolPut pool grant) (OfBus status) alike is = goes_by own p s.subscriptions_made s.pipes s.subscriptions a alike
@@ -110,6 +115,9 @@ does-refused limits history s p a own app (Transmit bytes inc) (OfPools status) 
 does-refused limits history s p a own app (Receive pipe) (OfPools status) alike is = goes_by own p s.subscriptions_made s.pipes s.subscriptions a alike
 does-refused limits history s p a own app (Pend pipe) (OfPools status) alike is = goes_by own p s.subscriptions_made s.pipes s.subscriptions a alike
 does-refused limits history s p a own app (Look pipe) (OfPools status) alike is = goes_by own p s.subscriptions_made s.pipes s.subscriptions a alike
+does-refused limits history s p a own app (Allocate size) (OfPools status) alike is = goes_by own p s.subscriptions_made s.pipes s.subscriptions a alike
+does-refused limits history s p a own app (TransmitBuffer buf bytes inc) (OfPools status) alike is = goes_by own p s.subscriptions_made s.pipes s.subscriptions a alike
+does-refused limits history s p a own app (Release buf) (OfPools status) alike is = goes_by own p s.subscriptions_made s.pipes s.subscriptions a alike
 does-refused limits history s p a own app (PoolCreate bytes) (OfPools status) alike is = goes_by own p s.subscriptions_made s.pipes s.subscriptions a alike
 does-refused limits history s p a own app (PoolGet pool size) (OfPools status) alike is = goes_by own p s.subscriptions_made s.pipes s.subscriptions a alike
 does-refused limits history s p a own app (PoolPut pool grant) (OfPools status) alike is = goes_by own p s.subscriptions_made s.pipes s.subscriptions a alike
@@ -138,6 +146,24 @@ does-send limits history s p a own app bytes inc ordered alike (sub ∷ subs) is
     let now = deliver sending (sub ∷ subs) s.pipes in
     let gave : (given : Bool) → Type 0 = λ given. Goes p (cond {A = List Input} (given && was_made s p) (input ∷ []) []) false s.subscriptions_made now s.subscriptions a in
     subst gave (sym (le-leb 1 (s.numbers_given + 1) (omega arith)))
+    (subst (λ xs. Goes p (cond {A = List Input} (was_made s p) (input ∷ []) []) false s.subscriptions_made (deliver sending xs s.pipes) s.subscriptions a) is
+    (elim (was_made s p) as (λ b. was_made s p ≡ b → Goes p (cond {A = List Input} b (input ∷ []) []) false s.subscriptions_made (deliver sending (route s.subscriptions id) s.pipes) s.subscriptions a) [
+      | true ↦ λ made. goes-send own p s.subscriptions_made id sending s.pipes s.subscriptions a ordered.tied.pairs ordered.tied.live alike
+      | false ↦ λ early. goes-early own p s.subscriptions_made s.pipes_created id sending s.pipes s.subscriptions a ordered.tied.pairs ordered.numbered.pipes (leb-false p s.pipes_created early) alike
+    ] refl))
+
+does-pass : (limits : Limits) (history : List Entry) (s : State) (p : ℕ) (a : Alone) (own : ℕ → ℕ) (app buf : ℕ) (bytes : List ℕ) (inc : Bool) → AreOrdered s → 1 ≤ buf →
+    Stand own p s a → (subs : List Subscription) → route s.subscriptions (message_id bytes) ≡ subs →
+    Does limits history s p a app (TransmitBuffer buf bytes inc)
+    (passed_along subs (record { sender = app; number = buf; asked = unsent_size s.unsent app buf; message = delivered limits history (front_of bytes) inc }) (buffer_gone s app buf))
+does-pass limits history s p a own app buf bytes inc ordered first alike [] is = goes_by own p s.subscriptions_made s.pipes s.subscriptions a alike
+does-pass limits history s p a own app buf bytes inc ordered first alike (sub ∷ subs) is =
+    let sending : Sending = record { sender = app; number = buf; asked = unsent_size s.unsent app buf; message = delivered limits history (front_of bytes) inc } in
+    let id = message_id bytes in
+    let input : Input = Send app id buf (delivered limits history (front_of bytes) inc) in
+    let now = deliver sending (sub ∷ subs) s.pipes in
+    let gave : (given : Bool) → Type 0 = λ given. Goes p (cond {A = List Input} (given && was_made s p) (input ∷ []) []) false s.subscriptions_made now s.subscriptions a in
+    subst gave (sym (le-leb 1 buf first))
     (subst (λ xs. Goes p (cond {A = List Input} (was_made s p) (input ∷ []) []) false s.subscriptions_made (deliver sending xs s.pipes) s.subscriptions a) is
     (elim (was_made s p) as (λ b. was_made s p ≡ b → Goes p (cond {A = List Input} b (input ∷ []) []) false s.subscriptions_made (deliver sending (route s.subscriptions id) s.pipes) s.subscriptions a) [
       | true ↦ λ made. goes-send own p s.subscriptions_made id sending s.pipes s.subscriptions a ordered.tied.pairs ordered.tied.live alike
@@ -173,32 +199,38 @@ does-look limits history s p a own app pipe alike enters =
       | false ↦ λ some enter. goes-got own p s.subscriptions_made pipe s.pipes s.subscriptions a alike
     ] refl enters
 
-pub does-accepted : (limits : Limits) (history : List Entry) (s : State) (p : ℕ) (a : Alone) (own : ℕ → ℕ) (app : ℕ) (call : Call) → AreOrdered s → Stand own p s a →
+pub does-accepted : (limits : Limits) (history : List Entry) (s : State) (p : ℕ) (a : Alone) (own : ℕ → ℕ) (app : ℕ) (call : Call) → cause limits history s app call ≡ None →
+    AreOrdered s → Stand own p s a →
     IsTrue (makes_entry call ((accept limits history s app call).0)) → Does limits history s p a app call (accept limits history s app call)
-does-accepted limits history s p a own app (Create depth name) ordered alike enters =
+does-accepted limits history s p a own app (Create depth name) none ordered alike enters =
     goes-create own p s.subscriptions_made app depth (s.pipes_created + 1) s.pipes_created name s.pipes s.subscriptions a ordered.numbered.pipes (omega arith) ordered.tied.live alike
-does-accepted limits history s p a own app (Delete pipe) ordered alike enters = goes-delete own p s.subscriptions_made pipe s.pipes s.subscriptions a alike
-does-accepted limits history s p a own app (SetOpts pipe bits) ordered alike enters = goes-opts own p s.subscriptions_made pipe bits s.pipes s.subscriptions a alike
-does-accepted limits history s p a own app (GetOpts pipe) ordered alike enters = goes_by own p s.subscriptions_made s.pipes s.subscriptions a alike
-does-accepted limits history s p a own app (Find name) ordered alike enters = goes_by own p s.subscriptions_made s.pipes s.subscriptions a alike
-does-accepted limits history s p a own app (PipeName pipe) ordered alike enters = goes_by own p s.subscriptions_made s.pipes s.subscriptions a alike
-does-accepted limits history s p a own app (Subscribe id pipe limit scope) ordered alike enters = does-subscribe limits history s p a own app id pipe limit scope alike
-does-accepted limits history s p a own app (Unsubscribe id pipe) ordered alike enters = goes-unsubscribe own p s.subscriptions_made id pipe s.pipes s.subscriptions a alike
-does-accepted limits history s p a own app (Transmit bytes inc) ordered alike enters = does-send limits history s p a own app bytes inc ordered alike (route s.subscriptions (message_id bytes)) refl
-does-accepted limits history s p a own app (Receive pipe) ordered alike enters = goes-got own p s.subscriptions_made pipe s.pipes s.subscriptions a alike
-does-accepted limits history s p a own app (Pend pipe) ordered alike enters = does-pend limits history s p a own app pipe alike
-does-accepted limits history s p a own app (Look pipe) ordered alike enters = does-look limits history s p a own app pipe alike enters
-does-accepted limits history s p a own app (PoolCreate bytes) ordered alike enters = goes_by own p s.subscriptions_made s.pipes s.subscriptions a alike
-does-accepted limits history s p a own app (PoolGet pool size) ordered alike enters = goes_by own p s.subscriptions_made s.pipes s.subscriptions a alike
-does-accepted limits history s p a own app (PoolPut pool grant) ordered alike enters = goes_by own p s.subscriptions_made s.pipes s.subscriptions a alike
-does-accepted limits history s p a own app (PoolFigures pool) ordered alike enters = goes_by own p s.subscriptions_made s.pipes s.subscriptions a alike
-does-accepted limits history s p a own app End ordered alike enters = goes-end own p s.subscriptions_made s.pipes_created app s.pipes s.subscriptions a ordered.numbered.pipes alike
+does-accepted limits history s p a own app (Delete pipe) none ordered alike enters = goes-delete own p s.subscriptions_made pipe s.pipes s.subscriptions a alike
+does-accepted limits history s p a own app (SetOpts pipe bits) none ordered alike enters = goes-opts own p s.subscriptions_made pipe bits s.pipes s.subscriptions a alike
+does-accepted limits history s p a own app (GetOpts pipe) none ordered alike enters = goes_by own p s.subscriptions_made s.pipes s.subscriptions a alike
+does-accepted limits history s p a own app (Find name) none ordered alike enters = goes_by own p s.subscriptions_made s.pipes s.subscriptions a alike
+does-accepted limits history s p a own app (PipeName pipe) none ordered alike enters = goes_by own p s.subscriptions_made s.pipes s.subscriptions a alike
+does-accepted limits history s p a own app (Subscribe id pipe limit scope) none ordered alike enters = does-subscribe limits history s p a own app id pipe limit scope alike
+does-accepted limits history s p a own app (Unsubscribe id pipe) none ordered alike enters = goes-unsubscribe own p s.subscriptions_made id pipe s.pipes s.subscriptions a alike
+does-accepted limits history s p a own app (Transmit bytes inc) none ordered alike enters = does-send limits history s p a own app bytes inc ordered alike (route s.subscriptions (message_id bytes)) refl
+does-accepted limits history s p a own app (Receive pipe) none ordered alike enters = goes-got own p s.subscriptions_made pipe s.pipes s.subscriptions a alike
+does-accepted limits history s p a own app (Pend pipe) none ordered alike enters = does-pend limits history s p a own app pipe alike
+does-accepted limits history s p a own app (Look pipe) none ordered alike enters = does-look limits history s p a own app pipe alike enters
+does-accepted limits history s p a own app (Allocate size) none ordered alike enters = goes_by own p s.subscriptions_made s.pipes s.subscriptions a alike
+does-accepted limits history s p a own app (TransmitBuffer buf bytes inc) none ordered alike enters =
+    let has = transmit_buffer_cause-none s app buf bytes (by_bus-none (transmit_buffer_cause s app buf bytes) none) in
+    does-pass limits history s p a own app buf bytes inc ordered (first-of s app buf ordered.buffers has) alike (route s.subscriptions (message_id bytes)) refl
+does-accepted limits history s p a own app (Release buf) none ordered alike enters = goes_by own p s.subscriptions_made s.pipes s.subscriptions a alike
+does-accepted limits history s p a own app (PoolCreate bytes) none ordered alike enters = goes_by own p s.subscriptions_made s.pipes s.subscriptions a alike
+does-accepted limits history s p a own app (PoolGet pool size) none ordered alike enters = goes_by own p s.subscriptions_made s.pipes s.subscriptions a alike
+does-accepted limits history s p a own app (PoolPut pool grant) none ordered alike enters = goes_by own p s.subscriptions_made s.pipes s.subscriptions a alike
+does-accepted limits history s p a own app (PoolFigures pool) none ordered alike enters = goes_by own p s.subscriptions_made s.pipes s.subscriptions a alike
+does-accepted limits history s p a own app End none ordered alike enters = goes-end own p s.subscriptions_made s.pipes_created app s.pipes s.subscriptions a ordered.numbered.pipes alike
 
 does-decided : (limits : Limits) (history : List Entry) (s : State) (p : ℕ) (a : Alone) (own : ℕ → ℕ) (app : ℕ) (call : Call) (why : Option Refusal) →
     cause limits history s app call ≡ why → AreOrdered s → Stand own p s a → IsTrue (makes_entry call ((decided limits history s app call why).0)) →
     Does limits history s p a app call (decided limits history s app call why)
 does-decided limits history s p a own app call (Some why) is ordered alike enters = does-refused limits history s p a own app call why alike is
-does-decided limits history s p a own app call None is ordered alike enters = does-accepted limits history s p a own app call ordered alike enters
+does-decided limits history s p a own app call None is ordered alike enters = does-accepted limits history s p a own app call is ordered alike enters
 
 -- what an entry of a legal history does
 does-step : (limits : Limits) (history : List Entry) (s : State) (p : ℕ) (a : Alone) (own : ℕ → ℕ) (e : Entry) → AreOrdered s → Stand own p s a →
@@ -212,6 +244,7 @@ AreOrdered-step : (limits : Limits) (history : List Entry) (s : State) (e : Entr
 AreOrdered-step limits history s e ordered = record {
   numbered = AreNumbered-step limits history s e.app e.call ordered.numbered;
   tied = AreTied-step limits history s e.app e.call ordered.tied;
+  buffers = AreFirst-step limits history s e.app e.call ordered.buffers;
 }
 
 -- Histories. --
@@ -232,13 +265,14 @@ alone_from limits history s p a own (e ∷ es) ordered alike legal =
     let inputs = inputs_of limits history s p e in
     let now = history ++ e ∷ [] in
     ap (λ xs. xs ++ receipts_from limits now next p es) (sym goes.given)
-    ∙ ap (λ xs. solo_receipts a inputs ++ xs) (alone_from limits now next p (solo a inputs) goes.own es (AreOrdered-step limits history s e ordered) goes.alike legal.3)
+    ∙ ap (λ xs. solo_receipts a inputs ++ xs) (alone_from limits now next p (solo a inputs) goes.own es (AreOrdered-step limits history s e ordered) goes.alike legal.4)
     ∙ sym (solo_receipts-append a inputs (cut_from limits now next p es))
 
 opening_ordered : (limits : Limits) (apps : ℕ) → AreOrdered (opening limits apps)
 opening_ordered limits apps = record {
   numbered = record { pipes = omega arith; subscriptions = omega arith };
   tied = record { pairs = tt; live = tt };
+  buffers = AreFirst-opening limits apps;
 }
 
 opening_alike : (limits : Limits) (apps p : ℕ) → Stand (λ n. 0) p (opening limits apps) unmade
@@ -315,6 +349,9 @@ gave-refused s p app (Pend pipe) (OfBus status) gets = absurd (true≢false (sym
 gave-refused s p app (Pend pipe) (OfPools status) gets = absurd (true≢false (sym gets))
 gave-refused s p app (Look pipe) (OfBus status) gets = absurd (true≢false (sym gets))
 gave-refused s p app (Look pipe) (OfPools status) gets = absurd (true≢false (sym gets))
+gave-refused s p app (Allocate size) why gets = absurd (true≢false (sym gets))
+gave-refused s p app (TransmitBuffer buf bytes inc) why gets = absurd (true≢false (sym gets))
+gave-refused s p app (Release buf) why gets = absurd (true≢false (sym gets))
 gave-refused s p app (PoolCreate bytes) why gets = absurd (true≢false (sym gets))
 gave-refused s p app (PoolGet pool size) why gets = absurd (true≢false (sym gets))
 gave-refused s p app (PoolPut pool grant) why gets = absurd (true≢false (sym gets))
@@ -360,6 +397,9 @@ gave-accepted limits history s p app (Transmit bytes inc) none gets = absurd (tr
 gave-accepted limits history s p app (Receive pipe) none gets = gave_got s.pipes p pipe (not_empty s app pipe (by_bus-none (receive_cause s app pipe) none)) gets
 gave-accepted limits history s p app (Pend pipe) none gets = gave-pend limits history s p app pipe gets
 gave-accepted limits history s p app (Look pipe) none gets = gave-look limits history s p app pipe gets
+gave-accepted limits history s p app (Allocate size) none gets = absurd (true≢false (sym gets))
+gave-accepted limits history s p app (TransmitBuffer buf bytes inc) none gets = absurd (true≢false (sym gets))
+gave-accepted limits history s p app (Release buf) none gets = absurd (true≢false (sym gets))
 gave-accepted limits history s p app (PoolCreate bytes) none gets = absurd (true≢false (sym gets))
 gave-accepted limits history s p app (PoolGet pool size) none gets = absurd (true≢false (sym gets))
 gave-accepted limits history s p app (PoolPut pool grant) none gets = absurd (true≢false (sym gets))
@@ -400,7 +440,7 @@ gives_from limits history s p a own (x ∷ es) e ordered alike legal gets =
     let goes = does-step limits history s p a own x ordered alike legal.1 legal.2 in
     let inputs = inputs_of limits history s p x in
     let now = history ++ x ∷ [] in
-    let gives = gives_from limits now next p (solo a inputs) goes.own es e (AreOrdered-step limits history s x ordered) goes.alike legal.3 gets in (
+    let gives = gives_from limits now next p (solo a inputs) goes.own es e (AreOrdered-step limits history s x ordered) goes.alike legal.4 gets in (
       gives.0,
       record {
         answer = gives.1.answer;

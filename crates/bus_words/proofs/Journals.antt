@@ -1,11 +1,18 @@
--- What one more entry leaves of what applications may still add.
-use Rattle.std.proofs.Common.{◌≡◌, List, [], ◌∷◌, ◌++◌, length, map, ap, ◌∙◌}
-use Rattle.std.proofs.lemmas.List.{map_push}
+-- What one more entry leaves of what applications may still add, and what another answer makes of the last entry.
+use Rattle.std.proofs.Common.{◌≡◌, ℕ, ◌+◌, ◌≤◌, List, [], ◌∷◌, ◌++◌, length, map, slice_get, Option, Some, refl, ap, sym, ◌∙◌, arith}
+use Rattle.std.specs.Option.{option_map, option_map_or}
+use Rattle.std.proofs.lemmas.List.{map_push, length_push, same_from_push}
 use Rattle.journal_store.specs.declared.allowance.Allowance.{Allowance}
 use Rattle.journal_store.specs.Budgets.{charged, left_from}
+use Rattle.journal_store.specs.Store.{Stored}
+use Rattle.journal_store.specs.Store as store
 use Rattle.journal_store.proofs.Charges as charges
+use Rattle.bus_words.specs.declared.calls.BusAnswer.{BusAnswer}
 use Rattle.bus_words.specs.declared.history.Entry.{Entry}
+use Rattle.bus_words.specs.declared.journal.Row.{Row}
+use Rattle.bus_words.specs.declared.journal.RowCall.{RowCall}
 use Rattle.bus_words.specs.Entries.{call_bytes}
+use Rattle.bus_words.specs.Inside.{entry_in, entries_in, AreWhole}
 use Rattle.bus_words.specs.Log.{Log, charge_of, left_of}
 
 -- one more entry is one more charge
@@ -17,3 +24,77 @@ left_from-push left es e =
 -- there is something left for as many applications as have a budget
 pub length-left_of : (log : Log) → length (left_of log) ≡ length log.budgets
 length-left_of log = charges.length-left_of log.budgets (map charge_of log.entries)
+
+-- The last entry's answer. --
+
+-- a list with an item is a front and its last item
+pub ends : {X : Type 0} (xs : List X) → 1 ≤ length xs → (front : List X) × (last : X) × (xs ≡ front ++ last ∷ [])
+ends [] some = absurd (omega (arith, some))
+ends (x ∷ []) some = ([], x, refl)
+ends {X} (x ∷ y ∷ xs) some = let rest = ends (y ∷ xs) (omega arith) in (x ∷ rest.0, rest.1, ap (λ (l : List X). x ∷ l) rest.2)
+
+get_last : {X : Type 0} (front : List X) (last : X) → slice_get (front ++ last ∷ []) (length front) ≡ Some last
+get_last [] last = refl
+get_last (x ∷ front) last = get_last front last
+
+-- what another answer makes of the rows: the last one has it, and its call as before
+record Answered (rows now : List (Stored Row)) (call : RowCall) (answer : BusAnswer) : Type 0 where
+  front : List (Stored Row)
+  last : Stored Row
+  before : rows ≡ front ++ last ∷ []
+  after : now ≡ front ++ record last { row = record { call = last.row.call; answer = answer } } ∷ []
+
+answered : (rows now : List (Stored Row)) (i : ℕ) (row : Row) (answer : BusAnswer) → 1 ≤ length rows → i + 1 ≡ length rows →
+    option_map (λ stored. stored.row) (slice_get rows i) ≡ Some row →
+    ((front : List (Stored Row)) (last : Stored Row) → rows ≡ front ++ last ∷ [] → now ≡ front ++ record last { row = record { call = row.call; answer = answer } } ∷ []) →
+    Answered rows now row.call answer
+answered rows now i row answer some at found replaced =
+    let parts = ends rows some in
+    let front = parts.0 in
+    let last = parts.1 in
+    let is : rows ≡ front ++ last ∷ [] = parts.2 in
+    let long : length rows ≡ length front + 1 = ap length is ∙ length_push front last in
+    let here : i ≡ length front = omega (arith, at, long) in
+    let it : Some last.row ≡ Some row =
+    sym (ap (option_map (λ (stored : Stored Row). stored.row)) (ap (λ (xs : List (Stored Row)). slice_get xs i) is ∙ ap (slice_get (front ++ last ∷ [])) here ∙ get_last front last)) ∙ found in
+    let same : last.row ≡ row = ap (λ (o : Option Row). option_map_or (λ r. r) o row) it in
+    record {
+      front = front;
+      last = last;
+      before = is;
+      after = replaced front last is ∙ ap (λ (r : Row). front ++ record last { row = record { call = r.call; answer = answer } } ∷ []) (sym same);
+    }
+
+-- the rows take as much as before
+pub AreWhole-answered : (rows now : List (Stored Row)) (i : ℕ) (row : Row) (answer : BusAnswer) → AreWhole rows → 1 ≤ length rows → i + 1 ≡ length rows →
+    option_map (λ stored. stored.row) (slice_get rows i) ≡ Some row →
+    ((front : List (Stored Row)) (last : Stored Row) → rows ≡ front ++ last ∷ [] → now ≡ front ++ record last { row = record { call = row.call; answer = answer } } ∷ []) →
+    AreWhole now
+AreWhole-answered rows now i row answer whole some at found replaced =
+    let is = answered rows now i row answer some at found replaced in
+    let new : Stored Row = record is.last { row = record { call = is.last.row.call; answer = answer } } in
+    ap (map store.charge_of) is.after
+    ∙ map_push store.charge_of is.front new
+    ∙ sym (map_push store.charge_of is.front is.last)
+    ∙ ap (map store.charge_of) (sym is.before)
+    ∙ whole
+    ∙ ap (λ rs. map charge_of (entries_in rs)) is.before
+    ∙ ap (map charge_of) (map_push entry_in is.front is.last)
+    ∙ map_push charge_of (entries_in is.front) (entry_in is.last)
+    ∙ sym (map_push charge_of (entries_in is.front) (entry_in new))
+    ∙ sym (ap (map charge_of) (map_push entry_in is.front new))
+    ∙ ap (λ rs. map charge_of (entries_in rs)) (sym is.after)
+
+-- the last entry has the answer, and its call as before
+pub entries-answered : (rows now : List (Stored Row)) (i : ℕ) (row : Row) (answer : BusAnswer) (front : List Entry) (last : Entry) → 1 ≤ length rows → i + 1 ≡ length rows →
+    option_map (λ stored. stored.row) (slice_get rows i) ≡ Some row →
+    ((front : List (Stored Row)) (last : Stored Row) → rows ≡ front ++ last ∷ [] → now ≡ front ++ record last { row = record { call = row.call; answer = answer } } ∷ []) →
+    entries_in rows ≡ front ++ last ∷ [] → entries_in now ≡ front ++ record last { answer = answer } ∷ []
+entries-answered rows now i row answer front last some at found replaced entries =
+    let is = answered rows now i row answer some at found replaced in
+    let new : Stored Row = record is.last { row = record { call = is.last.row.call; answer = answer } } in
+    let parts = same_from_push (entries_in is.front) front (entry_in is.last) last (sym (map_push entry_in is.front is.last) ∙ ap entries_in (sym is.before) ∙ entries) in
+    ap entries_in is.after
+    ∙ map_push entry_in is.front new
+    ∙ ap (λ es. es ++ entry_in new ∷ []) parts.0
+    ∙ ap (λ (e : Entry). front ++ record e { answer = answer } ∷ []) parts.1

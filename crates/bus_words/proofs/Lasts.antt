@@ -12,11 +12,11 @@ use Rattle.fsw_base.specs.Limits.{Limits}
 use Rattle.bus_words.specs.declared.calls.BusAnswer.{BusAnswer}
 use Rattle.bus_words.specs.declared.calls.BusAnswer.TheVariants.{Got, TimeOut, Pending}
 use Rattle.bus_words.specs.declared.history.Call.{Call}
-use Rattle.bus_words.specs.declared.history.Call.TheVariants.{Create, Delete, SetOpts, GetOpts, Find, PipeName, Subscribe, Unsubscribe, Transmit, Receive, Pend, Look, PoolCreate, PoolGet, PoolPut, PoolFigures, End}
+use Rattle.bus_words.specs.declared.history.Call.TheVariants.{Create, Delete, SetOpts, GetOpts, Find, PipeName, Subscribe, Unsubscribe, Transmit, Receive, Pend, Look, Allocate, TransmitBuffer, Release, PoolCreate, PoolGet, PoolPut, PoolFigures, End}
 use Rattle.bus_words.specs.declared.history.Entry.{Entry}
-use Rattle.bus_words.specs.Bus.{Item, Pipe, Subscription, State, Sending, Active, Waiting, standing_of, pipe_at, is_live, owns, with_pipe, with_bits, with_standing, is_empty, others_idle, is_subscribed, route, deliver, offered, oldest, after_receive}
+use Rattle.bus_words.specs.Bus.{Item, Pipe, Subscription, State, Sending, Active, Waiting, standing_of, pipe_at, is_live, owns, with_pipe, with_bits, with_standing, is_empty, others_idle, is_subscribed, route, unsent_size, deliver, offered, oldest, after_receive}
 use Rattle.bus_words.specs.Refusals.{Refusal, OfBus}
-use Rattle.bus_words.specs.Machine.{by_bus, unowned_cause, receive_cause, delivered, oldest_number, received, sent_along, subscribed, cause, refused_state, decided, step, may_call}
+use Rattle.bus_words.specs.Machine.{by_bus, unowned_cause, receive_cause, delivered, front_of, oldest_number, received, sent_along, buffer_gone, passed_along, subscribed, cause, refused_state, decided, step, may_call}
 use Rattle.bus_words.specs.Alone.{gets_from}
 use Rattle.bus_words.proofs.Finds.{neither, not_false, same-sym, Each, Each-drop, find-any, any-filter_none}
 use Rattle.bus_words.proofs.Isolation.{no_message}
@@ -80,6 +80,9 @@ module _ (limits : Limits) (history : List Entry) (s : State) (p app : ℕ) wher
   gets-owns (Receive pipe) waiters may gets = gets-receive pipe (receive_cause s app pipe) refl gets
   gets-owns (Pend pipe) waiters may gets = gets-pend pipe (unowned_cause s app pipe) refl gets
   gets-owns (Look pipe) waiters may gets = gets-look pipe waiters may gets
+  gets-owns (Allocate size) waiters may gets = absurd (true≢false (sym gets))
+  gets-owns (TransmitBuffer buf bytes inc) waiters may gets = absurd (true≢false (sym gets))
+  gets-owns (Release buf) waiters may gets = absurd (true≢false (sym gets))
   gets-owns (PoolCreate bytes) waiters may gets = absurd (true≢false (sym gets))
   gets-owns (PoolGet pool size) waiters may gets = absurd (true≢false (sym gets))
   gets-owns (PoolPut pool grant) waiters may gets = absurd (true≢false (sym gets))
@@ -163,6 +166,10 @@ from-sent : (limits : Limits) (s : State) (sending : Sending) (subs : List Subsc
 from-sent limits s sending [] p = from-same s.pipes s.pipes p refl
 from-sent limits s sending (sub ∷ subs) p = from-same s.pipes (deliver sending (sub ∷ subs) s.pipes) p (last-deliver sending (sub ∷ subs) s.pipes p)
 
+from-passed : (s : State) (sending : Sending) (subs : List Subscription) (p : ℕ) → IsFrom s.pipes ((passed_along subs sending s).1).pipes p
+from-passed s sending [] p = from-same s.pipes s.pipes p refl
+from-passed s sending (sub ∷ subs) p = from-same s.pipes (deliver sending (sub ∷ subs) s.pipes) p (last-deliver sending (sub ∷ subs) s.pipes p)
+
 from-subscribed : (s : State) (id pipe limit : ℕ) (scope : Scope) (p : ℕ) → IsFrom s.pipes ((subscribed s id pipe limit scope).1).pipes p
 from-subscribed s id pipe limit scope p =
     elim (is_subscribed s.subscriptions id pipe) as (λ b. IsFrom s.pipes (cond {A = State} b s (with_subscription s id pipe limit scope)).pipes p) [
@@ -238,6 +245,14 @@ module _ (limits : Limits) (history : List Entry) (s : State) (p app : ℕ) (num
   comes (Receive pipe) why is none = subst (Comes (Receive pipe)) is (comes-receive pipe (receive_cause s app pipe) refl) none
   comes (Pend pipe) why is none = subst (Comes (Pend pipe)) is (comes-pend pipe (unowned_cause s app pipe)) none
   comes (Look pipe) why is none = subst (Comes (Look pipe)) is (comes-look pipe) none
+  comes (Allocate size) (Some why) is none = same
+  comes (Allocate size) None is none = same
+  comes (TransmitBuffer buf bytes inc) (Some why) is none = same
+  comes (TransmitBuffer buf bytes inc) None is none =
+      from-passed (buffer_gone s app buf) (record { sender = app; number = buf; asked = unsent_size s.unsent app buf; message = delivered limits history (front_of bytes) inc })
+      (route s.subscriptions (message_id bytes)) p
+  comes (Release buf) (Some why) is none = same
+  comes (Release buf) None is none = same
   comes (PoolCreate bytes) (Some why) is none = same
   comes (PoolCreate bytes) None is none = same
   comes (PoolGet pool size) (Some why) is none = same
@@ -337,6 +352,9 @@ count-step limits history s who app call waiters may differ =
       ends = count-filter app (λ pipe. not (pipe.owner == who)) s.pipes
           (every _ s.pipes (λ pipe gone. ap (λ b. b && is_some pipe.last) (ap (λ n. n == app) (eqb-true pipe.owner who (not_false (pipe.owner == who) gone)) ∙ same-sym who app ∙ differ)));
       pools = λ pools. refl;
+      allocates = λ size. refl;
+      leaves = λ buf. refl;
+      passes = λ sending id. count-deliver app sending (route s.subscriptions id) s.pipes;
     })
   where
     single : AreSingle s.pipes

@@ -9,11 +9,11 @@ use Rattle.fsw_base.specs.declared.statuses.SbStatus.TheVariants.{BadArgument, M
 use Rattle.fsw_base.specs.Limits.{Limits}
 use Rattle.pool_words.specs.Grants.{Pools, pool_in, with_pool, after_create, after_get, after_put}
 use Rattle.bus_words.specs.declared.history.Call.{Call}
-use Rattle.bus_words.specs.declared.history.Call.TheVariants.{Create, Delete, SetOpts, GetOpts, Find, PipeName, Subscribe, Unsubscribe, Transmit, Receive, Pend, Look, PoolCreate, PoolGet, PoolPut, PoolFigures, End}
+use Rattle.bus_words.specs.declared.history.Call.TheVariants.{Create, Delete, SetOpts, GetOpts, Find, PipeName, Subscribe, Unsubscribe, Transmit, Receive, Pend, Look, Allocate, TransmitBuffer, Release, PoolCreate, PoolGet, PoolPut, PoolFigures, End}
 use Rattle.bus_words.specs.declared.history.Entry.{Entry}
-use Rattle.bus_words.specs.Bus.{Pipe, Subscription, State, Standing, Active, Waiting, Ended, Sending, opening, standing_of, with_pipe, with_bits, with_standing, is_empty, others_idle, route, is_subscribed, after_receive, owns}
+use Rattle.bus_words.specs.Bus.{Pipe, Subscription, State, Standing, Active, Waiting, Ended, Sending, opening, standing_of, with_pipe, with_bits, with_standing, is_empty, others_idle, route, is_subscribed, after_receive, owns, deliver, unsent_size}
 use Rattle.bus_words.specs.Refusals.{Refusal, OfBus, OfPools}
-use Rattle.bus_words.specs.Machine.{by_bus, delivered, created, deleted, unsubscribed, sent_along, received, ended, cause, unowned_cause, receive_cause, refused_if, accept, refused_state, decided, step, may_call, state_from, state_after, LegalFrom, IsLegal}
+use Rattle.bus_words.specs.Machine.{by_bus, delivered, created, deleted, unsubscribed, stamped, front_of, reads_after, sent_along, allocated, buffer_gone, passed_along, received, ended, cause, unowned_cause, receive_cause, refused_if, accept, refused_state, decided, step, may_call, state_from, state_after, LegalFrom, IsLegal}
 use Rattle.bus_words.proofs.Finds.{not_false, same-sym}
 use Rattle.bus_words.proofs.Steps.{by_bus-none, by_bus-some, with_subscription, with_sent, AreNumbered, AreNumbered-step}
 use Rattle.bus_words.proofs.Ties.{refused_none}
@@ -35,6 +35,9 @@ pub record KeepsLegal (F : State → Type 0) (limits : Limits) (s : State) (app 
   pub looks : (pipe : ℕ) → standing_of s app ≡ Waiting pipe → F (with_standing (received s pipe) app Active)
   pub ends : F (ended s app)
   pub pools : (pools : Pools) → F (record s { pools = pools })
+  pub allocates : (size : ℕ) → F ((allocated limits s app size).1)
+  pub leaves : (buf : ℕ) → F (buffer_gone s app buf)
+  pub passes : (sending : Sending) (id : ℕ) → F (record (buffer_gone s app sending.number) { pipes = deliver sending (route s.subscriptions id) s.pipes })
 
 after_subscribe : (F : State → Type 0) (s next : State) (live : Bool) → F s → F next → F (cond {A = State} live s next)
 after_subscribe F s next true same other = same
@@ -43,6 +46,11 @@ after_subscribe F s next false same other = other
 after_send : (F : State → Type 0) (limits : Limits) (s : State) (sending : Sending) (subs : List Subscription) → F s → F (with_sent limits s sending subs) → F ((sent_along limits subs sending s).1)
 after_send F limits s sending [] same sends = same
 after_send F limits s sending (sub ∷ subs) same sends = sends
+
+after_passing : (F : State → Type 0) (s : State) (sending : Sending) (subs : List Subscription) → F s → F (record s { pipes = deliver sending subs s.pipes }) →
+    F ((passed_along subs sending s).1)
+after_passing F s sending [] gone passes = gone
+after_passing F s sending (sub ∷ subs) gone passes = passes
 
 after_choice : (F : State → Type 0) (test : Bool) (one other : State) → F one → F other → F (cond {A = State} test one other)
 after_choice F true one other first second = first
@@ -97,6 +105,9 @@ legal-refused F limits history s app (Transmit bytes inc) why is keeps = keeps.s
 legal-refused F limits history s app (Receive pipe) why is keeps = legal-refused_receive F limits s app pipe why is keeps
 legal-refused F limits history s app (Pend pipe) why is keeps = keeps.same
 legal-refused F limits history s app (Look pipe) why is keeps = keeps.same
+legal-refused F limits history s app (Allocate size) why is keeps = keeps.same
+legal-refused F limits history s app (TransmitBuffer buf bytes inc) why is keeps = keeps.same
+legal-refused F limits history s app (Release buf) why is keeps = keeps.same
 legal-refused F limits history s app (PoolCreate bytes) why is keeps = keeps.same
 legal-refused F limits history s app (PoolGet pool size) why is keeps = keeps.same
 legal-refused F limits history s app (PoolPut pool grant) why is keeps = keeps.pools (with_pool s.pools pool (after_put (pool_in s.pools pool) grant))
@@ -125,6 +136,11 @@ legal-accepted F limits history s app (Pend pipe) none may keeps =
 legal-accepted F limits history s app (Look pipe) none may keeps =
     after_choice F (is_empty s.pipes pipe && not (others_idle s app)) s (with_standing (received s pipe) app Active)
     keeps.same (keeps.looks pipe (waits_on (standing_of s app) pipe may))
+legal-accepted F limits history s app (Allocate size) none may keeps = keeps.allocates size
+legal-accepted F limits history s app (TransmitBuffer buf bytes inc) none may keeps =
+    let sending : Sending = record { sender = app; number = buf; asked = unsent_size s.unsent app buf; message = stamped (reads_after limits history) (front_of bytes) inc } in
+    after_passing F (buffer_gone s app buf) sending (route s.subscriptions (message_id bytes)) (keeps.leaves buf) (keeps.passes sending (message_id bytes))
+legal-accepted F limits history s app (Release buf) none may keeps = keeps.leaves buf
 legal-accepted F limits history s app (PoolCreate bytes) none may keeps = keeps.pools (after_create s.pools bytes)
 legal-accepted F limits history s app (PoolGet pool size) none may keeps = keeps.pools (with_pool s.pools pool (after_get (pool_in s.pools pool) app size))
 legal-accepted F limits history s app (PoolPut pool grant) none may keeps = keeps.pools (with_pool s.pools pool (after_put (pool_in s.pools pool) grant))
@@ -183,6 +199,9 @@ standing-step limits history s app other call may differ =
       looks = λ pipe own. standing-other s app other Active first differ;
       ends = standing-other s app other Ended first differ;
       pools = λ pools. refl;
+      allocates = λ size. refl;
+      leaves = λ buf. refl;
+      passes = λ sending id. refl;
     })
 
 -- a fact of the new standing and of the old one is one of an application's standing once it is set
@@ -256,6 +275,9 @@ kept-step limits history s who app pipe call waiters may differ =
       looks = λ at is. takes at (subst (WaitsOwn s.pipes who) is (waiters.waits who));
       ends = kept-end s.pipes app who pipe single differ;
       pools = λ pools. kept-same s.pipes app pipe;
+      allocates = λ size. kept-same s.pipes app pipe;
+      leaves = λ buf. kept-same s.pipes app pipe;
+      passes = λ sending id. kept-deliver sending (route s.subscriptions id) s.pipes app pipe;
     })
 
 -- an active application's step
@@ -279,6 +301,9 @@ waits-from_active limits history s who call is may =
       looks = λ pipe on. standing-set (WaitsOwn _ who) (received s pipe) who Active tt (waits-active _ who (standing_of s who) is);
       ends = waits-ended s who;
       pools = λ pools. waits-active s.pipes who (standing_of s who) is;
+      allocates = λ size. waits-active s.pipes who (standing_of s who) is;
+      leaves = λ buf. waits-active s.pipes who (standing_of s who) is;
+      passes = λ sending id. waits-active _ who (standing_of s who) is;
     })
 
 -- the step of one that waits
@@ -296,6 +321,9 @@ waits-from_waiting limits history s who at (Unsubscribe id pipe) is own may = ab
 waits-from_waiting limits history s who at (Transmit bytes inc) is own may = absurd (true≢false (sym may))
 waits-from_waiting limits history s who at (Receive pipe) is own may = absurd (true≢false (sym may))
 waits-from_waiting limits history s who at (Pend pipe) is own may = absurd (true≢false (sym may))
+waits-from_waiting limits history s who at (Allocate size) is own may = absurd (true≢false (sym may))
+waits-from_waiting limits history s who at (TransmitBuffer buf bytes inc) is own may = absurd (true≢false (sym may))
+waits-from_waiting limits history s who at (Release buf) is own may = absurd (true≢false (sym may))
 waits-from_waiting limits history s who at (PoolCreate bytes) is own may = absurd (true≢false (sym may))
 waits-from_waiting limits history s who at (PoolGet pool size) is own may = absurd (true≢false (sym may))
 waits-from_waiting limits history s who at (PoolPut pool grant) is own may = absurd (true≢false (sym may))
@@ -352,7 +380,7 @@ AreWaiters-opening limits apps = record {
 waiters-from : (limits : Limits) (history : List Entry) (s : State) (es : List Entry) → AreWaiters s → LegalFrom limits history s es → AreWaiters (state_from limits history s es)
 waiters-from limits history s [] waiters legal = waiters
 waiters-from limits history s (e ∷ es) waiters legal =
-    waiters-from limits (history ++ e ∷ []) ((step limits history s e.app e.call).1) es (AreWaiters-step limits history s e.app e.call waiters legal.0) legal.3
+    waiters-from limits (history ++ e ∷ []) ((step limits history s e.app e.call).1) es (AreWaiters-step limits history s e.app e.call waiters legal.0) legal.4
 
 -- after every legal history
 pub AreWaiters-after : (limits : Limits) (apps : ℕ) (history : List Entry) → IsLegal limits apps history → AreWaiters (state_after limits apps history)
@@ -365,8 +393,8 @@ pub legal-last : (limits : Limits) (history : List Entry) (s : State) (es : List
 legal-last limits history s [] e legal = (tt, legal.0, legal.1 ∙ ap (λ h. (step limits h s e.app e.call).0) (sym (append-nil history)))
 legal-last limits history s (x ∷ es) e legal =
     let next = (step limits history s x.app x.call).1 in
-    let rest = legal-last limits (history ++ x ∷ []) next es e legal.3 in (
-      (legal.0, legal.1, legal.2, rest.0),
+    let rest = legal-last limits (history ++ x ∷ []) next es e legal.4 in (
+      (legal.0, legal.1, legal.2, legal.3, rest.0),
       rest.1,
       rest.2 ∙ ap (λ h. (step limits h (state_from limits (history ++ x ∷ []) next es) e.app e.call).0) (append_assoc history (x ∷ []) es),
     )
@@ -375,4 +403,4 @@ legal-last limits history s (x ∷ es) e legal =
 pub legal-front : (limits : Limits) (history : List Entry) (s : State) (es rest : List Entry) → LegalFrom limits history s (es ++ rest) → LegalFrom limits history s es
 legal-front limits history s [] rest legal = tt
 legal-front limits history s (e ∷ es) rest legal =
-    (legal.0, legal.1, legal.2, legal-front limits (history ++ e ∷ []) ((step limits history s e.app e.call).1) es rest legal.3)
+    (legal.0, legal.1, legal.2, legal.3, legal-front limits (history ++ e ∷ []) ((step limits history s e.app e.call).1) es rest legal.4)

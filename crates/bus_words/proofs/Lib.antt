@@ -2,10 +2,13 @@ pub mod Acts
 pub mod Alike
 pub mod Balance
 pub mod Bounds
+pub mod Buffers
 pub mod Drawn
 pub mod Finds
+pub mod Firsts
 pub mod HeldBlocks
 pub mod Isolation
+pub mod Items
 pub mod Journals
 pub mod KeptPipes
 pub mod Lasts
@@ -16,3 +19,5 @@ pub mod Replay
 pub mod Solo
 pub mod Steps
 pub mod Ties
+pub mod Unsent
+pub mod UnsentSteps

@@ -37,6 +37,9 @@ ArePools-step limits history s app call entries are =
       stands = λ pipe standing going. same;
       ends = one_more limits entries s.pools (all_after_end app s.pools) are (follows_end s.pools app);
       pools = λ next follows. one_more limits entries s.pools next are follows;
+      allocates = λ size none. same;
+      leaves = λ buf has. same;
+      passes = λ sending id who has asked. same;
     })
 
 pools_from : (limits : Limits) (history : List Entry) (s : State) (es : List Entry) → ArePools limits (length history) s.pools →

@@ -4,7 +4,7 @@ use Rattle.fsw_base.specs.Limits.{Limits}
 use Rattle.bus_words.specs.declared.calls.BusAnswer.{BusAnswer}
 use Rattle.bus_words.specs.declared.history.Entry.{Entry}
 use Rattle.bus_words.specs.Bus.{State, opening, standing_of}
-use Rattle.bus_words.specs.Machine.{step, state_from, state_after, may_call, makes_entry, LegalFrom, IsLegal}
+use Rattle.bus_words.specs.Machine.{step, state_from, state_after, may_call, makes_entry, brings, LegalFrom, IsLegal}
 use Rattle.bus_words.specs.Runs.{callers, stepped, Follows}
 
 -- the state after one entry more is that of its step
@@ -23,18 +23,20 @@ pub LegalFrom-push : (limits : Limits) (history : List Entry) (s : State) (es : 
     IsTrue (may_call (standing_of (state_from limits history s es) e.app) e.call) →
     e.answer ≡ (step limits (history ++ es) (state_from limits history s es) e.app e.call).0 →
     IsTrue (makes_entry e.call e.answer) →
+    IsTrue (brings (state_from limits history s es).unsent e.app e.call) →
     LegalFrom limits history s (es ++ e ∷ [])
-LegalFrom-push limits history s [] e legal may answered entered =
-    (may, answered ∙ ap (λ h. (step limits h s e.app e.call).0) (append-nil history), entered, tt)
-LegalFrom-push limits history s (x ∷ es) e legal may answered entered =
+LegalFrom-push limits history s [] e legal may answered entered whole =
+    (may, answered ∙ ap (λ h. (step limits h s e.app e.call).0) (append-nil history), entered, whole, tt)
+LegalFrom-push limits history s (x ∷ es) e legal may answered entered whole =
     let next = (step limits history s x.app x.call).1 in
     let now = history ++ x ∷ [] in (
       legal.0,
       legal.1,
       legal.2,
-      LegalFrom-push limits now next es e legal.3 may
+      legal.3,
+      LegalFrom-push limits now next es e legal.4 may
           (answered ∙ ap (λ h. (step limits h (state_from limits now next es) e.app e.call).0) (sym (append_assoc history (x ∷ []) es)))
-          entered,
+          entered whole,
     )
 
 -- a history goes on by a step
@@ -43,9 +45,10 @@ pub goes_on : (limits : Limits) (apps : ℕ) (history : List Entry) (e : Entry) 
     IsTrue (may_call (standing_of (state_after limits apps history) e.app) e.call) →
     e.answer ≡ (step limits history (state_after limits apps history) e.app e.call).0 →
     IsTrue (makes_entry e.call e.answer) →
+    IsTrue (brings (state_after limits apps history).unsent e.app e.call) →
     Follows limits apps history e
-goes_on limits apps history e legal may answered entered = record {
-  legal = LegalFrom-push limits [] (opening limits apps) history e legal may answered entered;
+goes_on limits apps history e legal may answered entered whole = record {
+  legal = LegalFrom-push limits [] (opening limits apps) history e legal may answered entered whole;
   state = state_from-push limits [] (opening limits apps) history e;
 }
 
@@ -57,5 +60,5 @@ stepped-legal limits history s (x ∷ es) legal =
     let next = (step limits history s x.app x.call).1 in
     let again : List Entry → List Entry × State = λ h. stepped limits h next (callers es) in
     ap (λ (a : BusAnswer). again (history ++ record { app = x.app; call = x.call; answer = a } ∷ [])) (sym legal.1)
-    ∙ stepped-legal limits (history ++ x ∷ []) next es legal.3
+    ∙ stepped-legal limits (history ++ x ∷ []) next es legal.4
     ∙ ap (λ h. (h, state_from limits (history ++ x ∷ []) next es)) (append_assoc history (x ∷ []) es)

@@ -3,7 +3,7 @@
 use Rattle.std.proofs.Common.{◌≡◌, ℕ, ◌+◌, ◌-◌, ◌<◌, ◌≤◌, ◌==◌, ◌&&◌, not, Bool, true, false, cond, if◌then◌else◌, append-nil, append_assoc, List, [], ◌∷◌, ◌++◌, length, map, filter, Option, Some, None, is_some, refl, ap, sym, ◌∙◌, subst, arith, true≢false, ne_eqb}
 use Rattle.std.specs.Prelude.{nat_lt}
 use Rattle.std.proofs.lemmas.List.{length-set, length-replicate, length_push, map_push}
-use Rattle.ccsds_msg.specs.Message.{fault, message_id}
+use Rattle.ccsds_msg.specs.Message.{fault, front_fault, message_id}
 use Rattle.fsw_base.specs.declared.config.Scope.{Scope}
 use Rattle.fsw_base.specs.declared.statuses.SbStatus.{SbStatus}
 use Rattle.fsw_base.specs.declared.statuses.SbStatus.TheVariants.{BadArgument, MaxPipesMet, PipeCrErr, MaxMsgsMet, MaxDestsMet, MsgTooBig, BufAlocErr, NoMessage, BufferInvalid}
@@ -12,12 +12,12 @@ use Rattle.fsw_base.specs.PoolAccounts.{has_room}
 use Rattle.pool_words.specs.Grants.{Pools, pool_in, with_pool, after_create, after_get, after_put}
 use Rattle.pool_words.proofs.Following.{Follow, follows_create, follows_get, follows_put}
 use Rattle.bus_words.specs.declared.history.Call.{Call}
-use Rattle.bus_words.specs.declared.history.Call.TheVariants.{Create, Delete, SetOpts, GetOpts, Find, PipeName, Subscribe, Unsubscribe, Transmit, Receive, Pend, Look, PoolCreate, PoolGet, PoolPut, PoolFigures, End}
+use Rattle.bus_words.specs.declared.history.Call.TheVariants.{Create, Delete, SetOpts, GetOpts, Find, PipeName, Subscribe, Unsubscribe, Transmit, Receive, Pend, Look, Allocate, TransmitBuffer, Release, PoolCreate, PoolGet, PoolPut, PoolFigures, End}
 use Rattle.bus_words.specs.declared.history.Entry.{Entry}
-use Rattle.bus_words.specs.Bus.{Pipe, Subscription, State, Standing, Active, Waiting, Ended, Sending, opening, with_pipe, with_bits, with_standing, has_ended, is_empty, others_idle, route, is_subscribed, has_route, offered, deliver, is_in, verdict, item_for, after_receive, owns}
+use Rattle.bus_words.specs.Bus.{Pipe, Subscription, State, Standing, Active, Waiting, Ended, Sending, opening, with_pipe, with_bits, with_standing, has_ended, is_empty, others_idle, route, is_subscribed, has_route, offered, deliver, is_in, verdict, item_for, after_receive, owns, has_unsent, unsent_size}
 use Rattle.bus_words.specs.Held.{account_of, account_drawn}
 use Rattle.bus_words.specs.Refusals.{Refusal, OfBus, OfPools}
-use Rattle.bus_words.specs.Machine.{by_bus, delivered, created, deleted, unsubscribed, sent_along, received, ended, cause, create_cause, subscribe_cause, unowned_cause, set_opts_cause, unsubscribe_cause, transmit_cause, refused_if, accept, refused_state, decided, step, state_from, state_after}
+use Rattle.bus_words.specs.Machine.{by_bus, delivered, created, deleted, unsubscribed, sent_along, allocated, buffer_gone, passed_along, stamped, front_of, reads_after, received, ended, cause, create_cause, subscribe_cause, unowned_cause, set_opts_cause, unsubscribe_cause, transmit_cause, allocate_cause, transmit_buffer_cause, release_cause, refused_if, accept, refused_state, decided, step, state_from, state_after}
 
 -- Steps by cases. --
 
@@ -72,6 +72,23 @@ transmit_cause-none limits s bytes none some =
     not_false true is = refl
     not_false false is = absurd (true≢false is)
 
+-- a transmission that isn't refused is of an unsent buffer of the application's own
+pub transmit_buffer_cause-none : (s : State) (app buf : ℕ) (bytes : List ℕ) → transmit_buffer_cause s app buf bytes ≡ None → has_unsent s.unsent app buf ≡ true
+transmit_buffer_cause-none s app buf bytes none =
+    of_not (has_unsent s.unsent app buf) (refused_if-none (not (has_unsent s.unsent app buf)) BufferInvalid (refused_if (is_some (front_fault bytes)) BadArgument None) none).0
+  where
+    of_not : (b : Bool) → not b ≡ false → b ≡ true
+    of_not true is = refl
+    of_not false is = absurd (true≢false is)
+
+-- and so is a release
+pub release_cause-none : (s : State) (app buf : ℕ) → release_cause s app buf ≡ None → has_unsent s.unsent app buf ≡ true
+release_cause-none s app buf none = of_not (has_unsent s.unsent app buf) (refused_if-none (not (has_unsent s.unsent app buf)) BufferInvalid None none).0
+  where
+    of_not : (b : Bool) → not b ≡ false → b ≡ true
+    of_not true is = refl
+    of_not false is = absurd (true≢false is)
+
 -- a fact of a state that each change of it keeps
 pub record Keeps (F : State → Type 0) (limits : Limits) (s : State) (app : ℕ) : Type 0 where
   pub same : F s
@@ -87,6 +104,11 @@ pub record Keeps (F : State → Type 0) (limits : Limits) (s : State) (app : ℕ
   pub stands : (pipe : ℕ) (standing : Standing) → has_ended standing ≡ false → F (with_standing (received s pipe) app standing)
   pub ends : F (ended s app)
   pub pools : (next : Pools) → Follow s.pools next → F (record s { pools = next })
+  pub allocates : (size : ℕ) → allocate_cause limits s size ≡ None → F ((allocated limits s app size).1)
+  pub leaves : (buf : ℕ) → has_unsent s.unsent app buf ≡ true → F (buffer_gone s app buf)
+  pub passes : (sending : Sending) (id : ℕ) → sending.sender ≡ app → has_unsent s.unsent app sending.number ≡ true →
+      sending.asked ≡ unsent_size s.unsent app sending.number →
+      F (record (buffer_gone s app sending.number) { pipes = deliver sending (route s.subscriptions id) s.pipes })
 
 refused_receive : (F : State → Type 0) (s : State) (pipe : ℕ) (why : Refusal) → F s → F (received s pipe) → F (refused_state s (Receive pipe) why)
 refused_receive F s pipe (OfBus BadArgument) same receives = same
@@ -114,6 +136,9 @@ after_refusal F s (Transmit bytes inc) why same receives pools = same
 after_refusal F s (Receive pipe) why same receives pools = refused_receive F s pipe why same (receives pipe)
 after_refusal F s (Pend pipe) why same receives pools = same
 after_refusal F s (Look pipe) why same receives pools = same
+after_refusal F s (Allocate size) why same receives pools = same
+after_refusal F s (TransmitBuffer buf bytes inc) why same receives pools = same
+after_refusal F s (Release buf) why same receives pools = same
 after_refusal F s (PoolCreate bytes) why same receives pools = same
 after_refusal F s (PoolGet pool size) why same receives pools = same
 after_refusal F s (PoolPut pool grant) why same receives pools = pools (with_pool s.pools pool (after_put (pool_in s.pools pool) grant)) (follows_put s.pools pool grant)
@@ -128,6 +153,11 @@ after_send : (F : State → Type 0) (limits : Limits) (s : State) (sending : Sen
     ((length subs == 0) ≡ false → F (with_sent limits s sending subs)) → F ((sent_along limits subs sending s).1)
 after_send F limits s sending [] same sends = same
 after_send F limits s sending (sub ∷ subs) same sends = sends (ne_eqb (length (sub ∷ subs)) 0 (λ is. omega (arith, is)))
+
+after_passing : (F : State → Type 0) (s : State) (sending : Sending) (subs : List Subscription) → F s →
+    F (record s { pipes = deliver sending subs s.pipes }) → F ((passed_along subs sending s).1)
+after_passing F s sending [] gone passes = gone
+after_passing F s sending (sub ∷ subs) gone passes = passes
 
 pub after_choice : (F : State → Type 0) (test : Bool) (one other : State) → F one → F other → F (if test then one else other)
 after_choice F true one other first second = first
@@ -156,6 +186,13 @@ after_accepted F limits history s app (Pend pipe) none keeps =
 after_accepted F limits history s app (Look pipe) none keeps =
     after_choice F (is_empty s.pipes pipe && not (others_idle s app)) s (with_standing (received s pipe) app Active)
     keeps.same (keeps.stands pipe Active refl)
+after_accepted F limits history s app (Allocate size) none keeps = keeps.allocates size (by_bus-none (allocate_cause limits s size) none)
+after_accepted F limits history s app (TransmitBuffer buf bytes inc) none keeps =
+    let has = transmit_buffer_cause-none s app buf bytes (by_bus-none (transmit_buffer_cause s app buf bytes) none) in
+    let sending : Sending = record { sender = app; number = buf; asked = unsent_size s.unsent app buf; message = stamped (reads_after limits history) (front_of bytes) inc } in
+    after_passing F (buffer_gone s app buf) sending (route s.subscriptions (message_id bytes)) (keeps.leaves buf has)
+    (keeps.passes sending (message_id bytes) refl has refl)
+after_accepted F limits history s app (Release buf) none keeps = keeps.leaves buf (release_cause-none s app buf (by_bus-none (release_cause s app buf) none))
 after_accepted F limits history s app (PoolCreate bytes) none keeps = keeps.pools (after_create s.pools bytes) (follows_create s.pools bytes)
 after_accepted F limits history s app (PoolGet pool size) none keeps = keeps.pools (with_pool s.pools pool (after_get (pool_in s.pools pool) app size)) (follows_get s.pools pool app size)
 after_accepted F limits history s app (PoolPut pool grant) none keeps = keeps.pools (with_pool s.pools pool (after_put (pool_in s.pools pool) grant)) (follows_put s.pools pool grant)
@@ -198,6 +235,9 @@ length-standings-step limits history s app call =
       stands = λ pipe standing going. length-set s.standings (app - 1) standing;
       ends = length-set s.standings (app - 1) Ended;
       pools = λ next follows. refl;
+      allocates = λ size none. refl;
+      leaves = λ buf has. refl;
+      passes = λ sending id who has asked. refl;
     })
 
 -- after a history of so many applications there are so many standings
@@ -310,6 +350,12 @@ AreNumbered-step limits history s app call numbered =
         subscriptions = AreRising-filter (λ (x : Subscription). x.number) (λ x. not (owns s.pipes app x.pipe)) 0 s.subscriptions_made s.subscriptions numbered.subscriptions;
       };
       pools = λ next follows. record { pipes = numbered.pipes; subscriptions = numbered.subscriptions };
+      allocates = λ size none. record { pipes = numbered.pipes; subscriptions = numbered.subscriptions };
+      leaves = λ buf has. record { pipes = numbered.pipes; subscriptions = numbered.subscriptions };
+      passes = λ sending id who has asked. record {
+        pipes = subst (AreRising 0 s.pipes_created) (sym (pipe_numbers-deliver sending (route s.subscriptions id) s.pipes)) numbered.pipes;
+        subscriptions = numbered.subscriptions;
+      };
     })
 
 -- after every history
@@ -340,6 +386,9 @@ AtMostOneMore-step limits history s app call =
       stands = λ pipe standing going. record { pipes = omega arith; subscriptions = omega arith; numbers = omega arith };
       ends = record { pipes = omega arith; subscriptions = omega arith; numbers = omega arith };
       pools = λ next follows. record { pipes = omega arith; subscriptions = omega arith; numbers = omega arith };
+      allocates = λ size none. record { pipes = omega arith; subscriptions = omega arith; numbers = omega arith };
+      leaves = λ buf has. record { pipes = omega arith; subscriptions = omega arith; numbers = omega arith };
+      passes = λ sending id who has asked. record { pipes = omega arith; subscriptions = omega arith; numbers = omega arith };
     })
 
 -- the counts are at most so high

@@ -119,6 +119,12 @@ AreTied-step limits history s app call tied =
             (λ sub other is. any-rest (λ (pipe : Pipe). pipe.number == sub.pipe) (λ pipe. pipe.owner == app) s.pipes is (not_true (owns s.pipes app sub.pipe) other)) tied.live;
       };
       pools = λ next follows. record { pairs = tied.pairs; live = tied.live };
+      allocates = λ size none. record { pairs = tied.pairs; live = tied.live };
+      leaves = λ buf has. record { pairs = tied.pairs; live = tied.live };
+      passes = λ sending id who has asked. record {
+        pairs = tied.pairs;
+        live = live-same s.subscriptions s.pipes _ (pipe_numbers-deliver sending (route s.subscriptions id) s.pipes) tied.live;
+      };
     })
 
 -- after every history

@@ -9,7 +9,7 @@ use Rattle.ccsds_msg.specs.Message.{message_id}
 use Rattle.bus_words.specs.declared.calls.BusAnswer.{BusAnswer}
 use Rattle.bus_words.specs.declared.calls.BusAnswer.TheVariants.{Done, Sent}
 use Rattle.bus_words.specs.declared.history.Call.{Call}
-use Rattle.bus_words.specs.declared.history.Call.TheVariants.{Subscribe, Transmit}
+use Rattle.bus_words.specs.declared.history.Call.TheVariants.{Subscribe, Transmit, TransmitBuffer}
 use Rattle.bus_words.specs.declared.history.Entry.{Entry}
 use Rattle.bus_words.specs.Bus.{State, opening, has_route}
 use Rattle.bus_words.specs.Machine.{Reads, next_count, step_with}
@@ -48,6 +48,8 @@ first_next limits id = record { id = id; next = (start_of limits.starts id + 1) 
 abbrev pub nexts_after : Limits → List NextCount → Call → BusAnswer → List NextCount
 nexts_after limits nexts (Subscribe id pipe limit scope) Done = if has_next nexts id then nexts else nexts ++ first_next limits id ∷ []
 nexts_after limits nexts (Transmit bytes inc) (Sent number reached) =
+    if inc && nat_le 1 number then map (moved_on (message_id bytes)) nexts else nexts
+nexts_after limits nexts (TransmitBuffer buf bytes inc) (Sent number reached) =
     if inc && nat_le 1 number then map (moved_on (message_id bytes)) nexts else nexts
 nexts_after limits nexts call answer = nexts
 

@@ -1,6 +1,6 @@
 -- The state of the software bus (cFE Software Bus; packets by CCSDS 133.0-B, 4.1). Pipes keep copies of the
 -- messages sent to them; nothing here is shared.
-use Rattle.std.specs.Prelude.{◌≡◌, ℕ, ◌≤◌, All, ◌+◌, ◌-◌, ◌%◌, ◌==◌, ◌&&◌, nat_le, Bool, true, false, List, [], ◌∷◌, ◌++◌, length, drop, map, filter, find, count_by, replicate, slice_set, slice_index_or, Option, Some, None, if◌then◌else◌}
+use Rattle.std.specs.Prelude.{◌≡◌, ℕ, ◌≤◌, All, ◌+◌, ◌-◌, ◌%◌, ◌==◌, ◌&&◌, not, nat_le, Bool, true, false, List, [], ◌∷◌, ◌++◌, length, drop, map, filter, find, count_by, replicate, slice_set, slice_index_or, Option, Some, None, is_some, if◌then◌else◌}
 use Rattle.std.specs.List.{list_any, list_all}
 use Rattle.std.specs.Option.{option_map_or}
 use Rattle.std.specs.Str.{bytes_eq}
@@ -43,16 +43,24 @@ pub data Standing : Type 0 where
   -- it has ended
   Ended : Standing
 
+-- A buffer that an application was given and hasn't sent yet: the number that it will be sent under, and how many bytes were
+-- asked for.
+pub record Buffer : Type 0 where
+  pub number : ℕ
+  pub size : ℕ
+
 -- The bus: the live pipes and how many were created, the live subscriptions and how many were made, each in order of
--- number; the ids that have a route; how many send numbers were given; the standing of each application, from 1; the
--- memory pools of applications; and of the bus's own pool how many blocks of each size were made, which is the greatest
--- number that were ever out at once, and how many blocks were drawn, told up to 2^32 - 1.
+-- number; the ids that have a route; of each application, from 1, the buffers that it hasn't sent, the newest first; how
+-- many send numbers were given; the standing of each application, from 1; the memory pools of applications; and of the
+-- bus's own pool how many blocks of each size were made, which is the greatest number that were ever out at once, and how
+-- many blocks were drawn, told up to 2^32 - 1.
 pub record State : Type 0 where
   pub pipes : List Pipe
   pub pipes_created : ℕ
   pub subscriptions : List Subscription
   pub subscriptions_made : ℕ
   pub routed : List ℕ
+  pub unsent : List (List Buffer)
   pub numbers_given : ℕ
   pub standings : List Standing
   pub pools : Pools
@@ -67,6 +75,7 @@ opening limits apps = record {
   subscriptions = [];
   subscriptions_made = 0;
   routed = [];
+  unsent = replicate apps [];
   numbers_given = 0;
   standings = replicate apps Active;
   pools = record { most = limits.apppool; sizes = limits.sizes; pools = [] };
@@ -122,6 +131,34 @@ is_subscribed subscriptions id pipe = list_any (λ sub. sub.id == id && sub.pipe
 -- whether the id has a route
 abbrev pub has_route : List ℕ → ℕ → Bool
 has_route routed id = list_any (λ other. other == id) routed
+
+-- the buffers that an application hasn't sent
+abbrev pub unsent_of : List (List Buffer) → ℕ → List Buffer
+unsent_of unsent app = slice_index_or unsent (app - 1) []
+
+-- the unsent buffer of this number, where it is the application's
+abbrev pub unsent_at : List (List Buffer) → ℕ → ℕ → Option Buffer
+unsent_at unsent app number = find (λ buffer. buffer.number == number) (unsent_of unsent app)
+
+-- whether the application has an unsent buffer of this number
+abbrev pub has_unsent : List (List Buffer) → ℕ → ℕ → Bool
+has_unsent unsent app number = is_some (unsent_at unsent app number)
+
+-- its size; 0 where the application has no such buffer
+abbrev pub unsent_size : List (List Buffer) → ℕ → ℕ → ℕ
+unsent_size unsent app number = option_map_or (λ buffer. buffer.size) (unsent_at unsent app number) 0
+
+-- the buffers, with one more that the application was given
+abbrev pub with_unsent : List (List Buffer) → ℕ → Buffer → List (List Buffer)
+with_unsent unsent app buffer = slice_set unsent (app - 1) (buffer ∷ unsent_of unsent app)
+
+-- the buffers, without the application's of this number
+abbrev pub without_unsent : List (List Buffer) → ℕ → ℕ → List (List Buffer)
+without_unsent unsent app number = slice_set unsent (app - 1) (filter (λ buffer. not (buffer.number == number)) (unsent_of unsent app))
+
+-- the buffers, without all of the application's
+abbrev pub without_all_unsent : List (List Buffer) → ℕ → List (List Buffer)
+without_all_unsent unsent app = slice_set unsent (app - 1) []
 
 -- option bit 0x01: messages that the pipe's owner sends are not for it
 abbrev pub ignores_own : Pipe → Bool

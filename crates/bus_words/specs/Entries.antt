@@ -4,7 +4,7 @@ use Rattle.bus_words.specs.declared.calls.BusCall.{BusCall}
 use Rattle.bus_words.specs.declared.calls.BusCall.TheVariants as borrowed
 use Rattle.bus_words.specs.declared.calls.BusEntry.{BusEntry}
 use Rattle.bus_words.specs.declared.history.Call.{Call}
-use Rattle.bus_words.specs.declared.history.Call.TheVariants.{Create, Delete, SetOpts, GetOpts, Find, PipeName, Subscribe, Unsubscribe, Transmit, Receive, Pend, Look, PoolCreate, PoolGet, PoolPut, PoolFigures, End}
+use Rattle.bus_words.specs.declared.history.Call.TheVariants.{Create, Delete, SetOpts, GetOpts, Find, PipeName, Subscribe, Unsubscribe, Transmit, Receive, Pend, Look, Allocate, TransmitBuffer, Release, PoolCreate, PoolGet, PoolPut, PoolFigures, End}
 use Rattle.bus_words.specs.declared.history.Entry.{Entry}
 
 -- the call with its bytes
@@ -21,6 +21,9 @@ call_of (borrowed.Transmit bytes inc) = Transmit bytes.now inc
 call_of (borrowed.Receive pipe) = Receive pipe
 call_of (borrowed.Pend pipe) = Pend pipe
 call_of (borrowed.Look pipe) = Look pipe
+call_of (borrowed.Allocate size) = Allocate size
+call_of (borrowed.TransmitBuffer buf bytes inc) = TransmitBuffer buf bytes.now inc
+call_of (borrowed.Release buf) = Release buf
 call_of (borrowed.PoolCreate bytes) = PoolCreate bytes
 call_of (borrowed.PoolGet pool size) = PoolGet pool size
 call_of (borrowed.PoolPut pool grant) = PoolPut pool grant
@@ -31,7 +34,7 @@ call_of borrowed.End = End
 abbrev pub entry_of : BusEntry → Entry
 entry_of e = record { app = e.app; call = call_of e.call; answer = e.answer }
 
--- the bytes that a call brings: its name or its message
+-- the bytes that a call brings: its name, its message or its buffer
 abbrev pub call_text : Call → List ℕ
 call_text (Create depth name) = name
 call_text (Delete pipe) = []
@@ -45,6 +48,9 @@ call_text (Transmit bytes inc) = bytes
 call_text (Receive pipe) = []
 call_text (Pend pipe) = []
 call_text (Look pipe) = []
+call_text (Allocate size) = []
+call_text (TransmitBuffer buf bytes inc) = bytes
+call_text (Release buf) = []
 call_text (PoolCreate bytes) = []
 call_text (PoolGet pool size) = []
 call_text (PoolPut pool grant) = []

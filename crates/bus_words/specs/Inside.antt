@@ -3,7 +3,7 @@ use Rattle.std.specs.Prelude.{◌≡◌, ℕ, List, map}
 use Rattle.journal_store.specs.Store.{Stored}
 use Rattle.journal_store.specs.Store as store
 use Rattle.bus_words.specs.declared.history.Call.{Call}
-use Rattle.bus_words.specs.declared.history.Call.TheVariants.{Create, Delete, SetOpts, GetOpts, Find, PipeName, Subscribe, Unsubscribe, Transmit, Receive, Pend, Look, PoolCreate, PoolGet, PoolPut, PoolFigures, End}
+use Rattle.bus_words.specs.declared.history.Call.TheVariants.{Create, Delete, SetOpts, GetOpts, Find, PipeName, Subscribe, Unsubscribe, Transmit, Receive, Pend, Look, Allocate, TransmitBuffer, Release, PoolCreate, PoolGet, PoolPut, PoolFigures, End}
 use Rattle.bus_words.specs.declared.history.Entry.{Entry}
 use Rattle.bus_words.specs.declared.journal.Row.{Row}
 use Rattle.bus_words.specs.declared.journal.RowCall.{RowCall}
@@ -24,6 +24,9 @@ call_in (rows.Transmit inc) text = Transmit text inc
 call_in (rows.Receive pipe) text = Receive pipe
 call_in (rows.Pend pipe) text = Pend pipe
 call_in (rows.Look pipe) text = Look pipe
+call_in (rows.Allocate size) text = Allocate size
+call_in (rows.TransmitBuffer buf inc) text = TransmitBuffer buf text inc
+call_in (rows.Release buf) text = Release buf
 call_in (rows.PoolCreate bytes) text = PoolCreate bytes
 call_in (rows.PoolGet pool size) text = PoolGet pool size
 call_in (rows.PoolPut pool grant) text = PoolPut pool grant

@@ -1,30 +1,31 @@
 -- The bus as a machine: why a call is refused, what it answers and what it changes, and which histories are legal.
-use Rattle.std.specs.Prelude.{◌≡◌, ℕ, ◌+◌, ◌-◌, ◌%◌, ◌==◌, ◌&&◌, ◌||◌, not, nat_le, nat_lt, Bool, true, false, List, [], ◌∷◌, ◌++◌, length, filter, count_by, slice_set, Option, Some, None, is_some, IsTrue, if◌then◌else◌}
+use Rattle.std.specs.Prelude.{◌≡◌, ℕ, ◌+◌, ◌-◌, ◌%◌, ◌==◌, ◌&&◌, ◌||◌, not, nat_le, nat_lt, Bool, true, false, List, [], ◌∷◌, ◌++◌, length, take, filter, count_by, slice_set, Option, Some, None, is_some, IsTrue, if◌then◌else◌}
 use Rattle.std.specs.Option.{option_map, option_map_or}
 use Rattle.fsw_base.specs.declared.config.Scope.{Scope}
 use Rattle.fsw_base.specs.Limits.{Limits}
 use Rattle.fsw_base.specs.Starts.{start_of}
 use Rattle.fsw_base.specs.declared.statuses.SbStatus.{SbStatus}
-use Rattle.fsw_base.specs.declared.statuses.SbStatus.TheVariants.{BadArgument, MaxPipesMet, PipeCrErr, MaxMsgsMet, MaxDestsMet, MsgTooBig, BufAlocErr, NoMessage}
+use Rattle.fsw_base.specs.declared.statuses.SbStatus.TheVariants.{BadArgument, MaxPipesMet, PipeCrErr, MaxMsgsMet, MaxDestsMet, MsgTooBig, BufAlocErr, NoMessage, BufferInvalid}
 use Rattle.fsw_base.specs.declared.statuses.EsStatus.{EsStatus}
 use Rattle.fsw_base.specs.declared.statuses.EsStatus.TheVariants.{ErrMemBlockSize, BufferNotInPool, PoolBlockInvalid, NoPool}
 use Rattle.fsw_base.specs.PoolAccounts.{has_room}
 use Rattle.pool_words.specs.Grants.{is_pool, pool_in, with_pool, refuses_pool, after_create, was_given, is_among, after_get, after_put, figures_of, all_after_end}
-use Rattle.ccsds_msg.specs.Message.{fault, message_id, with_count, is_valid_id}
+use Rattle.ccsds_msg.specs.Message.{fault, front_fault, message_id, message_size, with_count, is_valid_id}
 use Rattle.bus_words.specs.declared.calls.BusAnswer.{BusAnswer}
 use Rattle.bus_words.specs.declared.calls.BusAnswer.TheVariants.{Done, Number, Name, Sent, Got, TimeOut, Pending, Pool}
 use Rattle.bus_words.specs.declared.history.Call.{Call}
-use Rattle.bus_words.specs.declared.history.Call.TheVariants.{Create, Delete, SetOpts, GetOpts, Find, PipeName, Subscribe, Unsubscribe, Transmit, Receive, Pend, Look, PoolCreate, PoolGet, PoolPut, PoolFigures, End}
+use Rattle.bus_words.specs.declared.history.Call.TheVariants.{Create, Delete, SetOpts, GetOpts, Find, PipeName, Subscribe, Unsubscribe, Transmit, Receive, Pend, Look, Allocate, TransmitBuffer, Release, PoolCreate, PoolGet, PoolPut, PoolFigures, End}
 use Rattle.bus_words.specs.declared.history.Entry.{Entry}
 use Rattle.bus_words.specs.Refusals.{Refusal, OfBus, OfPools, refusal_answer}
 use Rattle.bus_words.specs.Held.{account_of, account_drawn}
-use Rattle.bus_words.specs.Bus.{Pipe, Subscription, State, Standing, Active, Waiting, Ended, Sending, opening, standing_of, pipe_at, pipe_named, is_live, is_named, owns, with_pipe, with_bits, with_standing, route, is_subscribed, has_route, is_empty, others_idle, deliver, reached, oldest, after_receive}
+use Rattle.bus_words.specs.Bus.{Pipe, Subscription, Buffer, State, Standing, Active, Waiting, Ended, Sending, opening, standing_of, pipe_at, pipe_named, is_live, is_named, owns, with_pipe, with_bits, with_standing, route, is_subscribed, has_route, is_empty, others_idle, deliver, reached, oldest, after_receive, has_unsent, unsent_size, with_unsent, without_unsent, without_all_unsent}
 
 -- Sequence counts (CCSDS 133.0-B, 4.1.3.4.3). --
 
 -- whether this call, so answered, was an accepted send of the id that moved its count
 abbrev pub counts_for : ℕ → Call → BusAnswer → Bool
 counts_for id (Transmit bytes inc) (Sent number reached) = inc && (message_id bytes == id) && nat_le 1 number
+counts_for id (TransmitBuffer buf bytes inc) (Sent number reached) = inc && (message_id bytes == id) && nat_le 1 number
 counts_for id call answer = false
 
 -- the id's next count: its start, one for each accepted send of it that moved it, and one more, in 14 bits
@@ -47,6 +48,10 @@ stamped reads bytes inc = if inc then with_count bytes (reads.next (message_id b
 -- the message as it is delivered after a history
 abbrev pub delivered : Limits → List Entry → List ℕ → Bool → List ℕ
 delivered limits history bytes inc = stamped (reads_after limits history) bytes inc
+
+-- the message that a buffer's bytes begin with: as many of them as its header says (CCSDS 133.0-B, 4.1.3.5)
+abbrev pub front_of : List ℕ → List ℕ
+front_of bytes = take (message_size bytes) bytes
 
 -- Refusals. Each call has its own, in the order in which they are tried. --
 
@@ -98,6 +103,23 @@ receive_cause s app pipe =
     refused_if (not (owns s.pipes app pipe)) BadArgument
     (refused_if (is_empty s.pipes pipe) NoMessage None)
 
+-- a buffer of a size that a message may have, where the bus's pool has a block for it
+abbrev pub allocate_cause : Limits → State → ℕ → Option SbStatus
+allocate_cause limits s size =
+    refused_if (nat_lt size 7) BadArgument
+    (refused_if (nat_lt limits.msgmax size) MsgTooBig
+    (refused_if (not (has_room (account_of limits s) size)) BufAlocErr None))
+
+-- where the buffer isn't an unsent one of the application's own, or doesn't begin with a message
+abbrev pub transmit_buffer_cause : State → ℕ → ℕ → List ℕ → Option SbStatus
+transmit_buffer_cause s app buf bytes =
+    refused_if (not (has_unsent s.unsent app buf)) BufferInvalid
+    (refused_if (is_some (front_fault bytes)) BadArgument None)
+
+-- where the buffer isn't an unsent one of the application's own
+abbrev pub release_cause : State → ℕ → ℕ → Option SbStatus
+release_cause s app buf = refused_if (not (has_unsent s.unsent app buf)) BufferInvalid None
+
 abbrev pub pool_create_cause : State → ℕ → Option EsStatus
 pool_create_cause s bytes = refused_if (refuses_pool s.pools bytes) ErrMemBlockSize None
 
@@ -139,6 +161,9 @@ cause_with reads limits s app (Transmit bytes inc) = by_bus (transmit_cause limi
 cause_with reads limits s app (Receive pipe) = by_bus (receive_cause s app pipe)
 cause_with reads limits s app (Pend pipe) = by_bus (unowned_cause s app pipe)
 cause_with reads limits s app (Look pipe) = None
+cause_with reads limits s app (Allocate size) = by_bus (allocate_cause limits s size)
+cause_with reads limits s app (TransmitBuffer buf bytes inc) = by_bus (transmit_buffer_cause s app buf bytes)
+cause_with reads limits s app (Release buf) = by_bus (release_cause s app buf)
 cause_with reads limits s app (PoolCreate bytes) = by_pools (pool_create_cause s bytes)
 cause_with reads limits s app (PoolGet pool size) = by_pools (pool_get_cause s pool size)
 cause_with reads limits s app (PoolPut pool grant) = by_pools (pool_put_cause s pool grant)
@@ -213,6 +238,36 @@ transmitted reads limits s app bytes inc =
     sent_along limits (route s.subscriptions (message_id bytes))
     (record { sender = app; number = s.numbers_given + 1; asked = length bytes; message = stamped reads bytes inc }) s
 
+-- a buffer, whose number is one more than were given; its block is drawn
+abbrev pub allocated : Limits → State → ℕ → ℕ → BusAnswer × State
+allocated limits s app size = (
+  Number (s.numbers_given + 1),
+  record s {
+    unsent = with_unsent s.unsent app (record { number = s.numbers_given + 1; size = size });
+    numbers_given = s.numbers_given + 1;
+    made = (account_drawn limits s size).made;
+    drawn = (account_drawn limits s size).requests;
+  },
+)
+
+-- the bus once the application's buffer left
+abbrev pub buffer_gone : State → ℕ → ℕ → State
+buffer_gone s app buf = record s { unsent = without_unsent s.unsent app buf }
+
+-- what is sent of a buffer goes under the buffer's number, in the buffer's block; without a live subscription of its id it goes
+-- nowhere
+abbrev pub passed_along : List Subscription → Sending → State → BusAnswer × State
+passed_along [] sending s = (Sent 0 0, s)
+passed_along (sub ∷ subs) sending s =
+    (Sent sending.number (reached sending (sub ∷ subs) s.pipes), record s { pipes = deliver sending (sub ∷ subs) s.pipes })
+
+-- the buffer leaves, and the message that its bytes begin with is sent
+abbrev pub buffer_transmitted : Reads → State → ℕ → ℕ → List ℕ → Bool → BusAnswer × State
+buffer_transmitted reads s app buf bytes inc =
+    passed_along (route s.subscriptions (message_id bytes))
+    (record { sender = app; number = buf; asked = unsent_size s.unsent app buf; message = stamped reads (front_of bytes) inc })
+    (buffer_gone s app buf)
+
 -- the number of the oldest message that is queued on the pipe
 abbrev pub oldest_number : List Pipe → ℕ → ℕ
 oldest_number pipes number = option_map_or (λ pipe. option_map_or (λ item. item.number) (oldest pipe.queue) 0) (pipe_at pipes number) 0
@@ -256,11 +311,12 @@ pool_given s app pool size = (
 abbrev pub pool_returned : State → ℕ → ℕ → State
 pool_returned s pool grant = record s { pools = with_pool s.pools pool (after_put (pool_in s.pools pool) grant) }
 
--- the application's pipes with their subscriptions leave, and its grants come back
+-- the application's pipes with their subscriptions leave, and its unsent buffers; its grants come back
 abbrev pub ended : State → ℕ → State
 ended s app = record s {
   pipes = filter (λ pipe. not (pipe.owner == app)) s.pipes;
   subscriptions = filter (λ sub. not (owns s.pipes app sub.pipe)) s.subscriptions;
+  unsent = without_all_unsent s.unsent app;
   standings = slice_set s.standings (app - 1) Ended;
   pools = all_after_end app s.pools;
 }
@@ -278,6 +334,9 @@ accept_with reads limits s app (Transmit bytes inc) = transmitted reads limits s
 accept_with reads limits s app (Receive pipe) = (Got (oldest_number s.pipes pipe), received s pipe)
 accept_with reads limits s app (Pend pipe) = (pended_answer s app pipe, pended s app pipe)
 accept_with reads limits s app (Look pipe) = (pended_answer s app pipe, looked s app pipe)
+accept_with reads limits s app (Allocate size) = allocated limits s app size
+accept_with reads limits s app (TransmitBuffer buf bytes inc) = buffer_transmitted reads s app buf bytes inc
+accept_with reads limits s app (Release buf) = (Done, buffer_gone s app buf)
 accept_with reads limits s app (PoolCreate bytes) = pool_created s bytes
 accept_with reads limits s app (PoolGet pool size) = pool_given s app pool size
 accept_with reads limits s app (PoolPut pool grant) = (Done, pool_returned s pool grant)
@@ -336,14 +395,21 @@ abbrev pub makes_entry : Call → BusAnswer → Bool
 makes_entry (Look pipe) Pending = false
 makes_entry call answer = true
 
--- each entry's application may make its call, and is answered what the machine answers; no look stands there that found
--- nothing
+-- whether a call brings the bytes that it is about: the transmission of a buffer as many as the application's buffer has, and
+-- none where the application has no such buffer
+abbrev pub brings : List (List Buffer) → ℕ → Call → Bool
+brings unsent app (TransmitBuffer buf bytes inc) = length bytes == unsent_size unsent app buf
+brings unsent app call = true
+
+-- each entry's application may make its call, with the bytes that it is about, and is answered what the machine answers; no
+-- look stands there that found nothing
 abbrev pub LegalFrom : Limits → List Entry → State → List Entry → Type 0
 LegalFrom limits history s [] = Unit {0}
 LegalFrom limits history s (e ∷ es) =
     IsTrue (may_call (standing_of s e.app) e.call)
     × (e.answer ≡ (step limits history s e.app e.call).0)
     × IsTrue (makes_entry e.call e.answer)
+    × IsTrue (brings s.unsent e.app e.call)
     × LegalFrom limits (history ++ e ∷ []) ((step limits history s e.app e.call).1) es
 
 -- a history that the bus can have

@@ -81,6 +81,25 @@ pub enum BusCall<'a> {
         /// The pipe's number.
         pipe: u32,
     },
+    /// Asks for a buffer to write a message into.
+    Allocate {
+        /// How many bytes it is to have.
+        size: u32,
+    },
+    /// Sends the message that a buffer begins with; the buffer isn't the application's any more.
+    TransmitBuffer {
+        /// The buffer's number.
+        buf: u32,
+        /// All bytes of the buffer; none where the application has no such buffer.
+        bytes: &'a [u8],
+        /// Whether the message gets its id's next sequence count.
+        inc: bool,
+    },
+    /// Gives a buffer back unsent.
+    Release {
+        /// The buffer's number.
+        buf: u32,
+    },
     /// Creates a memory pool of applications.
     PoolCreate {
         /// Its bytes.
@@ -114,8 +133,8 @@ pub enum BusCall<'a> {
 pub enum BusAnswer {
     /// Done, with nothing to tell.
     Done,
-    /// The number of the pipe that was made or found, of the pool that was created, or of the
-    /// grant; or the option bits asked for.
+    /// The number of the pipe that was made or found, of the buffer, of the pool that was created,
+    /// or of the grant; or the option bits asked for.
     Number(u32),
     /// The name asked for.
     Name(PipeText),

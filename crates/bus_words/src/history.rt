@@ -82,6 +82,25 @@ pub enum Call {
         /// The pipe's number.
         pipe: u32,
     },
+    /// Asks for a buffer to write a message into.
+    Allocate {
+        /// How many bytes it is to have.
+        size: u32,
+    },
+    /// Sends the message that a buffer begins with.
+    TransmitBuffer {
+        /// The buffer's number.
+        buf: u32,
+        /// All bytes of the buffer; none where the application has no such buffer.
+        bytes: LinkedList<u8>,
+        /// Whether the message gets its id's next sequence count.
+        inc: bool,
+    },
+    /// Gives a buffer back unsent.
+    Release {
+        /// The buffer's number.
+        buf: u32,
+    },
     /// Creates a memory pool of applications.
     PoolCreate {
         /// Its bytes.

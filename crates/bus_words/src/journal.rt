@@ -1,6 +1,7 @@
 //! The journal of the bus: every call with its answer, in the order in which they took effect.
-ghost use Rattle.std.specs.Prelude.{◌≡◌, ◌+◌, ◌^◌, ◌<◌, ◌≤◌, [], length, slice_get, IfOk, Some};
+ghost use Rattle.std.specs.Prelude.{◌≡◌, ◌+◌, ◌^◌, ◌<◌, ◌≤◌, List, [], ◌∷◌, ◌++◌, length, slice_get, IfOk, Some};
 ghost use Rattle.journal_store.specs.Budgets.{AreBudgets, HasRoom, allowance_of, entries_left};
+ghost use Rattle.bus_words.specs.declared.history.Entry.{Entry};
 ghost use Rattle.bus_words.specs.Log.{Log, with_entry, left_of};
 ghost use Rattle.bus_words.specs.Entries.{call_of, entry_of, call_text, call_bytes};
 ghost use Rattle.bus_words.specs.Inside.{call_in};
@@ -52,6 +53,16 @@ enum RowCall {
     },
     Look {
         pipe: u32,
+    },
+    Allocate {
+        size: u32,
+    },
+    TransmitBuffer {
+        buf: u32,
+        inc: bool,
+    },
+    Release {
+        buf: u32,
     },
     PoolCreate {
         bytes: u32,
@@ -149,8 +160,8 @@ impl BusJournal {
         }
     }
 
-    /// Adds an entry at the end. Its application must have an entry left, and the bytes of its name
-    /// or message.
+    /// Adds an entry at the end. Its application must have an entry left, and the bytes of its
+    /// name, message or buffer.
     pub fn push(&mut self, entry: &BusEntry<'_>)
         requires { HasRoom (left_of self.old) entry.now.app (call_bytes (call_of entry.now.call)) }
         ensures { self.new ≡ with_entry self.old (entry_of entry.now) }
@@ -160,6 +171,19 @@ impl BusJournal {
             answer: entry.answer.again(),
         };
         self.store.push(entry.app, row, text_of(entry.call));
+    }
+
+    /// Gives the last entry another answer. Its application and its call stay, and so do all other
+    /// entries. There must be an entry.
+    pub fn set_answer(&mut self, answer: BusAnswer)
+        requires { 1 ≤ length self.old.entries }
+        ensures entries { (front : List Entry) (last : Entry) →
+            self.old.entries ≡ front ++ last ∷ [] →
+            self.new.entries ≡ front ++ (record last { answer = answer }) ∷ [] }
+        ensures budgets { self.new.budgets ≡ self.old.budgets }
+    {
+        let call = self.store.row(self.store.len() - 1).call;
+        self.store.replace_last(Row { call, answer });
     }
 }
 
@@ -190,6 +214,13 @@ fn call_with(call: RowCall, text: &[u8]) -> BusCall<'_>
         RowCall::Receive { pipe } => BusCall::Receive { pipe },
         RowCall::Pend { pipe } => BusCall::Pend { pipe },
         RowCall::Look { pipe } => BusCall::Look { pipe },
+        RowCall::Allocate { size } => BusCall::Allocate { size },
+        RowCall::TransmitBuffer { buf, inc } => BusCall::TransmitBuffer {
+            buf,
+            bytes: text,
+            inc,
+        },
+        RowCall::Release { buf } => BusCall::Release { buf },
         RowCall::PoolCreate { bytes } => BusCall::PoolCreate { bytes },
         RowCall::PoolGet { pool, size } => BusCall::PoolGet { pool, size },
         RowCall::PoolPut { pool, grant } => BusCall::PoolPut { pool, grant },
@@ -225,6 +256,9 @@ fn row_of(call: BusCall<'_>) -> RowCall
         BusCall::Receive { pipe } => RowCall::Receive { pipe },
         BusCall::Pend { pipe } => RowCall::Pend { pipe },
         BusCall::Look { pipe } => RowCall::Look { pipe },
+        BusCall::Allocate { size } => RowCall::Allocate { size },
+        BusCall::TransmitBuffer { buf, inc, .. } => RowCall::TransmitBuffer { buf, inc },
+        BusCall::Release { buf } => RowCall::Release { buf },
         BusCall::PoolCreate { bytes } => RowCall::PoolCreate { bytes },
         BusCall::PoolGet { pool, size } => RowCall::PoolGet { pool, size },
         BusCall::PoolPut { pool, grant } => RowCall::PoolPut { pool, grant },
@@ -239,7 +273,7 @@ fn text_of(call: BusCall<'_>) -> &[u8]
 {
     match call {
         BusCall::Create { name, .. } | BusCall::Find { name } => name,
-        BusCall::Transmit { bytes, .. } => bytes,
+        BusCall::Transmit { bytes, .. } | BusCall::TransmitBuffer { bytes, .. } => bytes,
         _ => &[],
     }
 }

@@ -3,16 +3,16 @@ ghost use Rattle.std.specs.Prelude.{◌≡◌, ℕ, ◌≤◌, List, [], ◌∷�
 ghost use Rattle.fsw_base.specs.Limits.{Limits};
 ghost use Rattle.bus_words.specs.declared.history.Call.{Call};
 ghost use Rattle.bus_words.specs.declared.history.Entry.{Entry};
-ghost use Rattle.bus_words.specs.Bus.{ArePools, State, opening, standing_of, has_ended, owns};
-ghost use Rattle.bus_words.specs.Held.{IsAccounted, HoldsNothing, held, block_of, account_of, bytes_in_use};
-ghost use Rattle.bus_words.specs.Machine.{reads_after, cause, cause_with, step, state_after, may_call, makes_entry, IsLegal};
+ghost use Rattle.bus_words.specs.Bus.{ArePools, State, opening, standing_of, has_ended, owns, unsent_of};
+ghost use Rattle.bus_words.specs.Held.{AreUnsent, IsAccounted, HoldsNothing, held, block_of, account_of, bytes_in_use};
+ghost use Rattle.bus_words.specs.Machine.{reads_after, cause, cause_with, step, state_after, may_call, makes_entry, brings, IsLegal};
 ghost use Rattle.bus_words.specs.Acts.{AreAlike, act, reads_in, whole_after, whole_of};
 ghost use Rattle.bus_words.specs.Runs.{callers, stepped, Follows};
 ghost use Rattle.bus_words.specs.Alone.{Received, Gives, unmade, solo_receipts, cut, gets_from, receipts};
 
 /// A legal history is a run: its calls, made in order from where the bus opens, give the same
-/// answers and the same bus again. And it goes on by any call that its application may make
-/// and that makes an entry, answered by the machine's step.
+/// answers and the same bus again. And it goes on by any call that its application may make, with
+/// the bytes that it is about, and that makes an entry, answered by the machine's step.
 pub fn histories_are_runs()
     ensures runs { (limits : Limits) (apps : ℕ) (history : List Entry) → IsLegal limits apps history
         →
@@ -22,7 +22,9 @@ pub fn histories_are_runs()
         IsLegal limits apps history →
         IsTrue (may_call (standing_of (state_after limits apps history) e.app) e.call) →
         e.answer ≡ (step limits history (state_after limits apps history) e.app e.call).0 →
-        IsTrue (makes_entry e.call e.answer) → Follows limits apps history e }
+        IsTrue (makes_entry e.call e.answer) →
+        IsTrue (brings (state_after limits apps history).unsent e.app e.call) →
+        Follows limits apps history e }
 {}
 
 /// Each pipe stands alone: what its owner receives is what a pipe gives that knows nothing of the
@@ -84,6 +86,14 @@ pub fn pools_are_counted()
         ArePools limits (length history) (state_after limits apps history).pools }
 {}
 
+/// The buffers that applications were given and haven't sent: there is a list for each application,
+/// no two buffers have one number, and each has a number that was given and that no pipe names, and
+/// a size that a message may have, 7 bytes up to the limit. Does nothing.
+pub fn buffers_are_apart()
+    ensures { (limits : Limits) (apps : ℕ) (history : List Entry) →
+        AreUnsent limits apps (state_after limits apps history) }
+{}
+
 /// The account of the bus's own pool adds up after every history: no more blocks of a size are out
 /// than were made, the pool's bytes pay for those that were made, and a block was drawn for each
 /// send number that was given. Does nothing.
@@ -92,20 +102,25 @@ pub fn draws_are_counted()
         IsAccounted limits (length history) (state_after limits apps history) }
 {}
 
-/// What is in use of the pool's bytes are the blocks for the sends that are held, one for each.
+/// What is in use of the pool's bytes are the blocks for the numbers that are held, one for each.
 /// Does nothing.
 pub fn bytes_are_of_sends()
     ensures { (limits : Limits) (s : State) → bytes_in_use (account_of limits s) ≡
-        sum_by (block_of limits.sizes s.pipes) (held s.pipes s.numbers_given) }
+        sum_by (block_of limits.sizes s.pipes s.unsent) (held s.pipes s.unsent s.numbers_given) }
 {}
 
-/// An application that has ended owns no live pipe. So where all have ended nothing is left: no
-/// pipe is live, no send is held, and every block of the bus's pool has come back. Does nothing.
+/// An application (they are numbered from 1) that has ended owns no live pipe and has no unsent
+/// buffer. So where all have ended nothing is left: no pipe is live, no number is held, and every
+/// block of the bus's pool has come back. Does nothing.
 pub fn ends_leave_nothing()
     ensures owners { (limits : Limits) (apps app pipe : ℕ) (history : List Entry) →
         IsLegal limits apps history →
         has_ended (standing_of (state_after limits apps history) app) ≡ true →
         owns (state_after limits apps history).pipes app pipe ≡ false }
+    ensures buffers { (limits : Limits) (apps app : ℕ) (history : List Entry) →
+        IsLegal limits apps history → 1 ≤ app →
+        has_ended (standing_of (state_after limits apps history) app) ≡ true →
+        unsent_of (state_after limits apps history).unsent app ≡ [] }
     ensures nothing { (limits : Limits) (apps : ℕ) (history : List Entry) →
         IsLegal limits apps history →
         ((app : ℕ) → 1 ≤ app → app ≤ apps →

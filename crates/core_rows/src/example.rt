@@ -31,8 +31,8 @@ pub enum Limit {
 /// An application's number, and what it does.
 pub type Step = (u32, Act);
 
-/// What an application does: a call of the bus, or a look at a receipt. A pipe, a memory pool and a
-/// grant stand by their numbers.
+/// What an application does: a call of the bus, bytes that it writes, or a look at a receipt. A
+/// pipe, a buffer, a memory pool and a grant stand by their numbers.
 pub enum Act {
     /// Makes a pipe of this depth and name.
     Create(u32, &'static [u8]),
@@ -60,6 +60,14 @@ pub enum Act {
     Pend(u32),
     /// Looks again, while it waits on a pipe.
     Look(u32),
+    /// Asks for a buffer of so many bytes.
+    Allocate(u32),
+    /// Writes these bytes over the first ones of a buffer of its own.
+    Put(u32, &'static [u8]),
+    /// Sends the message that a buffer begins with.
+    TransmitBuffer(u32),
+    /// Gives a buffer back unsent.
+    Release(u32),
     /// Creates a memory pool of so many bytes.
     PoolCreate(u32),
     /// Asks a pool for a grant of so many bytes.

@@ -1,13 +1,14 @@
 //! The examples.
 use crate::example::Act::{
-    Create, Delete, End, Find, GetOpts, Look, Pend, PipeName, PoolCreate, PoolFigures, PoolGet,
-    PoolPut, Receive, Send, SendRaw, SetOpts, Show, Subscribe, Unsubscribe,
+    Allocate, Create, Delete, End, Find, GetOpts, Look, Pend, PipeName, PoolCreate, PoolFigures,
+    PoolGet, PoolPut, Put, Receive, Release, Send, SendRaw, SetOpts, Show, Subscribe,
+    TransmitBuffer, Unsubscribe,
 };
 use crate::example::Example;
 use crate::example::Limit::{Dests, MsgIds, Pipes, Sizes, Start};
 
 /// The examples, in the order in which they are printed.
-pub static EXAMPLES: [Example; 16] = [
+pub static EXAMPLES: [Example; 17] = [
     Example {
         title: "a message limit",
         limits: &[],
@@ -310,6 +311,40 @@ pub static EXAMPLES: [Example; 16] = [
             (1, PoolCreate(48)),
             (1, PoolCreate(48)),
             (1, End),
+        ],
+    },
+    Example {
+        title: "buffers that are sent without a copy",
+        limits: &[Sizes(&[32, 64])],
+        apps: 2,
+        steps: &[
+            (1, Create(4, b"A")),
+            (1, Subscribe(0x0801, 1, 4)),
+            (2, Create(4, b"B")),
+            (2, Subscribe(0x0801, 2, 4)),
+            (1, Allocate(6)),
+            (1, Allocate(32769)),
+            (1, Allocate(65)),
+            (1, Allocate(16)),
+            (1, TransmitBuffer(1)),
+            (1, Put(1, &[0x08, 0x01, 0xc0, 0x00, 0x00, 0x01, 0x0b, 0x16])),
+            (2, TransmitBuffer(1)),
+            (2, Release(1)),
+            (1, TransmitBuffer(2)),
+            (1, TransmitBuffer(1)),
+            (1, TransmitBuffer(1)),
+            (1, Receive(1)),
+            (2, Receive(2)),
+            (1, Allocate(8)),
+            (1, Release(2)),
+            (1, Release(2)),
+            (1, Allocate(7)),
+            (1, Put(3, &[0x08, 0x02, 0xc0, 0x00, 0x00, 0x00, 0x16])),
+            (1, TransmitBuffer(3)),
+            (1, Allocate(7)),
+            (1, End),
+            (2, TransmitBuffer(4)),
+            (2, End),
         ],
     },
 ];

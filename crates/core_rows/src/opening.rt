@@ -4,11 +4,14 @@ ghost use Rattle.journal_store.specs.Budgets.{AreBudgets};
 use crate::example::Limit;
 use fsw_base::{BlockSizes, Budget, Config, CountStarts};
 
+/// How many buffers each application may have at once: more than any example asks for.
+pub const BUFFERS: u32 = 16;
+
 // What each application may add: more than any example asks for.
 const BUDGET: Budget = Budget {
     entries: 1000,
     bytes: 1_000_000,
-    buffers: 0,
+    buffers: BUFFERS,
 };
 
 // The budgets of as many applications as there can be.

@@ -1,15 +1,16 @@
 //! A bus that examples are played on.
-ghost use Rattle.std.specs.Prelude.{◌≡◌, ◌+◌, ◌*◌, ◌≤◌, ◌↔◌, true, length, replicate, IfOk, IsTrue};
+ghost use Rattle.std.specs.Prelude.{◌≡◌, ℕ, ◌+◌, ◌*◌, ◌≤◌, ◌↔◌, true, length, replicate, IfOk, IsTrue};
 ghost use Rattle.ccsds_msg.specs.Message.{message_id};
 ghost use Rattle.bus_words.specs.Bus.{route};
 ghost use Rattle.bus_words.specs.Entries.{call_of};
 ghost use Rattle.sb_calls.specs.Core.{MayCall, state_of};
-ghost use Rattle.core_rows.specs.Bags.{empty_bag};
+ghost use Rattle.buf_desc.specs.Held.{bytes_at};
+ghost use Rattle.core_rows.specs.Bags.{IsWrittenOver, empty_bag};
 
-use crate::opening::budgets;
+use crate::opening::{BUFFERS, budgets};
 use crate::playing::make;
 use bucket_list::{Ledger, Steps};
-use buf_desc::Held;
+use buf_desc::{Held, recall_written};
 use bus_words::{BusAnswer, BusCall, BusJournal, Call, Receipt};
 use ccsds_msg::read_header;
 use fsw_base::{AppNo, Config, MAX_MESSAGE_BYTES};
@@ -75,6 +76,36 @@ impl<'r> PlayedBus<'r> {
         make(&mut self.core, app, call, &mut self.bags[place], steps)
     }
 
+    /// Has the application send the message that a buffer of its own begins with, as its bag has
+    /// the bytes; whether it may do so now.
+    pub fn transmit_buffer<L: Ledger>(
+        &mut self,
+        app: AppNo,
+        buf: u32,
+        steps: &mut Steps<L>,
+    ) -> bool {
+        let place = (app.get() - 1) as usize;
+        if self.bags.len() <= place {
+            return false;
+        }
+        let may = may_transmit(&self.core, app, buf, &self.bags[place]);
+        if may {
+            let _ = self
+                .core
+                .transmit_buffer(app, buf, true, &mut self.bags[place], steps);
+        }
+        may
+    }
+
+    /// Writes bytes over the first ones of the application's buffer; nothing where they don't fit,
+    /// or it has no such buffer.
+    pub fn put(&mut self, app: AppNo, buf: u32, bytes: &[u8]) {
+        let place = (app.get() - 1) as usize;
+        if place < self.bags.len() {
+            put_in(&mut self.bags[place], buf, bytes);
+        }
+    }
+
     /// Has the application send a message, which it may do now; how many pipes it reached. At most
     /// 4 steps for each subscription of its id, and 32 more.
     pub fn send<L: Ledger>(&mut self, app: AppNo, message: &[u8], steps: &mut Steps<L>) -> u32
@@ -107,13 +138,44 @@ impl<'r> PlayedBus<'r> {
     }
 }
 
-// So many empty bags, each with room for the views of so many pipes.
+// Whether the application may send this buffer of its bag now.
+fn may_transmit(core: &BusCore<'_>, app: AppNo, buf: u32, held: &Held<'_>) -> bool
+    ensures { IsTrue result ↔
+        MayCall core.now app (Call.TransmitBuffer buf (bytes_at held.now buf) true) }
+{
+    let bytes = match held.buffer(buf) {
+        Some(block) => block.bytes(),
+        None => &[],
+    };
+    let call = BusCall::TransmitBuffer {
+        buf,
+        bytes,
+        inc: true,
+    };
+    core.may_make(app, &call)
+}
+
+// Writes bytes over the first ones of a buffer in a bag, where it is there and they fit.
+fn put_in(held: &mut Held<'_>, buf: u32, bytes: &[u8])
+    ensures { IsWrittenOver held.old held.new }
+{
+    // Does nothing; the proof learns of it that the other buffers stay.
+    recall_written();
+    if held.buffer(buf).is_some() {
+        let target = held.bytes_of_mut(buf);
+        if bytes.len() <= target.len() {
+            target[..bytes.len()].copy_from_slice(bytes);
+        }
+    }
+}
+
+// So many empty bags, each with room for the views of so many pipes, and for `BUFFERS` buffers.
 fn empty_bags<'r>(alloc: Global, count: u32, pipes: u32) -> Result<Vec<Held<'r>>, AllocError>
-    ensures { IfOk result (λ bags. bags.items ≡ replicate count (empty_bag pipes)) }
+    ensures { IfOk result (λ bags. bags.items ≡ replicate count (empty_bag pipes 16)) }
 {
     let mut bags = Vec::with_capacity(alloc, count as usize)?;
     for _bag in 0..count {
-        let bag: Held<'r> = Held::new(alloc, pipes, 0)?;
+        let bag: Held<'r> = Held::new(alloc, pipes, BUFFERS)?;
         bags.push_reserved(bag);
     }
     Ok(bags)

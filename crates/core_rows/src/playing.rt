@@ -39,7 +39,7 @@ pub fn play<L: Ledger>(
         return Outcome::NotAllowed;
     };
     let Some(call) = call_of(act, buffer) else {
-        return shown(played, app, act);
+        return played_apart(played, app, act, steps);
     };
     if !played.may_make(app, &call) {
         return Outcome::NotAllowed;
@@ -48,7 +48,9 @@ pub fn play<L: Ledger>(
     outcome_of_call(played, app, act)
 }
 
-/// Makes the call, which the application may make now, with its bag; whether it was accepted.
+/// Makes the call, which the application may make now, with its bag; whether it was accepted. False
+/// for one that sends a buffer, whose bytes are the bag's, and where the bag has no room for a
+/// buffer.
 pub fn make<'r, L: Ledger>(
     core: &mut BusCore<'r>,
     app: AppNo,
@@ -66,6 +68,10 @@ pub fn make<'r, L: Ledger>(
         BusCall::Receive { pipe } => core.receive(app, pipe, held, steps).is_ok(),
         BusCall::Pend { pipe } => core.pend(app, pipe, held, steps).is_ok(),
         BusCall::Look { pipe: _ } => core.look(app, held) != Pended::Pending,
+        BusCall::Allocate { size } => {
+            held.buffer_room() != 0 && core.allocate(app, size, held, steps).is_ok()
+        }
+        BusCall::Release { buf } => core.release(app, buf, held, steps).is_ok(),
         BusCall::End => {
             core.end(app, held, steps);
             true
@@ -106,11 +112,15 @@ fn make_without_bag<L: Ledger>(
         | BusCall::Receive { .. }
         | BusCall::Pend { .. }
         | BusCall::Look { .. }
+        | BusCall::Allocate { .. }
+        | BusCall::TransmitBuffer { .. }
+        | BusCall::Release { .. }
         | BusCall::End => false,
     }
 }
 
-// The call of the bus that this is; None where it is none.
+// The call of the bus that this is; None where it is none, or is one that takes its bytes from the
+// bag.
 fn call_of<'b>(act: &Act, buffer: &'b mut [u8]) -> Option<BusCall<'b>> {
     Some(match act {
         Act::Create(depth, name) => BusCall::Create {
@@ -143,6 +153,8 @@ fn call_of<'b>(act: &Act, buffer: &'b mut [u8]) -> Option<BusCall<'b>> {
         Act::Receive(pipe) => BusCall::Receive { pipe: *pipe },
         Act::Pend(pipe) => BusCall::Pend { pipe: *pipe },
         Act::Look(pipe) => BusCall::Look { pipe: *pipe },
+        Act::Allocate(size) => BusCall::Allocate { size: *size },
+        Act::Release(buf) => BusCall::Release { buf: *buf },
         Act::PoolCreate(bytes) => BusCall::PoolCreate { bytes: *bytes },
         Act::PoolGet(pool, size) => BusCall::PoolGet {
             pool: *pool,
@@ -154,6 +166,8 @@ fn call_of<'b>(act: &Act, buffer: &'b mut [u8]) -> Option<BusCall<'b>> {
         },
         Act::PoolFigures(pool) => BusCall::PoolFigures { pool: *pool },
         Act::End => BusCall::End,
+        Act::TransmitBuffer(_) => return None,
+        Act::Put(_, _) => return None,
         Act::Show(_) => return None,
     })
 }
@@ -178,13 +192,23 @@ fn fill_payload(payload: &mut [u8], fill: u8) {
     }
 }
 
-// What a look at a pipe's last message tells.
-fn shown(played: &PlayedBus<'_>, app: AppNo, act: &Act) -> Outcome {
+// Plays a step that is no call, or one that takes its bytes from the bag.
+fn played_apart<L: Ledger>(
+    played: &mut PlayedBus<'_>,
+    app: AppNo,
+    act: &Act,
+    steps: &mut Steps<L>,
+) -> Outcome {
     match act {
         Act::Show(pipe) => {
             let receipt = played.last_receipt(app, *pipe);
             Outcome::Seen(app, receipt.unwrap_or(Receipt::Nothing))
         }
+        Act::Put(buf, bytes) => {
+            played.put(app, *buf, bytes);
+            Outcome::Entry
+        }
+        Act::TransmitBuffer(buf) if played.transmit_buffer(app, *buf, steps) => Outcome::Entry,
         _ => Outcome::NotAllowed,
     }
 }

@@ -162,8 +162,8 @@ Completes result fed fed' old new =
 
 -- The headline of runs in rotation: where all was done, the whole input was read and is a script, and there is a
 -- history that the bus can have under the script's limits, that merges the calls of the script's applications, each once
--- and in order, behind which no message is held and no byte of the bus's pool in use, that the audit was shown, and of
--- which the report was written.
+-- and in order, behind which no pipe is live, no message and no buffer is held and no byte of the bus's pool in use, that the
+-- audit was shown, and of which the report was written.
 abbrev pub Headline : HostStatus → Fed → Fed → Made → Made → Type 0
 Headline result fed fed' old new =
     result ≡ status.Done → (bytes : List ℕ) × (script : ScriptText) × (history : List Entry)

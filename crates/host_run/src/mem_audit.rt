@@ -185,7 +185,7 @@ fn byte_count(call: BusCall<'_>) -> usize
 {
     match call {
         BusCall::Create { name, .. } | BusCall::Find { name } => name.len(),
-        BusCall::Transmit { bytes, .. } => bytes.len(),
+        BusCall::Transmit { bytes, .. } | BusCall::TransmitBuffer { bytes, .. } => bytes.len(),
         BusCall::Delete { .. }
         | BusCall::SetOpts { .. }
         | BusCall::GetOpts { .. }
@@ -195,6 +195,8 @@ fn byte_count(call: BusCall<'_>) -> usize
         | BusCall::Receive { .. }
         | BusCall::Pend { .. }
         | BusCall::Look { .. }
+        | BusCall::Allocate { .. }
+        | BusCall::Release { .. }
         | BusCall::PoolCreate { .. }
         | BusCall::PoolGet { .. }
         | BusCall::PoolPut { .. }

@@ -148,6 +148,19 @@ impl<R: Drop> JournalStore<R> {
             len: text.len() as u32,
         });
     }
+
+    /// Gives the last row another content. Its application and its bytes stay, and so do all other
+    /// rows. There must be a row.
+    pub fn replace_last(&mut self, row: R)
+        requires { 1 ≤ length self.old.rows }
+        ensures rows { (front : List (Stored R)) (last : Stored R) →
+            self.old.rows ≡ front ++ last ∷ [] →
+            self.new.rows ≡ front ++ (record last { row = row }) ∷ [] }
+        ensures budgets { self.new.budgets ≡ self.old.budgets }
+    {
+        let last = self.rows.len() - 1;
+        self.rows[last].row = row;
+    }
 }
 
 // Takes one row of so many bytes from what the application may add.

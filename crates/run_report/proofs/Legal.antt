@@ -4,17 +4,22 @@ use Rattle.std.proofs.lemmas.List.Elements.{All-cons, All-nil}
 use Rattle.fsw_base.specs.Limits.{Limits}
 use Rattle.bus_words.specs.declared.calls.BusAnswer.TheVariants.{Got, TimeOut, Pending}
 use Rattle.bus_words.specs.declared.history.Call.{Call}
-use Rattle.bus_words.specs.declared.history.Call.TheVariants.{Create, Delete, SetOpts, GetOpts, Find, PipeName, Subscribe, Unsubscribe, Transmit, Receive, Pend, Look, PoolCreate, PoolGet, PoolPut, PoolFigures, End}
+use Rattle.bus_words.specs.declared.history.Call.TheVariants.{Create, Delete, SetOpts, GetOpts, Find, PipeName, Subscribe, Unsubscribe, Transmit, Receive, Pend, Look, Allocate, TransmitBuffer, Release, PoolCreate, PoolGet, PoolPut, PoolFigures, End}
 use Rattle.bus_words.specs.declared.history.Entry.{Entry}
 use Rattle.bus_words.specs.Bus.{State, Sending, Subscription, is_empty, others_idle}
 use Rattle.bus_words.specs.Refusals.{Refusal, OfBus, OfPools, refusal_answer}
-use Rattle.bus_words.specs.Machine.{cause, decided, sent_along, step, LegalFrom}
+use Rattle.bus_words.specs.Machine.{cause, decided, sent_along, passed_along, step, LegalFrom}
 use Rattle.run_report.specs.ReadBack.{can_answer}
 
 sent_answer : (limits : Limits) (bytes : List ℕ) (inc : Bool) (subs : List Subscription) (sending : Sending) (s : State) →
     can_answer (Transmit bytes inc) (sent_along limits subs sending s).0 ≡ true
 sent_answer limits bytes inc [] sending s = refl
 sent_answer limits bytes inc (sub ∷ subs) sending s = refl
+
+passed_answer : (buf : ℕ) (bytes : List ℕ) (inc : Bool) (subs : List Subscription) (sending : Sending) (s : State) →
+    can_answer (TransmitBuffer buf bytes inc) (passed_along subs sending s).0 ≡ true
+passed_answer buf bytes inc [] sending s = refl
+passed_answer buf bytes inc (sub ∷ subs) sending s = refl
 
 -- any call may be refused
 refused_answer : (call : Call) (why : Refusal) → can_answer call (refusal_answer why) ≡ true
@@ -42,6 +47,12 @@ refused_answer (Pend pipe) (OfBus status) = refl
 refused_answer (Pend pipe) (OfPools status) = refl
 refused_answer (Look pipe) (OfBus status) = refl
 refused_answer (Look pipe) (OfPools status) = refl
+refused_answer (Allocate size) (OfBus status) = refl
+refused_answer (Allocate size) (OfPools status) = refl
+refused_answer (TransmitBuffer buf bytes inc) (OfBus status) = refl
+refused_answer (TransmitBuffer buf bytes inc) (OfPools status) = refl
+refused_answer (Release buf) (OfBus status) = refl
+refused_answer (Release buf) (OfPools status) = refl
 refused_answer (PoolCreate bytes) (OfBus status) = refl
 refused_answer (PoolCreate bytes) (OfPools status) = refl
 refused_answer (PoolGet pool size) (OfBus status) = refl
@@ -79,6 +90,9 @@ decided_answer limits history s app (Transmit bytes inc) None = sent_answer limi
 decided_answer limits history s app (Receive pipe) None = refl
 decided_answer limits history s app (Pend pipe) None = pended_can pipe _ (not (is_empty s.pipes pipe)) (others_idle s app)
 decided_answer limits history s app (Look pipe) None = looked_can pipe _ (not (is_empty s.pipes pipe)) (others_idle s app)
+decided_answer limits history s app (Allocate size) None = refl
+decided_answer limits history s app (TransmitBuffer buf bytes inc) None = passed_answer buf bytes inc _ _ _
+decided_answer limits history s app (Release buf) None = refl
 decided_answer limits history s app (PoolCreate bytes) None = refl
 decided_answer limits history s app (PoolGet pool size) None = refl
 decided_answer limits history s app (PoolPut pool grant) None = refl
@@ -90,4 +104,4 @@ legal_answers limits history s [] legal = All-nil (λ (e : Entry). IsTrue (can_a
 legal_answers limits history s (e ∷ es) legal =
     All-cons (λ (x : Entry). IsTrue (can_answer x.call x.answer)) e es
     (ap (can_answer e.call) legal.1 ∙ decided_answer limits history s e.app e.call (cause limits history s e.app e.call))
-    (legal_answers limits (history ++ e ∷ []) ((step limits history s e.app e.call).1) es legal.3)
+    (legal_answers limits (history ++ e ∷ []) ((step limits history s e.app e.call).1) es legal.4)

@@ -17,7 +17,7 @@ use Rattle.fsw_base.specs.Statuses.{sb_name, es_name}
 use Rattle.bus_words.specs.declared.calls.BusAnswer.{BusAnswer}
 use Rattle.bus_words.specs.declared.calls.BusAnswer.TheVariants.{Done, Number, Name, Sent, Got, TimeOut, Pending, Pool, Sb, Es}
 use Rattle.bus_words.specs.declared.history.Call.{Call}
-use Rattle.bus_words.specs.declared.history.Call.TheVariants.{Create, Delete, SetOpts, GetOpts, Find, PipeName, Subscribe, Unsubscribe, Transmit, Receive, Pend, Look, PoolCreate, PoolGet, PoolPut, PoolFigures, End}
+use Rattle.bus_words.specs.declared.history.Call.TheVariants.{Create, Delete, SetOpts, GetOpts, Find, PipeName, Subscribe, Unsubscribe, Transmit, Receive, Pend, Look, Allocate, TransmitBuffer, Release, PoolCreate, PoolGet, PoolPut, PoolFigures, End}
 use Rattle.bus_words.specs.declared.history.Entry.{Entry}
 use Rattle.text_page.specs.Texts.{name_text, numbered}
 use Rattle.run_report.specs.BusText.{scope_text, mode_text, call_text, figures_text, answer_text, entry_text}
@@ -282,6 +282,9 @@ telling (Transmit bytes inc) = ASending
 telling (Receive pipe) = AMessage
 telling (Pend pipe) = AMessage
 telling (Look pipe) = AMessage
+telling (Allocate size) = ANumber
+telling (TransmitBuffer buf bytes inc) = ASending
+telling (Release buf) = NoMore
 telling (PoolCreate bytes) = ANumber
 telling (PoolGet pool size) = ANumber
 telling (PoolPut pool grant) = NoMore
@@ -319,6 +322,9 @@ can_tell (Transmit bytes inc) (Sent number reached) can = refl
 can_tell (Receive pipe) (Got number) can = refl
 can_tell (Pend pipe) (Got number) can = refl
 can_tell (Look pipe) (Got number) can = refl
+can_tell (Allocate size) (Number number) can = refl
+can_tell (TransmitBuffer buf bytes inc) (Sent number reached) can = refl
+can_tell (Release buf) Done can = refl
 can_tell (PoolCreate bytes) (Number number) can = refl
 can_tell (PoolGet pool size) (Number number) can = refl
 can_tell (PoolPut pool grant) Done can = refl
@@ -375,9 +381,21 @@ behind_word u v x y one other e = (split_once 33 32 u v x y (omega arith) one ot
 behind_number : (m n : ℕ) (x y : List ℕ) → decimal m ++ 32 ∷ x ≡ decimal n ++ 32 ∷ y → x ≡ y
 behind_number m n x y e = behind_word (decimal m) (decimal n) x y (word m) (word n) e
 
--- the first two bytes of a text, as a number that tells the words for calls apart
+-- four words, with blanks between and behind them
+split_four : (a b u v w z s t x y : List ℕ) → above 33 a ≡ true → above 33 b ≡ true → above 33 u ≡ true → above 33 v ≡ true → above 33 w ≡ true → above 33 z ≡ true →
+    above 33 s ≡ true → above 33 t ≡ true →
+    (((((a ++ 32 ∷ []) ++ u) ++ 32 ∷ []) ++ w) ++ 32 ∷ []) ++ s ++ 32 ∷ x ≡ (((((b ++ 32 ∷ []) ++ v) ++ 32 ∷ []) ++ z) ++ 32 ∷ []) ++ t ++ 32 ∷ y → x ≡ y
+split_four a b u v w z s t x y number other one two three four five six same =
+    let rest : a ++ 32 ∷ ((u ++ 32 ∷ []) ++ w ++ 32 ∷ [] ++ s ++ 32 ∷ x) ≡ b ++ 32 ∷ ((v ++ 32 ∷ []) ++ z ++ 32 ∷ [] ++ t ++ 32 ∷ y) =
+    regroup a u w s x ∙ same ∙ sym (regroup b v z t y) in
+    split_thrice u v w z s t x y one two three four five six (behind_word a b _ _ number other rest)
+  where
+    regroup : (a u w s x : List ℕ) → a ++ 32 ∷ ((u ++ 32 ∷ []) ++ w ++ 32 ∷ [] ++ s ++ 32 ∷ x) ≡ (((((a ++ 32 ∷ []) ++ u) ++ 32 ∷ []) ++ w) ++ 32 ∷ []) ++ s ++ 32 ∷ x
+    regroup a u w s x = simp append_assoc
+
+-- the first three bytes of a text, as a number that tells the words for calls apart
 abbrev beginning : List ℕ → ℕ
-beginning text = get_or text 0 0 + 128 * get_or text 1 0
+beginning text = get_or text 0 0 + 128 * get_or text 1 0 + 16384 * get_or text 2 0
 
 call_tells : (c d : Call) (x y : List ℕ) → has_plain_name c ≡ true → has_plain_name d ≡ true → call_text c ++ 32 ∷ x ≡ call_text d ++ 32 ∷ y → Tells c d x y
 call_tells (Create depth name) (Create height title) x y plain clear e = record {
@@ -409,6 +427,13 @@ call_tells (Transmit bytes inc) (Transmit octets move) x y plain clear e = recor
 call_tells (Receive pipe) (Receive tube) x y plain clear e = record { kind = refl; rest = behind_number pipe tube x y (cc e) }
 call_tells (Pend pipe) (Pend tube) x y plain clear e = record { kind = refl; rest = behind_number pipe tube x y (cc e) }
 call_tells (Look pipe) (Look tube) x y plain clear e = record { kind = refl; rest = behind_number pipe tube x y (cc e) }
+call_tells (Allocate size) (Allocate least) x y plain clear e = record { kind = refl; rest = behind_number size least x y (cc e) }
+call_tells (TransmitBuffer buf bytes inc) (TransmitBuffer block octets move) x y plain clear e = record {
+  kind = refl;
+  rest = split_four (decimal buf) (decimal block) (decimal (length bytes)) (decimal (length octets)) (decimal (sum bytes)) (decimal (sum octets)) (mode_text inc) (mode_text move) x y
+      (word buf) (word block) (word (length bytes)) (word (length octets)) (word (sum bytes)) (word (sum octets)) (mode_word inc) (mode_word move) (cc e);
+}
+call_tells (Release buf) (Release block) x y plain clear e = record { kind = refl; rest = behind_number buf block x y (cc e) }
 call_tells (PoolCreate bytes) (PoolCreate octets) x y plain clear e = record { kind = refl; rest = behind_number bytes octets x y (cc e) }
 call_tells (PoolGet pool size) (PoolGet store least) x y plain clear e = record {
   kind = refl;

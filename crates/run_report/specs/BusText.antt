@@ -7,7 +7,7 @@ use Rattle.fsw_base.specs.Statuses.{sb_name, es_name}
 use Rattle.bus_words.specs.declared.calls.BusAnswer.{BusAnswer}
 use Rattle.bus_words.specs.declared.calls.BusAnswer.TheVariants.{Done, Number, Name, Sent, Got, TimeOut, Pending, Pool, Sb, Es}
 use Rattle.bus_words.specs.declared.history.Call.{Call}
-use Rattle.bus_words.specs.declared.history.Call.TheVariants.{Create, Delete, SetOpts, GetOpts, Find, PipeName, Subscribe, Unsubscribe, Transmit, Receive, Pend, Look, PoolCreate, PoolGet, PoolPut, PoolFigures, End}
+use Rattle.bus_words.specs.declared.history.Call.TheVariants.{Create, Delete, SetOpts, GetOpts, Find, PipeName, Subscribe, Unsubscribe, Transmit, Receive, Pend, Look, Allocate, TransmitBuffer, Release, PoolCreate, PoolGet, PoolPut, PoolFigures, End}
 use Rattle.bus_words.specs.declared.history.Entry.{Entry}
 use Rattle.text_page.specs.Texts.{hex_id, name_text, numbered}
 
@@ -20,7 +20,7 @@ abbrev pub mode_text : Bool → List ℕ
 mode_text true = codes "inc"
 mode_text false = codes "keep"
 
--- a call; of a message its size and the sum of its bytes
+-- a call; of a message or a buffer its size and the sum of its bytes
 abbrev pub call_text : Call → List ℕ
 call_text (Create depth name) = codes "create " ++ decimal depth ++ codes " " ++ name_text name
 call_text (Delete pipe) = codes "delete " ++ decimal pipe
@@ -36,6 +36,10 @@ call_text (Transmit bytes inc) =
 call_text (Receive pipe) = codes "recv " ++ decimal pipe
 call_text (Pend pipe) = codes "pend " ++ decimal pipe
 call_text (Look pipe) = codes "look " ++ decimal pipe
+call_text (Allocate size) = codes "alloc " ++ decimal size
+call_text (TransmitBuffer buf bytes inc) =
+    codes "xmit " ++ decimal buf ++ codes " " ++ decimal (length bytes) ++ codes " " ++ decimal (sum bytes) ++ codes " " ++ mode_text inc
+call_text (Release buf) = codes "release " ++ decimal buf
 call_text (PoolCreate bytes) = codes "pool " ++ decimal bytes
 call_text (PoolGet pool size) = codes "pget " ++ decimal pool ++ codes " " ++ decimal size
 call_text (PoolPut pool grant) = codes "pput " ++ decimal pool ++ codes " " ++ decimal grant

@@ -5,7 +5,7 @@ use Rattle.fsw_base.specs.declared.config.PoolStats.{PoolStats}
 use Rattle.bus_words.specs.declared.calls.BusAnswer.{BusAnswer}
 use Rattle.bus_words.specs.declared.calls.BusAnswer.TheVariants.{Done, Number, Name, Sent, Got, TimeOut, Pending, Pool, Sb, Es}
 use Rattle.bus_words.specs.declared.history.Call.{Call}
-use Rattle.bus_words.specs.declared.history.Call.TheVariants.{Create, Delete, SetOpts, GetOpts, Find, PipeName, Subscribe, Unsubscribe, Transmit, Receive, Pend, Look, PoolCreate, PoolGet, PoolPut, PoolFigures, End}
+use Rattle.bus_words.specs.declared.history.Call.TheVariants.{Create, Delete, SetOpts, GetOpts, Find, PipeName, Subscribe, Unsubscribe, Transmit, Receive, Pend, Look, Allocate, TransmitBuffer, Release, PoolCreate, PoolGet, PoolPut, PoolFigures, End}
 use Rattle.bus_words.specs.declared.history.Entry.{Entry}
 
 -- a printed byte that is no blank
@@ -26,6 +26,9 @@ has_plain_name (Transmit bytes inc) = true
 has_plain_name (Receive pipe) = true
 has_plain_name (Pend pipe) = true
 has_plain_name (Look pipe) = true
+has_plain_name (Allocate size) = true
+has_plain_name (TransmitBuffer buf bytes inc) = true
+has_plain_name (Release buf) = true
 has_plain_name (PoolCreate bytes) = true
 has_plain_name (PoolGet pool size) = true
 has_plain_name (PoolPut pool grant) = true
@@ -53,6 +56,9 @@ can_answer (Pend pipe) Pending = true
 can_answer (Look pipe) (Got number) = true
 can_answer (Look pipe) TimeOut = true
 can_answer (Look pipe) Pending = true
+can_answer (Allocate size) (Number number) = true
+can_answer (TransmitBuffer buf bytes inc) (Sent number reached) = true
+can_answer (Release buf) Done = true
 can_answer (PoolCreate bytes) (Number number) = true
 can_answer (PoolGet pool size) (Number number) = true
 can_answer (PoolPut pool grant) Done = true

@@ -1,6 +1,6 @@
 //! The lines on the calls of the software bus.
 ghost use Rattle.std.specs.Prelude.{◌≡◌, ℕ, ◌++◌, codes, decimal};
-ghost use Rattle.bus_words.specs.declared.history.Call.TheVariants.{Create, Find, Subscribe, Unsubscribe, Transmit};
+ghost use Rattle.bus_words.specs.declared.history.Call.TheVariants.{Create, Find, Subscribe, Unsubscribe, Transmit, TransmitBuffer};
 ghost use Rattle.bus_words.specs.Entries.{call_of, entry_of};
 ghost use Rattle.text_page.specs.Pieces.{Puts};
 ghost use Rattle.run_report.specs.BusText.{scope_text, mode_text, call_text, figures_text, answer_text, entry_text, entries_text};
@@ -60,6 +60,11 @@ fn put_call<K: Sink>(sink: &mut SinkGuard<'_, K>, page: &mut Page, call: &BusCal
         BusCall::Receive { pipe } => put_numbered(sink, page, b"recv ", *pipe),
         BusCall::Pend { pipe } => put_numbered(sink, page, b"pend ", *pipe),
         BusCall::Look { pipe } => put_numbered(sink, page, b"look ", *pipe),
+        BusCall::Allocate { size } => put_numbered(sink, page, b"alloc ", *size),
+        BusCall::TransmitBuffer { buf, bytes, inc } => {
+            put_transmit_buffer(sink, page, *buf, bytes, *inc)
+        }
+        BusCall::Release { buf } => put_numbered(sink, page, b"release ", *buf),
         BusCall::PoolCreate { bytes } => put_numbered(sink, page, b"pool ", *bytes),
         BusCall::PoolGet { pool, size } => put_pair(sink, page, b"pget ", *pool, *size),
         BusCall::PoolPut { pool, grant } => put_pair(sink, page, b"pput ", *pool, *grant),
@@ -145,6 +150,26 @@ fn put_transmit<K: Sink>(sink: &mut SinkGuard<'_, K>, page: &mut Page, bytes: &[
     ensures { Puts sink.old sink.new page.old page.new (call_text (Transmit bytes.now inc)) }
 {
     put(sink, page, b"send ");
+    put_number(sink, page, bytes.len());
+    put(sink, page, b" ");
+    put_number(sink, page, sum_of(bytes));
+    put(sink, page, b" ");
+    put_mode(sink, page, inc);
+}
+
+// Puts a send of a buffer: its number, its size and the sum of its bytes.
+fn put_transmit_buffer<K: Sink>(
+    sink: &mut SinkGuard<'_, K>,
+    page: &mut Page,
+    buf: u32,
+    bytes: &[u8],
+    inc: bool,
+)
+    ensures { Puts sink.old sink.new page.old page.new
+        (call_text (TransmitBuffer buf bytes.now inc)) }
+{
+    put_numbered(sink, page, b"xmit ", buf);
+    put(sink, page, b" ");
     put_number(sink, page, bytes.len());
     put(sink, page, b" ");
     put_number(sink, page, sum_of(bytes));

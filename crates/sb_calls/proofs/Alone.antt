@@ -31,7 +31,7 @@ itself n = grind (arith, nat_tests)
 -- what the bag shows of a pipe of the application's
 pub shown : (core : Core) (app pipe : ℕ) (bag : Holding LentBytes) → HasBag core app bag → bytes_seen bag pipe ≡ last_message (state_of core) app pipe
 shown core app pipe bag has =
-    ap (λ v. option_map (λ (view : LentBytes). view.bytes) v) (has.seen pipe) ∙ by_owner (owns (state_of core).pipes app pipe) (last_of (state_of core).pipes pipe)
+    ap (λ v. option_map (λ (view : LentBytes). view.bytes) v) (has.views.seen pipe) ∙ by_owner (owns (state_of core).pipes app pipe) (last_of (state_of core).pipes pipe)
   where
     by_owner : (own : Bool) (last : Option Item) →
         option_map (λ (view : LentBytes). view.bytes) (cond {A = Option LentBytes} own (option_map (λ (item : Item). record { loan = loan_of (loans_of core) pipe; bytes = item.message }) last) None)

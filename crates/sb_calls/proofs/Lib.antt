@@ -7,8 +7,10 @@ pub mod Grants
 pub mod Holds
 pub mod Looks
 pub mod Made
+pub mod MadeBuffers
 pub mod Notes
 pub mod Opened
 pub mod OthersBags
 pub mod Over
 pub mod Pushed
+pub mod UnsentBuffers

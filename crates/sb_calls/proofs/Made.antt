@@ -1,4 +1,4 @@
--- What the calls leave, each by what the core tells of the loans.
+-- What the calls leave, each by what the core tells of the loans and the descriptors.
 use Rattle.std.proofs.Common.{◌≡◌, ℕ, ◌==◌, ◌&&◌, ◌||◌, not, Bool, true, false, cond, true≢false, eqb-true, List, [], ◌∷◌, ◌++◌, length, filter, Option, Some, None, is_some, Result, Ok, Err, IsTrue, refl, ap, sym, ◌∙◌, subst}
 use Rattle.std.specs.Option.{option_map, option_map_or, option_and_then}
 use Rattle.fsw_base.specs.declared.config.PoolStats.{PoolStats}
@@ -9,98 +9,110 @@ use Rattle.lend_block.specs.declared.note.Note.{Note}
 use Rattle.lend_block.specs.declared.note.Note.TheVariants.{Nothing}
 use Rattle.buf_desc.specs.Held.{Holding, view_at}
 use Rattle.bus_words.specs.declared.calls.BusAnswer.{BusAnswer}
-use Rattle.bus_words.specs.declared.calls.BusAnswer.TheVariants.{Done, Got}
+use Rattle.bus_words.specs.declared.calls.BusAnswer.TheVariants.{Done, Number, Got}
 use Rattle.bus_words.specs.declared.history.Call.{Call}
-use Rattle.bus_words.specs.declared.history.Call.TheVariants.{Delete, Receive, Pend, Look, End}
+use Rattle.bus_words.specs.declared.history.Call.TheVariants.{Create, Delete, GetOpts, Find, Receive, Pend, Look, Allocate, PoolCreate, PoolGet, End}
 use Rattle.bus_words.specs.declared.history.Entry.{Entry}
 use Rattle.bus_words.specs.Alone.{gets_from}
-use Rattle.bus_words.specs.Bus.{Item, Pipe, State, standing_of, is_live, owns, pipe_at}
+use Rattle.bus_words.specs.Bus.{Item, Pipe, State, standing_of, is_live, owns, pipe_at, has_unsent, without_all_unsent}
+use Rattle.bus_words.specs.Held.{is_unsent, AreUnsent}
 use Rattle.bus_words.specs.Log.{with_entry}
-use Rattle.bus_words.specs.Machine.{makes_entry, may_call, step}
+use Rattle.bus_words.specs.Machine.{makes_entry, may_call, brings, step}
 use Rattle.bus_words.proofs.Finds.{same-self, same-sym, any-filter_none}
 use Rattle.bus_words.proofs.KeptPipes.{AreSingle, single-rising}
 use Rattle.bus_words.proofs.Ties.{is_live-owns}
-use Rattle.bus_store.specs.Words.{last_of, loan_of}
+use Rattle.bus_words.proofs.Unsent.{AreUnsent-after}
+use Rattle.bus_words.proofs.UnsentSteps.{all_gone-unsent}
+use Rattle.bus_store.specs.Words.{last_of, loan_of, desc_of}
 use Rattle.sb_core.specs.declared.calls.Sent.{Sent}
 use Rattle.sb_core.specs.Answers.{created, found, bits_told, named, done, sent, pool_told, grant_back, figures_told}
-use Rattle.sb_core.specs.Bags.{HasBag, KeepsAllLoans, KeepsLoans, KeepsOtherLoans}
+use Rattle.sb_core.specs.Bags.{HasBag, KeepsAllLoans, KeepsLoans, KeepsOtherLoans, KeepsAllDescs, KeepsOtherDescs}
 use Rattle.sb_core.specs.Core.{Plain, Acts}
 use Rattle.sb_calls.specs.declared.bus_core.BusCore.TheInside.{Inside}
 use Rattle.sb_calls.specs.Inside.{Stands}
-use Rattle.sb_calls.specs.Notes.{NotedLog, note_due, note_seen}
+use Rattle.sb_calls.specs.Notes.{NotedLog, note_due, note_seen, gives_buffer}
 use Rattle.sb_calls.proofs.Fares.{Fares, Given, Emptied, Refused, waits_own, fares-receive, fares-pend, fares-look, fares-delete}
 use Rattle.sb_calls.proofs.Holds.{last-live}
-use Rattle.sb_calls.proofs.Over.{Made, step_is, waiters_in}
+use Rattle.sb_calls.proofs.Over.{Made, bus_is, step_is, waiters_in}
 
 -- Calls that give no message note nothing. --
 
-pub created-nothing : (told : Result ℕ SbStatus) (loan : ℕ) → note_due (created told) loan ≡ Nothing
-created-nothing (Ok n) loan = refl
-created-nothing (Err status) loan = refl
+pub created-nothing : (told : Result ℕ SbStatus) (depth : ℕ) (text : List ℕ) (name : ℕ) → note_due (created told) (Create depth text) name ≡ Nothing
+created-nothing (Ok n) depth text name = refl
+created-nothing (Err status) depth text name = refl
 
-pub found-nothing : (told : Result ℕ SbStatus) (loan : ℕ) → note_due (found told) loan ≡ Nothing
-found-nothing (Ok n) loan = refl
-found-nothing (Err status) loan = refl
+pub found-nothing : (told : Result ℕ SbStatus) (text : List ℕ) (name : ℕ) → note_due (found told) (Find text) name ≡ Nothing
+found-nothing (Ok n) text name = refl
+found-nothing (Err status) text name = refl
 
-pub bits-nothing : (told : Result ℕ SbStatus) (loan : ℕ) → note_due (bits_told told) loan ≡ Nothing
-bits-nothing (Ok n) loan = refl
-bits-nothing (Err status) loan = refl
+pub bits-nothing : (told : Result ℕ SbStatus) (pipe : ℕ) (name : ℕ) → note_due (bits_told told) (GetOpts pipe) name ≡ Nothing
+bits-nothing (Ok n) pipe name = refl
+bits-nothing (Err status) pipe name = refl
 
-pub named-nothing : (told : Result (List ℕ) SbStatus) (loan : ℕ) → note_due (named told) loan ≡ Nothing
-named-nothing (Ok name) loan = refl
-named-nothing (Err status) loan = refl
+pub named-nothing : (told : Result (List ℕ) SbStatus) (call : Call) (name : ℕ) → note_due (named told) call name ≡ Nothing
+named-nothing (Ok text) call name = refl
+named-nothing (Err status) call name = refl
 
-pub done-nothing : (told : Result (Unit {0}) SbStatus) (loan : ℕ) → note_due (done told) loan ≡ Nothing
-done-nothing (Ok nothing) loan = refl
-done-nothing (Err status) loan = refl
+pub done-nothing : (told : Result (Unit {0}) SbStatus) (call : Call) (name : ℕ) → note_due (done told) call name ≡ Nothing
+done-nothing (Ok nothing) call name = refl
+done-nothing (Err status) call name = refl
 
-pub sent-nothing : (told : Result Sent SbStatus) (loan : ℕ) → note_due (sent told) loan ≡ Nothing
-sent-nothing (Ok it) loan = refl
-sent-nothing (Err status) loan = refl
+pub sent-nothing : (told : Result Sent SbStatus) (call : Call) (name : ℕ) → note_due (sent told) call name ≡ Nothing
+sent-nothing (Ok it) call name = refl
+sent-nothing (Err status) call name = refl
 
-pub pool-nothing : (told : Result ℕ EsStatus) (loan : ℕ) → note_due (pool_told told) loan ≡ Nothing
-pool-nothing (Ok n) loan = refl
-pool-nothing (Err status) loan = refl
+pub pool-nothing : (told : Result ℕ EsStatus) (bytes : ℕ) (name : ℕ) → note_due (pool_told told) (PoolCreate bytes) name ≡ Nothing
+pool-nothing (Ok n) bytes name = refl
+pool-nothing (Err status) bytes name = refl
 
-pub back-nothing : (told : Result (Unit {0}) EsStatus) (loan : ℕ) → note_due (grant_back told) loan ≡ Nothing
-back-nothing (Ok nothing) loan = refl
-back-nothing (Err status) loan = refl
+pub grant-nothing : (told : Result ℕ EsStatus) (pool size : ℕ) (name : ℕ) → note_due (pool_told told) (PoolGet pool size) name ≡ Nothing
+grant-nothing (Ok n) pool size name = refl
+grant-nothing (Err status) pool size name = refl
 
-pub figures-nothing : (told : Result PoolStats EsStatus) (loan : ℕ) → note_due (figures_told told) loan ≡ Nothing
-figures-nothing (Ok figures) loan = refl
-figures-nothing (Err status) loan = refl
+pub back-nothing : (told : Result (Unit {0}) EsStatus) (call : Call) (name : ℕ) → note_due (grant_back told) call name ≡ Nothing
+back-nothing (Ok nothing) call name = refl
+back-nothing (Err status) call name = refl
+
+pub figures-nothing : (told : Result PoolStats EsStatus) (call : Call) (name : ℕ) → note_due (figures_told told) call name ≡ Nothing
+figures-nothing (Ok figures) call name = refl
+figures-nothing (Err status) call name = refl
 
 module _ (a : Inside) (core : Plain) (next : NotedLog) (app : ℕ) (call : Call) (answer told : BusAnswer) (acts : Acts a.core core app call answer) (makes : IsTrue (makes_entry call answer))
-    (as_told : told ≡ answer) (even : length next.notes ≡ length next.log.entries) where
+    (whole : IsTrue (brings a.core.whole.bus.unsent app call)) (as_told : told ≡ answer) where
   -- what the pushed entry is
   abbrev Pushed : Type 0
   Pushed = next ≡ record { log = with_entry a.noted.log (record { app = app; call = call; answer = told }); notes = a.noted.notes ++ Nothing ∷ [] }
 
-  entered : Pushed → note_due answer 0 ≡ Nothing →
-      next ≡ record { log = with_entry a.noted.log (record { app = app; call = call; answer = answer }); notes = a.noted.notes ++ note_due answer 0 ∷ [] }
+  entered : Pushed → note_due answer call 0 ≡ Nothing →
+      next ≡ record { log = with_entry a.noted.log (record { app = app; call = call; answer = answer }); notes = a.noted.notes ++ note_due answer call 0 ∷ [] }
   entered pushed nothing =
       pushed
       ∙ ap (λ t. record { log = with_entry a.noted.log (record { app = app; call = call; answer = t }); notes = a.noted.notes ++ Nothing ∷ [] }) as_told
       ∙ ap (λ n. record { log = with_entry a.noted.log (record { app = app; call = call; answer = answer }); notes = a.noted.notes ++ n ∷ [] }) (sym nothing)
 
-  -- a call that gives no message
-  pub made_quiet : Pushed → note_due answer 0 ≡ Nothing → ((pipe : ℕ) → gets_from pipe (record { app = app; call = call; answer = answer }) ≡ false) →
+  -- a call that gives no message and no buffer
+  pub made_quiet : Pushed → note_due answer call 0 ≡ Nothing → ((pipe : ℕ) → gets_from pipe (record { app = app; call = call; answer = answer }) ≡ false) →
+      ((number : ℕ) → gives_buffer number (record { app = app; call = call; answer = answer }) ≡ false) →
       ((pipe : ℕ) → is_some (last_of core.whole.bus.pipes pipe) ≡ true → is_some (last_of a.core.whole.bus.pipes pipe) ≡ true → loan_of core.loans pipe ≡ loan_of a.core.loans pipe) →
+      ((number : ℕ) → is_unsent core.whole.bus.unsent number ≡ true → desc_of core.descs number ≡ desc_of a.core.descs number) →
       Made a core next app call answer
-  made_quiet pushed nothing none kept = record {
+  made_quiet pushed nothing none no_buffer kept left = record {
     acts = acts;
     makes = makes;
-    loan = 0;
+    whole = whole;
+    name = 0;
     pushed = entered pushed nothing;
-    even = even;
     given = λ pipe gives some. absurd (true≢false (sym gives ∙ none pipe));
     kept = λ pipe not_given some had. kept pipe some had;
+    gave = λ number gives. absurd (true≢false (sym gives ∙ no_buffer number));
+    left = λ number not_given now was. left number now;
   }
 
-  -- and changes no loan
-  pub made_plain : Pushed → note_due answer 0 ≡ Nothing → ((pipe : ℕ) → gets_from pipe (record { app = app; call = call; answer = answer }) ≡ false) → KeepsAllLoans a.core core →
+  -- and changes no loan and no descriptor
+  pub made_plain : Pushed → note_due answer call 0 ≡ Nothing → ((pipe : ℕ) → gets_from pipe (record { app = app; call = call; answer = answer }) ≡ false) →
+      ((number : ℕ) → gives_buffer number (record { app = app; call = call; answer = answer }) ≡ false) → KeepsAllLoans a.core core → KeepsAllDescs a.core core →
       Made a core next app call answer
-  made_plain pushed nothing none keeps = made_quiet pushed nothing none (λ pipe some had. keeps pipe)
+  made_plain pushed nothing none no_buffer loans descs = made_quiet pushed nothing none no_buffer (λ pipe some had. loans pipe) (λ number now. descs number)
 
 -- Calls on one pipe. --
 
@@ -125,11 +137,12 @@ module _ (a : Inside) (core : Plain) (app pipe : ℕ) (loans : KeepsLoans a.core
       ] refl
 
 -- the view of a message that was given is by the loan of the pipe's last
-seen-due : (answer : BusAnswer) (view : Option LentBytes) (loan : ℕ) → ((number : ℕ) → answer ≡ Got number → option_map (λ (v : LentBytes). v.loan) view ≡ Some loan) →
-    note_seen answer view ≡ note_due answer loan
-seen-due (Got number) None loan is = absurd (cc (is number refl))
-seen-due (Got number) (Some view) loan is = ap (λ (o : Option ℕ). option_map_or (λ n. note_due (Got number) n) o Nothing) (is number refl)
-seen-due answer view loan is = refl
+seen-due : (answer : BusAnswer) (call : Call) (view : Option LentBytes) (loan : ℕ) → ((number : ℕ) → gives_buffer number (record { app = 0; call = call; answer = answer }) ≡ false) →
+    ((number : ℕ) → answer ≡ Got number → option_map (λ (v : LentBytes). v.loan) view ≡ Some loan) → note_seen answer view ≡ note_due answer call loan
+seen-due (Got number) call None loan none is = absurd (cc (is number refl))
+seen-due (Got number) call (Some view) loan none is = ap (λ (o : Option ℕ). option_map_or (λ n. note_due (Got number) call n) o Nothing) (is number refl)
+seen-due (Number number) (Allocate size) view loan none is = absurd (true≢false (sym (same-self number) ∙ none number))
+seen-due answer call view loan none is = refl
 
 due-loan : (pipes : List Pipe) (loan : ℕ) (bag : Holding LentBytes) (b : Bool) (last : Option Item) (pipe : ℕ) → b ≡ true → is_some last ≡ true →
     view_at bag pipe ≡ cond {A = Option LentBytes} b (option_map (λ (item : Item). record { loan = loan; bytes = item.message }) last) None →
@@ -139,8 +152,9 @@ due-loan pipes loan bag true (Some item) pipe own some is = ap (λ v. option_map
 due-loan pipes loan bag false last pipe own some is = absurd (true≢false (sym own))
 
 module _ (a : Inside) (core : Plain) (next : NotedLog) (app pipe : ℕ) (call : Call) (answer told : BusAnswer) (bag : Holding LentBytes)
-    (acts : Acts a.core core app call answer) (makes : IsTrue (makes_entry call answer)) (as_told : told ≡ answer) (even : length next.notes ≡ length next.log.entries)
-    (loans : KeepsLoans a.core core pipe) (unowned : owns a.core.whole.bus.pipes app pipe ≡ false → core ≡ a.core) (has : HasBag core app bag) where
+    (acts : Acts a.core core app call answer) (makes : IsTrue (makes_entry call answer)) (whole : IsTrue (brings a.core.whole.bus.unsent app call)) (as_told : told ≡ answer)
+    (no_buffer : (number : ℕ) → gives_buffer number (record { app = app; call = call; answer = answer }) ≡ false)
+    (loans : KeepsLoans a.core core pipe) (descs : KeepsAllDescs a.core core) (unowned : owns a.core.whole.bus.pipes app pipe ≡ false → core ≡ a.core) (has : HasBag core app bag) where
   abbrev e : Entry
   e = record { app = app; call = call; answer = answer }
 
@@ -152,29 +166,31 @@ module _ (a : Inside) (core : Plain) (next : NotedLog) (app pipe : ℕ) (call : 
   made_taking fares apart got pushed = record {
     acts = acts;
     makes = makes;
-    loan = loan_of core.loans pipe;
+    whole = whole;
+    name = loan_of core.loans pipe;
     pushed = pushed
         ∙ ap (λ t. record { log = with_entry a.noted.log (record { app = app; call = call; answer = t }); notes = a.noted.notes ++ note_seen t (view_at bag pipe) ∷ [] }) as_told
-        ∙ ap (λ n. record { log = with_entry a.noted.log e; notes = a.noted.notes ++ n ∷ [] }) (seen-due answer (view_at bag pipe) (loan_of core.loans pipe) (λ number is. shown (gets_from pipe e) fares (got number is)));
-    even = even;
+        ∙ ap (λ n. record { log = with_entry a.noted.log e; notes = a.noted.notes ++ n ∷ [] }) (seen-due answer call (view_at bag pipe) (loan_of core.loans pipe) no_buffer (λ number is. shown (gets_from pipe e) fares (got number is)));
     given = λ other gives some. elim (pipe == other) as (λ b. (pipe == other) ≡ b → loan_of core.loans other ≡ loan_of core.loans pipe) [
       | true ↦ λ same. ap (λ n. loan_of core.loans n) (sym (eqb-true pipe other same))
       | false ↦ λ differ. absurd (true≢false (sym gives ∙ apart other differ))
     ] refl;
     kept = λ other none some had. kept_on a core app pipe loans unowned (gets_from pipe e) fares other (λ same. ap (λ n. gets_from n e) (eqb-true pipe other same) ∙ none) some;
+    gave = λ number gives. absurd (true≢false (sym gives ∙ no_buffer number));
+    left = λ number not_given now was. descs number;
   }
     where
       shown : (gives : Bool) → Fares a.core.whole.bus.pipes core.whole.bus.pipes app pipe gives → gives ≡ true → option_map (λ (v : LentBytes). v.loan) (view_at bag pipe) ≡ Some (loan_of core.loans pipe)
-      shown gives (Given is own some) gave = due-loan core.whole.bus.pipes (loan_of core.loans pipe) bag (owns core.whole.bus.pipes app pipe) (last_of core.whole.bus.pipes pipe) pipe own some (has.seen pipe)
+      shown gives (Given is own some) gave = due-loan core.whole.bus.pipes (loan_of core.loans pipe) bag (owns core.whole.bus.pipes app pipe) (last_of core.whole.bus.pipes pipe) pipe own some (has.views.seen pipe)
       shown gives (Emptied is gone) gave = absurd (true≢false (sym gave ∙ is))
       shown gives (Refused is not_his stays) gave = absurd (true≢false (sym gave ∙ is))
 
   -- the pipe's end
-  pub made_ending : Fares a.core.whole.bus.pipes core.whole.bus.pipes app pipe (gets_from pipe e) → note_due answer 0 ≡ Nothing → ((other : ℕ) → gets_from other e ≡ false) →
+  pub made_ending : Fares a.core.whole.bus.pipes core.whole.bus.pipes app pipe (gets_from pipe e) → note_due answer call 0 ≡ Nothing → ((other : ℕ) → gets_from other e ≡ false) →
       next ≡ record { log = with_entry a.noted.log (record { app = app; call = call; answer = told }); notes = a.noted.notes ++ Nothing ∷ [] } → Made a core next app call answer
   made_ending fares nothing none pushed =
-      made_quiet a core next app call answer told acts makes as_told even pushed nothing none
-      (λ other some had. kept_on a core app pipe loans unowned (gets_from pipe e) fares other (λ same. none pipe) some)
+      made_quiet a core next app call answer told acts makes whole as_told pushed nothing none no_buffer
+      (λ other some had. kept_on a core app pipe loans unowned (gets_from pipe e) fares other (λ same. none pipe) some) (λ number now. descs number)
 
 -- a pipe of the application's is gone where all of its pipes are
 gone : (app : ℕ) (pipes : List Pipe) (number : ℕ) → AreSingle pipes → owns pipes app number ≡ true → is_some (last_of (filter (λ pipe. not (pipe.owner == app)) pipes) number) ≡ true → ⊥
@@ -196,16 +212,26 @@ gone app (pipe ∷ pipes) number one = by_tests (pipe.number == number) refl (pi
     by_tests false other false ih is some =
         ih is (ap (λ b. is_some (option_and_then (λ (one : Pipe). one.last) (cond {A = Option Pipe} b (Some pipe) (pipe_at left number)))) (sym other) ∙ some)
 
+-- no two unsent buffers have one number
+pub unsent_in_core : (a : Inside) → Stands a → AreUnsent a.core.limits (length a.noted.log.budgets) a.core.whole.bus
+unsent_in_core a stands =
+    subst (AreUnsent a.core.limits (length a.noted.log.budgets)) (sym (bus_is a stands)) (AreUnsent-after a.core.limits (length a.noted.log.budgets) a.noted.log.entries)
+
 -- an application's end
-pub made_end : (a : Inside) (core : Plain) (next : NotedLog) (app : ℕ) → Stands a → Acts a.core core app End Done → length next.notes ≡ length next.log.entries → KeepsOtherLoans a.core core app →
+pub made_end : (a : Inside) (core : Plain) (next : NotedLog) (app : ℕ) → Stands a → Acts a.core core app End Done → KeepsOtherLoans a.core core app → KeepsOtherDescs a.core core app →
     next ≡ record { log = with_entry a.noted.log (record { app = app; call = End; answer = Done }); notes = a.noted.notes ++ Nothing ∷ [] } → Made a core next app End Done
-made_end a core next app stands acts even loans pushed =
+made_end a core next app stands acts loans descs pushed =
     let pipes = a.core.whole.bus.pipes in
     let left : core.whole.bus.pipes ≡ filter (λ pipe. not (pipe.owner == app)) pipes = ap (λ (p : BusAnswer × State). p.1.pipes) (sym (step_is a core app End Done stands acts)) in
     let single = single-rising 0 a.core.whole.bus.pipes_created pipes (waiters_in a stands).numbered.pipes in
-    made_quiet a core next app End Done Done acts refl refl even pushed refl (λ pipe. refl)
+    let after : core.whole.bus.unsent ≡ without_all_unsent a.core.whole.bus.unsent app = ap (λ (p : BusAnswer × State). p.1.unsent) (sym (step_is a core app End Done stands acts)) in
+    made_quiet a core next app End Done Done acts refl refl refl pushed refl (λ pipe. refl) (λ number. refl)
     (λ pipe some had. loans pipe (elim (owns pipes app pipe) as (λ b. owns pipes app pipe ≡ b → b ≡ false) [
       | true ↦ λ own. absurd (gone app pipes pipe single own (ap (λ ps. is_some (last_of ps pipe)) (sym left) ∙ some))
+      | false ↦ λ none. refl
+    ] refl))
+    (λ number now. descs number (elim (has_unsent a.core.whole.bus.unsent app number) as (λ b. has_unsent a.core.whole.bus.unsent app number ≡ b → b ≡ false) [
+      | true ↦ λ has. absurd (true≢false (sym now ∙ ap (λ u. is_unsent u number) after ∙ all_gone-unsent a.core.whole.bus.unsent app number ((unsent_in_core a stands).once number) has))
       | false ↦ λ none. refl
     ] refl))
 
@@ -237,8 +263,8 @@ pub record Left (a : Inside) (core : Plain) (next : NotedLog) (app pipe : ℕ) (
   pub stands : Stands a
   pub acts : Acts a.core core app call answer
   pub as_told : told ≡ answer
-  pub even : length next.notes ≡ length next.log.entries
   pub loans : KeepsLoans a.core core pipe
+  pub descs : KeepsAllDescs a.core core
   pub unowned : owns a.core.whole.bus.pipes app pipe ≡ false → core ≡ a.core
   pub pushed : next ≡ record { log = with_entry a.noted.log (record { app = app; call = call; answer = told }); notes = a.noted.notes ++ note ∷ [] }
 
@@ -256,7 +282,7 @@ looks_own a core app pipe stands may none = absurd (true≢false (sym (waits_own
 module _ (a : Inside) (core : Plain) (next : NotedLog) (app pipe : ℕ) (answer told : BusAnswer) (note : Note) (bag : Holding LentBytes) (has : HasBag core app bag) where
   pub made_receive : Left a core next app pipe (Receive pipe) answer told note → note ≡ note_seen told (view_at bag pipe) → Made a core next app (Receive pipe) answer
   made_receive left as_seen =
-      made_taking a core next app pipe (Receive pipe) answer told bag left.acts refl left.as_told left.even left.loans left.unowned has
+      made_taking a core next app pipe (Receive pipe) answer told bag left.acts refl refl left.as_told (λ number. refl) left.loans left.descs left.unowned has
       (by_step a core app pipe left.stands (Receive pipe) answer left.acts (fares-receive a.core.limits a.noted.log.entries a.core.whole.bus app pipe))
       (λ other differ. apart-receive app pipe other answer differ)
       (λ number is. ap (λ x. gets_from pipe (record { app = app; call = Receive pipe; answer = x })) is ∙ same-self pipe)
@@ -264,7 +290,7 @@ module _ (a : Inside) (core : Plain) (next : NotedLog) (app pipe : ℕ) (answer 
 
   pub made_pend : Left a core next app pipe (Pend pipe) answer told note → note ≡ note_seen told (view_at bag pipe) → Made a core next app (Pend pipe) answer
   made_pend left as_seen =
-      made_taking a core next app pipe (Pend pipe) answer told bag left.acts refl left.as_told left.even left.loans left.unowned has
+      made_taking a core next app pipe (Pend pipe) answer told bag left.acts refl refl left.as_told (λ number. refl) left.loans left.descs left.unowned has
       (by_step a core app pipe left.stands (Pend pipe) answer left.acts (fares-pend a.core.limits a.noted.log.entries a.core.whole.bus app pipe))
       (λ other differ. apart-pend app pipe other answer differ)
       (λ number is. ap (λ x. gets_from pipe (record { app = app; call = Pend pipe; answer = x })) is ∙ same-self pipe)
@@ -275,7 +301,7 @@ module _ (a : Inside) (core : Plain) (next : NotedLog) (app pipe : ℕ) (answer 
   made_look may makes left as_seen =
       let step_made = ap (λ (p : BusAnswer × State). p.0) (step_is a core app (Look pipe) answer left.stands left.acts) in
       let own = waits_own a.core.whole.bus app pipe (waiters_in a left.stands) may in
-      made_taking a core next app pipe (Look pipe) answer told bag left.acts makes left.as_told left.even left.loans left.unowned has
+      made_taking a core next app pipe (Look pipe) answer told bag left.acts makes refl left.as_told (λ number. refl) left.loans left.descs left.unowned has
       (by_step a core app pipe left.stands (Look pipe) answer left.acts
       (fares-look a.core.limits a.noted.log.entries a.core.whole.bus app pipe own (subst (λ x. IsTrue (makes_entry (Look pipe) x)) (sym step_made) makes)))
       (λ other differ. apart-look app pipe other answer differ)
@@ -285,6 +311,6 @@ module _ (a : Inside) (core : Plain) (next : NotedLog) (app pipe : ℕ) (answer 
 pub made_delete : (a : Inside) (core : Plain) (next : NotedLog) (app pipe : ℕ) (result : Result (Unit {0}) SbStatus) (told : BusAnswer) (bag : Holding LentBytes) → HasBag core app bag →
     Left a core next app pipe (Delete pipe) (done result) told Nothing → Made a core next app (Delete pipe) (done result)
 made_delete a core next app pipe result told bag has left =
-    made_ending a core next app pipe (Delete pipe) (done result) told bag left.acts refl left.as_told left.even left.loans left.unowned has
+    made_ending a core next app pipe (Delete pipe) (done result) told bag left.acts refl refl left.as_told (λ number. refl) left.loans left.descs left.unowned has
     (by_step a core app pipe left.stands (Delete pipe) (done result) left.acts (fares-delete a.core.limits a.noted.log.entries a.core.whole.bus app pipe))
-    (done-nothing result 0) (λ other. refl) left.pushed
+    (done-nothing result (Delete pipe) 0) (λ other. refl) left.pushed

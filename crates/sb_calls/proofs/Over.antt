@@ -8,9 +8,10 @@ use Rattle.bus_words.specs.declared.history.Entry.{Entry}
 use Rattle.bus_words.specs.Alone.{gets_from}
 use Rattle.bus_words.specs.Bus.{Item, State, standing_of}
 use Rattle.bus_words.specs.Entries.{call_bytes}
+use Rattle.bus_words.specs.Held.{is_unsent}
 use Rattle.journal_store.specs.Budgets.{allowances, entries_left}
 use Rattle.bus_words.specs.Log.{left_of, with_entry}
-use Rattle.bus_words.specs.Machine.{makes_entry, may_call, step}
+use Rattle.bus_words.specs.Machine.{makes_entry, may_call, brings, step}
 use Rattle.bus_words.specs.Acts.{Whole, act, whole_from, whole_after, opening_whole}
 use Rattle.bus_words.specs.Runs.{Follows}
 use Rattle.bus_words.proofs.Acts.{whole_after-legal, acts_after}
@@ -22,14 +23,15 @@ use Rattle.bus_words.proofs.Replay.{goes_on}
 use Rattle.bus_words.proofs.Steps.{AreCounted-after, length-standings}
 use Rattle.bus_words.proofs.PoolGrants.{ArePools-after}
 use Rattle.journal_store.proofs.Charges.{entries_left-charged}
-use Rattle.bus_store.specs.Words.{last_of, loan_of}
+use Rattle.bus_store.specs.Words.{last_of, loan_of, desc_of}
 use Rattle.sb_core.specs.Core.{Plain, MayAct, Acts, apps_in, has_grant_numbers}
 use Rattle.sb_calls.specs.declared.bus_core.BusCore.TheInside.{Inside}
-use Rattle.sb_calls.specs.Core.{Core, MayCall, Does, IsLegalCore, with_noted, state_of}
+use Rattle.sb_calls.specs.Core.{Core, MayCall, Does, IsLegalCore, IsNoted, with_noted, state_of}
 use Rattle.sb_calls.specs.Inside.{core_of, Stands}
-use Rattle.sb_calls.specs.Notes.{NotedLog, loan_in, note_due, noted}
+use Rattle.sb_calls.specs.Notes.{NotedLog, loan_in, note_due, noted, gives_buffer, noted_desc}
 use Rattle.sb_calls.proofs.Grants.{grants_left}
-use Rattle.sb_calls.proofs.Notes.{noted-other, noted-given}
+use Rattle.sb_calls.proofs.Notes.{noted-other, noted-given, noted_desc-other, noted_desc-given, desc_in-due, even-due, due-push}
+use Rattle.sb_calls.proofs.UnsentBuffers.{unsent-from}
 
 whole_from-push : (limits : Limits) (w : Whole) (es : List Entry) (e : Entry) → whole_from limits w (es ++ e ∷ []) ≡ (act limits (whole_from limits w es) e.app e.call).1
 whole_from-push limits w [] e = refl
@@ -76,17 +78,21 @@ may_act a old app call is stands may_old =
       grants = all.5;
     }
 
--- What a call left: the core did what the bus does, the call with its answer was entered, and noted was the loan by which the
--- last message of each pipe that the call gave one from is lent; of the others it is as before.
+-- What a call left: the core did what the bus does, the call brings the bytes that it is about, and with its answer it was
+-- entered. Noted was the loan by which the last message of each pipe that the call gave one from is lent, or the descriptor of the
+-- buffer that it gave; of the other pipes and buffers they are as before.
 pub record Made (a : Inside) (core : Plain) (next : NotedLog) (app : ℕ) (call : Call) (answer : BusAnswer) : Type 0 where
   pub acts : Acts a.core core app call answer
   pub makes : IsTrue (makes_entry call answer)
-  pub loan : ℕ
-  pub pushed : next ≡ record { log = with_entry a.noted.log (record { app = app; call = call; answer = answer }); notes = a.noted.notes ++ note_due answer loan ∷ [] }
-  pub even : length next.notes ≡ length next.log.entries
-  pub given : (pipe : ℕ) → gets_from pipe (record { app = app; call = call; answer = answer }) ≡ true → is_some (last_of core.whole.bus.pipes pipe) ≡ true → loan_of core.loans pipe ≡ loan
+  pub whole : IsTrue (brings a.core.whole.bus.unsent app call)
+  pub name : ℕ
+  pub pushed : next ≡ record { log = with_entry a.noted.log (record { app = app; call = call; answer = answer }); notes = a.noted.notes ++ note_due answer call name ∷ [] }
+  pub given : (pipe : ℕ) → gets_from pipe (record { app = app; call = call; answer = answer }) ≡ true → is_some (last_of core.whole.bus.pipes pipe) ≡ true → loan_of core.loans pipe ≡ name
   pub kept : (pipe : ℕ) → gets_from pipe (record { app = app; call = call; answer = answer }) ≡ false → is_some (last_of core.whole.bus.pipes pipe) ≡ true →
       is_some (last_of a.core.whole.bus.pipes pipe) ≡ true → loan_of core.loans pipe ≡ loan_of a.core.loans pipe
+  pub gave : (number : ℕ) → gives_buffer number (record { app = app; call = call; answer = answer }) ≡ true → desc_of core.descs number ≡ name
+  pub left : (number : ℕ) → gives_buffer number (record { app = app; call = call; answer = answer }) ≡ false → is_unsent core.whole.bus.unsent number ≡ true →
+      is_unsent a.core.whole.bus.unsent number ≡ true → desc_of core.descs number ≡ desc_of a.core.descs number
 
 -- the core's answer and state are those of the machine's step
 pub step_is : (a : Inside) (core : Plain) (app : ℕ) (call : Call) (answer : BusAnswer) → Stands a → Acts a.core core app call answer →
@@ -114,7 +120,7 @@ module _ (a : Inside) (core : Plain) (next : NotedLog) (old : Core) (app : ℕ) 
   may = let Q : Core → Type 0 = λ o. MayCall o app call in subst Q (sym is) may_old
 
   after : Core
-  after = with_noted (core_of a) e (note_due answer made.loan)
+  after = with_noted (core_of a) e (note_due answer call made.name)
 
   acted : act a.core.limits (whole_after a.core.limits (length a.noted.log.budgets) a.noted.log.entries) app call ≡ (answer, core.whole)
   acted = ap (λ w. act a.core.limits w app call) (sym stands.whole) ∙ made.acts.made
@@ -124,6 +130,7 @@ module _ (a : Inside) (core : Plain) (next : NotedLog) (old : Core) (app : ℕ) 
 
   follows : Follows a.core.limits (length a.noted.log.budgets) a.noted.log.entries e
   follows = goes_on a.core.limits (length a.noted.log.budgets) a.noted.log.entries e stands.legal may.standing answered made.makes
+      (subst (λ (s : State). IsTrue (brings s.unsent app call)) (bus_is a stands) made.whole)
 
   same_core : record { limits = core.limits; log = next.log; notes = next.notes } ≡ after
   unfolding after
@@ -139,17 +146,21 @@ module _ (a : Inside) (core : Plain) (next : NotedLog) (old : Core) (app : ℕ) 
   unfolding after
   state_after_is = follows.state
 
+  due_after : IsNoted after
+  unfolding after
+  due_after = due-push a.noted.log.entries e a.noted.notes made.name stands.due
+
   pub does_over : Does old (record { limits = core.limits; log = next.log; notes = next.notes }) app call answer
   unfolding after
   does_over =
       let P : Core → Type 0 = λ o. Does o (record { limits = core.limits; log = next.log; notes = next.notes }) app call answer in
       subst P is (record {
-        loan = made.loan;
+        name = made.name;
         entry = same_core;
         as_machine = answered;
         state = ap state_of same_core ∙ state_after_is;
         legal = let L : Core → Type 0 = λ c. IsLegalCore c in subst L (sym same_core) legal_after;
-        noted = made.even;
+        noted = let N : Core → Type 0 = λ c. IsNoted c in subst N (sym same_core) due_after;
       })
 
   whole_is : core.whole ≡ whole_after core.limits (length next.log.budgets) next.log.entries
@@ -160,10 +171,7 @@ module _ (a : Inside) (core : Plain) (next : NotedLog) (old : Core) (app : ℕ) 
       ∙ ap (λ l. whole_after l (length next.log.budgets) next.log.entries) (sym made.acts.limits)
 
   even_before : length a.noted.notes ≡ length a.noted.log.entries
-  even_before =
-      let notes : length next.notes ≡ length a.noted.notes + 1 = ap (λ (n : NotedLog). length n.notes) made.pushed ∙ length_push a.noted.notes (note_due answer made.loan) in
-      let entries : length next.log.entries ≡ length a.noted.log.entries + 1 = ap (λ (n : NotedLog). length n.log.entries) made.pushed ∙ length_push a.noted.log.entries e in
-      omega (arith, notes, entries, made.even)
+  even_before = even-due a.noted.log.entries a.noted.notes stands.due
 
   -- the pipe had a last message before
   had : (pipe : ℕ) → gets_from pipe e ≡ false → is_some (last_of core.whole.bus.pipes pipe) ≡ true → is_some (last_of a.core.whole.bus.pipes pipe) ≡ true
@@ -175,19 +183,40 @@ module _ (a : Inside) (core : Plain) (next : NotedLog) (old : Core) (app : ℕ) 
       (from-step a.core.limits a.noted.log.entries a.core.whole.bus pipe app waits.numbered call) none)
       some
 
-  loans_after : (pipe : ℕ) → is_some (last_of core.whole.bus.pipes pipe) ≡ true → loan_of core.loans pipe ≡ noted pipe (a.noted.log.entries ++ e ∷ []) (a.noted.notes ++ note_due answer made.loan ∷ [])
+  loans_after : (pipe : ℕ) → is_some (last_of core.whole.bus.pipes pipe) ≡ true → loan_of core.loans pipe ≡ noted pipe (a.noted.log.entries ++ e ∷ []) (a.noted.notes ++ note_due answer call made.name ∷ [])
   loans_after pipe some =
-      elim (gets_from pipe e) as (λ b. gets_from pipe e ≡ b → loan_of core.loans pipe ≡ noted pipe (a.noted.log.entries ++ e ∷ []) (a.noted.notes ++ note_due answer made.loan ∷ [])) [
+      elim (gets_from pipe e) as (λ b. gets_from pipe e ≡ b → loan_of core.loans pipe ≡ noted pipe (a.noted.log.entries ++ e ∷ []) (a.noted.notes ++ note_due answer call made.name ∷ [])) [
         | true ↦ λ gives.
             let message = gives_newest a.core.limits (length a.noted.log.budgets) pipe a.noted.log.entries e follows.legal gives in
             made.given pipe gives some
-            ∙ ap (λ x. loan_in (note_due x made.loan)) (sym message.1.answer)
-            ∙ sym (noted-given pipe a.noted.log.entries e a.noted.notes (note_due answer made.loan) even_before gives)
+            ∙ ap (λ x. loan_in (note_due x call made.name)) (sym message.1.answer)
+            ∙ sym (noted-given pipe a.noted.log.entries e a.noted.notes (note_due answer call made.name) even_before gives)
         | false ↦ λ none.
             let before = had pipe none some in
             made.kept pipe none some before
             ∙ stands.loans pipe before
-            ∙ sym (noted-other pipe a.noted.log.entries e a.noted.notes (note_due answer made.loan) even_before none)
+            ∙ sym (noted-other pipe a.noted.log.entries e a.noted.notes (note_due answer call made.name) even_before none)
+      ] refl
+
+  -- the number was unsent before
+  was : (number : ℕ) → gives_buffer number e ≡ false → is_unsent core.whole.bus.unsent number ≡ true → is_unsent a.core.whole.bus.unsent number ≡ true
+  was number none now =
+      subst (λ (p : BusAnswer × State). gives_buffer number (record { app = app; call = call; answer = p.0 }) ≡ false → is_unsent p.1.unsent number ≡ true → is_unsent a.core.whole.bus.unsent number ≡ true)
+      (step_is a core app call answer stands made.acts)
+      (unsent-from a.core.limits a.noted.log.entries a.core.whole.bus app number call) none now
+
+  descs_after : (number : ℕ) → is_unsent core.whole.bus.unsent number ≡ true → desc_of core.descs number ≡ noted_desc number (a.noted.log.entries ++ e ∷ []) (a.noted.notes ++ note_due answer call made.name ∷ [])
+  descs_after number now =
+      elim (gives_buffer number e) as (λ b. gives_buffer number e ≡ b → desc_of core.descs number ≡ noted_desc number (a.noted.log.entries ++ e ∷ []) (a.noted.notes ++ note_due answer call made.name ∷ [])) [
+        | true ↦ λ gives.
+            made.gave number gives
+            ∙ sym (desc_in-due number app made.name call answer gives)
+            ∙ sym (noted_desc-given number a.noted.log.entries e a.noted.notes (note_due answer call made.name) even_before gives)
+        | false ↦ λ none.
+            let before = was number none now in
+            made.left number none now before
+            ∙ stands.descs number before
+            ∙ sym (noted_desc-other number a.noted.log.entries e a.noted.notes (note_due answer call made.name) even_before none)
       ] refl
 
   pub stands_over : Stands (record a { core = core; noted = next })
@@ -197,7 +226,9 @@ module _ (a : Inside) (core : Plain) (next : NotedLog) (old : Core) (app : ℕ) 
       let left : entries_left (left_of next.log) + 1 ≡ entries_left (left_of a.noted.log) = ap (λ (n : NotedLog). entries_left (left_of n.log) + 1) made.pushed ∙ ap (λ l. entries_left l + 1) pushed_left ∙ entries_left-charged (left_of a.noted.log) app (call_bytes call) may.room in
       record {
         legal = let L : Core → Type 0 = λ c. IsLegalCore c in subst L (sym same_core) legal_after;
+        due = let N : Core → Type 0 = λ c. IsNoted c in subst N (sym same_core) due_after;
         whole = whole_is;
         loans = λ pipe some. loans_after pipe some ∙ ap (λ (n : NotedLog). noted pipe n.log.entries n.notes) (sym made.pushed);
+        descs = λ number now. descs_after number now ∙ ap (λ (n : NotedLog). noted_desc number n.log.entries n.notes) (sym made.pushed);
         few = omega (arith, entries, left, stands.few);
       }

@@ -1,4 +1,5 @@
--- What an application has in its bag of the messages that it received, said of the history, its notes and the bag.
+-- What an application has in its bag of the messages that it received and of the buffers that it hasn't sent, said of the history,
+-- its notes and the bag.
 use Rattle.std.specs.Prelude.{◌≡◌, ◌≢◌, ℕ, ◌++◌, All, List, length, map, Option, Some, None, if◌then◌else◌}
 use Rattle.std.specs.Option.{option_map}
 use Rattle.lend_block.specs.Loan.{LentBytes}
@@ -6,19 +7,26 @@ use Rattle.lend_block.specs.declared.note.Note.{Note}
 use Rattle.buf_desc.specs.Held.{Holding}
 use Rattle.bus_words.specs.declared.history.Entry.{Entry}
 use Rattle.bus_words.specs.Bus.{Item, State, owns}
-use Rattle.bus_store.specs.Bag.{Holds}
-use Rattle.bus_store.specs.Store.{LastLoan}
+use Rattle.bus_words.specs.Held.{buffers_in}
+use Rattle.bus_store.specs.Bag.{HoldsViews, HoldsBuffers}
+use Rattle.bus_store.specs.Store.{LastLoan, BufferDesc}
 use Rattle.bus_store.specs.Words.{last_of}
 use Rattle.sb_calls.specs.Core.{Core, IsLegalCore, IsNoted, state_of}
-use Rattle.sb_calls.specs.Notes.{noted}
+use Rattle.sb_calls.specs.Notes.{noted, noted_desc}
 
 -- of each live pipe, the loan that was noted of it
 abbrev pub loans_of : Core → List LastLoan
 loans_of core = map (λ pipe. record { pipe = pipe.number; loan = noted pipe.number core.log.entries core.notes }) (state_of core).pipes
 
--- the bag has a view of the last message of each of the application's pipes, by the loan that was noted, and no other view
-abbrev pub HasBag : Core → ℕ → Holding LentBytes → Type 0
-HasBag core app bag = Holds (state_of core).pipes (loans_of core) core.limits.pipes app bag
+-- of each unsent buffer, the descriptor that was noted of it
+abbrev pub descs_of : Core → List BufferDesc
+descs_of core = map (λ buffer. record { number = buffer.number; desc = noted_desc buffer.number core.log.entries core.notes }) (buffers_in (state_of core).unsent)
+
+-- the bag has a view of the last message of each of the application's pipes, by the loan that was noted, and no other view; and the
+-- block of each buffer that the application hasn't sent, by the descriptor that was noted, and no other block
+pub record HasBag (core : Core) (app : ℕ) (bag : Holding LentBytes) : Type 0 where
+  pub views : HoldsViews (state_of core).pipes (loans_of core) core.limits.pipes app bag
+  pub buffers : HoldsBuffers (state_of core).unsent (descs_of core) core.limits.sizes app bag
 
 -- the bag of every application stays one
 abbrev pub KeepsBags : Core → Core → Type 0

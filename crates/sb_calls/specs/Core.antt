@@ -20,7 +20,7 @@ use Rattle.sb_core.specs.declared.pending.Pended.TheVariants.{Pending}
 use Rattle.sb_core.specs.Answers.{waited}
 pub use Rattle.sb_core.specs.Core.{is_within}
 use Rattle.bus_words.specs.Machine.{IsLegal, may_call, state_after, step}
-use Rattle.sb_calls.specs.Notes.{note_due}
+use Rattle.sb_calls.specs.Notes.{AreDue, note_due}
 use Rattle.sb_calls.specs.Views.{bytes_seen}
 
 pub record Core : Type 0 where
@@ -40,9 +40,9 @@ state_of core = state_after core.limits (apps_of core) core.log.entries
 abbrev pub IsLegalCore : Core → Type 0
 IsLegalCore core = IsLegal core.limits (apps_of core) core.log.entries
 
--- each entry has its note
+-- each entry has the note that is due
 abbrev pub IsNoted : Core → Type 0
-IsNoted core = length core.notes ≡ length core.log.entries
+IsNoted core = AreDue core.log.entries core.notes
 
 -- the application may make this call now
 pub record MayCall (core : Core) (app : ℕ) (call : Call) : Type 0 where
@@ -56,10 +56,10 @@ abbrev pub with_noted : Core → Entry → Note → Core
 with_noted core e note = record core { log = with_entry core.log e; notes = core.notes ++ note ∷ [] }
 
 -- The call was answered as the bus answers it after the core's history, and its entry stands at the history's end, noted with
--- the loan of the view that was given, where one was.
+-- the loan of the view or the descriptor of the buffer that was given, where one was.
 pub record Does (old new : Core) (app : ℕ) (call : Call) (answer : BusAnswer) : Type 0 where
-  pub loan : ℕ
-  pub entry : new ≡ with_noted old (record { app = app; call = call; answer = answer }) (note_due answer loan)
+  pub name : ℕ
+  pub entry : new ≡ with_noted old (record { app = app; call = call; answer = answer }) (note_due answer call name)
   pub as_machine : answer ≡ (step old.limits old.log.entries (state_of old) app call).0
   pub state : state_of new ≡ (step old.limits old.log.entries (state_of old) app call).1
   pub legal : IsLegalCore new

@@ -1,6 +1,6 @@
 //! The answers of the calls, as the journal has them.
 ghost use Rattle.std.specs.Prelude.{◌≡◌};
-ghost use Rattle.sb_core.specs.Answers.{created, found, bits_told, named, done, sent, got, pended, pool_told, grant_back, figures_told};
+ghost use Rattle.sb_core.specs.Answers.{created, allocated, found, bits_told, named, done, sent, got, pended, pool_told, grant_back, figures_told};
 
 use bus_words::{BusAnswer, PipeText};
 use fsw_base::{EsStatus, PoolStats, SbStatus};
@@ -9,6 +9,16 @@ use sb_core::{Pended, Sent};
 /// Of the creation of a pipe.
 pub(crate) fn of_created(told: &Result<u32, SbStatus>) -> BusAnswer
     ensures { result ≡ created told.now }
+{
+    match told {
+        Ok(number) => BusAnswer::Number(*number),
+        Err(status) => BusAnswer::Sb(*status),
+    }
+}
+
+/// Of a request for a buffer.
+pub(crate) fn of_allocated(told: &Result<u32, SbStatus>) -> BusAnswer
+    ensures { result ≡ allocated told.now }
 {
     match told {
         Ok(number) => BusAnswer::Number(*number),

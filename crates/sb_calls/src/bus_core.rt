@@ -8,7 +8,7 @@ ghost use Rattle.bus_words.specs.Held.{account_of, items_of, held, block_of};
 ghost use Rattle.bus_words.specs.Log.{left_of};
 ghost use Rattle.sb_calls.specs.Core.{IsLegalCore, IsNoted, StandAlone, apps_of, state_of};
 ghost use Rattle.bus_store.specs.Blocks.{IsGiven, AreOfOneSend, AreBlocks};
-ghost use Rattle.sb_calls.specs.Bags.{AreOneLoan, loans_of};
+ghost use Rattle.sb_calls.specs.Bags.{AreOneLoan, loans_of, descs_of};
 
 use crate::noted::NotedJournal;
 use buf_desc::Desk;
@@ -26,7 +26,8 @@ use std::marker::Model;
 pub struct BusCore<'r> {
     // The bus after the journal's entries.
     pub(crate) core: SbCore<'r>,
-    // Every call with its answer, in order, and the loan of the view that it gave.
+    // Every call with its answer, in order, and what it gave: the loan of a view, or a buffer's
+    // descriptor.
     pub(crate) noted: NotedJournal,
 }
 
@@ -86,7 +87,7 @@ impl<'r> BusCore<'r> {
         self.noted.journal().left(app).entries
     }
 
-    /// How many bytes of names and messages the application may still add to the journal.
+    /// How many bytes of names, messages and buffers the application may still add to the journal.
     pub fn bytes_left(&self, app: AppNo) -> u32
         requires { app ≤ apps_of self.now }
         ensures { result ≡ (allowance_of (left_of self.now.log) app).bytes }
@@ -110,7 +111,8 @@ impl<'r> BusCore<'r> {
     }
 
     /// What was noted beside the journal's entry of this number, from 0: where its call gave a
-    /// message, the loan of the view that was given, else nothing.
+    /// message, the loan of the view that was given; where it gave a buffer, the descriptor of the
+    /// block; else nothing.
     pub fn note(&self, i: u32) -> Note
         requires { i < length self.now.log.entries }
         ensures { Some result ≡ slice_get self.now.notes i }
@@ -118,23 +120,27 @@ impl<'r> BusCore<'r> {
         self.noted.note(i)
     }
 
-    /// The pool that the messages' blocks are drawn from. As many blocks of each size are out as
-    /// sends wait on a pipe, or are a pipe's last, whose block has that size; and its bytes in use
-    /// are those of these blocks.
+    /// The pool that the blocks of messages and buffers are drawn from. As many blocks of each size
+    /// are out as numbers are held whose block has that size: by a pipe that names the send, or by
+    /// an unsent buffer. Its bytes in use are those of these blocks.
     pub fn pool(&self) -> &Pool
         ensures account { IsAccountOf result.now
             (account_of self.now.limits (state_of self.now)) }
         ensures in_use { in_use_by result.now.sizes result.now.blocks ≡
-            sum_by (block_of self.now.limits.sizes (state_of self.now).pipes)
-            (held (state_of self.now).pipes (state_of self.now).numbers_given) }
+            sum_by (block_of self.now.limits.sizes (state_of self.now).pipes
+            (state_of self.now).unsent)
+            (held (state_of self.now).pipes (state_of self.now).unsent
+            (state_of self.now).numbers_given) }
     {
         self.core.pool()
     }
 
-    /// The blocks that messages lie in: one for each send that is held, and no others. Each is lent
-    /// by the loan that was noted where its message was given.
+    /// The blocks of messages and buffers: one for each number that is held, and no others. Each is
+    /// lent by the loan that was noted where its message was given, or has the descriptor that was
+    /// noted where the buffer was.
     pub fn desk(&self) -> &Desk<'r>
-        ensures blocks { AreBlocks result.now (state_of self.now).pipes (loans_of self.now) }
+        ensures blocks { AreBlocks result.now (state_of self.now).pipes (loans_of self.now)
+            (state_of self.now).unsent (descs_of self.now) }
         ensures account { IsAccountOf result.now.pool
             (account_of self.now.limits (state_of self.now)) }
     {

@@ -182,16 +182,15 @@ impl<'r> BusCore<'r> {
         result
     }
 
-    /// The caller's last call: its pipes leave with their subscriptions and messages, whose views
-    /// are taken out of its bag, and its grants of memory pools are given back.
+    /// The caller's last call: its pipes leave with their subscriptions and messages, and so do its
+    /// unsent buffers, so its bag is empty then; and its grants of memory pools are given back.
     pub fn end<L: Ledger>(&mut self, app: AppNo, held: &mut Held<'r>, steps: &mut Steps<L>)
         requires may { MayCall self.old app Call.End }
         requires bag { HasBag self.old app held.old }
         ensures does { Does self.old self.new app Call.End BusAnswer.Done }
         ensures bag { HasBag self.new app held.new }
         ensures other_bags { KeepsOtherBags self.old self.new app }
-        ensures views { held.new.views ≡ [] }
-        ensures buffers { held.new ≡ record held.old { views = held.new.views } }
+        ensures empty { held.new ≡ record held.old { views = []; buffers = [] } }
     {
         self.core.end(app, held, steps);
         let entry = BusEntry {

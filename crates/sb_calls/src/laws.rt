@@ -1,7 +1,7 @@
 //! What holds of every bag, whoever has it.
-ghost use Rattle.std.specs.Prelude.{◌≡◌, ℕ};
+ghost use Rattle.std.specs.Prelude.{◌≡◌, ℕ, List};
 ghost use Rattle.lend_block.specs.Loan.{LentBytes};
-ghost use Rattle.buf_desc.specs.Held.{Holding};
+ghost use Rattle.buf_desc.specs.Held.{Holding, with_bytes_at};
 ghost use Rattle.bus_words.specs.declared.calls.BusAnswer.{BusAnswer};
 ghost use Rattle.bus_words.specs.declared.history.Call.{Call};
 ghost use Rattle.sb_calls.specs.Bags.{HasBag, KeepsOtherBags, CalledByOthers, last_message};
@@ -9,8 +9,8 @@ ghost use Rattle.sb_calls.specs.Core.{Core, Does, state_of};
 ghost use Rattle.sb_calls.specs.Views.{bytes_seen};
 
 /// An application's bag shows the bytes of the last message of each of its pipes, and nothing of
-/// any other pipe; and it stays its bag whatever others call, by one entry or by many. Does
-/// nothing.
+/// any other pipe; and it stays its bag whatever others call, by one entry or by many, and whatever
+/// the application writes over the bytes of its buffers. Does nothing.
 pub fn bags_stay()
     ensures shown { (core : Core) (app pipe : ℕ) (bag : Holding LentBytes) → HasBag core app bag →
         bytes_seen bag pipe ≡ last_message (state_of core) app pipe }
@@ -18,4 +18,8 @@ pub fn bags_stay()
         Does old new app call answer → KeepsOtherBags old new app }
     ensures behind { (old new : Core) (app : ℕ) (bag : Holding LentBytes) →
         CalledByOthers old new app → HasBag old app bag → HasBag new app bag }
-{}
+    ensures written { (core : Core) (app number : ℕ) (bag : Holding LentBytes) (w : List ℕ) →
+        HasBag core app bag → HasBag core app (with_bytes_at bag number w) }
+{
+    bus_store::recall_written();
+}

@@ -64,6 +64,7 @@ impl<'r> BusCore<'r> {
         requires bag { HasBag self.old app held.old }
         ensures looks { Looks self.old self.new app
             (waited_on (standing_of (state_of self.old) app)) result }
+        ensures bag_still { result ≡ Pended.Pending → held.new ≡ held.old }
         ensures bag { HasBag self.new app held.new }
         ensures other_bags { KeepsOtherBags self.old self.new app }
         ensures buffers { held.new ≡ record held.old { views = held.new.views } }

@@ -10,9 +10,11 @@ use fsw_base::{AppNo, MAX_MESSAGE_BYTES, MAX_NAME_BYTES};
 
 impl BusCore<'_> {
     /// Whether the application may make this call now, which is the condition of the call, beside
-    /// that on its bag where it takes one along: the core serves it, it is active (for a look, it
-    /// waits on that pipe; for its end, it hasn't ended), it has an entry and the call's bytes
-    /// left, and a name has at most 64 bytes, a message at most 65542.
+    /// those on its bag where it takes one along (that the bag is its own and, for an allocation,
+    /// that it has room for a buffer more): the core serves it, it is active (for a look, it waits
+    /// on that pipe; for its end, it hasn't ended), it has an entry and the call's bytes left, and
+    /// a name has at most 64 bytes, a message at most 65542. A buffer's transmission is asked for
+    /// with the bytes that the bag has of the buffer, none where it has no such buffer.
     pub fn may_make(&self, app: AppNo, call: &BusCall<'_>) -> bool
         ensures { IsTrue result ↔ MayCall self.now app (call_of call.now) }
     {
@@ -37,7 +39,7 @@ fn is_permitted(lets: bool, left: Allowance, call: &BusCall<'_>) -> bool
     lets && 1 <= left.entries && bytes <= left.bytes as usize && short
 }
 
-// The bytes of the call's name or message.
+// The bytes of the call's name, message or buffer.
 fn bytes_of(call: &BusCall<'_>) -> usize
     ensures { result ≡ call_bytes (call_of call.now) }
 {
@@ -45,6 +47,7 @@ fn bytes_of(call: &BusCall<'_>) -> usize
         BusCall::Create { name, .. } => name.len(),
         BusCall::Find { name } => name.len(),
         BusCall::Transmit { bytes, .. } => bytes.len(),
+        BusCall::TransmitBuffer { bytes, .. } => bytes.len(),
         _ => 0,
     }
 }

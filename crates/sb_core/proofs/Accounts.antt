@@ -7,7 +7,7 @@ use Rattle.bus_store.specs.Words.{with_held}
 use Rattle.sb_core.specs.declared.plain.SbCore.TheInside.{Inside}
 use Rattle.sb_core.specs.Inside.{means, Keeps}
 
-pub account_is : (a : Inside) → Keeps a → a.store.account ≡ with_held a.store.account a.store.pipes a.store.numbers_given → a.store.account ≡ account_of (limits_of a.config) (means a).bus
+pub account_is : (a : Inside) → Keeps a → a.store.account ≡ with_held a.store.account a.store.pipes a.store.unsent a.store.numbers_given → a.store.account ≡ account_of (limits_of a.config) (means a).bus
 account_is a keeps held =
     let now = a.store.account in
     let limits = limits_of a.config in
@@ -15,7 +15,7 @@ account_is a keeps held =
       bytes = bytes;
       sizes = sizes;
       made = now.made;
-      out = blocks_held sizes a.store.pipes a.store.numbers_given;
+      out = blocks_held sizes a.store.pipes a.store.unsent a.store.numbers_given;
       requests = now.requests;
       errors = errors;
     } in

@@ -1,5 +1,5 @@
 -- Changes of the core's fields that keep what is always true of them.
-use Rattle.std.proofs.Common.{◌≡◌, ℕ, Bool, true, not, eqb, [], ◌∷◌, ◌++◌, filter, sym, subst, Vec, Global}
+use Rattle.std.proofs.Common.{◌≡◌, ℕ, Bool, true, not, eqb, [], ◌∷◌, ◌++◌, length, filter, refl, sym, ◌∙◌, subst, Vec, Global}
 use Rattle.std.proofs.lemmas.List.Elements.{All-filter}
 use Rattle.bus_words.specs.Bus.{Pipe, Subscription, owns, with_pipe, with_bits, after_receive}
 use Rattle.bus_tables.specs.Rows.{has_way}
@@ -25,6 +25,7 @@ module _ (a : Inside) (next : Store) (keeps : Keeps a) where
         once = keeps.once;
         ready = ready_all a.store.pipes (a.store.pipes ++ pipe ∷ []) a.activities.items keeps.ready
             (λ app number ready. ready_pushed a.store.pipes app number ready pipe);
+        places = keeps.places;
       })
 
   -- other option bits
@@ -38,6 +39,7 @@ module _ (a : Inside) (next : Store) (keeps : Keeps a) where
         once = keeps.once;
         ready = ready_all a.store.pipes (with_pipe (with_bits bits) pipe a.store.pipes) a.activities.items keeps.ready
             (λ app number ready. ready_set_bits a.store.pipes app number ready bits pipe);
+        places = keeps.places;
       })
 
   -- subscriptions that leave
@@ -50,13 +52,14 @@ module _ (a : Inside) (next : Store) (keeps : Keeps a) where
         ways = All-filter stays (λ sub. has_way a.store.routes sub.id ≡ true) a.store.subscriptions keeps.ways;
         once = keeps.once;
         ready = keeps.ready;
+        places = keeps.places;
       })
 
   -- a receive, whatever the applications do then
   pub received_keeps : (pipe : ℕ) (acts : Vec Activity Global) →
-      next ≡ record a.store { pipes = with_pipe after_receive pipe a.store.pipes; account = with_held a.store.account next.pipes a.store.numbers_given; loans = next.loans } →
-      AreReady (with_pipe after_receive pipe a.store.pipes) acts.items → Keeps (record a { store = next; activities = acts })
-  received_keeps pipe acts is ready =
+      next ≡ record a.store { pipes = with_pipe after_receive pipe a.store.pipes; account = with_held a.store.account next.pipes a.store.unsent a.store.numbers_given; loans = next.loans } →
+      length acts.items ≡ length a.activities.items → AreReady (with_pipe after_receive pipe a.store.pipes) acts.items → Keeps (record a { store = next; activities = acts })
+  received_keeps pipe acts is many ready =
       subst (λ s. Keeps (record a { store = s; activities = acts })) (sym is)
       (record {
         room = keeps.room;
@@ -64,14 +67,15 @@ module _ (a : Inside) (next : Store) (keeps : Keeps a) where
         ways = keeps.ways;
         once = keeps.once;
         ready = ready;
+        places = keeps.places ∙ sym many;
       })
 
   module _ (app pipe : ℕ) (rises : IsRising 0 a.store.pipes) (own : owns a.store.pipes app pipe ≡ true) where
     -- a receive of an active application
-    pub taken_keeps : next ≡ record a.store { pipes = with_pipe after_receive pipe a.store.pipes; account = with_held a.store.account next.pipes a.store.numbers_given; loans = next.loans } →
+    pub taken_keeps : next ≡ record a.store { pipes = with_pipe after_receive pipe a.store.pipes; account = with_held a.store.account next.pipes a.store.unsent a.store.numbers_given; loans = next.loans } →
         activity_at a.activities.items app ≡ activities.Active → Keeps (record a { store = next })
     taken_keeps is active =
-        received_keeps pipe a.activities is
+        received_keeps pipe a.activities is refl
         (ready_others a.store.pipes (with_pipe after_receive pipe a.store.pipes) a.activities.items keeps.ready app active
         (λ other number apart ready. ready_received a.store.pipes other number ready app pipe rises own apart))
 
@@ -80,7 +84,7 @@ module _ (a : Inside) (next : Store) (keeps : Keeps a) where
         next ≡ record a.store {
           pipes = filter (λ (p : Pipe). not (eqb p.number pipe)) a.store.pipes;
           subscriptions = filter (λ (sub : Subscription). not (eqb sub.pipe pipe)) a.store.subscriptions;
-          account = with_held a.store.account next.pipes a.store.numbers_given;
+          account = with_held a.store.account next.pipes a.store.unsent a.store.numbers_given;
           loans = next.loans;
         } → activity_at a.activities.items app ≡ activities.Active → Keeps (record a { store = next })
     deleted_keeps is active =
@@ -92,4 +96,5 @@ module _ (a : Inside) (next : Store) (keeps : Keeps a) where
           once = keeps.once;
           ready = ready_others a.store.pipes (filter (λ (p : Pipe). not (eqb p.number pipe)) a.store.pipes) a.activities.items keeps.ready app active
               (λ other number apart ready. ready_without a.store.pipes other number ready app pipe rises own apart);
+          places = keeps.places;
         })

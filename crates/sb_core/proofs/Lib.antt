@@ -3,6 +3,7 @@ pub mod Actives
 pub mod After
 pub mod Asks
 pub mod Bags
+pub mod Buffers
 pub mod Changes
 pub mod Ends
 pub mod Looks

@@ -2,7 +2,7 @@
 use Rattle.std.proofs.Common.{◌≡◌, zero-add, ℕ, ◌+◌, ◌-◌, ◌<◌, ◌≤◌, Bool, true, false, ◌&&◌, not, cond, if◌then◌else◌, eqb, List, [], ◌∷◌, length, map, set, get_or, Some, None, count_by, refl, ap, sym, ◌∙◌, subst, arith, Vec, Global}
 use Rattle.std.specs.List.{list_all}
 use Rattle.std.proofs.lemmas.Bool.Decides.{nat_tests}
-use Rattle.std.proofs.lemmas.List.{map-set}
+use Rattle.std.proofs.lemmas.List.{map-set, length-set}
 use Rattle.std.proofs.lemmas.List.Sums.{sum_by-set, sum_by-cons}
 use Rattle.std.proofs.lemmas.List.Folds.{list_all-map}
 use Rattle.fsw_base.specs.Limits.{limits_of}
@@ -104,7 +104,7 @@ pending_empty s app pipe answer is waits = first (is_empty s.pipes pipe) (not (o
 -- Receives that may wait. --
 
 module _ (a : Inside) (next : Store) (acts : Vec Activity Global) (old : Plain) (app pipe : ℕ) (answer : Pended)
-    (is : next ≡ record a.store { pipes = with_pipe after_receive pipe a.store.pipes; account = with_held a.store.account next.pipes a.store.numbers_given; loans = next.loans })
+    (is : next ≡ record a.store { pipes = with_pipe after_receive pipe a.store.pipes; account = with_held a.store.account next.pipes a.store.unsent a.store.numbers_given; loans = next.loans })
     (waits : acts.items ≡ (if is_pending answer then set a.activities.items (app - 1) (activities.Waiting pipe) else a.activities.items))
     (answers : waited answer ≡ pended_answer (means a).bus app pipe) where
   standings_by : (b : Bool) →
@@ -138,9 +138,13 @@ module _ (a : Inside) (next : Store) (acts : Vec Activity Global) (old : Plain) 
   pub pend_keeps : Keeps a → IsRising 0 a.store.pipes → owns a.store.pipes app pipe ≡ true → activity_at a.activities.items app ≡ activities.Active →
       1 ≤ app → app ≤ length a.activities.items → Keeps (record a { store = next; activities = acts })
   pend_keeps keeps rises own active first within =
-      received_keeps a next keeps pipe acts is
+      received_keeps a next keeps pipe acts is (ap length waits ∙ many (is_pending answer))
       (subst (AreReady (with_pipe after_receive pipe a.store.pipes)) (sym waits) (by_answer (is_pending answer) refl))
     where
+      many : (b : Bool) → length (cond {A = List Activity} b (set a.activities.items (app - 1) (activities.Waiting pipe)) a.activities.items) ≡ length a.activities.items
+      many true = length-set a.activities.items (app - 1) (activities.Waiting pipe)
+      many false = refl
+
       others : (other number : ℕ) → (other ≡ app → ⊥) → IsReady a.store.pipes other number → IsReady (with_pipe after_receive pipe a.store.pipes) other number
       others other number apart ready = ready_received a.store.pipes other number ready app pipe rises own apart
 
@@ -161,7 +165,7 @@ module _ (a : Inside) (next : Store) (acts : Vec Activity Global) (old : Plain) 
 -- Looks. --
 
 module _ (a : Inside) (next : Store) (acts : Vec Activity Global) (old : Plain) (app pipe : ℕ)
-    (is : next ≡ record a.store { pipes = with_pipe after_receive pipe a.store.pipes; account = with_held a.store.account next.pipes a.store.numbers_given; loans = next.loans })
+    (is : next ≡ record a.store { pipes = with_pipe after_receive pipe a.store.pipes; account = with_held a.store.account next.pipes a.store.unsent a.store.numbers_given; loans = next.loans })
     (active : acts.items ≡ set a.activities.items (app - 1) activities.Active) where
   pub look_acts : (answer : Pended) → plain_of a ≡ old → is_pending answer ≡ false → waited answer ≡ pended_answer (means a).bus app pipe →
       Acts old (plain_of (record a { store = next; activities = acts })) app (Look pipe) (waited answer)
@@ -177,7 +181,7 @@ module _ (a : Inside) (next : Store) (acts : Vec Activity Global) (old : Plain) 
 
   pub look_keeps : Keeps a → IsRising 0 a.store.pipes → owns a.store.pipes app pipe ≡ true → 1 ≤ app → app ≤ length a.activities.items → Keeps (record a { store = next; activities = acts })
   look_keeps keeps rises own first within =
-      received_keeps a next keeps pipe acts is
+      received_keeps a next keeps pipe acts is (ap length active ∙ length-set a.activities.items (app - 1) activities.Active)
       (subst (AreReady (with_pipe after_receive pipe a.store.pipes)) (sym active)
       (ready_set a.store.pipes (with_pipe after_receive pipe a.store.pipes) a.activities.items keeps.ready app activities.Active first within
       (λ number wrong. absurd (cc (wrong)))

@@ -1,5 +1,6 @@
 -- A core that was just made.
-use Rattle.std.proofs.Common.{◌≡◌, ℕ, zero, suc, ◌-◌, Bool, true, false, cond, eqb, List, [], ◌∷◌, get_or, map, replicate, refl, ap, sym, ◌∙◌, subst}
+use Rattle.std.proofs.Common.{◌≡◌, ℕ, zero, suc, ◌-◌, Bool, true, false, cond, eqb, List, [], ◌∷◌, get_or, length, map, replicate, refl, ap, sym, ◌∙◌, subst}
+use Rattle.std.proofs.lemmas.List.{length-replicate}
 use Rattle.std.proofs.lemmas.List.Elements.{All-nil}
 use Rattle.fsw_base.specs.Limits.{Limits, limits_of}
 use Rattle.pool_words.specs.Grants.{Pools}
@@ -31,24 +32,25 @@ nobody_waits apps app pipe waits = by_test (eqb app 0) waits
     by_test true is = cc (is)
     by_test false is = at apps (app - 1) is
 
-module _ (a : Inside) (limits : Limits) (apps : ℕ) (same : limits_of a.config ≡ limits) (active : a.activities.items ≡ replicate apps activities.Active) (store : a.store ≡ opened limits) where
-  pub opened_plain : a.pools ≡ record { most = limits.apppool; sizes = limits.sizes; pools = [] } → plain_of a ≡ record { limits = limits; whole = opening_whole limits apps; loans = [] }
+module _ (a : Inside) (limits : Limits) (apps : ℕ) (same : limits_of a.config ≡ limits) (active : a.activities.items ≡ replicate apps activities.Active) (store : a.store ≡ opened limits apps) where
+  pub opened_plain : a.pools ≡ record { most = limits.apppool; sizes = limits.sizes; pools = [] } → plain_of a ≡ record { limits = limits; whole = opening_whole limits apps; loans = []; descs = [] }
   opened_plain pools =
       let no_pools : Pools = record { most = limits.apppool; sizes = limits.sizes; pools = [] } in
       ap (λ s. plain_of (record a { store = s })) store
-      ∙ ap (λ q. plain_of (record a { store = opened limits; pools = q })) pools
-      ∙ ap (λ l. record { limits = l; whole = means (record a { store = opened limits; pools = no_pools }); loans = [] }) same
-      ∙ ap (λ (st : List Standing). record { limits = limits; whole = record { bus = record (opening_whole limits apps).bus { standings = st }; nexts = [] }; loans = [] })
+      ∙ ap (λ q. plain_of (record a { store = opened limits apps; pools = q })) pools
+      ∙ ap (λ l. record { limits = l; whole = means (record a { store = opened limits apps; pools = no_pools }); loans = []; descs = [] }) same
+      ∙ ap (λ (st : List Standing). record { limits = limits; whole = record { bus = record (opening_whole limits apps).bus { standings = st }; nexts = [] }; loans = []; descs = [] })
       (ap (map standing_in) active ∙ standings-active apps)
 
   pub opened_keeps : Keeps a
   opened_keeps =
-      let there : opened limits ≡ a.store = sym store in
+      let there : opened limits apps ≡ a.store = sym store in
       subst (λ s. Keeps (record a { store = s })) there
       (record {
-        room = ap (λ l. (opened l).room) (sym same);
+        room = ap (λ l. (opened l apps).room) (sym same);
         pool = record { bytes = ap (λ (l : Limits). l.pool) (sym same); sizes = ap (λ (l : Limits). l.sizes) (sym same); errors = refl };
         ways = All-nil (λ (sub : Subscription). has_way [] sub.id ≡ true);
         once = tt;
         ready = λ app pipe waits. absurd (nobody_waits apps app pipe (ap (λ l. activity_at l app) (sym active) ∙ waits));
+        places = length-replicate apps [] ∙ sym (ap length active ∙ length-replicate apps activities.Active);
       })

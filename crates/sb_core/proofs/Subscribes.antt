@@ -236,6 +236,7 @@ module _ (a : Inside) (old : Plain) (app id pipe limit : ℕ) (scope : Scope) (v
           ways = ways_kept a.store.routes (with_route a.store.routes id) id a.store.subscriptions (a.store.subscriptions ++ sub ∷ []) sub refl refl refl keeps.ways;
           once = once_with_route a.store.routes id keeps.once;
           ready = keeps.ready;
+          places = keeps.places;
         })
 
     pub subscribed_acts : is_subscribed a.store.subscriptions id pipe ≡ false → Acts old (plain_of (record a { store = next })) app (Subscribe id pipe limit scope) Done

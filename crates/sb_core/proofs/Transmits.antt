@@ -93,7 +93,7 @@ moved_none starts (way ∷ routes) id none = by_test (eqb way.id id) none (moved
     by_test false rest ih = ap (λ (ns : List NextCount). next_of starts way ∷ ns) (ih rest)
 
 -- the route that counts is the next count that moves on
-moved_counted : (starts : List (ℕ × ℕ)) (routes : List RouteRow) (id : ℕ) → AreOnce routes → map (moved_on id) (map (next_of starts) routes) ≡ map (next_of starts) (counted_on routes id)
+pub moved_counted : (starts : List (ℕ × ℕ)) (routes : List RouteRow) (id : ℕ) → AreOnce routes → map (moved_on id) (map (next_of starts) routes) ≡ map (next_of starts) (counted_on routes id)
 moved_counted starts [] id once = refl
 moved_counted starts (way ∷ routes) id once = by_test (eqb way.id id) refl (moved_counted starts routes id once.1)
   where
@@ -106,7 +106,7 @@ moved_counted starts (way ∷ routes) id once = by_test (eqb way.id id) refl (mo
         (moved_none starts routes id (ap (has_way routes) (sym (eqb-true way.id id is)) ∙ once.0))
     by_test false is ih = ap (λ (ns : List NextCount). next_of starts way ∷ ns) ih
 
-once_by_ids : (routes others : List RouteRow) → ids_of others ≡ ids_of routes → AreOnce routes → AreOnce others
+pub once_by_ids : (routes others : List RouteRow) → ids_of others ≡ ids_of routes → AreOnce routes → AreOnce others
 once_by_ids [] [] same once = tt
 once_by_ids [] (way ∷ others) same once = absurd (cc (same))
 once_by_ids (route ∷ routes) [] same once = absurd (cc (same))
@@ -171,7 +171,7 @@ with_send store next app bytes inc = record store {
   routes = counted_up store.routes (message_id bytes) inc;
   missed = missed (sending_of store app bytes inc) (route store.subscriptions (message_id bytes)) store.pipes;
   numbers_given = store.numbers_given + 1;
-  account = with_held (after_request store.account (length bytes)) next.pipes next.numbers_given;
+  account = with_held (after_request store.account (length bytes)) next.pipes store.unsent next.numbers_given;
 }
 
 module _ (a : Inside) (next : Store) (old : Plain) (app : ℕ) (bytes : List ℕ) (inc : Bool) (is : next ≡ with_send a.store next app bytes inc) (keeps : Keeps a) where
@@ -198,10 +198,11 @@ module _ (a : Inside) (next : Store) (old : Plain) (app : ℕ) (bytes : List ℕ
             (λ sub one. has_route-counted_up a.store.routes id sub.id inc ∙ one) a.store.subscriptions keeps.ways;
         once = once_by_ids a.store.routes (counted_up a.store.routes id inc) (ids_of-counted_up a.store.routes id inc) keeps.once;
         ready = ready_all a.store.pipes (deliver sending subs a.store.pipes) a.activities.items keeps.ready (λ user pipe ready. ready_sent sending subs a.store.pipes user pipe ready);
+        places = keeps.places;
       })
 
   pub sent_acts : (first : Subscription) (more : List Subscription) (number arrived : ℕ) → subs ≡ first ∷ more → plain_of a ≡ old → transmit_cause (limits_of a.config) (means a).bus bytes ≡ None →
-      a.store.account ≡ with_held a.store.account a.store.pipes a.store.numbers_given → number ≡ a.store.numbers_given + 1 → arrived ≡ reached sending subs a.store.pipes →
+      a.store.account ≡ with_held a.store.account a.store.pipes a.store.unsent a.store.numbers_given → number ≡ a.store.numbers_given + 1 → arrived ≡ reached sending subs a.store.pipes →
       Acts old (plain_of (record a { store = next })) app (Transmit bytes inc) (Sent number arrived)
   sent_acts first more number arrived someone viewed why held numbered arrives =
       let limits = limits_of a.config in

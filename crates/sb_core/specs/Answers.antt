@@ -34,6 +34,11 @@ abbrev pub done : Result (Unit {0}) SbStatus → BusAnswer
 done (Ok nothing) = answers.Done
 done (Err status) = answers.Sb status
 
+-- the number of a buffer, or the refusal
+abbrev pub allocated : Result ℕ SbStatus → BusAnswer
+allocated (Ok number) = answers.Number number
+allocated (Err status) = answers.Sb status
+
 -- what a send was answered
 abbrev pub sent : Result Sent SbStatus → BusAnswer
 sent (Ok it) = answers.Sent it.number it.reached

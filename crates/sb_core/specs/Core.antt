@@ -1,26 +1,27 @@
--- The core as its callers see it: its limits, the state, and the loans of the last messages.
+-- The core as its callers see it: its limits, the state, the loans of the last messages, and the descriptors of unsent buffers.
 use Rattle.std.specs.Prelude.{◌≡◌, ℕ, ◌+◌, ◌^◌, ◌<◌, ◌≤◌, nat_le, Bool, true, List, length, IsTrue}
 use Rattle.fsw_base.specs.Limits.{Limits}
 use Rattle.pool_words.specs.Grants.{Pools, has_numbers}
 use Rattle.bus_words.specs.declared.calls.BusAnswer.{BusAnswer}
 use Rattle.bus_words.specs.declared.history.Call.{Call}
-use Rattle.bus_words.specs.declared.history.Call.TheVariants.{Create, Delete, SetOpts, GetOpts, Find, PipeName, Subscribe, Unsubscribe, Transmit, Receive, Pend, Look, PoolCreate, PoolGet, PoolPut, PoolFigures, End}
+use Rattle.bus_words.specs.declared.history.Call.TheVariants.{Create, Delete, SetOpts, GetOpts, Find, PipeName, Subscribe, Unsubscribe, Transmit, Receive, Pend, Look, Allocate, TransmitBuffer, Release, PoolCreate, PoolGet, PoolPut, PoolFigures, End}
 use Rattle.bus_words.specs.Bus.{standing_of}
 use Rattle.bus_words.specs.Machine.{may_call}
 use Rattle.bus_words.specs.Acts.{Whole, act}
-use Rattle.bus_store.specs.Store.{LastLoan}
+use Rattle.bus_store.specs.Store.{LastLoan, BufferDesc}
 
--- The limits, the state, and the loan that the last message of each live pipe is lent by.
+-- The limits, the state, the loan that the last message of each live pipe is lent by, and the descriptor of each unsent buffer.
 pub record Plain : Type 0 where
   pub limits : Limits
   pub whole : Whole
   pub loans : List LastLoan
+  pub descs : List BufferDesc
 
 -- how many applications the core serves
 abbrev pub apps_in : Plain → ℕ
 apps_in core = length core.whole.bus.standings
 
--- a name of at most 64 bytes, a message of at most 65542
+-- a name of at most 64 bytes, a message of at most 65542; what a buffer may have is bounded by its size
 abbrev pub is_within : Call → Bool
 is_within (Create depth name) = nat_le (length name) 64
 is_within (Delete pipe) = true
@@ -34,6 +35,9 @@ is_within (Transmit bytes inc) = nat_le (length bytes) 65542
 is_within (Receive pipe) = true
 is_within (Pend pipe) = true
 is_within (Look pipe) = true
+is_within (Allocate size) = true
+is_within (TransmitBuffer buf bytes inc) = true
+is_within (Release buf) = true
 is_within (PoolCreate bytes) = true
 is_within (PoolGet pool size) = true
 is_within (PoolPut pool grant) = true

@@ -1,5 +1,5 @@
 -- What the core's fields stand for, and what is always true of them.
-use Rattle.std.specs.Prelude.{◌≡◌, ℕ, true, map, None, List, All}
+use Rattle.std.specs.Prelude.{◌≡◌, ℕ, true, length, map, None, List, All}
 use Rattle.fsw_base.specs.Limits.{Limits, limits_of}
 use Rattle.fsw_base.specs.PoolAccounts.{Account}
 use Rattle.bus_words.specs.Acts.{Whole}
@@ -22,6 +22,7 @@ means a = record {
     subscriptions = a.store.subscriptions;
     subscriptions_made = a.store.subscriptions_made;
     routed = ids_of a.store.routes;
+    unsent = a.store.unsent;
     numbers_given = a.store.numbers_given;
     standings = map standing_in a.activities.items;
     pools = a.pools;
@@ -33,7 +34,7 @@ means a = record {
 
 -- the core as its callers see it
 abbrev pub plain_of : Inside → Plain
-plain_of a = record { limits = limits_of a.config; whole = means a; loans = a.store.loans }
+plain_of a = record { limits = limits_of a.config; whole = means a; loans = a.store.loans; descs = a.store.descs }
 
 -- the pool has the limits' bytes and block sizes, and no return was refused
 pub record IsPoolOf (limits : Limits) (account : Account) : Type 0 where
@@ -59,3 +60,5 @@ pub record Keeps (a : Inside) : Type 0 where
   -- each id has one route at most
   pub once : AreOnce a.store.routes
   pub ready : AreReady a.store.pipes a.activities.items
+  -- each application has its unsent buffers
+  pub places : length a.store.unsent ≡ length a.activities.items

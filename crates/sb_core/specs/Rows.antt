@@ -1,5 +1,11 @@
--- What the core keeps of applications and routes, as the machine has it.
-use Rattle.std.specs.Prelude.{◌≡◌, ℕ, ◌-◌, ◌==◌, Bool, false, List, [], ◌∷◌, slice_index_or, if◌then◌else◌}
+-- What the core keeps of applications and routes, and what bags tell, as the machine has it.
+use Rattle.std.specs.Prelude.{◌≡◌, ℕ, ◌-◌, ◌==◌, Bool, false, not, List, [], ◌∷◌, slice_index_or, Option, None, is_some, if◌then◌else◌}
+use Rattle.fsw_base.specs.declared.statuses.SbStatus.{SbStatus}
+use Rattle.fsw_base.specs.declared.statuses.SbStatus.TheVariants.{BadArgument, BufferInvalid}
+use Rattle.ccsds_msg.specs.Message.{front_fault}
+use Rattle.lend_block.specs.Loan.{LentBytes}
+use Rattle.buf_desc.specs.Held.{Holding, buffer_at, bytes_at}
+use Rattle.bus_words.specs.Machine.{refused_if}
 use Rattle.bus_words.specs.Bus.{Pipe, Standing, Active, Waiting, Ended, is_idle}
 use Rattle.bus_tables.specs.Rows.{RouteRow, has_way}
 use Rattle.sb_core.specs.declared.activities.Activity.{Activity}
@@ -22,3 +28,9 @@ idle_in pipes activity = is_idle pipes (standing_in activity)
 abbrev pub AreOnce : List RouteRow → Type 0
 AreOnce [] = Unit {0}
 AreOnce (route ∷ routes) = (has_way routes route.id ≡ false) × AreOnce routes
+
+-- why a buffer can't be sent, as the bag tells it
+abbrev pub buffer_cause : Holding LentBytes → ℕ → Option SbStatus
+buffer_cause bag buf =
+    refused_if (not (is_some (buffer_at bag buf))) BufferInvalid
+    (refused_if (is_some (front_fault (bytes_at bag buf))) BadArgument None)

@@ -7,7 +7,7 @@ ghost use Rattle.bus_words.specs.declared.history.Call.TheVariants.{Create, Subs
 ghost use Rattle.bus_words.specs.Bus.{owns, route};
 ghost use Rattle.sb_core.specs.Core.{MayAct, Acts};
 ghost use Rattle.sb_core.specs.Answers.{created, done, sent, got};
-ghost use Rattle.sb_core.specs.Bags.{HasBag, KeepsBags, KeepsOtherBags, KeepsAllLoans, KeepsLoans, KeepsOtherLoans};
+ghost use Rattle.sb_core.specs.Bags.{HasBag, KeepsBags, KeepsOtherBags, KeepsAllLoans, KeepsAllDescs, KeepsLoans, KeepsOtherLoans, KeepsOtherDescs};
 
 use crate::activities::Activity;
 use crate::pipe_ends::release;
@@ -40,6 +40,7 @@ impl<'r> SbCore<'r> {
         ensures does { Acts self.old self.new app (Create depth name.now) (created result) }
         ensures bags { KeepsBags self.old self.new }
         ensures loans { KeepsAllLoans self.old self.new }
+        ensures descs { KeepsAllDescs self.old self.new }
     {
         if let Some(status) = self.create_cause(depth, name) {
             return Err(status);
@@ -72,6 +73,7 @@ impl<'r> SbCore<'r> {
             ≤ steps.old + 2 * length (route self.old.whole.bus.subscriptions id) + 10 }
         ensures bags { KeepsBags self.old self.new }
         ensures loans { KeepsAllLoans self.old self.new }
+        ensures descs { KeepsAllDescs self.old self.new }
     {
         let there = self.store.is_subscribed(id, pipe, steps);
         if let Some(status) = self.subscribe_cause(app, id, pipe, there) {
@@ -104,6 +106,7 @@ impl<'r> SbCore<'r> {
             ≤ steps.old + 3 * length (route self.old.whole.bus.subscriptions id) + 10 }
         ensures bags { KeepsBags self.old self.new }
         ensures loans { KeepsAllLoans self.old self.new }
+        ensures descs { KeepsAllDescs self.old self.new }
     {
         if let Some(status) = self.unsubscribe_cause(app, id, pipe) {
             return Err(status);
@@ -137,6 +140,7 @@ impl<'r> SbCore<'r> {
             (route self.old.whole.bus.subscriptions (message_id bytes.now)) }
         ensures bags { KeepsBags self.old self.new }
         ensures loans { KeepsAllLoans self.old self.new }
+        ensures descs { KeepsAllDescs self.old self.new }
     {
         if let Some(status) = self.transmit_cause(bytes) {
             return Err(status);
@@ -176,6 +180,7 @@ impl<'r> SbCore<'r> {
         ensures does { Acts self.old self.new app (Receive pipe) (got result) }
         ensures unowned { owns self.old.whole.bus.pipes app pipe ≡ false → self.new ≡ self.old }
         ensures loans { KeepsLoans self.old self.new pipe }
+        ensures descs { KeepsAllDescs self.old self.new }
         ensures bag { HasBag self.new app held.new }
         ensures other_bags { KeepsOtherBags self.old self.new app }
         ensures buffers { held.new ≡ record held.old { views = held.new.views } }
@@ -193,21 +198,23 @@ impl<'r> SbCore<'r> {
     }
 
     /// The caller's last call: its pipes leave with their subscriptions and messages, whose views
-    /// are taken out of its bag, and its grants of memory pools are given back.
+    /// are taken out of its bag; its unsent buffers are taken out of the bag, and their blocks go
+    /// back to the pool; and its grants of memory pools are given back. The bag is empty then.
     pub fn end<L: Ledger>(&mut self, app: AppNo, held: &mut Held<'r>, steps: &mut Steps<L>)
         requires may { MayAct self.old app End }
         requires bag { HasBag self.old app held.old }
         ensures does { Acts self.old self.new app End Done }
         ensures loans { KeepsOtherLoans self.old self.new app }
+        ensures descs { KeepsOtherDescs self.old self.new app }
         ensures bag { HasBag self.new app held.new }
-        ensures views { held.new.views ≡ [] }
         ensures other_bags { KeepsOtherBags self.old self.new app }
-        ensures buffers { held.new ≡ record held.old { views = held.new.views } }
+        ensures empty { held.new ≡ record held.old { views = []; buffers = [] } }
     {
         // Does nothing; the proof learns of it that no two applications have one pipe.
         self.store.recall_order();
         self.activities[(app.get() - 1) as usize] = Activity::Ended;
         release(&mut self.store, app, held, steps);
+        self.store.release_all(app, held, steps);
         self.pools.end(app, steps);
     }
 }

@@ -3,7 +3,7 @@
 ghost use Rattle.std.specs.Prelude.{◌≡◌, None, ◌==◌, ◌||◌, ◌&&◌, not, nat_lt, nat_le, length, is_some, ◌≤◌};
 ghost use Rattle.ccsds_msg.specs.Message.{fault, is_valid_id};
 ghost use Rattle.bus_words.specs.Bus.{is_subscribed, owns};
-ghost use Rattle.bus_words.specs.Machine.{refused_if, create_cause, subscribe_cause, unsubscribe_cause, unowned_cause, set_opts_cause, transmit_cause};
+ghost use Rattle.bus_words.specs.Machine.{refused_if, create_cause, subscribe_cause, unsubscribe_cause, unowned_cause, set_opts_cause, transmit_cause, allocate_cause};
 ghost use Rattle.bus_tables.specs.Rows.{has_way};
 
 use crate::plain::SbCore;
@@ -74,6 +74,24 @@ impl<'r> SbCore<'r> {
         ensures { result ≡ set_opts_cause self.now.whole.bus app pipe bits }
     {
         bad_argument_if(is_bad_option(&self.store, app, pipe, bits))
+    }
+
+    /// Why a buffer of this size can't be given.
+    pub(crate) fn allocate_cause(&self, size: u32) -> Option<SbStatus>
+        ensures { result ≡ allocate_cause self.now.limits self.now.whole.bus size }
+    {
+        if size < 7 {
+            return Some(SbStatus::BadArgument);
+        }
+        if size > self.config.msgmax {
+            return Some(SbStatus::MsgTooBig);
+        }
+        // Does nothing; the proof learns of it which blocks are out.
+        self.store.recall_held();
+        if !self.store.fits(size) {
+            return Some(SbStatus::BufAlocErr);
+        }
+        None
     }
 
     /// Why the bytes can't be sent.

@@ -11,6 +11,10 @@
 //! view in its bag: the calls that let a message go or receive one take the bag along, and leave
 //! it with the views of its pipes' last messages and no others.
 //!
+//! An application may ask for a buffer, a block in its bag that it writes a message into, and send
+//! it without a copy: the block is then the message's. An unsent buffer goes back to the pool at
+//! [`SbCore::release`], or with its application's last call.
+//!
 //! ```text
 //! let mut core = SbCore::new(alloc, &Config::usual(), 2, &mut region)?;
 //! let pipe = core.create_pipe(app, 4, b"TLM");             // Ok(1): pipes are numbered from 1
@@ -22,6 +26,7 @@
 #![tactic(auto)]
 
 mod activities;
+mod buffer_calls;
 mod calls;
 mod causes;
 mod pending;

@@ -8,7 +8,7 @@ ghost use Rattle.bus_words.specs.Machine.{pended_answer};
 ghost use Rattle.sb_core.specs.Answers.{pended, waited, is_pending};
 ghost use Rattle.sb_core.specs.Core.{MayAct, Acts, apps_in};
 ghost use Rattle.sb_core.specs.Rows.{idle_in, standing_in};
-ghost use Rattle.sb_core.specs.Bags.{HasBag, KeepsOtherBags, KeepsLoans};
+ghost use Rattle.sb_core.specs.Bags.{HasBag, KeepsOtherBags, KeepsLoans, KeepsAllDescs};
 
 use crate::activities::Activity;
 use crate::plain::SbCore;
@@ -71,6 +71,7 @@ impl<'r> SbCore<'r> {
         ensures does { Acts self.old self.new app (Pend pipe) (pended result) }
         ensures unowned { owns self.old.whole.bus.pipes app pipe ≡ false → self.new ≡ self.old }
         ensures loans { KeepsLoans self.old self.new pipe }
+        ensures descs { KeepsAllDescs self.old self.new }
         ensures bag { HasBag self.new app held.new }
         ensures other_bags { KeepsOtherBags self.old self.new app }
         ensures buffers { held.new ≡ record held.old { views = held.new.views } }
@@ -106,6 +107,7 @@ impl<'r> SbCore<'r> {
         ensures still { result ≡ Pended.Pending → self.new ≡ self.old }
         ensures bag_still { result ≡ Pended.Pending → held.new ≡ held.old }
         ensures loans { KeepsLoans self.old self.new pipe }
+        ensures descs { KeepsAllDescs self.old self.new }
         ensures bag { HasBag self.new app held.new }
         ensures other_bags { KeepsOtherBags self.old self.new app }
         ensures buffers { held.new ≡ record held.old { views = held.new.views } }

@@ -4,7 +4,7 @@ ghost use Rattle.bus_words.specs.declared.history.Call.TheVariants.{Delete, SetO
 ghost use Rattle.bus_words.specs.Bus.{owns};
 ghost use Rattle.sb_core.specs.Core.{MayAct, Acts};
 ghost use Rattle.sb_core.specs.Answers.{done, found, bits_told, named};
-ghost use Rattle.sb_core.specs.Bags.{HasBag, KeepsBags, KeepsOtherBags, KeepsAllLoans, KeepsLoans};
+ghost use Rattle.sb_core.specs.Bags.{HasBag, KeepsBags, KeepsOtherBags, KeepsAllLoans, KeepsAllDescs, KeepsLoans};
 
 use crate::plain::SbCore;
 use bucket_list::{Ledger, Steps};
@@ -31,6 +31,7 @@ impl<'r> SbCore<'r> {
         ensures does { Acts self.old self.new app (Delete pipe) (done result) }
         ensures unowned { owns self.old.whole.bus.pipes app pipe ≡ false → self.new ≡ self.old }
         ensures loans { KeepsLoans self.old self.new pipe }
+        ensures descs { KeepsAllDescs self.old self.new }
         ensures bag { HasBag self.new app held.new }
         ensures other_bags { KeepsOtherBags self.old self.new app }
         ensures buffers { held.new ≡ record held.old { views = held.new.views } }
@@ -55,6 +56,7 @@ impl<'r> SbCore<'r> {
         ensures does { Acts self.old self.new app (SetOpts pipe bits) (done result) }
         ensures bags { KeepsBags self.old self.new }
         ensures loans { KeepsAllLoans self.old self.new }
+        ensures descs { KeepsAllDescs self.old self.new }
     {
         if let Some(status) = self.set_opts_cause(app, pipe, bits) {
             return Err(status);

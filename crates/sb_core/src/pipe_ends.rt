@@ -3,7 +3,7 @@ ghost use Rattle.std.specs.Prelude.{◌≡◌, ◌≢◌, ℕ, ◌==◌, false, 
 ghost use Rattle.bus_words.specs.Bus.{owns};
 ghost use Rattle.lend_block.specs.Loan.{LentBytes};
 ghost use Rattle.buf_desc.specs.Held.{Holding};
-ghost use Rattle.bus_store.specs.Bag.{Holds};
+ghost use Rattle.bus_store.specs.Bag.{HoldsViews};
 ghost use Rattle.bus_store.specs.Words.{loan_of};
 
 use bucket_list::{Ledger, Steps};
@@ -19,7 +19,7 @@ pub(crate) fn release<'r, L: Ledger>(
     held: &mut Held<'r>,
     steps: &mut Steps<L>,
 )
-    requires bag { Holds store.old.pipes store.old.loans store.old.room.pipes app held.old }
+    requires bag { HoldsViews store.old.pipes store.old.loans store.old.room.pipes app held.old }
     ensures after { store.new ≡ record store.old {
       pipes = filter (λ pipe. not (pipe.owner == app)) store.old.pipes;
       subscriptions = filter (λ sub. not (owns store.old.pipes app sub.pipe))
@@ -31,10 +31,10 @@ pub(crate) fn release<'r, L: Ledger>(
         record store.old.account { out = store.new.account.out } }
     ensures loans { (pipe : ℕ) → owns store.old.pipes app pipe ≡ false →
         loan_of store.new.loans pipe ≡ loan_of store.old.loans pipe }
-    ensures bag { Holds store.new.pipes store.new.loans store.new.room.pipes app held.new }
+    ensures bag { HoldsViews store.new.pipes store.new.loans store.new.room.pipes app held.new }
     ensures other_bags { (other : ℕ) (bag : Holding LentBytes) → other ≢ app →
-        Holds store.old.pipes store.old.loans store.old.room.pipes other bag →
-        Holds store.new.pipes store.new.loans store.new.room.pipes other bag }
+        HoldsViews store.old.pipes store.old.loans store.old.room.pipes other bag →
+        HoldsViews store.new.pipes store.new.loans store.new.room.pipes other bag }
     ensures buffers { held.new ≡ record held.old { views = held.new.views } }
 {
     while let Some(pipe) = store.first_of(app) {

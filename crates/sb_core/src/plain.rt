@@ -18,7 +18,8 @@ pub struct SbCore<'r> {
     pub(crate) config: Config,
     // What each application does, from application 1.
     pub(crate) activities: Vec<Activity>,
-    // The live pipes with their messages, the live subscriptions, and the routes with their counts.
+    // The live pipes with their messages, the live subscriptions, the routes with their counts, and
+    // the unsent buffers.
     pub(crate) store: BusStore<'r>,
     // The memory pools that applications created; room for all that may be.
     pub(crate) pools: AppPools,
@@ -56,12 +57,13 @@ impl<'r> SbCore<'r> {
               limits = limits_of cfg.now;
               whole = opening_whole (limits_of cfg.now) apps;
               loans = [];
+              descs = [];
             }) }
     {
         Ok(SbCore {
             config: cfg.again(),
             activities: all_active(alloc, apps)?,
-            store: BusStore::new(alloc, cfg, region)?,
+            store: BusStore::new(alloc, cfg, apps as u32, region)?,
             pools: AppPools::new(alloc, cfg)?,
         })
     }

@@ -6,7 +6,7 @@ ghost use Rattle.pool_words.specs.Grants.{is_pool, pool_in, has_numbers};
 ghost use Rattle.bus_words.specs.declared.history.Call.TheVariants.{PoolCreate, PoolGet, PoolPut, PoolFigures};
 ghost use Rattle.sb_core.specs.Core.{MayAct, Acts};
 ghost use Rattle.sb_core.specs.Answers.{pool_told, grant_back, figures_told};
-ghost use Rattle.sb_core.specs.Bags.{KeepsBags, KeepsAllLoans};
+ghost use Rattle.sb_core.specs.Bags.{KeepsBags, KeepsAllLoans, KeepsAllDescs};
 
 use crate::plain::SbCore;
 use bucket_list::{Ledger, Steps};
@@ -25,6 +25,7 @@ impl<'r> SbCore<'r> {
         ensures does { Acts self.old self.new app (PoolCreate bytes) (pool_told result) }
         ensures bags { KeepsBags self.old self.new }
         ensures loans { KeepsAllLoans self.old self.new }
+        ensures descs { KeepsAllDescs self.old self.new }
     {
         self.pools.create(bytes)
     }
@@ -49,6 +50,7 @@ impl<'r> SbCore<'r> {
         ensures cost { steps.new ≤ steps.old + 8 }
         ensures bags { KeepsBags self.old self.new }
         ensures loans { KeepsAllLoans self.old self.new }
+        ensures descs { KeepsAllDescs self.old self.new }
     {
         self.pools.get(app, pool, size, steps)
     }
@@ -71,6 +73,7 @@ impl<'r> SbCore<'r> {
         ensures cost { steps.new ≤ steps.old + 8 }
         ensures bags { KeepsBags self.old self.new }
         ensures loans { KeepsAllLoans self.old self.new }
+        ensures descs { KeepsAllDescs self.old self.new }
     {
         self.pools.put(pool, grant, steps)
     }

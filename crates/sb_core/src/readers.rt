@@ -12,9 +12,11 @@ use buf_desc::Desk;
 use es_pool::Pool;
 
 impl<'r> SbCore<'r> {
-    /// The blocks that messages lie in: one for each send that is held, and no others.
+    /// The blocks of messages and of unsent buffers: one for each number that is held, and no
+    /// others.
     pub fn desk(&self) -> &Desk<'r>
-        ensures blocks { AreBlocks result.now self.now.whole.bus.pipes self.now.loans }
+        ensures blocks { AreBlocks result.now self.now.whole.bus.pipes self.now.loans
+            self.now.whole.bus.unsent self.now.descs }
         ensures account { IsAccountOf result.now.pool
             (account_of self.now.limits self.now.whole.bus) }
     {
@@ -23,14 +25,16 @@ impl<'r> SbCore<'r> {
         self.store.desk()
     }
 
-    /// The pool that the blocks of messages are drawn from: its bytes in use are those of the
-    /// blocks for the sends that are held, one for each.
+    /// The pool that the blocks are drawn from: its bytes in use are those of the blocks for the
+    /// numbers that are held, one for each.
     pub fn pool(&self) -> &Pool
         ensures account { IsAccountOf result.now
             (account_of self.now.limits self.now.whole.bus) }
         ensures in_use { in_use_by result.now.sizes result.now.blocks ≡
-            sum_by (block_of self.now.limits.sizes self.now.whole.bus.pipes)
-            (held self.now.whole.bus.pipes self.now.whole.bus.numbers_given) }
+            sum_by
+            (block_of self.now.limits.sizes self.now.whole.bus.pipes self.now.whole.bus.unsent)
+            (held self.now.whole.bus.pipes self.now.whole.bus.unsent
+            self.now.whole.bus.numbers_given) }
     {
         // Does nothing; the proof learns of it which blocks are out.
         self.store.recall_held();

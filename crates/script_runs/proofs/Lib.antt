@@ -1,3 +1,4 @@
+pub mod Buffers
 pub mod OwnLasts
 pub mod OnlyMessages
 pub mod LastMessages

@@ -1,22 +1,24 @@
 -- The rotation of a script ends; and its history is a legal one that has each application's calls, each once and in order.
 use Rattle.std.proofs.Common.{◌≡◌, ◌⊎◌, ℕ, zero, suc, ◌+◌, ◌-◌, ◌*◌, ◌<◌, ◌≤◌, ◌==◌, not, Bool, true, false, cond, true≢false, eq-eqb, ne_eqb, IsTrue, All, List, [], ◌∷◌, ◌++◌, length, replicate, sum_by, slice_index_or, Option, Some, None, refl, ap, sym, ◌∙◌, subst, arith}
-use Rattle.std.specs.Option.{is_some}
+use Rattle.std.specs.Prelude.{find}
+use Rattle.std.specs.Option.{is_some, option_map}
 use Rattle.std.proofs.lemmas.List.{length-replicate}
 use Rattle.std.proofs.lemmas.List.Elements.{All-nil, All-cons}
 use Rattle.std.proofs.lemmas.List.Sums.{sum_by-cons}
 use Rattle.fsw_base.specs.Limits.{Limits}
 use Rattle.bus_words.specs.declared.history.Entry.{Entry}
-use Rattle.bus_words.specs.Bus.{State, Standing, Active, Waiting, Ended, opening, standing_of, has_ended}
+use Rattle.bus_words.specs.Bus.{Buffer, State, Standing, Active, Waiting, Ended, opening, standing_of, has_ended}
 use Rattle.bus_words.specs.Held.{HoldsNothing}
 use Rattle.bus_words.specs.Machine.{step, may_call, state_after, LegalFrom, IsLegal}
 use Rattle.bus_words.proofs.HeldBlocks.{holds_nothing}
-use Rattle.bus_words.proofs.Owners.{AreOwned-after, none_left}
+use Rattle.bus_words.proofs.Owners.{AreOwned-after, AreHanded-after, none_left, none_handed}
 use Rattle.bus_words.proofs.Steps.{length-standings-step}
 use Rattle.script_runs.specs.Rotation.{Running, SoFar, before_all, enough, rotation, rotations, starting}
 use Rattle.app_script.specs.Script.{Application, ScriptText, app_at}
 use Rattle.script_runs.specs.Trace.{Trace, Merges, first_registers, own_entries}
+use Rattle.script_runs.specs.Written.{first_written}
 use Rattle.bus_words.proofs.LegalSteps.{standing_at}
-use Rattle.script_runs.proofs.OneTurn.{Owes, waits, is_ended}
+use Rattle.script_runs.proofs.OneTurn.{Owes, HasWritten, waits, is_ended}
 use Rattle.script_runs.proofs.Rotated.{left_of, AreApart, IsFit, Owed, HasRotated, weights, rotations-end}
 
 -- At the opening. --
@@ -24,7 +26,7 @@ use Rattle.script_runs.proofs.Rotated.{left_of, AreApart, IsFit, Owed, HasRotate
 left-starting : (from : ℕ) (apps : List Application) (k : ℕ) → k < from → left_of (starting from apps) k ≡ None
 left-starting from [] k below = refl
 left-starting from (a ∷ apps) k below =
-    ap (λ b. cond {A = Option Running} b (Some (record { app = from; lines = a.lines; registers = first_registers })) (left_of (starting (from + 1) apps) k))
+    ap (λ b. cond {A = Option Running} b (Some (record { app = from; lines = a.lines; registers = first_registers; written = first_written })) (left_of (starting (from + 1) apps) k))
     (ne_eqb from k (λ same. omega (arith, same, below)))
     ∙ left-starting (from + 1) apps k (omega (arith, below))
 
@@ -34,7 +36,7 @@ apart-starting from (a ∷ apps) = (left-starting (from + 1) apps from (omega ar
 
 -- the application with this number, before its first line
 abbrev first_of : ℕ → Application → Running
-first_of app a = record { app = app; lines = a.lines; registers = first_registers }
+first_of app a = record { app = app; lines = a.lines; registers = first_registers; written = first_written }
 
 skip-starting : (from : ℕ) (a : Application) (apps : List Application) (i : ℕ) → left_of (starting from (a ∷ apps)) (from + suc i) ≡ left_of (starting (from + 1) apps) ((from + 1) + i)
 skip-starting from a apps i =
@@ -80,11 +82,26 @@ fits-opening limits apps (suc i) =
     ∙ fits-starting 1 apps i
     ∙ ap (λ st. not (is_ended st)) (sym (standing_at (opening limits (length apps)) i))
 
+-- at the opening no application has a buffer
+written-opening : (limits : Limits) (n k from : ℕ) (apps : List Application) → HasWritten (opening limits n) k (left_of (starting from apps) k)
+written-opening limits n k from [] = tt
+written-opening limits n k from (a ∷ apps) =
+    elim (from == k) as (λ b. HasWritten (opening limits n) k (cond {A = Option Running} b (Some (first_of from a)) (left_of (starting (from + 1) apps) k))) [
+      | true ↦ λ number. ap (λ bs. option_map (λ (x : Buffer). x.size) (find (λ (b : Buffer). b.number == number) bs)) (sym (none_at n (k - 1)))
+      | false ↦ written-opening limits n k (from + 1) apps
+    ]
+  where
+    none_at : (n i : ℕ) → slice_index_or (replicate {A = List Buffer} n []) i [] ≡ []
+    none_at zero i = refl
+    none_at (suc n) zero = refl
+    none_at (suc n) (suc i) = none_at n i
+
 fit-opening : (script : ScriptText) → IsFit script.limits (length script.apps) (before_all script).0 (before_all script).1
 fit-opening script = record {
   sound = record { legal = tt; state = refl };
   apart = apart-starting 1 script.apps;
   fits = fits-opening script.limits script.apps;
+  written = λ k first. written-opening script.limits (length script.apps) k 1 script.apps;
 }
 
 -- at the opening nobody waits
@@ -138,7 +155,10 @@ rotation-all_ended script app =
 pub rotation-holds_nothing : (script : ScriptText) → HoldsNothing script.limits (state_after script.limits (length script.apps) (rotation script))
 rotation-holds_nothing script =
     let s = state_after script.limits (length script.apps) (rotation script) in
-    holds_nothing script.limits s (none_left s s.pipes (AreOwned-after script.limits (length script.apps) (rotation script) (rotation-legal script)) (rotation-all_ended script))
+    let legal = rotation-legal script in
+    holds_nothing script.limits s
+    (none_left s s.pipes (AreOwned-after script.limits (length script.apps) (rotation script) legal) (rotation-all_ended script))
+    (none_handed s (AreHanded-after script.limits (length script.apps) (rotation script) legal) (rotation-all_ended script))
 
 -- Merges. --
 
@@ -165,11 +185,11 @@ legal-known limits apps history s [] many legal = All-nil (λ e. (1 ≤ e.app) �
 legal-known limits apps history s (e ∷ es) many legal =
     All-cons (λ x. (1 ≤ x.app) × (x.app ≤ apps)) e es
     (known-caller s e.app apps many (caller-live (standing_of s e.app) e.call legal.0))
-    (legal-known limits apps (history ++ e ∷ []) ((step limits history s e.app e.call).1) es (length-standings-step limits history s e.app e.call ∙ many) legal.3)
+    (legal-known limits apps (history ++ e ∷ []) ((step limits history s e.app e.call).1) es (length-standings-step limits history s e.app e.call ∙ many) legal.4)
 
 -- what an application owes at the opening are its lines' entries
 opening-owed : (script : ScriptText) (app : ℕ) (es : List Entry) → 1 ≤ app → app ≤ length script.apps →
-    Owes (standing_of (opening script.limits (length script.apps)) app) (left_of (starting 1 script.apps) app) es → Trace first_registers (app_at script app).lines es
+    Owes (standing_of (opening script.limits (length script.apps)) app) (left_of (starting 1 script.apps) app) es → Trace first_registers first_written (app_at script app).lines es
 opening-owed script zero es first last owed = absurd (omega (arith, first))
 opening-owed script (suc i) es first last owed =
     let d : Application = record { name = []; lines = [] } in
@@ -177,7 +197,7 @@ opening-owed script (suc i) es first last owed =
     let stands : standing_of (opening script.limits (length script.apps)) (suc i) ≡ Active = standing_at (opening script.limits (length script.apps)) i ∙ active (length script.apps) i few in
     let left : left_of (starting 1 script.apps) (suc i) ≡ Some (first_of (1 + i) (slice_index_or script.apps i d)) =
     ap (left_of (starting 1 script.apps)) (first-plus i) ∙ lines-starting 1 script.apps i d few in
-    subst (λ n. Trace first_registers (slice_index_or script.apps n d).lines es) (sym (minus i))
+    subst (λ n. Trace first_registers first_written (slice_index_or script.apps n d).lines es) (sym (minus i))
     (subst (λ o. Owes Active o es) left (subst (λ st. Owes st (left_of (starting 1 script.apps) (suc i)) es) stands owed))
   where
     minus : (i : ℕ) → suc i - 1 ≡ i
@@ -203,7 +223,7 @@ rotation-merges script =
     let owed = done.leads.back last.0.history (none-owed last.0 last.1 done.none) in
     record {
       each = λ app first few.
-          subst (λ h. Trace first_registers (app_at script app).lines (own_entries app h)) (sym owed.history)
+          subst (λ h. Trace first_registers first_written (app_at script app).lines (own_entries app h)) (sym owed.history)
           (opening-owed script app (own_entries app owed.entries) first few (owed.owes app));
       nobody_else = legal-known script.limits (length script.apps) [] (opening script.limits (length script.apps)) (rotation script) (length-replicate (length script.apps) _) (rotation-legal script);
     }

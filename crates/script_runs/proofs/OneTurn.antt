@@ -10,9 +10,9 @@ use Rattle.bus_words.specs.declared.calls.BusAnswer.TheVariants.{Done, Number, N
 use Rattle.bus_words.specs.declared.history.Call.{Call}
 use Rattle.bus_words.specs.declared.history.Call.TheVariants as calls
 use Rattle.bus_words.specs.declared.history.Entry.{Entry}
-use Rattle.bus_words.specs.Bus.{State, Standing, Active, Waiting, Ended, Sending, Subscription, standing_of, with_standing, is_empty, others_idle, route, is_subscribed}
+use Rattle.bus_words.specs.Bus.{State, Standing, Active, Waiting, Ended, Sending, Subscription, standing_of, with_standing, is_empty, others_idle, route, is_subscribed, unsent_of}
 use Rattle.bus_words.specs.Refusals.{Refusal, OfBus, OfPools, refusal_answer}
-use Rattle.bus_words.specs.Machine.{step, state_after, may_call, makes_entry, IsLegal, cause, accept, decided, refused_state, received, looked, pended, pended_answer, sent_along, oldest_number}
+use Rattle.bus_words.specs.Machine.{step, state_after, may_call, makes_entry, IsLegal, cause, accept, decided, refused_state, received, looked, pended, pended_answer, sent_along, passed_along, buffer_gone, brings, oldest_number}
 use Rattle.bus_words.proofs.Finds.{Each}
 use Rattle.bus_words.proofs.Replay.{goes_on}
 use Rattle.bus_words.proofs.Steps.{with_subscription}
@@ -20,7 +20,9 @@ use Rattle.script_lines.specs.declared.line.Line.{Line}
 use Rattle.script_lines.specs.declared.line.Line.TheVariants as lines
 use Rattle.script_runs.specs.Rotation.{Running, SoFar, answer_to, after_call, after_look, behind, line_turn, active_turn, turn_in}
 use Rattle.script_runs.specs.Trace.{Registers, call_of, registers_after, AfterAnswer, LineEntries, IsEnd, Trace}
+use Rattle.script_runs.specs.Written.{Written, written_after, written_by}
 use Rattle.bus_words.proofs.LegalSteps.{standing_at, standing-ended, standing-step}
+use Rattle.script_runs.proofs.Buffers.{AreWritten, HaveSizes, have-sizes, agree-local, agree-step, brings-line, unsent-other}
 
 -- The calls of lines. --
 
@@ -34,49 +36,10 @@ abbrev is_line_option : Option Call → Bool
 is_line_option None = true
 is_line_option (Some call) = is_line_call call
 
-line_calls : (registers : Registers) (line : Line) → is_line_option (call_of registers line) ≡ true
+line_calls : (registers : Registers) (written : Written) (line : Line) → is_line_option (call_of registers written line) ≡ true
 unfolding call_of
-line_calls registers (lines.Create pipe depth name) = refl
-line_calls registers (lines.Delete pipe) = refl
-line_calls registers (lines.SetOpts pipe bits) = refl
-line_calls registers (lines.GetOpts pipe) = refl
-line_calls registers (lines.Find pipe name) = refl
-line_calls registers (lines.PipeName pipe) = refl
-line_calls registers (lines.Subscribe id pipe limit scope) = refl
-line_calls registers (lines.Unsubscribe id pipe) = refl
-line_calls registers (lines.Send id size fill inc) = refl
-line_calls registers (lines.SendRaw bytes inc) = refl
-line_calls registers (lines.Receive pipe) = refl
-line_calls registers (lines.Pend pipe) = refl
-line_calls registers (lines.Allocate buf size) = refl
-line_calls registers (lines.TransmitBuffer buf inc) = refl
-line_calls registers (lines.Release buf) = refl
-line_calls registers (lines.PoolCreate pool bytes) = refl
-line_calls registers (lines.PoolGet grant pool size) = refl
-line_calls registers (lines.PoolPut pool grant) = refl
-line_calls registers (lines.PoolFigures pool) = refl
-line_calls registers (lines.Register filters) = refl
-line_calls registers (lines.SendEvent id kind text) = refl
-line_calls registers (lines.ResetFilter id) = refl
-line_calls registers (lines.LogMode mode) = refl
-line_calls registers lines.ClearLog = refl
-line_calls registers lines.Housekeeping = refl
-line_calls registers lines.Figures = refl
-line_calls registers (lines.TableRegister handle name size option rules) = refl
-line_calls registers (lines.TableShare handle name) = refl
-line_calls registers (lines.TableUnregister handle) = refl
-line_calls registers (lines.Stage handle offset content) = refl
-line_calls registers (lines.Validate handle) = refl
-line_calls registers (lines.Update handle) = refl
-line_calls registers (lines.Abort handle) = refl
-line_calls registers (lines.Load handle offset content) = refl
-line_calls registers (lines.GetAddress handle) = refl
-line_calls registers (lines.ReleaseAddress handle) = refl
-line_calls registers (lines.Status handle) = refl
-line_calls registers (lines.Form buf id fill) = refl
-line_calls registers (lines.Put buf offset bytes) = refl
-line_calls registers (lines.ShowPipe pipe) = refl
-line_calls registers (lines.ShowTable handle) = refl
+line_calls registers written (lines.Create pipe depth name) = refl
+line_calls registers written line = refl
 
 line_may : (call : Call) → is_line_call call ≡ true → IsTrue (may_call Active call)
 line_may (calls.Create depth name) is = refl
@@ -91,6 +54,9 @@ line_may (calls.Transmit bytes inc) is = refl
 line_may (calls.Receive pipe) is = refl
 line_may (calls.Pend pipe) is = refl
 line_may (calls.Look pipe) is = absurd (true≢false (sym is))
+line_may (calls.Allocate size) is = refl
+line_may (calls.TransmitBuffer buf bytes inc) is = refl
+line_may (calls.Release buf) is = refl
 line_may (calls.PoolCreate bytes) is = refl
 line_may (calls.PoolGet pool size) is = refl
 line_may (calls.PoolPut pool grant) is = refl
@@ -110,6 +76,9 @@ line_enters (calls.Transmit bytes inc) answer is = refl
 line_enters (calls.Receive pipe) answer is = refl
 line_enters (calls.Pend pipe) answer is = refl
 line_enters (calls.Look pipe) answer is = absurd (true≢false (sym is))
+line_enters (calls.Allocate size) answer is = refl
+line_enters (calls.TransmitBuffer buf bytes inc) answer is = refl
+line_enters (calls.Release buf) answer is = refl
 line_enters (calls.PoolCreate bytes) answer is = refl
 line_enters (calls.PoolGet pool size) answer is = refl
 line_enters (calls.PoolPut pool grant) answer is = refl
@@ -181,6 +150,11 @@ sent_stands : (limits : Limits) (app : ℕ) (bytes : List ℕ) (inc : Bool) (sub
 sent_stands limits app bytes inc [] sending s is = is
 sent_stands limits app bytes inc (sub ∷ subs) sending s is = is
 
+passed_stands : (app buf : ℕ) (bytes : List ℕ) (inc : Bool) (subs : List Subscription) (sending : Sending) (s : State) → standing_of s app ≡ Active →
+    Stands app (calls.TransmitBuffer buf bytes inc) (passed_along subs sending s)
+passed_stands app buf bytes inc [] sending s is = is
+passed_stands app buf bytes inc (sub ∷ subs) sending s is = is
+
 pend_stands : (s : State) (app pipe : ℕ) → standing_of s app ≡ Active → Stands app (calls.Pend pipe) (pended_answer s app pipe, pended s app pipe)
 pend_stands s app pipe is =
     let got = Got (oldest_number s.pipes pipe) in
@@ -209,6 +183,10 @@ accepted_stands limits history s app (calls.Transmit bytes inc) line is = sent_s
 accepted_stands limits history s app (calls.Receive pipe) line is = is
 accepted_stands limits history s app (calls.Pend pipe) line is = pend_stands s app pipe is
 accepted_stands limits history s app (calls.Look pipe) line is = absurd (true≢false (sym line))
+accepted_stands limits history s app (calls.Allocate size) line is = is
+accepted_stands limits history s app (calls.TransmitBuffer buf bytes inc) line is =
+    passed_stands app buf bytes inc (route s.subscriptions (message_id bytes)) _ (buffer_gone s app buf) is
+accepted_stands limits history s app (calls.Release buf) line is = is
 accepted_stands limits history s app (calls.PoolCreate bytes) line is = is
 accepted_stands limits history s app (calls.PoolGet pool size) line is = is
 accepted_stands limits history s app (calls.PoolPut pool grant) line is = is
@@ -231,6 +209,9 @@ refused_stands s app (calls.Receive pipe) why line is =
 refused_stands s app (calls.Pend pipe) (OfBus status) line is = is
 refused_stands s app (calls.Pend pipe) (OfPools status) line is = is
 refused_stands s app (calls.Look pipe) why line is = absurd (true≢false (sym line))
+refused_stands s app (calls.Allocate size) why line is = is
+refused_stands s app (calls.TransmitBuffer buf bytes inc) why line is = is
+refused_stands s app (calls.Release buf) why line is = is
 refused_stands s app (calls.PoolCreate bytes) why line is = is
 refused_stands s app (calls.PoolGet pool size) why line is = is
 refused_stands s app (calls.PoolPut pool grant) why line is = is
@@ -266,9 +247,9 @@ pub record IsSound (limits : Limits) (apps : ℕ) (sofar : SoFar) : Type 0 where
 -- the entries are what an application in this standing has still to make
 abbrev pub Owes : Standing → Option Running → List Entry → Type 0
 Owes standing None es = es ≡ []
-Owes Active (Some r) es = Trace r.registers r.lines es
+Owes Active (Some r) es = Trace r.registers r.written r.lines es
 Owes (Waiting pipe) (Some r) [] = ⊥
-Owes (Waiting pipe) (Some r) (e ∷ es) = (e.call ≡ calls.Look pipe) × Trace r.registers r.lines es
+Owes (Waiting pipe) (Some r) (e ∷ es) = (e.call ≡ calls.Look pipe) × Trace r.registers r.written r.lines es
 Owes Ended (Some r) es = ⊥
 
 -- how many turns it may still take
@@ -285,6 +266,11 @@ weight standing (Some r) = 2 * length r.lines + 1 + waits standing
 abbrev pub listed : Option Running → List Running
 listed None = []
 listed (Some r) = r ∷ []
+
+-- what it wrote agrees with the buffers that it has
+abbrev pub HasWritten : State → ℕ → Option Running → Type 0
+HasWritten s app None = Unit {0}
+HasWritten s app (Some r) = AreWritten s.unsent app r.written
 
 abbrev pub HasNumber : ℕ → Option Running → Type 0
 HasNumber app None = Unit {0}
@@ -305,6 +291,8 @@ pub record IsTurn (limits : Limits) (apps : ℕ) (sofar : SoFar) (running : Runn
   pub number : HasNumber running.app left
   pub stands : standing_of next.0.state running.app ≡ now
   pub others : (k : ℕ) → (k == running.app) ≡ false → standing_of next.0.state k ≡ standing_of sofar.state k
+  pub written : HasWritten next.0.state running.app left
+  pub buffers : (k : ℕ) → 1 ≤ k → (k == running.app) ≡ false → unsent_of next.0.state.unsent k ≡ unsent_of sofar.state.unsent k
   pub fits : is_some left ≡ not (is_ended now)
   pub added : List Entry
   pub history : next.0.history ≡ sofar.history ++ added
@@ -314,16 +302,40 @@ pub record IsTurn (limits : Limits) (apps : ℕ) (sofar : SoFar) (running : Runn
 
 -- one call more
 sound-call : (limits : Limits) (apps : ℕ) (sofar : SoFar) (app : ℕ) (call : Call) → IsSound limits apps sofar →
-    IsTrue (may_call (standing_of sofar.state app) call) → IsTrue (makes_entry call (answer_to limits sofar app call)) → IsSound limits apps (after_call limits sofar app call)
-sound-call limits apps sofar app call sound may enters =
+    IsTrue (may_call (standing_of sofar.state app) call) → IsTrue (makes_entry call (answer_to limits sofar app call)) → IsTrue (brings sofar.state.unsent app call) →
+    IsSound limits apps (after_call limits sofar app call)
+sound-call limits apps sofar app call sound may enters whole =
     let e : Entry = record { app = app; call = call; answer = answer_to limits sofar app call } in
     let next = goes_on limits apps sofar.history e sound.legal
     (subst (λ (s : State). IsTrue (may_call (standing_of s app) call)) sound.state may)
-    (ap (λ (s : State). (step limits sofar.history s app call).0) sound.state) enters in
+    (ap (λ (s : State). (step limits sofar.history s app call).0) sound.state) enters
+    (subst (λ (s : State). IsTrue (brings s.unsent app call)) sound.state whole) in
     record {
       legal = next.legal;
       state = ap (λ (s : State). (step limits sofar.history s app call).1) sound.state ∙ sym next.state;
     }
+
+-- the sizes of the buffers are as after every history
+sizes-sound : (limits : Limits) (apps : ℕ) (sofar : SoFar) → IsSound limits apps sofar → HaveSizes limits sofar.state
+sizes-sound limits apps sofar sound = subst (HaveSizes limits) (sym sound.state) (have-sizes limits apps sofar.history)
+
+-- an application that hasn't ended has a list of buffers
+has-list : (s : State) (app : ℕ) → length s.unsent ≡ length s.standings → is_ended (standing_of s app) ≡ false → app - 1 < length s.unsent
+has-list s zero all live = absurd (true≢false live)
+has-list s (suc app) all live = let there = within s.standings app (ap is_ended (sym (standing_at s app)) ∙ live) in omega (arith, all, there)
+  where
+    within : (xs : List Standing) (i : ℕ) → is_ended (slice_index_or xs i Ended) ≡ false → i < length xs
+    within [] i live = absurd (true≢false live)
+    within (x ∷ xs) zero live = omega arith
+    within (x ∷ xs) (suc i) live = let there = within xs i live in omega (arith, there)
+
+-- one's own call
+written-call : (limits : Limits) (apps : ℕ) (sofar : SoFar) (running : Running) (call : Call) → IsSound limits apps sofar → is_ended (standing_of sofar.state running.app) ≡ false →
+    AreWritten sofar.state.unsent running.app running.written →
+    AreWritten ((after_call limits sofar running.app call).state).unsent running.app (written_after running.written call (answer_to limits sofar running.app call))
+written-call limits apps sofar running call sound live agree =
+    agree-step limits sofar.history sofar.state running.app call running.written
+    (has-list sofar.state running.app (sizes-sound limits apps sofar sound).all live) agree
 
 -- the end
 turn-end : (limits : Limits) (apps : ℕ) (sofar : SoFar) (running : Running) → IsSound limits apps sofar → standing_of sofar.state running.app ≡ Active → running.lines ≡ [] →
@@ -334,45 +346,52 @@ turn-end limits apps sofar running sound is has =
     record {
       now = Ended;
       left = None;
-      sound = sound-call limits apps sofar running.app calls.End sound may refl;
+      sound = sound-call limits apps sofar running.app calls.End sound may refl refl;
       lists = refl;
       number = tt;
       stands = standing-ended sofar.state running.app;
       others = λ k differ. standing-step limits sofar.history sofar.state running.app k calls.End may differ;
+      written = tt;
+      buffers = λ k first differ. unsent-other limits sofar.history sofar.state running.app k calls.End may differ first;
       fits = refl;
       added = e ∷ [];
       history = refl;
       own = (refl, tt);
-      owes = λ es none. subst (λ ls. Trace running.registers ls (e ∷ es)) (sym has) (subst (λ (xs : List Entry). IsEnd (e ∷ xs)) (sym none) refl);
+      owes = λ es none. subst (λ ls. Trace running.registers running.written ls (e ∷ es)) (sym has) (subst (λ (xs : List Entry). IsEnd (e ∷ xs)) (sym none) refl);
       falls = inl (omega arith);
     }
 
 -- a line that no service sees
 turn-local : (limits : Limits) (apps : ℕ) (sofar : SoFar) (running : Running) (line : Line) (others : List Line) → IsSound limits apps sofar →
-    standing_of sofar.state running.app ≡ Active → running.lines ≡ line ∷ others → call_of running.registers line ≡ None →
-    IsTurn limits apps sofar running Active (sofar, behind running others running.registers ∷ [])
-turn-local limits apps sofar running line others sound is has none =
+    AreWritten sofar.state.unsent running.app running.written →
+    standing_of sofar.state running.app ≡ Active → running.lines ≡ line ∷ others → call_of running.registers running.written line ≡ None →
+    IsTurn limits apps sofar running Active (sofar, behind running others running.registers (written_by running.written running.registers.buffers line) ∷ [])
+turn-local limits apps sofar running line others sound agree is has none =
     let fewer : length running.lines ≡ suc (length others) = ap length has in
+    let after = written_by running.written running.registers.buffers line in
     record {
       now = Active;
-      left = Some (behind running others running.registers);
+      left = Some (behind running others running.registers after);
       sound = sound;
       lists = refl;
       number = refl;
       stands = is;
       others = λ k differ. refl;
+      written = agree-local limits sofar.state running.app running.written running.registers.buffers line (sizes-sound limits apps sofar sound) agree;
+      buffers = λ k first differ. refl;
       fits = refl;
       added = [];
       history = sym (append-nil sofar.history);
       own = tt;
       owes = λ es owed.
-          subst (λ ls. Trace running.registers ls es) (sym has)
-          (subst (λ (c : Option Call). LineEntries c (λ answer rest. Trace (registers_after running.registers line answer) others rest) (λ rest. Trace running.registers others rest) es) (sym none) owed);
+          subst (λ ls. Trace running.registers running.written ls es) (sym has)
+          (subst (λ (c : Option Call). LineEntries c (λ call answer rest. Trace (registers_after running.registers line answer) (written_after running.written call answer) others rest)
+          (λ rest. Trace running.registers after others rest) es) (sym none) owed);
       falls = inl (omega (arith, fewer));
     }
 
 -- what follows a call is owed where its answer left the application
-answer-owed : (call : Call) (answer : BusAnswer) (r : Running) (es : List Entry) → Owes (now_after call answer) (Some r) es → AfterAnswer call answer (Trace r.registers r.lines) es
+answer-owed : (call : Call) (answer : BusAnswer) (r : Running) (es : List Entry) → Owes (now_after call answer) (Some r) es → AfterAnswer call answer (Trace r.registers r.written r.lines) es
 answer-owed (calls.Create depth name) answer r es owed = owed
 answer-owed (calls.Delete pipe) answer r es owed = owed
 answer-owed (calls.SetOpts pipe bits) answer r es owed = owed
@@ -395,6 +414,9 @@ answer-owed (calls.Pend pipe) (Pool figures) r es owed = owed
 answer-owed (calls.Pend pipe) (Sb status) r es owed = owed
 answer-owed (calls.Pend pipe) (Es status) r es owed = owed
 answer-owed (calls.Look pipe) answer r es owed = owed
+answer-owed (calls.Allocate size) answer r es owed = owed
+answer-owed (calls.TransmitBuffer buf bytes inc) answer r es owed = owed
+answer-owed (calls.Release buf) answer r es owed = owed
 answer-owed (calls.PoolCreate bytes) answer r es owed = owed
 answer-owed (calls.PoolGet pool size) answer r es owed = owed
 answer-owed (calls.PoolPut pool grant) answer r es owed = owed
@@ -423,6 +445,9 @@ now-facts (calls.Pend pipe) (Pool figures) = (refl, omega arith)
 now-facts (calls.Pend pipe) (Sb status) = (refl, omega arith)
 now-facts (calls.Pend pipe) (Es status) = (refl, omega arith)
 now-facts (calls.Look pipe) answer = (refl, omega arith)
+now-facts (calls.Allocate size) answer = (refl, omega arith)
+now-facts (calls.TransmitBuffer buf bytes inc) answer = (refl, omega arith)
+now-facts (calls.Release buf) answer = (refl, omega arith)
 now-facts (calls.PoolCreate bytes) answer = (refl, omega arith)
 now-facts (calls.PoolGet pool size) answer = (refl, omega arith)
 now-facts (calls.PoolPut pool grant) answer = (refl, omega arith)
@@ -431,53 +456,61 @@ now-facts calls.End answer = (refl, omega arith)
 
 -- a line that makes a call
 turn-call : (limits : Limits) (apps : ℕ) (sofar : SoFar) (running : Running) (line : Line) (others : List Line) (call : Call) → IsSound limits apps sofar →
-    standing_of sofar.state running.app ≡ Active → running.lines ≡ line ∷ others → call_of running.registers line ≡ Some call → is_line_call call ≡ true →
-    IsTurn limits apps sofar running Active
-    (after_call limits sofar running.app call, behind running others (registers_after running.registers line (answer_to limits sofar running.app call)) ∷ [])
-turn-call limits apps sofar running line others call sound is has some ok =
+    AreWritten sofar.state.unsent running.app running.written →
+    standing_of sofar.state running.app ≡ Active → running.lines ≡ line ∷ others → call_of running.registers running.written line ≡ Some call → is_line_call call ≡ true →
+    IsTurn limits apps sofar running Active (line_turn limits sofar running line others (Some call))
+turn-call limits apps sofar running line others call sound agree is has some ok =
     let answer = answer_to limits sofar running.app call in
     let e : Entry = record { app = running.app; call = call; answer = answer } in
     let may : IsTrue (may_call (standing_of sofar.state running.app) call) = subst (λ st. IsTrue (may_call st call)) (sym is) (line_may call ok) in
-    let next = behind running others (registers_after running.registers line answer) in
+    let after = written_after running.written call answer in
+    let next = behind running others (registers_after running.registers line answer) after in
     let fewer : length running.lines ≡ suc (length others) = ap length has in
     let facts = now-facts call answer in
     record {
       now = now_after call answer;
       left = Some next;
-      sound = sound-call limits apps sofar running.app call sound may (line_enters call answer ok);
+      sound = sound-call limits apps sofar running.app call sound may (line_enters call answer ok)
+          (brings-line sofar.state.unsent running.app running.registers running.written line call agree some);
       lists = refl;
       number = refl;
       stands = decided_stands limits sofar.history sofar.state running.app call (cause limits sofar.history sofar.state running.app call) ok is;
       others = λ k differ. standing-step limits sofar.history sofar.state running.app k call may differ;
+      written = written-call limits apps sofar running call sound (ap is_ended is) agree;
+      buffers = λ k first differ. unsent-other limits sofar.history sofar.state running.app k call may differ first;
       fits = ap not (sym facts.0);
       added = e ∷ [];
       history = refl;
       own = (refl, tt);
       owes = λ es owed.
-          subst (λ ls. Trace running.registers ls (e ∷ es)) (sym has)
-          (subst (λ (c : Option Call). LineEntries c (λ answer rest. Trace (registers_after running.registers line answer) others rest) (λ rest. Trace running.registers others rest) (e ∷ es)) (sym some)
+          subst (λ ls. Trace running.registers running.written ls (e ∷ es)) (sym has)
+          (subst (λ (c : Option Call). LineEntries c (λ made told rest. Trace (registers_after running.registers line told) (written_after running.written made told) others rest)
+          (λ rest. Trace running.registers (written_by running.written running.registers.buffers line) others rest) (e ∷ es)) (sym some)
           (refl, answer-owed call answer next es owed));
       falls = inl (omega (arith, fewer, facts.1));
     }
 
 -- a look that is answered
-turn-look : (limits : Limits) (apps : ℕ) (sofar : SoFar) (running : Running) (pipe : ℕ) → IsSound limits apps sofar → standing_of sofar.state running.app ≡ Waiting pipe →
+turn-look : (limits : Limits) (apps : ℕ) (sofar : SoFar) (running : Running) (pipe : ℕ) → IsSound limits apps sofar →
+    AreWritten sofar.state.unsent running.app running.written → standing_of sofar.state running.app ≡ Waiting pipe →
     is_pending (pended_answer sofar.state running.app pipe) ≡ false → IsTrue (makes_entry (calls.Look pipe) (pended_answer sofar.state running.app pipe)) →
     IsTurn limits apps sofar running (Waiting pipe) (after_call limits sofar running.app (calls.Look pipe), running ∷ [])
-turn-look limits apps sofar running pipe sound is answered enters =
+turn-look limits apps sofar running pipe sound agree is answered enters =
     let look = calls.Look pipe in
     let e : Entry = record { app = running.app; call = look; answer = answer_to limits sofar running.app look } in
     let may : IsTrue (may_call (standing_of sofar.state running.app) look) = subst (λ st. IsTrue (may_call st look)) (sym is) (Rattle.bus_words.proofs.Finds.same-self pipe) in
     record {
       now = Active;
       left = Some running;
-      sound = sound-call limits apps sofar running.app look sound may enters;
+      sound = sound-call limits apps sofar running.app look sound may enters refl;
       lists = refl;
       number = refl;
       stands =
           ap (λ (s : State). standing_of s running.app) (look-active sofar.state running.app pipe answered)
           ∙ standing-here (received sofar.state pipe) running.app Active (ap is_ended is);
       others = λ k differ. standing-step limits sofar.history sofar.state running.app k look may differ;
+      written = written-call limits apps sofar running look sound (ap is_ended is) agree;
+      buffers = λ k first differ. unsent-other limits sofar.history sofar.state running.app k look may differ first;
       fits = refl;
       added = e ∷ [];
       history = refl;
@@ -487,9 +520,10 @@ turn-look limits apps sofar running pipe sound is answered enters =
     }
 
 -- a look that finds nothing
-turn-stay : (limits : Limits) (apps : ℕ) (sofar : SoFar) (running : Running) (pipe : ℕ) → IsSound limits apps sofar → standing_of sofar.state running.app ≡ Waiting pipe →
+turn-stay : (limits : Limits) (apps : ℕ) (sofar : SoFar) (running : Running) (pipe : ℕ) → IsSound limits apps sofar →
+    AreWritten sofar.state.unsent running.app running.written → standing_of sofar.state running.app ≡ Waiting pipe →
     pended_answer sofar.state running.app pipe ≡ Pending → IsTurn limits apps sofar running (Waiting pipe) (sofar, running ∷ [])
-turn-stay limits apps sofar running pipe sound is nothing = record {
+turn-stay limits apps sofar running pipe sound agree is nothing = record {
   now = Waiting pipe;
   left = Some running;
   sound = sound;
@@ -497,6 +531,8 @@ turn-stay limits apps sofar running pipe sound is nothing = record {
   number = refl;
   stands = is;
   others = λ k differ. refl;
+  written = agree;
+  buffers = λ k first differ. refl;
   fits = refl;
   added = [];
   history = sym (append-nil sofar.history);
@@ -506,35 +542,40 @@ turn-stay limits apps sofar running pipe sound is nothing = record {
 }
 
 turn-waiting : (limits : Limits) (apps : ℕ) (sofar : SoFar) (running : Running) (pipe : ℕ) (answer : BusAnswer) → IsSound limits apps sofar →
+    AreWritten sofar.state.unsent running.app running.written →
     standing_of sofar.state running.app ≡ Waiting pipe → pended_answer sofar.state running.app pipe ≡ answer →
     IsTurn limits apps sofar running (Waiting pipe) (after_look limits sofar running.app pipe answer, running ∷ [])
-turn-waiting limits apps sofar running pipe Pending sound is answers = turn-stay limits apps sofar running pipe sound is answers
-turn-waiting limits apps sofar running pipe Done sound is answers = turn-look limits apps sofar running pipe sound is (ap is_pending answers) (ap (makes_entry (calls.Look pipe)) answers)
-turn-waiting limits apps sofar running pipe (Number n) sound is answers = turn-look limits apps sofar running pipe sound is (ap is_pending answers) (ap (makes_entry (calls.Look pipe)) answers)
-turn-waiting limits apps sofar running pipe (Name name) sound is answers = turn-look limits apps sofar running pipe sound is (ap is_pending answers) (ap (makes_entry (calls.Look pipe)) answers)
-turn-waiting limits apps sofar running pipe (Sent number reached) sound is answers = turn-look limits apps sofar running pipe sound is (ap is_pending answers) (ap (makes_entry (calls.Look pipe)) answers)
-turn-waiting limits apps sofar running pipe (Got number) sound is answers = turn-look limits apps sofar running pipe sound is (ap is_pending answers) (ap (makes_entry (calls.Look pipe)) answers)
-turn-waiting limits apps sofar running pipe TimeOut sound is answers = turn-look limits apps sofar running pipe sound is (ap is_pending answers) (ap (makes_entry (calls.Look pipe)) answers)
-turn-waiting limits apps sofar running pipe (Pool figures) sound is answers = turn-look limits apps sofar running pipe sound is (ap is_pending answers) (ap (makes_entry (calls.Look pipe)) answers)
-turn-waiting limits apps sofar running pipe (Sb status) sound is answers = turn-look limits apps sofar running pipe sound is (ap is_pending answers) (ap (makes_entry (calls.Look pipe)) answers)
-turn-waiting limits apps sofar running pipe (Es status) sound is answers = turn-look limits apps sofar running pipe sound is (ap is_pending answers) (ap (makes_entry (calls.Look pipe)) answers)
+turn-waiting limits apps sofar running pipe Pending sound agree is answers = turn-stay limits apps sofar running pipe sound agree is answers
+turn-waiting limits apps sofar running pipe Done sound agree is answers = turn-look limits apps sofar running pipe sound agree is (ap is_pending answers) (ap (makes_entry (calls.Look pipe)) answers)
+turn-waiting limits apps sofar running pipe (Number n) sound agree is answers = turn-look limits apps sofar running pipe sound agree is (ap is_pending answers) (ap (makes_entry (calls.Look pipe)) answers)
+turn-waiting limits apps sofar running pipe (Name name) sound agree is answers = turn-look limits apps sofar running pipe sound agree is (ap is_pending answers) (ap (makes_entry (calls.Look pipe)) answers)
+turn-waiting limits apps sofar running pipe (Sent number reached) sound agree is answers = turn-look limits apps sofar running pipe sound agree is (ap is_pending answers) (ap (makes_entry (calls.Look pipe)) answers)
+turn-waiting limits apps sofar running pipe (Got number) sound agree is answers = turn-look limits apps sofar running pipe sound agree is (ap is_pending answers) (ap (makes_entry (calls.Look pipe)) answers)
+turn-waiting limits apps sofar running pipe TimeOut sound agree is answers = turn-look limits apps sofar running pipe sound agree is (ap is_pending answers) (ap (makes_entry (calls.Look pipe)) answers)
+turn-waiting limits apps sofar running pipe (Pool figures) sound agree is answers = turn-look limits apps sofar running pipe sound agree is (ap is_pending answers) (ap (makes_entry (calls.Look pipe)) answers)
+turn-waiting limits apps sofar running pipe (Sb status) sound agree is answers = turn-look limits apps sofar running pipe sound agree is (ap is_pending answers) (ap (makes_entry (calls.Look pipe)) answers)
+turn-waiting limits apps sofar running pipe (Es status) sound agree is answers = turn-look limits apps sofar running pipe sound agree is (ap is_pending answers) (ap (makes_entry (calls.Look pipe)) answers)
 
 turn-line : (limits : Limits) (apps : ℕ) (sofar : SoFar) (running : Running) (line : Line) (others : List Line) (made : Option Call) → IsSound limits apps sofar →
-    standing_of sofar.state running.app ≡ Active → running.lines ≡ line ∷ others → call_of running.registers line ≡ made →
+    AreWritten sofar.state.unsent running.app running.written →
+    standing_of sofar.state running.app ≡ Active → running.lines ≡ line ∷ others → call_of running.registers running.written line ≡ made →
     IsTurn limits apps sofar running Active (line_turn limits sofar running line others made)
-turn-line limits apps sofar running line others None sound is has makes = turn-local limits apps sofar running line others sound is has makes
-turn-line limits apps sofar running line others (Some call) sound is has makes =
-    turn-call limits apps sofar running line others call sound is has makes (ap is_line_option (sym makes) ∙ line_calls running.registers line)
+turn-line limits apps sofar running line others None sound agree is has makes = turn-local limits apps sofar running line others sound agree is has makes
+turn-line limits apps sofar running line others (Some call) sound agree is has makes =
+    turn-call limits apps sofar running line others call sound agree is has makes (ap is_line_option (sym makes) ∙ line_calls running.registers running.written line)
 
 turn-active : (limits : Limits) (apps : ℕ) (sofar : SoFar) (running : Running) (lines : List Line) → IsSound limits apps sofar →
+    AreWritten sofar.state.unsent running.app running.written →
     standing_of sofar.state running.app ≡ Active → running.lines ≡ lines → IsTurn limits apps sofar running Active (active_turn limits sofar running lines)
-turn-active limits apps sofar running [] sound is has = turn-end limits apps sofar running sound is has
-turn-active limits apps sofar running (line ∷ others) sound is has = turn-line limits apps sofar running line others (call_of running.registers line) sound is has refl
+turn-active limits apps sofar running [] sound agree is has = turn-end limits apps sofar running sound is has
+turn-active limits apps sofar running (line ∷ others) sound agree is has =
+    turn-line limits apps sofar running line others (call_of running.registers running.written line) sound agree is has refl
 
 -- a turn of an application that hasn't ended
 pub turn-in : (limits : Limits) (apps : ℕ) (sofar : SoFar) (running : Running) (standing : Standing) → IsSound limits apps sofar →
+    AreWritten sofar.state.unsent running.app running.written →
     standing_of sofar.state running.app ≡ standing → is_ended standing ≡ false → IsTurn limits apps sofar running standing (turn_in limits sofar running standing)
-turn-in limits apps sofar running Active sound is live = turn-active limits apps sofar running running.lines sound is refl
-turn-in limits apps sofar running (Waiting pipe) sound is live =
-    turn-waiting limits apps sofar running pipe (pended_answer sofar.state running.app pipe) sound is refl
-turn-in limits apps sofar running Ended sound is live = absurd (true≢false live)
+turn-in limits apps sofar running Active sound agree is live = turn-active limits apps sofar running running.lines sound agree is refl
+turn-in limits apps sofar running (Waiting pipe) sound agree is live =
+    turn-waiting limits apps sofar running pipe (pended_answer sofar.state running.app pipe) sound agree is refl
+turn-in limits apps sofar running Ended sound agree is live = absurd (true≢false live)

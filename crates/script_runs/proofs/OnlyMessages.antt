@@ -1,17 +1,17 @@
 -- What pipes hold are messages, after every history: nothing else is delivered.
 use Rattle.std.proofs.Common.{◌≡◌, ℕ, ◌==◌, ◌&&◌, not, Bool, true, false, cond, List, [], ◌∷◌, ◌++◌, drop, Option, Some, None, IfSome, refl}
 use Rattle.std.specs.Option.{is_some, option_and_then}
-use Rattle.ccsds_msg.specs.Message.{IsMessage, fault, message_id}
+use Rattle.ccsds_msg.specs.Message.{IsMessage, fault, front_fault, message_id}
 use Rattle.ccsds_msg.specs.declared.packet.MsgFault.{MsgFault}
-use Rattle.ccsds_msg.proofs.MessageLemmas.{IsMessage-with_count}
-use Rattle.fsw_base.specs.declared.statuses.SbStatus.TheVariants.{BadArgument}
+use Rattle.ccsds_msg.proofs.MessageLemmas.{IsMessage-front, IsMessage-with_count}
+use Rattle.fsw_base.specs.declared.statuses.SbStatus.TheVariants.{BadArgument, BufferInvalid}
 use Rattle.fsw_base.specs.Limits.{Limits}
 use Rattle.bus_words.specs.declared.history.Call.{Call}
 use Rattle.bus_words.specs.declared.history.Call.TheVariants as calls
 use Rattle.bus_words.specs.declared.history.Entry.{Entry}
-use Rattle.bus_words.specs.Bus.{Item, Pipe, Subscription, State, Active, Waiting, Sending, opening, owns, pipe_at, with_pipe, with_bits, with_standing, is_empty, others_idle, is_subscribed, route, verdict, is_in, item_for, offered, deliver, oldest, after_receive}
+use Rattle.bus_words.specs.Bus.{Item, Pipe, Subscription, State, Active, Waiting, Sending, opening, owns, pipe_at, with_pipe, with_bits, with_standing, is_empty, others_idle, is_subscribed, route, has_unsent, verdict, is_in, item_for, offered, deliver, oldest, after_receive}
 use Rattle.bus_words.specs.Refusals.{Refusal}
-use Rattle.bus_words.specs.Machine.{cause, decided, transmit_cause, sent_along, received, next_count, delivered, state_after}
+use Rattle.bus_words.specs.Machine.{cause, decided, transmit_cause, transmit_buffer_cause, front_of, buffer_gone, sent_along, passed_along, received, next_count, delivered, state_after}
 use Rattle.bus_words.proofs.Finds.{Each, Each-push, Each-filter}
 use Rattle.bus_words.proofs.Steps.{by_bus-none, refused_if-none, after_refusal, state_from-keeps}
 use Rattle.script_runs.specs.Told.{own_last}
@@ -85,6 +85,21 @@ sends : (limits : Limits) (subs : List Subscription) (sending : Sending) (s : St
 sends limits [] sending s message only = only
 sends limits (sub ∷ subs) sending s message only = each-deliver sending message (sub ∷ subs) s.pipes only
 
+-- what a buffer's send that isn't refused delivers
+fronts : (limits : Limits) (history : List Entry) (s : State) (app buf : ℕ) (bytes : List ℕ) (inc : Bool) → transmit_buffer_cause s app buf bytes ≡ None →
+    IsMessage (delivered limits history (front_of bytes) inc)
+fronts limits history s app buf bytes inc none =
+    let first = (refused_if-none (not (has_unsent s.unsent app buf)) BufferInvalid _ none).1 in
+    by_mode inc (IsMessage-front bytes (fault-none (front_fault bytes) (refused_if-none (is_some (front_fault bytes)) BadArgument _ first).0))
+  where
+    by_mode : (counts : Bool) → IsMessage (front_of bytes) → IsMessage (delivered limits history (front_of bytes) counts)
+    by_mode true message = IsMessage-with_count (front_of bytes) (next_count limits history (message_id (front_of bytes))) message
+    by_mode false message = message
+
+passes : (subs : List Subscription) (sending : Sending) (s : State) → IsMessage sending.message → OnlyMessages s → OnlyMessages (passed_along subs sending s).1
+passes [] sending s message only = only
+passes (sub ∷ subs) sending s message only = each-deliver sending message (sub ∷ subs) s.pipes only
+
 choice : (test : Bool) (one other : State) → OnlyMessages one → OnlyMessages other → OnlyMessages (cond {A = State} test one other)
 choice true one other first second = first
 choice false one other first second = second
@@ -109,6 +124,10 @@ only-decided limits history s app (calls.Pend at) None is only =
     choice (is_empty s.pipes at && not (others_idle s app)) (with_standing (received s at) app (Waiting at)) (received s at) taken taken
 only-decided limits history s app (calls.Look at) None is only =
     choice (is_empty s.pipes at && not (others_idle s app)) s (with_standing (received s at) app Active) only (each-with_pipe after_receive holds-receive at s.pipes only)
+only-decided limits history s app (calls.Allocate size) None is only = only
+only-decided limits history s app (calls.TransmitBuffer buf bytes inc) None is only =
+    passes (route s.subscriptions (message_id bytes)) _ (buffer_gone s app buf) (fronts limits history s app buf bytes inc (by_bus-none (transmit_buffer_cause s app buf bytes) is)) only
+only-decided limits history s app (calls.Release buf) None is only = only
 only-decided limits history s app (calls.PoolCreate bytes) None is only = only
 only-decided limits history s app (calls.PoolGet pool size) None is only = only
 only-decided limits history s app (calls.PoolPut pool grant) None is only = only

@@ -6,13 +6,14 @@ use Rattle.fsw_base.specs.Limits.{Limits}
 use Rattle.bus_words.specs.declared.calls.BusAnswer.{BusAnswer}
 use Rattle.bus_words.specs.declared.calls.BusAnswer.TheVariants.{Got, TimeOut, Pending}
 use Rattle.bus_words.specs.declared.history.Entry.{Entry}
-use Rattle.bus_words.specs.Bus.{Pipe, State, Standing, Active, Waiting, Ended, standing_of, is_empty, is_idle, others_idle}
+use Rattle.bus_words.specs.Bus.{Pipe, State, Standing, Active, Waiting, Ended, standing_of, is_empty, is_idle, others_idle, unsent_of}
 use Rattle.bus_words.specs.Machine.{pended_answer, oldest_number}
 use Rattle.bus_words.proofs.Finds.{Each, not_true, not_false, same-sym, same-self}
 use Rattle.script_runs.specs.Rotation.{Running, SoFar, turn, rotated, rotations}
 use Rattle.script_runs.specs.Trace.{own_entries}
 use Rattle.bus_words.proofs.LegalSteps.{standing_at}
-use Rattle.script_runs.proofs.OneTurn.{IsSound, IsTurn, IsStuck, Owes, HasNumber, listed, weight, is_ended, is_pending, turn-in}
+use Rattle.script_runs.proofs.Buffers.{agree-other}
+use Rattle.script_runs.proofs.OneTurn.{IsSound, IsTurn, IsStuck, Owes, HasNumber, HasWritten, listed, weight, is_ended, is_pending, turn-in}
 
 -- Who is left. --
 
@@ -101,6 +102,7 @@ pub record IsFit (limits : Limits) (apps : ℕ) (sofar : SoFar) (rs : List Runni
   pub sound : IsSound limits apps sofar
   pub apart : AreApart rs
   pub fits : (k : ℕ) → is_some (left_of rs k) ≡ not (is_ended (standing_of sofar.state k))
+  pub written : (k : ℕ) → 1 ≤ k → HasWritten sofar.state k (left_of rs k)
 
 -- the whole history goes on from here with what each application has still to make
 pub record Owed (sofar : SoFar) (rs : List Running) (whole : List Entry) : Type 0 where
@@ -121,6 +123,10 @@ owes-same : (st to : Standing) (o p : Option Running) (es fs : List Entry) → s
 owes-same st to o p es fs stands left own owed =
     subst (λ x. Owes x p fs) stands (subst (λ x. Owes st x fs) left (subst (λ x. Owes st o x) own owed))
 
+written-other : (s t : State) (k : ℕ) (left : Option Running) → unsent_of t.unsent k ≡ unsent_of s.unsent k → HasWritten s k left → HasWritten t k left
+written-other s t k None same written = tt
+written-other s t k (Some r) same written = agree-other s t k r.written same written
+
 turn-leads : (limits : Limits) (apps : ℕ) (sofar : SoFar) (ds others : List Running) (r : Running) (next : SoFar × List Running) → IsFit limits apps sofar (ds ++ r ∷ others) →
     (t : IsTurn limits apps sofar r (standing_of sofar.state r.app) next) → Leads limits apps sofar (ds ++ r ∷ others) next.0 (ds ++ (listed t.left ++ others))
 turn-leads limits apps sofar ds others r next fit t =
@@ -137,6 +143,12 @@ turn-leads limits apps sofar ds others r next fit t =
               (ap is_some here ∙ t.fits ∙ ap (λ st. not (is_ended st)) (sym t.stands))
           | false ↦ λ differ.
               ap is_some (left-other ds others r t.left k t.number differ) ∙ fit.fits k ∙ ap (λ st. not (is_ended st)) (sym (t.others k differ))
+        ] refl;
+        written = λ k first. elim (k == r.app) as (λ b. (k == r.app) ≡ b → HasWritten next.0.state k (left_of after k)) [
+          | true ↦ λ is. subst (λ n. HasWritten next.0.state n (left_of after n)) (sym (eqb-true k r.app is)) (subst (HasWritten next.0.state r.app) (sym here) t.written)
+          | false ↦ λ differ.
+              written-other sofar.state next.0.state k (left_of after k) (t.buffers k first differ)
+              (subst (HasWritten sofar.state k) (sym (left-other ds others r t.left k t.number differ)) (fit.written k first))
         ] refl;
       };
       back = λ whole owed. record {
@@ -215,6 +227,15 @@ is_live : (limits : Limits) (apps : ℕ) (sofar : SoFar) (ds others : List Runni
 is_live limits apps sofar ds others r fit =
     not_true (is_ended (standing_of sofar.state r.app)) (sym (fit.fits r.app) ∙ ap is_some (left-turned ds others r fit.apart))
 
+-- who hasn't ended has a number
+live-first : (s : State) (app : ℕ) → is_ended (standing_of s app) ≡ false → 1 ≤ app
+live-first s zero live = absurd (true≢false live)
+live-first s (suc app) live = omega arith
+
+own-written : (limits : Limits) (apps : ℕ) (sofar : SoFar) (ds others : List Running) (r : Running) → IsFit limits apps sofar (ds ++ r ∷ others) → HasWritten sofar.state r.app (Some r)
+own-written limits apps sofar ds others r fit =
+    subst (HasWritten sofar.state r.app) (left-turned ds others r fit.apart) (fit.written r.app (live-first sofar.state r.app (is_live limits apps sofar ds others r fit)))
+
 abbrev Falls : SoFar → List Running → List Running → SoFar × List Running → Type 0
 Falls sofar ds others next = (weights next.0.state (ds ++ next.1) < weights sofar.state (ds ++ others)) ⊎ ((next ≡ (sofar, others)) × Each (λ r. IsStuck sofar.state r.app) others)
 
@@ -249,7 +270,8 @@ pub rotated-turns : (limits : Limits) (apps : ℕ) (sofar : SoFar) (ds others : 
 rotated-turns limits apps sofar ds [] fit = record { leads = record { fit = fit; back = λ whole owed. owed }; falls = inr (refl, tt) }
 rotated-turns limits apps sofar ds (r ∷ others) fit =
     let first : SoFar × List Running = turn limits sofar r in
-    let t : IsTurn limits apps sofar r (standing_of sofar.state r.app) first = turn-in limits apps sofar r (standing_of sofar.state r.app) fit.sound refl (is_live limits apps sofar ds others r fit) in
+    let t : IsTurn limits apps sofar r (standing_of sofar.state r.app) first = turn-in limits apps sofar r (standing_of sofar.state r.app) fit.sound
+    (own-written limits apps sofar ds others r fit) refl (is_live limits apps sofar ds others r fit) in
     let lists : ds ++ (listed t.left ++ others) ≡ ds ++ (first.1 ++ others) = ap (λ l. ds ++ (l ++ others)) (sym t.lists) in
     let one : Leads limits apps sofar (ds ++ r ∷ others) first.0 ((ds ++ first.1) ++ others) =
     subst (λ l. Leads limits apps sofar (ds ++ r ∷ others) first.0 l) (lists ∙ sym (append_assoc ds first.1 others)) (turn-leads limits apps sofar ds others r first fit t) in

@@ -1,4 +1,5 @@
 pub mod Messages
+pub mod Written
 pub mod Trace
 pub mod Rotation
 pub mod Told

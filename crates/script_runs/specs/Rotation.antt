@@ -12,12 +12,14 @@ use Rattle.bus_words.specs.Machine.{step}
 use Rattle.script_lines.specs.declared.line.Line.{Line}
 use Rattle.app_script.specs.Script.{Application, ScriptText}
 use Rattle.script_runs.specs.Trace.{Registers, first_registers, call_of, registers_after}
+use Rattle.script_runs.specs.Written.{Written, first_written, written_after, written_by}
 
--- An application that has not ended: its number, the lines left and its registers.
+-- An application that has not ended: its number, the lines left, its registers, and what it wrote into its unsent buffers.
 pub record Running : Type 0 where
   pub app : ℕ
   pub lines : List Line
   pub registers : Registers
+  pub written : Written
 
 -- The bus so far: the history and the state after it.
 pub record SoFar : Type 0 where
@@ -41,21 +43,24 @@ after_look limits sofar app pipe Pending = sofar
 after_look limits sofar app pipe answer = after_call limits sofar app (Look pipe)
 
 -- the application behind its line
-abbrev pub behind : Running → List Line → Registers → Running
-behind running lines registers = record running { lines = lines; registers = registers }
+abbrev pub behind : Running → List Line → Registers → Written → Running
+behind running lines registers written = record running { lines = lines; registers = registers; written = written }
 
 -- a turn that runs a line: its call, where a service sees it
 abbrev pub line_turn : Limits → SoFar → Running → Line → List Line → Option Call → SoFar × List Running
-line_turn limits sofar running line lines None = (sofar, behind running lines running.registers ∷ [])
-line_turn limits sofar running line lines (Some call) = (
-  after_call limits sofar running.app call,
-  behind running lines (registers_after running.registers line (answer_to limits sofar running.app call)) ∷ [],
-)
+line_turn limits sofar running line lines None =
+    (sofar, behind running lines running.registers (written_by running.written running.registers.buffers line) ∷ [])
+line_turn limits sofar running line lines (Some call) =
+    let answer = answer_to limits sofar running.app call in (
+      after_call limits sofar running.app call,
+      behind running lines (registers_after running.registers line answer) (written_after running.written call answer) ∷ [],
+    )
 
 -- a turn that doesn't wait: the next line, or the end
 abbrev pub active_turn : Limits → SoFar → Running → List Line → SoFar × List Running
 active_turn limits sofar running [] = (after_call limits sofar running.app End, [])
-active_turn limits sofar running (line ∷ lines) = line_turn limits sofar running line lines (call_of running.registers line)
+active_turn limits sofar running (line ∷ lines) =
+    line_turn limits sofar running line lines (call_of running.registers running.written line)
 
 -- One turn of an application in this standing; and the application, where it goes on.
 abbrev pub turn_in : Limits → SoFar → Running → Standing → SoFar × List Running
@@ -82,7 +87,8 @@ rotations (suc n) limits now = rotations n limits (rotated limits now.0 now.1)
 -- the applications before the first rotation, from this number on
 abbrev pub starting : ℕ → List Application → List Running
 starting app [] = []
-starting app (a ∷ others) = record { app = app; lines = a.lines; registers = first_registers } ∷ starting (app + 1) others
+starting app (a ∷ others) =
+    record { app = app; lines = a.lines; registers = first_registers; written = first_written } ∷ starting (app + 1) others
 
 -- enough rotations for each application to make its calls and end: one for each line, one more for one that waits, and one
 -- for its end

@@ -16,6 +16,7 @@ use Rattle.script_lines.specs.declared.line.Line.{Line}
 use Rattle.script_lines.specs.declared.line.Line.TheVariants.{ShowPipe}
 use Rattle.app_script.specs.Script.{ScriptText, app_at}
 use Rattle.script_runs.specs.Trace.{Registers, first_registers, call_of, registers_after}
+use Rattle.script_runs.specs.Written.{Written, first_written, written_after, written_by}
 
 -- the last message of the application's own live pipe of this number, where it has one
 abbrev pub own_last : List Pipe → ℕ → ℕ → Option Item
@@ -55,21 +56,21 @@ told_after app Pending seen (look ∷ others) rest = receipts_of app look ++ res
 told_after app answer seen others rest = receipts_of app seen ++ rest seen.after others
 
 -- what a line tells
-abbrev pub line_told : ℕ → Option Call → List Receipt → List Seen → (State → List Seen → List Receipt) → (BusAnswer → State → List Seen → List Receipt) → State → List Receipt
+abbrev pub line_told : ℕ → Option Call → List Receipt → List Seen → (State → List Seen → List Receipt) → (Call → BusAnswer → State → List Seen → List Receipt) → State → List Receipt
 line_told app None local seen same next s = local ++ same s seen
 line_told app (Some call) local [] same next s = []
-line_told app (Some call) local (first ∷ others) same next s = told_after app first.entry.answer first others (next first.entry.answer)
+line_told app (Some call) local (first ∷ others) same next s = told_after app first.entry.answer first others (next call first.entry.answer)
 
 -- What the lines tell, with the bus as it is after the application's latest entry, and its entries to come.
-abbrev pub told : ℕ → Registers → State → List Line → List Seen → List Receipt
-told app registers s [] seen = []
-told app registers s (line ∷ lines) seen =
-    line_told app (call_of registers line) (shown app s registers line) seen
-    (λ after rest. told app registers after lines rest)
-    (λ answer after rest. told app (registers_after registers line answer) after lines rest) s
+abbrev pub told : ℕ → Registers → Written → State → List Line → List Seen → List Receipt
+told app registers written s [] seen = []
+told app registers written s (line ∷ lines) seen =
+    line_told app (call_of registers written line) (shown app s registers line) seen
+    (λ after rest. told app registers (written_by written registers.buffers line) after lines rest)
+    (λ call answer after rest. told app (registers_after registers line answer) (written_after written call answer) after lines rest) s
 
 -- the receipts of one application of a script in a history
 abbrev pub receipts_told : ScriptText → List Entry → ℕ → List Receipt
 receipts_told script history app =
     let s = opening script.limits (length script.apps) in
-    told app first_registers s (app_at script app).lines (seen_from script.limits [] s app history)
+    told app first_registers first_written s (app_at script app).lines (seen_from script.limits [] s app history)

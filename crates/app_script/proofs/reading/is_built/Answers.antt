@@ -16,9 +16,14 @@ returns-in_default c = built_default c.args.line.now (record {
   sendraw = λ bytes inc e. grind arith;
   recv = λ pipe e. grind arith;
   pend = λ pipe e. grind arith;
+  alloc = λ buf size e. grind arith;
+  xmit = λ buf inc e. grind arith;
+  release = λ buf e. grind arith;
   pool = λ pool bytes e. grind arith;
   pget = λ grant pool size e. grind arith;
   pput = λ pool grant e. grind arith;
   pstats = λ pool e. grind arith;
+  form = λ buf id fill e. grind arith;
+  put = λ buf offset bytes e. grind arith;
   show = λ pipe e. grind arith;
 })

@@ -4,7 +4,7 @@ use Rattle.ccsds_msg.specs.Message.{with_count}
 use Rattle.buf_desc.specs.Block.{Unsent as UnsentBlock}
 use Rattle.buf_desc.specs.Slots.{sealed_at}
 use Rattle.bus_store.specs.Inside.{Adds}
-use Rattle.bus_store.proofs.Added.{added, length-counted}
+use Rattle.bus_store.proofs.Added.{added, own_as, length-counted}
 use Rattle.bus_store.proofs.blocks.put_message.Goals as goal
 
 pub seal-requires-clause-within : goal.seal-requires-clause-within
@@ -14,6 +14,15 @@ seal-requires-clause-within g c =
     let is : c.with_its_count-message.result.bytes ≡ message =
     ap (λ (b : UnsentBlock). b.bytes) c.with_its_count-message.ensures ∙ ap (λ l. option_map_or (with_count l) c.args.count l) c.drawn-copy.ensures.copied in
     omega (arith, ap length is, length-counted bytes c.args.count c.requires.header)
+
+pub seal-requires-clause-own : goal.seal-requires-clause-own
+seal-requires-clause-own g c =
+    let bytes = c.args.bytes.now in
+    let message = option_map_or (with_count bytes) c.args.count bytes in
+    let is : c.with_its_count-message.result.bytes ≡ message =
+    ap (λ (b : UnsentBlock). b.bytes) c.with_its_count-message.ensures ∙ ap (λ l. option_map_or (with_count l) c.args.count l) c.drawn-copy.ensures.copied in
+    own_as c.drawn-copy.new.desk c.drawn-copy.result c.with_its_count-message.result _ c.with_its_count-message.ensures
+    (ap length is ∙ length-counted bytes c.args.count c.requires.header ∙ sym (ap length c.drawn-copy.ensures.copied)) c.drawn-copy.ensures.own
 
 pub returns-clause-added : goal.returns-clause-added
 returns-clause-added g c =

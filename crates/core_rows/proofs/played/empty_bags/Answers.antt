@@ -7,8 +7,8 @@ pub loop-bag-preserved : goal.loop-bag-preserved
 loop-bag-preserved c = (
   c.push_reserved.ensures.items
       ∙ ap (λ bags. bags ++ c.in_ok-bag.bag ∷ []) c.loop-bag.invariant.0
-      ∙ ap (λ bag. replicate c.loop-bag._bag (empty_bag c.args.pipes) ++ bag ∷ []) c.in_ok-bag.ensures
-      ∙ replicate_more c.loop-bag._bag (empty_bag c.args.pipes),
+      ∙ ap (λ bag. replicate c.loop-bag._bag (empty_bag c.args.pipes 16) ++ bag ∷ []) c.in_ok-bag.ensures
+      ∙ replicate_more c.loop-bag._bag (empty_bag c.args.pipes 16),
   omega (arith, c.push_reserved.ensures.len, c.loop-bag.invariant.1),
   c.push_reserved.ensures.capacity ∙ c.loop-bag.invariant.2,
 )

@@ -10,3 +10,9 @@ returns-clause-other_bags c = others_keep
 
 pub returns-clause-behind : goal.returns-clause-behind
 returns-clause-behind c = others_behind
+
+pub returns-clause-written : goal.returns-clause-written
+returns-clause-written c core app number bag w has = record {
+  views = c.recall_written.ensures.views _ _ core.limits.pipes app number bag w has.views;
+  buffers = c.recall_written.ensures.buffers _ _ core.limits.sizes app number bag w has.buffers;
+}

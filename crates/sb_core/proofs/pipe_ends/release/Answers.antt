@@ -27,7 +27,7 @@ loop-pipe-preserved g c =
     let own = first_owned before.pipes app number one.0 one.1 one.2 in
     let pipes = filter (λ (r : Pipe). not (eqb r.number number)) before.pipes in
     let stay = filter (λ (sub : Subscription). not (eqb sub.pipe number)) before.subscriptions in
-    let out = blocks_held before.account.sizes after.pipes before.numbers_given in
+    let out = blocks_held before.account.sizes after.pipes before.unsent before.numbers_given in
     record {
       pipes =
           ap (λ t. filter (λ p. not (eqb p.owner app)) t.pipes) is

@@ -1,4 +1,5 @@
 use Rattle.std.proofs.Common.{refl, inl}
+use Rattle.app_run.proofs.BufferCalls.{leaves-views}
 use Rattle.app_run.proofs.core_calls.CoreCallsCalls.look.Goals as goal
 
 pub returns : goal.returns
@@ -7,5 +8,6 @@ returns g c = record {
   meets = inl refl;
   does = c.look.ensures.looks;
   bag = c.look.ensures.bag;
+  buffers = leaves-views c.args.self.now.held.now c.look.new.held _ _ c.look.ensures.buffers (λ number. refl);
   same = record { app = refl; bus = refl; bag = refl; alone = refl };
 }

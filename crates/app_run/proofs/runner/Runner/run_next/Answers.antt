@@ -6,8 +6,12 @@ use Rattle.app_run.specs.Runners.{Progress}
 use Rattle.app_run.specs.Inside.{receipts_to_come}
 use Rattle.app_script.specs.Script.{app_at}
 use Rattle.script_runs.specs.Trace.{call_of}
+use Rattle.script_runs.specs.Written.{written_by}
+use Rattle.sb_calls.specs.Core.{state_of}
+use Rattle.app_run.specs.Callers.{written_in}
+use Rattle.app_run.specs.Lines.{AreAsked}
 use Rattle.app_run.specs.Inside.{progress_in}
-use Rattle.app_run.proofs.TurnLaws.{allowed-line, may-run, drop-next, get_at, ran-line, ran-local, run-same, run-bag, run-remember, waits-or-got}
+use Rattle.app_run.proofs.TurnLaws.{allowed-line, may-run, drop-next, get_at, ran-line, ran-local, run-same, run-bag, run-write, run-remember, wrote-same, waits-or-got}
 use Rattle.app_run.proofs.runner.Runner.run_next.Goals as goal
 
 pub overflow_add-self : goal.overflow_add-self
@@ -19,9 +23,11 @@ run_line-requires-clause-may g c =
     let all = (app_at a.script.now a.app).lines in
     let line = c.line-line.result.now in
     let next : drop a.next all ≡ line ∷ drop (suc a.next) all = drop-next all a.next line c.line-line.ensures in
-    may-run c.args.self.now (g.C.Calls.caller c.args.calls.now) line (drop (suc a.next) all) (call_of a.registers line) c.requires.may
+    may-run c.args.self.now (g.C.Calls.caller c.args.calls.now) line (drop (suc a.next) all) (call_of a.registers (written_in (g.C.Calls.caller c.args.calls.now).bag) line) c.requires.may
     c.requires.active (subst (λ p. p.running.lines ≡ line ∷ drop (suc a.next) all) c.self.view_is next)
-    (allowed-line a.registers line (get_at IsLineInRange all a.next line c.line-line.ensures c.self.invariant.ranges))
+    (allowed-line a.registers (written_in (g.C.Calls.caller c.args.calls.now).bag) (state_of (g.C.Calls.caller c.args.calls.now).core).numbers_given c.requires.may.stands.asked line
+    (subst (λ (p : Progress). AreAsked p.running.registers.buffers (written_in (g.C.Calls.caller c.args.calls.now).bag) (state_of (g.C.Calls.caller c.args.calls.now).core).numbers_given c.requires.may.stands.asked) (sym c.self.view_is) c.requires.may.stands.buffers)
+    (get_at IsLineInRange all a.next line c.line-line.ensures c.self.invariant.ranges))
 
 pub run_line-requires-clause-range : goal.run_line-requires-clause-range
 run_line-requires-clause-range g c =
@@ -57,10 +63,10 @@ returns-in-Some-clause-turn g c =
     let line = c.line-line.result.now in
     let next : drop a.next all ≡ line ∷ drop (a.next + 1) all = drop-next all a.next line c.line-line.ensures ∙ ap (λ n. line ∷ drop n all) (sym (add-one a.next)) in
     ran-line (progress_in a) c.args.self.now (caller c.args.calls.now) (caller c.run_line.new.calls) line (drop (a.next + 1) all) c.in-Some.answer
-    c.note.new.self c.pipe_waited_for-self-inside.result c.take_got.new.receipts.receipts (call_of a.registers line)
+    c.note.new.self c.pipe_waited_for-self-inside.result c.take_got.new.receipts.receipts (call_of a.registers (written_in (g.C.Calls.caller c.args.calls.now).bag) line)
     c.self.view_is c.requires.may c.requires.active next
     (get_at IsLineInRange all a.next line c.line-line.ensures c.self.invariant.ranges)
-    refl c.in-Some.ensures.call c.take_got.ensures.receipts c.note.ensures c.pipe_waited_for-self-inside.ensures
+    refl c.in-Some.ensures.call (c.take_got.ensures.receipts (written_in (caller c.args.calls.now).bag)) c.note.ensures c.pipe_waited_for-self-inside.ensures
 
 pub returns-in-None-clause-turn : goal.returns-in-None-clause-turn
 returns-in-None-clause-turn g c =
@@ -69,34 +75,41 @@ returns-in-None-clause-turn g c =
     let all = (app_at a.script.now a.app).lines in
     let line = c.line-line.result.now in
     let next : drop a.next all ≡ line ∷ drop (a.next + 1) all = drop-next all a.next line c.line-line.ensures ∙ ap (λ n. line ∷ drop n all) (sym (add-one a.next)) in
-    ran-local (progress_in a) c.args.self.now (caller c.args.calls.now) (caller c.run_line.new.calls) line (drop (a.next + 1) all)
-    c.show.new.receipts.receipts (call_of a.registers line)
-    c.self.view_is c.requires.may c.requires.active next refl c.in-None.ensures.call c.show.ensures.receipts
+    ran-local (progress_in a) c.args.self.now (caller c.args.calls.now) (caller c.run_line.new.calls) (caller c.write_line.new.calls) line (drop (a.next + 1) all)
+    c.show.new.receipts.receipts (call_of a.registers (written_in (caller c.args.calls.now).bag) line)
+    c.self.view_is c.requires.may c.requires.active next refl c.in-None.ensures.call c.write_line.ensures c.show.ensures.receipts
+
+pub write_line-requires : goal.write_line-requires
+write_line-requires g c =
+    let caller = g.C.Calls.caller in
+    run-write c.args.self.now (caller c.args.calls.now) (caller c.run_line.new.calls) (call_of c.self.inside.registers (written_in (caller c.args.calls.now).bag) c.line-line.result.now)
+    c.requires.may c.in-None.ensures.call
 
 pub take_got-requires-clause-bag : goal.take_got-requires-clause-bag
 take_got-requires-clause-bag g c =
     let caller = g.C.Calls.caller in
-    run-bag (caller c.args.calls.now) (caller c.run_line.new.calls) (call_of c.self.inside.registers c.line-line.result.now) (Some c.in-Some.answer)
+    run-bag (caller c.args.calls.now) (caller c.run_line.new.calls) (call_of c.self.inside.registers (written_in (g.C.Calls.caller c.args.calls.now).bag) c.line-line.result.now) (Some c.in-Some.answer)
     c.in-Some.ensures.call c.requires.may.bag
 
 pub show-requires-clause-bag : goal.show-requires-clause-bag
-show-requires-clause-bag g c =
-    let caller = g.C.Calls.caller in
-    run-bag (caller c.args.calls.now) (caller c.run_line.new.calls) (call_of c.self.inside.registers c.line-line.result.now) None
-    c.in-None.ensures.call c.requires.may.bag
+show-requires-clause-bag g c = c.write_line.ensures.bag
 
 pub show-requires-clause-remember : goal.show-requires-clause-remember
 show-requires-clause-remember g c =
     let caller = g.C.Calls.caller in
-    run-remember (progress_in c.self.inside) c.args.self.now (caller c.args.calls.now) (caller c.run_line.new.calls) (call_of c.self.inside.registers c.line-line.result.now)
-    c.self.view_is c.requires.may c.in-None.ensures.call
+    run-remember (progress_in c.self.inside) c.args.self.now (caller c.args.calls.now) (caller c.run_line.new.calls) (caller c.write_line.new.calls)
+    (call_of c.self.inside.registers (written_in (caller c.args.calls.now).bag) c.line-line.result.now)
+    (written_by (written_in (caller c.run_line.new.calls).bag) c.self.inside.registers.buffers c.line-line.result.now)
+    c.self.view_is c.requires.may c.in-None.ensures.call c.write_line.ensures
 
 pub returns-in-Some-clause-same : goal.returns-in-Some-clause-same
 returns-in-Some-clause-same g c =
     let caller = g.C.Calls.caller in
-    run-same (caller c.args.calls.now) (caller c.run_line.new.calls) (call_of c.self.inside.registers c.line-line.result.now) (Some c.in-Some.answer) c.in-Some.ensures.call
+    run-same (caller c.args.calls.now) (caller c.run_line.new.calls) (call_of c.self.inside.registers (written_in (g.C.Calls.caller c.args.calls.now).bag) c.line-line.result.now) (Some c.in-Some.answer) c.in-Some.ensures.call
 
 pub returns-in-None-clause-same : goal.returns-in-None-clause-same
 returns-in-None-clause-same g c =
     let caller = g.C.Calls.caller in
-    run-same (caller c.args.calls.now) (caller c.run_line.new.calls) (call_of c.self.inside.registers c.line-line.result.now) None c.in-None.ensures.call
+    wrote-same (caller c.args.calls.now) (caller c.run_line.new.calls) (caller c.write_line.new.calls)
+    (call_of c.self.inside.registers (written_in (caller c.args.calls.now).bag) c.line-line.result.now)
+    (written_by (written_in (caller c.run_line.new.calls).bag) c.self.inside.registers.buffers c.line-line.result.now) c.in-None.ensures.call c.write_line.ensures

@@ -55,14 +55,16 @@ returns-then-desc-len-clause-own g c =
     let s = c.self.inside in
     let h : c.in-Ok.desc < length s.slots.items = omega (arith, c.if-desc-len.true, c.len.ensures, s.slots.ok) in
     let done = reused s.pool c.get.new.self s.slots.items s.rest (vec_capacity s.slots) c.args.size c.in-Ok.desc c.args.number c.self.invariant c.in-Ok.ensures.drawn c.in-Ok.ensures.was_not_out h in
-    own_again c.get.new.self s.slots.items c.take_free-space.new.slots.items c.in-Ok.desc c.args.number c.new.result h c.take_free-space.ensures.after
+    own_again c.get.new.self s.slots.items c.take_free-space.new.slots.items c.in-Ok.desc c.args.number c.args.size c.new.result h c.take_free-space.ensures.after
     (ap (λ (b : UnsentBlock). b.desc) c.new.ensures) (ap (λ (b : UnsentBlock). b.number) c.new.ensures)
     (ap (λ (b : UnsentBlock). b.size) c.new.ensures ∙ (c.take_free-space.ensures.size ∙ done.whole))
+    (ap (λ (b : UnsentBlock). length b.bytes) c.new.ensures ∙ length-take-le c.args.size c.take_free-space.result.now (omega (arith, done.enough, c.take_free-space.ensures.size)))
 
 pub returns-else-desc-len-clause-own : goal.returns-else-desc-len-clause-own
 returns-else-desc-len-clause-own g c =
     let s = c.self.inside in
     let done = cut_off s.pool c.get.new.self s.slots.items s.rest (vec_capacity s.slots) c.args.size c.in-Ok.desc c.args.number c.self.invariant c.recall_whole.ensures c.in-Ok.ensures.drawn (omega (arith, c.if-desc-len.false, c.len.ensures, s.slots.ok)) in
-    own_new c.get.new.self s.slots.items c.push_reserved.new.self.items c.in-Ok.desc c.args.number c.new-in-Ok.result done.next c.push_reserved.ensures.items
+    own_new c.get.new.self s.slots.items c.push_reserved.new.self.items c.in-Ok.desc c.args.number c.args.size c.new-in-Ok.result done.next c.push_reserved.ensures.items
     (ap (λ (b : UnsentBlock). b.desc) c.new-in-Ok.ensures) (ap (λ (b : UnsentBlock). b.number) c.new-in-Ok.ensures)
     (ap (λ (b : UnsentBlock). b.size) c.new-in-Ok.ensures ∙ (c.cut-space.ensures.size ∙ c.size_of-whole.ensures))
+    (ap (λ (b : UnsentBlock). length b.bytes) c.new-in-Ok.ensures ∙ length-take-le c.args.size c.cut-space.result.now (omega (arith, done.enough, c.cut-space.ensures.size, c.size_of-whole.ensures)))

@@ -16,5 +16,5 @@ pub returns-clause-in_use : goal.returns-clause-in_use
 returns-clause-in_use c =
     let a = c.self.inside in
     ap (λ (p : PoolState). in_use_by p.sizes p.blocks) c.pool.ensures
-    ∙ subst (λ (o : Store). in_use_by a.desk.pool.sizes a.desk.pool.blocks ≡ sum_by (block_of o.account.sizes o.pipes) (held o.pipes o.numbers_given)) c.self.view_is
-    (in_use_held a.desk a.tables.pipes a.given c.self.invariant.backed c.recall_live.ensures.live)
+    ∙ subst (λ (o : Store). in_use_by a.desk.pool.sizes a.desk.pool.blocks ≡ sum_by (block_of o.account.sizes o.pipes o.unsent) (held o.pipes o.unsent o.numbers_given)) c.self.view_is
+    (in_use_held a.desk a.tables.pipes a.lists.lists a.given c.self.invariant.backed c.self.invariant.listed c.recall_live.ensures.live)

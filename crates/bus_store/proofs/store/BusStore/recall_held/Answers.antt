@@ -6,5 +6,5 @@ use Rattle.bus_store.proofs.store.BusStore.recall_held.Goals as goal
 
 pub returns : goal.returns
 returns c =
-    subst (λ (o : Store). o.account ≡ with_held o.account o.pipes o.numbers_given) c.self.view_is
+    subst (λ (o : Store). o.account ≡ with_held o.account o.pipes o.unsent o.numbers_given) c.self.view_is
     (held_law c.self.inside c.self.invariant c.recall_live.ensures.live)

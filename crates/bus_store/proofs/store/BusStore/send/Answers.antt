@@ -21,7 +21,7 @@ invariant_of-self g c =
     c.self.view_is c.self.invariant c.recall_order.ensures c.requires.least c.requires.room c.id_of-id.ensures c.next_count-count.ensures.count c.next_count-count.ensures.after refl
     c.put_message-desc.ensures.added c.recall_live.ensures.live c.recall_live-2.ensures.live
     c.deliver-reached.ensures.after c.deliver-reached.ensures.reached c.deliver-reached.ensures.missed c.settle_message.ensures.after
-    (sealed_live (slot_at c.put_message-desc.new.desk.slots c.put_message-desc.result) c.put_message-desc.ensures.added.sealed)
+    (sealed_live (slot_at c.put_message-desc.new.desk.slots c.put_message-desc.result) c.put_message-desc.ensures.added.seals.sealed)
 
 pub returns-clause-reached : goal.returns-clause-reached
 returns-clause-reached g c =
@@ -30,7 +30,7 @@ returns-clause-reached g c =
     c.self.view_is c.self.invariant c.recall_order.ensures c.requires.least c.requires.room c.id_of-id.ensures c.next_count-count.ensures.count c.next_count-count.ensures.after refl
     c.put_message-desc.ensures.added c.recall_live.ensures.live c.recall_live-2.ensures.live
     c.deliver-reached.ensures.after c.deliver-reached.ensures.reached c.deliver-reached.ensures.missed c.settle_message.ensures.after
-    (sealed_live (slot_at c.put_message-desc.new.desk.slots c.put_message-desc.result) c.put_message-desc.ensures.added.sealed)
+    (sealed_live (slot_at c.put_message-desc.new.desk.slots c.put_message-desc.result) c.put_message-desc.ensures.added.seals.sealed)
 
 pub returns-clause-after : goal.returns-clause-after
 returns-clause-after g c =
@@ -39,7 +39,7 @@ returns-clause-after g c =
     c.self.view_is c.self.invariant c.recall_order.ensures c.requires.least c.requires.room c.id_of-id.ensures c.next_count-count.ensures.count c.next_count-count.ensures.after refl
     c.put_message-desc.ensures.added c.recall_live.ensures.live c.recall_live-2.ensures.live
     c.deliver-reached.ensures.after c.deliver-reached.ensures.reached c.deliver-reached.ensures.missed c.settle_message.ensures.after
-    (sealed_live (slot_at c.put_message-desc.new.desk.slots c.put_message-desc.result) c.put_message-desc.ensures.added.sealed) c.recall_live-3.ensures.live
+    (sealed_live (slot_at c.put_message-desc.new.desk.slots c.put_message-desc.result) c.put_message-desc.ensures.added.seals.sealed) c.recall_live-3.ensures.live
 
 pub returns-clause-bags : goal.returns-clause-bags
 returns-clause-bags g c =
@@ -48,4 +48,4 @@ returns-clause-bags g c =
     c.self.view_is c.self.invariant c.recall_order.ensures c.requires.least c.requires.room c.id_of-id.ensures c.next_count-count.ensures.count c.next_count-count.ensures.after refl
     c.put_message-desc.ensures.added c.recall_live.ensures.live c.recall_live-2.ensures.live
     c.deliver-reached.ensures.after c.deliver-reached.ensures.reached c.deliver-reached.ensures.missed c.settle_message.ensures.after
-    (sealed_live (slot_at c.put_message-desc.new.desk.slots c.put_message-desc.result) c.put_message-desc.ensures.added.sealed)
+    (sealed_live (slot_at c.put_message-desc.new.desk.slots c.put_message-desc.result) c.put_message-desc.ensures.added.seals.sealed)

@@ -18,10 +18,10 @@ invariant_of-self g c =
       stands = c.self.invariant;
       acts = c.delete_pipe-result.ensures.does;
       as_told = c.of_done.ensures;
-      even = c.push.ensures.even;
       loans = c.delete_pipe-result.ensures.loans;
+      descs = c.delete_pipe-result.ensures.descs;
       unowned = c.delete_pipe-result.ensures.unowned;
-      pushed = c.push.ensures.pushed;
+      pushed = c.push.ensures;
     }))
 
 pub returns-clause-does : goal.returns-clause-does
@@ -31,10 +31,10 @@ returns-clause-does g c =
       stands = c.self.invariant;
       acts = c.delete_pipe-result.ensures.does;
       as_told = c.of_done.ensures;
-      even = c.push.ensures.even;
       loans = c.delete_pipe-result.ensures.loans;
+      descs = c.delete_pipe-result.ensures.descs;
       unowned = c.delete_pipe-result.ensures.unowned;
-      pushed = c.push.ensures.pushed;
+      pushed = c.push.ensures;
     }))
 
 pub returns-clause-bag : goal.returns-clause-bag

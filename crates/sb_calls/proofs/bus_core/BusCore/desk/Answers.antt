@@ -3,7 +3,7 @@ use Rattle.es_pool.specs.Account.{IsAccountOf}
 use Rattle.bus_words.specs.Bus.{State}
 use Rattle.bus_words.specs.Held.{account_of}
 use Rattle.bus_store.specs.Blocks.{AreBlocks}
-use Rattle.sb_calls.specs.Bags.{loans_of}
+use Rattle.sb_calls.specs.Bags.{loans_of, descs_of}
 use Rattle.sb_calls.specs.Core.{Core, state_of}
 use Rattle.sb_calls.proofs.CoreBlocks.{blocks_over}
 use Rattle.sb_calls.proofs.Over.{bus_is}
@@ -11,7 +11,7 @@ use Rattle.sb_calls.proofs.bus_core.BusCore.desk.Goals as goal
 
 pub returns-clause-blocks : goal.returns-clause-blocks
 returns-clause-blocks c =
-    let P : Core → Type 0 = λ core. AreBlocks c.desk.result.now (state_of core).pipes (loans_of core) in
+    let P : Core → Type 0 = λ core. AreBlocks c.desk.result.now (state_of core).pipes (loans_of core) (state_of core).unsent (descs_of core) in
     subst P c.self.view_is (blocks_over c.self.inside c.desk.result.now c.self.invariant c.desk.ensures.blocks)
 
 pub returns-clause-account : goal.returns-clause-account

@@ -15,12 +15,12 @@ end-requires g c = record {
 pub invariant_of-self : goal.invariant_of-self
 invariant_of-self g c =
     stands_over c.self.inside c.end.new.self c.push.new.self c.args.self.now c.args.app End Done c.self.view_is c.self.invariant c.requires.may
-    (made_end c.self.inside c.end.new.self c.push.new.self c.args.app c.self.invariant c.end.ensures.does c.push.ensures.even c.end.ensures.loans c.push.ensures.pushed)
+    (made_end c.self.inside c.end.new.self c.push.new.self c.args.app c.self.invariant c.end.ensures.does c.end.ensures.loans c.end.ensures.descs c.push.ensures)
 
 pub returns-clause-does : goal.returns-clause-does
 returns-clause-does g c =
     does_over c.self.inside c.end.new.self c.push.new.self c.args.self.now c.args.app End Done c.self.view_is c.self.invariant c.requires.may
-    (made_end c.self.inside c.end.new.self c.push.new.self c.args.app c.self.invariant c.end.ensures.does c.push.ensures.even c.end.ensures.loans c.push.ensures.pushed)
+    (made_end c.self.inside c.end.new.self c.push.new.self c.args.app c.self.invariant c.end.ensures.does c.end.ensures.loans c.end.ensures.descs c.push.ensures)
 
 pub returns-clause-bag : goal.returns-clause-bag
 returns-clause-bag g c =

@@ -8,14 +8,14 @@ use Rattle.sb_calls.proofs.bus_core.BusCore.get_opts.Goals as goal
 pub invariant_of-self : goal.invariant_of-self
 invariant_of-self c =
     stands_over c.self.inside c.self.inside.core c.push.new.self c.args.self.now c.args.app (GetOpts c.args.pipe) _ c.self.view_is c.self.invariant c.requires.may
-    (made_plain c.self.inside c.self.inside.core c.push.new.self c.args.app (GetOpts c.args.pipe) _ c.of_bits.result (c.get_opts-result.ensures c.args.app) refl c.of_bits.ensures c.push.ensures.even
-    c.push.ensures.pushed (bits-nothing c.get_opts-result.result 0) (λ pipe. refl) (λ pipe. refl))
+    (made_plain c.self.inside c.self.inside.core c.push.new.self c.args.app (GetOpts c.args.pipe) _ c.of_bits.result (c.get_opts-result.ensures c.args.app) refl refl c.of_bits.ensures
+    c.push.ensures (bits-nothing c.get_opts-result.result c.args.pipe 0) (λ pipe. refl) (λ number. refl) (λ pipe. refl) (λ number. refl))
 
 pub returns-clause-does : goal.returns-clause-does
 returns-clause-does c =
     does_over c.self.inside c.self.inside.core c.push.new.self c.args.self.now c.args.app (GetOpts c.args.pipe) _ c.self.view_is c.self.invariant c.requires.may
-    (made_plain c.self.inside c.self.inside.core c.push.new.self c.args.app (GetOpts c.args.pipe) _ c.of_bits.result (c.get_opts-result.ensures c.args.app) refl c.of_bits.ensures c.push.ensures.even
-    c.push.ensures.pushed (bits-nothing c.get_opts-result.result 0) (λ pipe. refl) (λ pipe. refl))
+    (made_plain c.self.inside c.self.inside.core c.push.new.self c.args.app (GetOpts c.args.pipe) _ c.of_bits.result (c.get_opts-result.ensures c.args.app) refl refl c.of_bits.ensures
+    c.push.ensures (bits-nothing c.get_opts-result.result c.args.pipe 0) (λ pipe. refl) (λ number. refl) (λ pipe. refl) (λ number. refl))
 
 pub returns-clause-bags : goal.returns-clause-bags
 returns-clause-bags c =

@@ -52,11 +52,11 @@ invariant_of-self-2 c =
       stands = c.self.invariant;
       acts = c.look-result.ensures.does;
       as_told = c.told-answer.ensures;
-      even = c.push.ensures.even;
       loans = c.look-result.ensures.loans;
+      descs = c.look-result.ensures.descs;
       unowned = looks_own c.self.inside c.look-result.new.self c.args.app c.pipe_waited_on-pipe.result c.self.invariant
           (may_act c.self.inside c.args.self.now c.args.app (Look c.pipe_waited_on-pipe.result) c.self.view_is c.self.invariant may).standing;
-      pushed = c.push.ensures.pushed;
+      pushed = c.push.ensures;
     }) c.note_of-note.ensures)
 
 pub returns-clause-looks : goal.returns-clause-looks
@@ -74,11 +74,11 @@ returns-clause-looks c =
       stands = c.self.invariant;
       acts = c.look-result.ensures.does;
       as_told = c.told-answer.ensures;
-      even = c.push.ensures.even;
       loans = c.look-result.ensures.loans;
+      descs = c.look-result.ensures.descs;
       unowned = looks_own c.self.inside c.look-result.new.self c.args.app c.pipe_waited_on-pipe.result c.self.invariant
           (may_act c.self.inside c.args.self.now c.args.app (Look c.pipe_waited_on-pipe.result) c.self.view_is c.self.invariant may).standing;
-      pushed = c.push.ensures.pushed;
+      pushed = c.push.ensures;
     }) c.note_of-note.ensures)))
 
 pub returns-clause-bag : goal.returns-clause-bag

@@ -18,4 +18,4 @@ returns c =
     let known : c.args.app ≤ length a.noted.log.budgets =
     omega (arith, c.get.ensures.value, c.apps.ensures, c.if-get-apps.false, ap (λ (o : Core). apps_of o) c.self.view_is) in
     permitted a c.args.self.now c.args.app (call_of c.args.call.now) c.is_open-lets.result c.is_permitted.result c.left-left.result c.self.view_is c.self.invariant known
-    c.is_open-lets.ensures (c.left-left.ensures ∙ ap (λ (l : Log). allowance_of (left_of l) c.args.app) c.journal.ensures.journal) c.is_permitted.ensures
+    c.is_open-lets.ensures (c.left-left.ensures ∙ ap (λ (l : Log). allowance_of (left_of l) c.args.app) c.journal.ensures) c.is_permitted.ensures

@@ -5,8 +5,10 @@ use Rattle.journal_store.specs.Budgets.{entries_left}
 use Rattle.bus_words.specs.Log.{left_of}
 use Rattle.bus_store.specs.Words.{last_of}
 use Rattle.sb_core.specs.Core.{Plain}
+use Rattle.bus_words.specs.Held.{is_unsent}
 use Rattle.sb_calls.specs.Core.{IsLegalCore}
-use Rattle.sb_calls.specs.Notes.{NotedLog}
+use Rattle.sb_calls.specs.Notes.{NotedLog, AreDue}
+use Rattle.sb_calls.proofs.UnsentBuffers.{none-first}
 use Rattle.sb_calls.proofs.Opened.{entries_left-allowances}
 use Rattle.sb_calls.proofs.bus_core.BusCore.new.Goals as goal
 
@@ -21,9 +23,11 @@ invariant_of-result c =
     let entries = ap (λ (n : NotedLog). entries_left (left_of n.log)) log ∙ entries_left-allowances budgets in
     record {
       legal = subst (λ (n : NotedLog). IsLegalCore (record { limits = core.limits; log = n.log; notes = n.notes })) (sym log) tt;
+      due = subst (λ (n : NotedLog). AreDue n.log.entries n.notes) (sym log) tt;
       whole = ap (λ (p : Plain). p.whole) c.in_ok-new.ensures ∙ ap (opening_whole (limits_of c.args.cfg.now)) (sym apps)
           ∙ ap (λ limits. opening_whole limits (length noted.log.budgets)) (sym (ap (λ (p : Plain). p.limits) c.in_ok-new.ensures))
           ∙ ap (λ (n : NotedLog). whole_after core.limits (length noted.log.budgets) n.log.entries) (sym log);
       loans = λ pipe some. absurd (true≢false (sym some ∙ ap (λ (p : Plain). is_some (last_of p.whole.bus.pipes pipe)) c.in_ok-new.ensures));
+      descs = λ number is. absurd (true≢false (sym is ∙ ap (λ (p : Plain). is_unsent p.whole.bus.unsent number) c.in_ok-new.ensures ∙ none-first (length budgets) number));
       few = omega (arith, no_entry, entries, c.requires.budgets.entries);
     }

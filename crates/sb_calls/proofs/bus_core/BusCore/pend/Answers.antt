@@ -19,10 +19,10 @@ invariant_of-self g c =
       stands = c.self.invariant;
       acts = c.pend-result.ensures.does;
       as_told = c.of_pended-answer.ensures;
-      even = c.push.ensures.even;
       loans = c.pend-result.ensures.loans;
+      descs = c.pend-result.ensures.descs;
       unowned = c.pend-result.ensures.unowned;
-      pushed = c.push.ensures.pushed;
+      pushed = c.push.ensures;
     }) c.note_of-note.ensures)
 
 pub returns-clause-does : goal.returns-clause-does
@@ -32,10 +32,10 @@ returns-clause-does g c =
       stands = c.self.invariant;
       acts = c.pend-result.ensures.does;
       as_told = c.of_pended-answer.ensures;
-      even = c.push.ensures.even;
       loans = c.pend-result.ensures.loans;
+      descs = c.pend-result.ensures.descs;
       unowned = c.pend-result.ensures.unowned;
-      pushed = c.push.ensures.pushed;
+      pushed = c.push.ensures;
     }) c.note_of-note.ensures)
 
 pub returns-clause-bag : goal.returns-clause-bag

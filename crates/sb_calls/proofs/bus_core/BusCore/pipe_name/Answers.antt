@@ -8,14 +8,14 @@ use Rattle.sb_calls.proofs.bus_core.BusCore.pipe_name.Goals as goal
 pub invariant_of-self : goal.invariant_of-self
 invariant_of-self c =
     stands_over c.self.inside c.self.inside.core c.push.new.self c.args.self.now c.args.app (PipeName c.args.pipe) _ c.self.view_is c.self.invariant c.requires.may
-    (made_plain c.self.inside c.self.inside.core c.push.new.self c.args.app (PipeName c.args.pipe) _ c.of_named.result (c.pipe_name-result.ensures c.args.app) refl c.of_named.ensures c.push.ensures.even
-    c.push.ensures.pushed (named-nothing c.pipe_name-result.result 0) (λ pipe. refl) (λ pipe. refl))
+    (made_plain c.self.inside c.self.inside.core c.push.new.self c.args.app (PipeName c.args.pipe) _ c.of_named.result (c.pipe_name-result.ensures c.args.app) refl refl c.of_named.ensures
+    c.push.ensures (named-nothing c.pipe_name-result.result (PipeName c.args.pipe) 0) (λ pipe. refl) (λ number. refl) (λ pipe. refl) (λ number. refl))
 
 pub returns-clause-does : goal.returns-clause-does
 returns-clause-does c =
     does_over c.self.inside c.self.inside.core c.push.new.self c.args.self.now c.args.app (PipeName c.args.pipe) _ c.self.view_is c.self.invariant c.requires.may
-    (made_plain c.self.inside c.self.inside.core c.push.new.self c.args.app (PipeName c.args.pipe) _ c.of_named.result (c.pipe_name-result.ensures c.args.app) refl c.of_named.ensures c.push.ensures.even
-    c.push.ensures.pushed (named-nothing c.pipe_name-result.result 0) (λ pipe. refl) (λ pipe. refl))
+    (made_plain c.self.inside c.self.inside.core c.push.new.self c.args.app (PipeName c.args.pipe) _ c.of_named.result (c.pipe_name-result.ensures c.args.app) refl refl c.of_named.ensures
+    c.push.ensures (named-nothing c.pipe_name-result.result (PipeName c.args.pipe) 0) (λ pipe. refl) (λ number. refl) (λ pipe. refl) (λ number. refl))
 
 pub returns-clause-bags : goal.returns-clause-bags
 returns-clause-bags c =

@@ -16,6 +16,6 @@ returns-clause-account c =
 pub returns-clause-in_use : goal.returns-clause-in_use
 returns-clause-in_use c =
     let pool = c.pool.result.now in
-    let P : Core → Type 0 = λ core. in_use_by pool.sizes pool.blocks ≡ sum_by (block_of core.limits.sizes (state_of core).pipes) (held (state_of core).pipes (state_of core).numbers_given) in
+    let P : Core → Type 0 = λ core. in_use_by pool.sizes pool.blocks ≡ sum_by (block_of core.limits.sizes (state_of core).pipes (state_of core).unsent) (held (state_of core).pipes (state_of core).unsent (state_of core).numbers_given) in
     subst P c.self.view_is
-    (subst (λ (s : State). in_use_by pool.sizes pool.blocks ≡ sum_by (block_of c.self.inside.core.limits.sizes s.pipes) (held s.pipes s.numbers_given)) (bus_is c.self.inside c.self.invariant) c.pool.ensures.in_use)
+    (subst (λ (s : State). in_use_by pool.sizes pool.blocks ≡ sum_by (block_of c.self.inside.core.limits.sizes s.pipes s.unsent) (held s.pipes s.unsent s.numbers_given)) (bus_is c.self.inside c.self.invariant) c.pool.ensures.in_use)

@@ -11,14 +11,14 @@ pool_create-result-requires c = record { may = may_act c.self.inside c.args.self
 pub invariant_of-self : goal.invariant_of-self
 invariant_of-self c =
     stands_over c.self.inside c.pool_create-result.new.self c.push.new.self c.args.self.now c.args.app (PoolCreate c.args.bytes) _ c.self.view_is c.self.invariant c.requires.may
-    (made_plain c.self.inside c.pool_create-result.new.self c.push.new.self c.args.app (PoolCreate c.args.bytes) _ c.of_pool.result c.pool_create-result.ensures.does refl c.of_pool.ensures c.push.ensures.even
-    c.push.ensures.pushed (pool-nothing c.pool_create-result.result 0) (λ pipe. refl) c.pool_create-result.ensures.loans)
+    (made_plain c.self.inside c.pool_create-result.new.self c.push.new.self c.args.app (PoolCreate c.args.bytes) _ c.of_pool.result c.pool_create-result.ensures.does refl refl c.of_pool.ensures
+    c.push.ensures (pool-nothing c.pool_create-result.result c.args.bytes 0) (λ pipe. refl) (λ number. refl) c.pool_create-result.ensures.loans c.pool_create-result.ensures.descs)
 
 pub returns-clause-does : goal.returns-clause-does
 returns-clause-does c =
     does_over c.self.inside c.pool_create-result.new.self c.push.new.self c.args.self.now c.args.app (PoolCreate c.args.bytes) _ c.self.view_is c.self.invariant c.requires.may
-    (made_plain c.self.inside c.pool_create-result.new.self c.push.new.self c.args.app (PoolCreate c.args.bytes) _ c.of_pool.result c.pool_create-result.ensures.does refl c.of_pool.ensures c.push.ensures.even
-    c.push.ensures.pushed (pool-nothing c.pool_create-result.result 0) (λ pipe. refl) c.pool_create-result.ensures.loans)
+    (made_plain c.self.inside c.pool_create-result.new.self c.push.new.self c.args.app (PoolCreate c.args.bytes) _ c.of_pool.result c.pool_create-result.ensures.does refl refl c.of_pool.ensures
+    c.push.ensures (pool-nothing c.pool_create-result.result c.args.bytes 0) (λ pipe. refl) (λ number. refl) c.pool_create-result.ensures.loans c.pool_create-result.ensures.descs)
 
 pub returns-clause-bags : goal.returns-clause-bags
 returns-clause-bags c =

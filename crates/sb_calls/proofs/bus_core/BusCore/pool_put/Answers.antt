@@ -11,14 +11,14 @@ pool_put-result-requires g c = record { may = may_act c.self.inside c.args.self.
 pub invariant_of-self : goal.invariant_of-self
 invariant_of-self g c =
     stands_over c.self.inside c.pool_put-result.new.self c.push.new.self c.args.self.now c.args.app (PoolPut c.args.pool c.args.grant) _ c.self.view_is c.self.invariant c.requires.may
-    (made_plain c.self.inside c.pool_put-result.new.self c.push.new.self c.args.app (PoolPut c.args.pool c.args.grant) _ c.of_back.result c.pool_put-result.ensures.does refl c.of_back.ensures c.push.ensures.even
-    c.push.ensures.pushed (back-nothing c.pool_put-result.result 0) (λ pipe. refl) c.pool_put-result.ensures.loans)
+    (made_plain c.self.inside c.pool_put-result.new.self c.push.new.self c.args.app (PoolPut c.args.pool c.args.grant) _ c.of_back.result c.pool_put-result.ensures.does refl refl c.of_back.ensures
+    c.push.ensures (back-nothing c.pool_put-result.result (PoolPut c.args.pool c.args.grant) 0) (λ pipe. refl) (λ number. refl) c.pool_put-result.ensures.loans c.pool_put-result.ensures.descs)
 
 pub returns-clause-does : goal.returns-clause-does
 returns-clause-does g c =
     does_over c.self.inside c.pool_put-result.new.self c.push.new.self c.args.self.now c.args.app (PoolPut c.args.pool c.args.grant) _ c.self.view_is c.self.invariant c.requires.may
-    (made_plain c.self.inside c.pool_put-result.new.self c.push.new.self c.args.app (PoolPut c.args.pool c.args.grant) _ c.of_back.result c.pool_put-result.ensures.does refl c.of_back.ensures c.push.ensures.even
-    c.push.ensures.pushed (back-nothing c.pool_put-result.result 0) (λ pipe. refl) c.pool_put-result.ensures.loans)
+    (made_plain c.self.inside c.pool_put-result.new.self c.push.new.self c.args.app (PoolPut c.args.pool c.args.grant) _ c.of_back.result c.pool_put-result.ensures.does refl refl c.of_back.ensures
+    c.push.ensures (back-nothing c.pool_put-result.result (PoolPut c.args.pool c.args.grant) 0) (λ pipe. refl) (λ number. refl) c.pool_put-result.ensures.loans c.pool_put-result.ensures.descs)
 
 pub returns-clause-bags : goal.returns-clause-bags
 returns-clause-bags g c =

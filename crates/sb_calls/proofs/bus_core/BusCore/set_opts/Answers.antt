@@ -11,14 +11,14 @@ set_opts-result-requires c = record { may = may_act c.self.inside c.args.self.no
 pub invariant_of-self : goal.invariant_of-self
 invariant_of-self c =
     stands_over c.self.inside c.set_opts-result.new.self c.push.new.self c.args.self.now c.args.app (SetOpts c.args.pipe c.args.bits) _ c.self.view_is c.self.invariant c.requires.may
-    (made_plain c.self.inside c.set_opts-result.new.self c.push.new.self c.args.app (SetOpts c.args.pipe c.args.bits) _ c.of_done.result c.set_opts-result.ensures.does refl c.of_done.ensures c.push.ensures.even
-    c.push.ensures.pushed (done-nothing c.set_opts-result.result 0) (λ pipe. refl) c.set_opts-result.ensures.loans)
+    (made_plain c.self.inside c.set_opts-result.new.self c.push.new.self c.args.app (SetOpts c.args.pipe c.args.bits) _ c.of_done.result c.set_opts-result.ensures.does refl refl c.of_done.ensures
+    c.push.ensures (done-nothing c.set_opts-result.result (SetOpts c.args.pipe c.args.bits) 0) (λ pipe. refl) (λ number. refl) c.set_opts-result.ensures.loans c.set_opts-result.ensures.descs)
 
 pub returns-clause-does : goal.returns-clause-does
 returns-clause-does c =
     does_over c.self.inside c.set_opts-result.new.self c.push.new.self c.args.self.now c.args.app (SetOpts c.args.pipe c.args.bits) _ c.self.view_is c.self.invariant c.requires.may
-    (made_plain c.self.inside c.set_opts-result.new.self c.push.new.self c.args.app (SetOpts c.args.pipe c.args.bits) _ c.of_done.result c.set_opts-result.ensures.does refl c.of_done.ensures c.push.ensures.even
-    c.push.ensures.pushed (done-nothing c.set_opts-result.result 0) (λ pipe. refl) c.set_opts-result.ensures.loans)
+    (made_plain c.self.inside c.set_opts-result.new.self c.push.new.self c.args.app (SetOpts c.args.pipe c.args.bits) _ c.of_done.result c.set_opts-result.ensures.does refl refl c.of_done.ensures
+    c.push.ensures (done-nothing c.set_opts-result.result (SetOpts c.args.pipe c.args.bits) 0) (λ pipe. refl) (λ number. refl) c.set_opts-result.ensures.loans c.set_opts-result.ensures.descs)
 
 pub returns-clause-bags : goal.returns-clause-bags
 returns-clause-bags c =

@@ -12,14 +12,14 @@ subscribe-result-requires g c = record { may = may_act c.self.inside c.args.self
 pub invariant_of-self : goal.invariant_of-self
 invariant_of-self g c =
     stands_over c.self.inside c.subscribe-result.new.self c.push.new.self c.args.self.now c.args.app (Subscribe c.args.id c.args.pipe c.args.limit c.args.scope) _ c.self.view_is c.self.invariant c.requires.may
-    (made_plain c.self.inside c.subscribe-result.new.self c.push.new.self c.args.app (Subscribe c.args.id c.args.pipe c.args.limit c.args.scope) _ c.of_done.result c.subscribe-result.ensures.does refl c.of_done.ensures c.push.ensures.even
-    c.push.ensures.pushed (done-nothing c.subscribe-result.result 0) (λ pipe. refl) c.subscribe-result.ensures.loans)
+    (made_plain c.self.inside c.subscribe-result.new.self c.push.new.self c.args.app (Subscribe c.args.id c.args.pipe c.args.limit c.args.scope) _ c.of_done.result c.subscribe-result.ensures.does refl refl c.of_done.ensures
+    c.push.ensures (done-nothing c.subscribe-result.result (Subscribe c.args.id c.args.pipe c.args.limit c.args.scope) 0) (λ pipe. refl) (λ number. refl) c.subscribe-result.ensures.loans c.subscribe-result.ensures.descs)
 
 pub returns-clause-does : goal.returns-clause-does
 returns-clause-does g c =
     does_over c.self.inside c.subscribe-result.new.self c.push.new.self c.args.self.now c.args.app (Subscribe c.args.id c.args.pipe c.args.limit c.args.scope) _ c.self.view_is c.self.invariant c.requires.may
-    (made_plain c.self.inside c.subscribe-result.new.self c.push.new.self c.args.app (Subscribe c.args.id c.args.pipe c.args.limit c.args.scope) _ c.of_done.result c.subscribe-result.ensures.does refl c.of_done.ensures c.push.ensures.even
-    c.push.ensures.pushed (done-nothing c.subscribe-result.result 0) (λ pipe. refl) c.subscribe-result.ensures.loans)
+    (made_plain c.self.inside c.subscribe-result.new.self c.push.new.self c.args.app (Subscribe c.args.id c.args.pipe c.args.limit c.args.scope) _ c.of_done.result c.subscribe-result.ensures.does refl refl c.of_done.ensures
+    c.push.ensures (done-nothing c.subscribe-result.result (Subscribe c.args.id c.args.pipe c.args.limit c.args.scope) 0) (λ pipe. refl) (λ number. refl) c.subscribe-result.ensures.loans c.subscribe-result.ensures.descs)
 
 pub returns-clause-bags : goal.returns-clause-bags
 returns-clause-bags g c =

@@ -12,14 +12,14 @@ unsubscribe-result-requires g c = record { may = may_act c.self.inside c.args.se
 pub invariant_of-self : goal.invariant_of-self
 invariant_of-self g c =
     stands_over c.self.inside c.unsubscribe-result.new.self c.push.new.self c.args.self.now c.args.app (Unsubscribe c.args.id c.args.pipe) _ c.self.view_is c.self.invariant c.requires.may
-    (made_plain c.self.inside c.unsubscribe-result.new.self c.push.new.self c.args.app (Unsubscribe c.args.id c.args.pipe) _ c.of_done.result c.unsubscribe-result.ensures.does refl c.of_done.ensures c.push.ensures.even
-    c.push.ensures.pushed (done-nothing c.unsubscribe-result.result 0) (λ pipe. refl) c.unsubscribe-result.ensures.loans)
+    (made_plain c.self.inside c.unsubscribe-result.new.self c.push.new.self c.args.app (Unsubscribe c.args.id c.args.pipe) _ c.of_done.result c.unsubscribe-result.ensures.does refl refl c.of_done.ensures
+    c.push.ensures (done-nothing c.unsubscribe-result.result (Unsubscribe c.args.id c.args.pipe) 0) (λ pipe. refl) (λ number. refl) c.unsubscribe-result.ensures.loans c.unsubscribe-result.ensures.descs)
 
 pub returns-clause-does : goal.returns-clause-does
 returns-clause-does g c =
     does_over c.self.inside c.unsubscribe-result.new.self c.push.new.self c.args.self.now c.args.app (Unsubscribe c.args.id c.args.pipe) _ c.self.view_is c.self.invariant c.requires.may
-    (made_plain c.self.inside c.unsubscribe-result.new.self c.push.new.self c.args.app (Unsubscribe c.args.id c.args.pipe) _ c.of_done.result c.unsubscribe-result.ensures.does refl c.of_done.ensures c.push.ensures.even
-    c.push.ensures.pushed (done-nothing c.unsubscribe-result.result 0) (λ pipe. refl) c.unsubscribe-result.ensures.loans)
+    (made_plain c.self.inside c.unsubscribe-result.new.self c.push.new.self c.args.app (Unsubscribe c.args.id c.args.pipe) _ c.of_done.result c.unsubscribe-result.ensures.does refl refl c.of_done.ensures
+    c.push.ensures (done-nothing c.unsubscribe-result.result (Unsubscribe c.args.id c.args.pipe) 0) (λ pipe. refl) (λ number. refl) c.unsubscribe-result.ensures.loans c.unsubscribe-result.ensures.descs)
 
 pub returns-clause-bags : goal.returns-clause-bags
 returns-clause-bags g c =

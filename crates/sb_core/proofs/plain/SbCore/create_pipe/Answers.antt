@@ -15,7 +15,8 @@ invariant_of-self c =
 pub returns-clause-bags : goal.returns-clause-bags
 returns-clause-bags c =
     let a = c.self.inside in
-    bags_kept a c.args.self.now c.self.view_is c.self.invariant (record a { store = c.create_pipe.new.self }) refl (ap (λ (o : Store). o.room) c.create_pipe.ensures.after) c.create_pipe.ensures.bags
+    bags_kept a c.args.self.now c.self.view_is c.self.invariant (record a { store = c.create_pipe.new.self }) refl (ap (λ (o : Store). o.room) c.create_pipe.ensures.after)
+    (record { unsent = ap (λ (o : Store). o.unsent) c.create_pipe.ensures.after; descs = ap (λ (o : Store). o.descs) c.create_pipe.ensures.after; sizes = ap (λ (o : Store). o.account.sizes) c.create_pipe.ensures.after }) c.create_pipe.ensures.bags
 
 pub returns-clause-loans : goal.returns-clause-loans
 returns-clause-loans c = λ pipe.

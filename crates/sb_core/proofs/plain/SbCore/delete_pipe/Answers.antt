@@ -19,4 +19,5 @@ invariant_of-self g c =
 pub returns-clause-other_bags : goal.returns-clause-other_bags
 returns-clause-other_bags g c =
     let a = c.self.inside in
-    others_kept a c.args.self.now c.self.view_is c.self.invariant (record a { store = c.delete_pipe.new.self }) refl (ap (λ (o : Store). o.room) c.delete_pipe.ensures.after) c.args.app c.delete_pipe.ensures.other_bags
+    others_kept a c.args.self.now c.self.view_is c.self.invariant (record a { store = c.delete_pipe.new.self }) refl (ap (λ (o : Store). o.room) c.delete_pipe.ensures.after) c.args.app
+    (record { unsent = ap (λ (o : Store). o.unsent) c.delete_pipe.ensures.after; descs = ap (λ (o : Store). o.descs) c.delete_pipe.ensures.after; sizes = ap (λ (o : Store). o.account.sizes) c.delete_pipe.ensures.after }) c.delete_pipe.ensures.other_bags

@@ -1,32 +1,50 @@
-use Rattle.std.proofs.Common.{◌-◌, ◌≤◌, set, ap, refl, subst}
+use Rattle.std.proofs.Common.{◌-◌, ◌≤◌, [], set, ap, refl, subst, ◌∙◌}
 use Rattle.std.specs.Vec.{with_item}
+use Rattle.lend_block.specs.Loan.{LentBytes}
+use Rattle.buf_desc.specs.Held.{Holding}
 use Rattle.bus_words.specs.declared.history.Call.TheVariants.{End}
 use Rattle.bus_store.specs.Store.{Store}
 use Rattle.sb_core.specs.declared.activities.Activity.TheVariants as activities
 use Rattle.sb_core.proofs.Actives.{known_here}
-use Rattle.sb_core.proofs.Bags.{others_kept}
-use Rattle.sb_core.proofs.Ends.{ended_keeps, ended_acts, no_view}
+use Rattle.sb_core.proofs.Bags.{others_left, still_blocks}
+use Rattle.sb_core.proofs.Ends.{ended_keeps, ended_acts, no_view, both_left, both_out, both_sizes, both_room, first_same, then_views}
 use Rattle.sb_core.proofs.plain.SbCore.end.Goals as goal
 
 pub invariant_of-self : goal.invariant_of-self
 invariant_of-self g c =
     let a = c.self.inside in
-    ended_keeps a (with_item a.activities (c.get.result - 1) activities.Ended) c.release.new.store c.end.new.self c.args.self.now c.args.app
-    (ap (λ n. set a.activities.items (n - 1) activities.Ended) c.get.ensures.value) c.release.ensures.after c.release.ensures.account
+    ended_keeps a (with_item a.activities (c.get.result - 1) activities.Ended) c.release_all.new.self c.end.new.self c.args.self.now c.args.app
+    (ap (λ n. set a.activities.items (n - 1) activities.Ended) c.get.ensures.value)
+    (both_left a.store c.release.new.store c.release_all.new.self c.args.app c.release.ensures.after c.release.ensures.account c.release_all.ensures.after)
+    (both_out a.store c.release.new.store c.release_all.new.self c.args.app c.release.ensures.after c.release.ensures.account c.release_all.ensures.after)
     c.self.invariant c.recall_order.ensures (subst (λ n. 1 ≤ n) c.get.ensures.value c.get.ensures.first) (known_here a c.args.self.now c.args.app End c.self.view_is c.requires.may)
 
 pub returns-clause-does : goal.returns-clause-does
 returns-clause-does g c =
     let a = c.self.inside in
-    ended_acts a (with_item a.activities (c.get.result - 1) activities.Ended) c.release.new.store c.end.new.self c.args.self.now c.args.app
-    (ap (λ n. set a.activities.items (n - 1) activities.Ended) c.get.ensures.value) c.release.ensures.after c.release.ensures.account c.self.view_is c.end.ensures.after
+    ended_acts a (with_item a.activities (c.get.result - 1) activities.Ended) c.release_all.new.self c.end.new.self c.args.self.now c.args.app
+    (ap (λ n. set a.activities.items (n - 1) activities.Ended) c.get.ensures.value)
+    (both_left a.store c.release.new.store c.release_all.new.self c.args.app c.release.ensures.after c.release.ensures.account c.release_all.ensures.after)
+    (both_out a.store c.release.new.store c.release_all.new.self c.args.app c.release.ensures.after c.release.ensures.account c.release_all.ensures.after) c.self.view_is c.end.ensures.after
 
-pub returns-clause-views : goal.returns-clause-views
-returns-clause-views g c = no_view c.self.inside.store c.release.new.store c.args.app c.release.new.held c.release.ensures.after c.release.ensures.bag
+pub returns-clause-empty : goal.returns-clause-empty
+returns-clause-empty g c =
+    c.release_all.ensures.empty
+    ∙ ap (λ (h : Holding LentBytes). let v : Holding LentBytes = record h { buffers = [] } in v)
+    (c.release.ensures.buffers
+    ∙ ap (λ l. let v : Holding LentBytes = record c.args.held.now { views = l } in v)
+    (no_view c.self.inside.store c.release.new.store c.args.app c.release.new.held (ap (λ (o : Store). o.pipes) c.release.ensures.after) c.release.ensures.bag))
 
 pub returns-clause-other_bags : goal.returns-clause-other_bags
 returns-clause-other_bags g c =
     let a = c.self.inside in
-    others_kept a c.args.self.now c.self.view_is c.self.invariant
-    (record a { activities = with_item a.activities (c.get.result - 1) activities.Ended; store = c.release.new.store; pools = c.end.new.self }) refl
-    (ap (λ (o : Store). o.room) c.release.ensures.after) c.args.app c.release.ensures.other_bags
+    let mid = c.release.new.store in
+    let next = c.release_all.new.self in
+    others_left a c.args.self.now c.self.view_is c.self.invariant
+    (record a { activities = with_item a.activities (c.get.result - 1) activities.Ended; store = next; pools = c.end.new.self }) refl
+    (both_room a.store mid next c.args.app c.release.ensures.after c.release.ensures.account c.release_all.ensures.after) c.args.app
+    (both_sizes a.store mid next c.args.app c.release.ensures.after c.release.ensures.account c.release_all.ensures.after)
+    (λ other bag apart holds. then_views a.store mid next c.args.app c.release.ensures.after c.release.ensures.account c.release_all.ensures.after other bag (c.release.ensures.other_bags other bag apart holds))
+    (λ other bag apart holds.
+    c.release_all.ensures.other_bags other bag apart
+    (still_blocks a.store mid other bag (first_same a.store mid next c.args.app c.release.ensures.after c.release.ensures.account c.release_all.ensures.after) holds))

@@ -35,4 +35,5 @@ pub returns-clause-other_bags : goal.returns-clause-other_bags
 returns-clause-other_bags c =
     let a = c.self.inside in
     others_kept a c.args.self.now c.self.view_is c.self.invariant (record a { store = c.receive_first.new.self; activities = with_item a.activities (c.get.result - 1) activities.Active }) refl
-    (ap (λ (o : Store). o.room) c.receive_first.ensures.after) c.args.app c.receive_first.ensures.other_bags
+    (ap (λ (o : Store). o.room) c.receive_first.ensures.after) c.args.app
+    (record { unsent = ap (λ (o : Store). o.unsent) c.receive_first.ensures.after; descs = ap (λ (o : Store). o.descs) c.receive_first.ensures.after; sizes = ap (λ (o : Store). o.account.sizes) c.receive_first.ensures.after }) c.receive_first.ensures.other_bags

@@ -31,4 +31,5 @@ pub returns-clause-other_bags : goal.returns-clause-other_bags
 returns-clause-other_bags g c =
     let a = c.self.inside in
     others_kept a c.args.self.now c.self.view_is c.self.invariant (record a { store = c.receive.new.self; activities = c.set_waiting.new.activities }) refl
-    (ap (λ (o : Store). o.room) c.receive.ensures.after) c.args.app c.receive.ensures.other_bags
+    (ap (λ (o : Store). o.room) c.receive.ensures.after) c.args.app
+    (record { unsent = ap (λ (o : Store). o.unsent) c.receive.ensures.after; descs = ap (λ (o : Store). o.descs) c.receive.ensures.after; sizes = ap (λ (o : Store). o.account.sizes) c.receive.ensures.after }) c.receive.ensures.other_bags

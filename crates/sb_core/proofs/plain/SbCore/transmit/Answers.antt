@@ -1,5 +1,6 @@
 use Rattle.std.proofs.Common.{◌≤◌, length, None, refl, ap, sym, ◌∙◌, arith}
 use Rattle.fsw_base.specs.Limits.{limits_of}
+use Rattle.fsw_base.specs.PoolAccounts.{Account}
 use Rattle.ccsds_msg.specs.Message.{message_id}
 use Rattle.bus_words.specs.Bus.{route}
 use Rattle.bus_words.specs.Machine.{transmit_cause}
@@ -7,7 +8,7 @@ use Rattle.bus_store.specs.Store.{Store}
 use Rattle.sb_core.specs.Inside.{means}
 use Rattle.sb_core.proofs.Bags.{bags_kept}
 use Rattle.sb_core.proofs.Refusals.{at_fields}
-use Rattle.sb_core.proofs.Transmits.{long_enough, way_of, some_of, sent_keeps, sent_acts}
+use Rattle.sb_core.proofs.Transmits.{request_stays, long_enough, way_of, some_of, sent_keeps, sent_acts}
 use Rattle.sb_core.proofs.plain.SbCore.transmit.Goals as goal
 
 pub id_of-requires : goal.id_of-requires
@@ -49,4 +50,5 @@ returns-clause-does g c =
 pub returns-clause-bags : goal.returns-clause-bags
 returns-clause-bags g c =
     let a = c.self.inside in
-    bags_kept a c.args.self.now c.self.view_is c.self.invariant (record a { store = c.send-sent.new.self }) refl (ap (λ (o : Store). o.room) c.send-sent.ensures.after) c.send-sent.ensures.bags
+    bags_kept a c.args.self.now c.self.view_is c.self.invariant (record a { store = c.send-sent.new.self }) refl (ap (λ (o : Store). o.room) c.send-sent.ensures.after)
+    (record { unsent = ap (λ (o : Store). o.unsent) c.send-sent.ensures.after; descs = ap (λ (o : Store). o.descs) c.send-sent.ensures.after; sizes = ap (λ (o : Store). o.account.sizes) c.send-sent.ensures.after ∙ ap (λ (c : Account). c.sizes) (request_stays a.store.account (length c.args.bytes.now)) }) c.send-sent.ensures.bags

@@ -1,0 +1,17 @@
+use Rattle.std.proofs.Common.{ap, refl}
+use Rattle.bus_store.specs.Store.{Store}
+use Rattle.sb_core.proofs.Bags.{others_left, views_still}
+use Rattle.sb_core.proofs.Buffers.{gone_keeps}
+use Rattle.sb_core.proofs.plain.SbCore.release.Goals as goal
+
+pub invariant_of-self : goal.invariant_of-self
+invariant_of-self g c = gone_keeps c.self.inside c.release.new.self c.args.self.now c.args.app c.args.buf c.release.ensures.after c.self.invariant
+
+pub returns-clause-other_bags : goal.returns-clause-other_bags
+returns-clause-other_bags g c =
+    let a = c.self.inside in
+    let is = c.release.ensures.after in
+    others_left a c.args.self.now c.self.view_is c.self.invariant (record a { store = c.release.new.self }) refl (ap (λ (o : Store). o.room) is) c.args.app
+    (ap (λ (o : Store). o.account.sizes) is)
+    (λ other bag apart. views_still a.store c.release.new.self other bag (ap (λ (o : Store). o.pipes) is) (ap (λ (o : Store). o.loans) is) (ap (λ (o : Store). o.room) is))
+    c.release.ensures.other_bags
