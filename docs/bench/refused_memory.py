@@ -13,7 +13,7 @@ import sys
 import tempfile
 
 HERE = os.path.dirname(os.path.abspath(__file__))
-PROGRAM = f"{HERE}/../../crates/host_run/out/host_run"
+PROGRAM = os.environ.get("PROGRAM", f"{HERE}/../../crates/host_run/out/host_run")
 NO_MEMORY = 6
 
 

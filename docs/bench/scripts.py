@@ -1,9 +1,9 @@
 """Scripts to be timed: `largest` has as many call lines and charges as a script may have, `mixed` has 20,000 lines of all the
 calls of the bus over four applications, and `longest` has as many bytes as a script may have. `narrow` and `wide` make the
 same sends, the one with four pipes and ids, the other with 256 pipes and 1024 ids; `cycles` makes, subscribes and deletes a
-pipe again and again.
+pipe again and again; `copied` and `written` send the same messages, the one from their bytes, the other in buffers.
 
-    scripts.py largest|mixed|longest|narrow|wide|cycles
+    scripts.py largest|mixed|longest|narrow|wide|cycles|copied|written
 """
 import sys
 
@@ -87,8 +87,30 @@ def cycles():
         yield "delete p0"
 
 
+def copied():
+    """4,000 messages of 2,048 bytes, each sent and received."""
+    yield "app A"
+    yield "create p0 4 A"
+    yield "sub 0x0801 p0"
+    for _ in range(4000):
+        yield "send 0x0801 2048 1"
+        yield "recv p0"
+
+
+def written():
+    """The same messages, each written into a buffer, sent as it lies and received."""
+    yield "app A"
+    yield "create p0 4 A"
+    yield "sub 0x0801 p0"
+    for _ in range(4000):
+        yield "alloc b0 2048"
+        yield "form b0 0x0801 1"
+        yield "xmit b0"
+        yield "recv p0"
+
+
 def main():
-    lines = {"cycles": cycles, "narrow": narrow, "wide": wide, "largest": largest, "mixed": mixed, "longest": longest}[sys.argv[1]]()
+    lines = {"copied": copied, "written": written, "cycles": cycles, "narrow": narrow, "wide": wide, "largest": largest, "mixed": mixed, "longest": longest}[sys.argv[1]]()
     sys.stdout.write("\n".join(lines) + "\n")
 
 
