@@ -90,6 +90,74 @@ EXAMPLES = [
         a2 end
         a1 end
     """),
+    ("a version that two applications hold", {}, 2, """
+        a1 treg S 4 0
+        a2 tshare S
+        a1 tload 1 0 01020304
+        a2 tget 2
+        a1 tget 1
+        a1 tload 1 0 05
+        a1 tstage 1 0 06
+        a2 tval 2
+        a2 tupd 2
+        a1 trel 1
+        a1 tupd 1
+        a2 trel 2
+        a1 tupd 1
+        a2 tget 2
+        a2 tget 2
+        a1 tstat 1
+        a1 end
+        a2 tstat 2
+        a2 end
+    """),
+    ("the version before, which two applications hold", {}, 2, """
+        a1 treg D 2 1
+        a2 tshare D
+        a1 tload 1 0 0102
+        a1 tget 1
+        a2 tget 2
+        a1 tload 1 0 0304
+        a1 tload 1 0 05
+        a1 tget 1
+        a2 tload 2 1 06
+        a2 trel 2
+        a2 tload 2 1 06
+        a2 tget 2
+        a1 tstat 1
+        a1 end
+        a2 tget 2
+        a2 tstat 2
+        a2 end
+    """),
+    ("a table that is registered no more", {}, 2, """
+        a1 treg T 2 1
+        a2 tshare T
+        a1 tload 1 0 0102
+        a1 tstage 1 0 03
+        a2 tstat 2
+        a1 tunreg 1
+        a2 tstage 2 0 03
+        a2 tval 2
+        a2 tupd 2
+        a2 tabort 2
+        a2 tload 2 0 03
+        a2 tget 2
+        a2 tstat 2
+        a2 trel 2
+        a1 tstage 1 0 03
+        a1 tval 1
+        a1 tupd 1
+        a1 tabort 1
+        a1 tload 1 0 03
+        a1 tget 1
+        a1 trel 1
+        a1 tstat 1
+        a1 tunreg 1
+        a2 tunreg 2
+        a2 end
+        a1 end
+    """),
     ("registrations that are refused", {}, 2, """
         a1 treg - 4 0
         a1 treg ABCDEFGHIJKLMNOP 4 0
@@ -237,7 +305,7 @@ def report(model, example):
 
 
 def largest(model):
-    """How many tables and handles were given as the largest configuration filled, and what is in use then and at the end."""
+    """How many tables, handles and addresses were given as the largest configuration filled, and what is in use then and at the end."""
     tables = opened(model, LARGEST, APPLICATIONS)
 
     def accepted(calls):
@@ -249,6 +317,7 @@ def largest(model):
     return [
         f"tables {accepted([('treg', name(place), 8, 1, []) for place in range(257)])}",
         f"shared {accepted([('tshare', b'AAA')] * 769)}",
+        f"addresses {accepted([('tget', place + 1) for place in range(1025)])}",
         in_use(tables),
         f"ended {accepted([('end',)] * APPLICATIONS)}",
         in_use(tables),

@@ -1,5 +1,5 @@
 //! The largest configuration: as many tables and handles as there can be, with every block of the
-//! pool out.
+//! pool out and a view behind every handle.
 ghost use Rattle.std.specs.Prelude.{◌≡◌, ◌<◌, false, OnOk};
 
 use crate::example::Limit;
@@ -23,12 +23,14 @@ enum Filling {
     Tables,
     // Shares of these.
     Handles,
+    // An address for each handle, by its application.
+    Addresses,
     // The applications' ends.
     Ends,
 }
 
-/// Fills the largest configuration, and prints how many tables and handles were given, what is in
-/// use then, and what is in use once all applications have ended.
+/// Fills the largest configuration, and prints how many tables, handles and addresses were given,
+/// what is in use then, and what is in use once all applications have ended.
 ///
 /// # Errors
 /// `Memory` where there is none for the tables; `Write` where the sink fails.
@@ -53,6 +55,8 @@ pub fn print_largest<L: Ledger, K: Sink>(
     put_counted(sink, &mut page, b"tables ", tables);
     let shared = fill(&mut played, Filling::Handles, 769, &mut steps);
     put_counted(sink, &mut page, b"shared ", shared);
+    let addresses = fill(&mut played, Filling::Addresses, 1025, &mut steps);
+    put_counted(sink, &mut page, b"addresses ", addresses);
     put_use(sink, &mut page, &played);
     let ended = fill(&mut played, Filling::Ends, 16, &mut steps);
     put_counted(sink, &mut page, b"ended ", ended);
@@ -74,7 +78,7 @@ fn fill<L: Ledger>(
     calls: u32,
     steps: &mut Steps<L>,
 ) -> u32
-    requires { calls < 1000 }
+    requires { calls < 2000 }
 {
     let mut accepted = 0;
     for place in 0..calls {
@@ -91,7 +95,9 @@ fn is_accepted<L: Ledger>(
     filling: Filling,
     place: u32,
     steps: &mut Steps<L>,
-) -> bool {
+) -> bool
+    requires { place < 2000 }
+{
     let Some(app) = AppNo::try_new(1 + place % 16) else {
         return false;
     };
@@ -100,7 +106,7 @@ fn is_accepted<L: Ledger>(
         b'A' + (place / 16 % 16) as u8,
         b'A' + (place % 16) as u8,
     ];
-    let call = call_at(filling, &name);
+    let call = call_at(filling, place, &name);
     if !played.may_make(app, &call) {
         return false;
     }
@@ -110,8 +116,11 @@ fn is_accepted<L: Ledger>(
     len > 0 && !matches!(journal.get(len - 1).answer, TblAnswer::Refused(_))
 }
 
-// A call of this kind.
-fn call_at(filling: Filling, name: &[u8]) -> TblCall<'_> {
+// The call of this kind of a place, which is below 2000. Handles were made by the applications in
+// turn, so that of a place is its application's.
+fn call_at(filling: Filling, place: u32, name: &[u8]) -> TblCall<'_>
+    requires { place < 2000 }
+{
     match filling {
         Filling::Tables => TblCall::Register {
             name,
@@ -120,6 +129,7 @@ fn call_at(filling: Filling, name: &[u8]) -> TblCall<'_> {
             rules: RuleList::new(),
         },
         Filling::Handles => TblCall::Share { name: b"AAA" },
+        Filling::Addresses => TblCall::GetAddress { handle: place + 1 },
         Filling::Ends => TblCall::End,
     }
 }

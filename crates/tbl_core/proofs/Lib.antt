@@ -15,12 +15,13 @@ pub mod Kept
 pub mod Leaves
 pub mod Loads
 pub mod Meaning
+pub mod OneLoan
 pub mod Only
-pub mod Others
 pub mod Opened
+pub mod Others
 pub mod Pools
-pub mod RegisterCalls
 pub mod Reached
+pub mod RegisterCalls
 pub mod Registered
 pub mod Registers
 pub mod Reheld

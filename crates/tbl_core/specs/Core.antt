@@ -1,5 +1,5 @@
 -- The core as its callers see it: its limits, the state and what is lent; and what an application has in its bag of what it holds.
-use Rattle.std.specs.Prelude.{◌≡◌, ◌≢◌, ℕ, ◌+◌, ◌^◌, ◌<◌, ◌≤◌, ◌==◌, nat_le, ◌&&◌, Bool, true, false, if◌then◌else◌, List, length, find, count_by, All, IsTrue, Option, None, is_some}
+use Rattle.std.specs.Prelude.{◌≡◌, ◌≢◌, ℕ, ◌+◌, ◌^◌, ◌<◌, ◌≤◌, ◌==◌, nat_le, ◌&&◌, Bool, true, false, if◌then◌else◌, List, length, find, count_by, All, IsTrue, Option, Some, None, is_some, IsSomeAnd}
 use Rattle.std.specs.Option.{option_map, option_map_or, option_and_then}
 use Rattle.fsw_base.specs.Limits.{Limits}
 use Rattle.tbl_words.specs.declared.calls.TblAnswer.{TblAnswer}
@@ -44,6 +44,17 @@ pub record Holds (core : Plain) (app : ℕ) (bag : HeldViews) : Type 0 where
   pub seen : (number : ℕ) → held_at bag number ≡ view_due core app number
   pub counted : length bag.views ≡ views_due core app
   pub room : core.limits.handles ≤ bag.room
+
+-- the live handle of a number is of this table, and holds this version of it
+abbrev pub HoldsVersion : List Handle → ℕ → ℕ → ℕ → Type 0
+HoldsVersion handles number table version =
+    IsSomeAnd (handle_at handles number) (λ h. (h.table ≡ table) × (option_map (λ hold. hold.version) h.hold ≡ Some version))
+
+-- handles that hold one version of one table are lent it by one loan
+abbrev pub AreOneLoan : Plain → Type 0
+AreOneLoan core =
+    (number other table version : ℕ) → HoldsVersion core.state.handles number table version → HoldsVersion core.state.handles other table version →
+    loan_of core.lent number ≡ loan_of core.lent other
 
 -- Calls. --
 

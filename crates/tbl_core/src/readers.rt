@@ -5,6 +5,7 @@ ghost use Rattle.es_pool.specs.Pool.{in_use_by};
 ghost use Rattle.tbl_words.specs.Machine.{may_call};
 ghost use Rattle.tbl_words.specs.Tables.{account_of, bytes_in_use};
 ghost use Rattle.tbl_words.specs.Uses.{use_of};
+ghost use Rattle.tbl_core.specs.Core.{AreOneLoan};
 
 use crate::plain::PlainTables;
 use es_pool::Pool;
@@ -23,7 +24,7 @@ impl PlainTables<'_> {
     }
 
     /// What is in use: the tables that have a handle, the live handles, and the bytes of the
-    /// tables' blocks by their block sizes. Nothing is counted for it.
+    /// tables' blocks by their block sizes. By the code, kept and not counted anew.
     pub fn in_use(&self) -> TblUse
         ensures { result ≡ use_of self.now.limits self.now.state }
     {
@@ -32,6 +33,14 @@ impl PlainTables<'_> {
             handles: self.registry.handles(),
             bytes: self.pool().bytes_in_use(),
         }
+    }
+
+    /// Handles that hold one version of one table are lent it by one loan: it lies in one block,
+    /// which all of them read. Does nothing.
+    pub fn recall_loans(&self)
+        ensures { AreOneLoan self.now }
+    {
+        self.registry.recall_ties();
     }
 
     /// The pool that the blocks of the tables are drawn from: those of the tables are out, and no

@@ -1,12 +1,14 @@
 -- The bags of the core are those of the history, since what handles hold is lent by the loans that were noted.
-use Rattle.std.proofs.Common.{◌≡◌, ℕ, length, is_some, ap, sym, ◌∙◌, subst}
+use Rattle.std.proofs.Common.{◌≡◌, ℕ, true, Option, Some, None, length, is_some, refl, ap, sym, ◌∙◌, subst}
+use Rattle.std.specs.Option.{IsSomeAnd, option_map, option_and_then}
 use Rattle.tbl_words.specs.Holds.{hold_of}
-use Rattle.tbl_words.specs.Tables.{State, handle_at}
+use Rattle.tbl_words.specs.Tables.{Handle, Hold, State, handle_at}
 use Rattle.tbl_words.proofs.Orders.{handles_rise}
 use Rattle.tbl_blocks.specs.Held.{HeldViews}
-use Rattle.tbl_core.specs.Core.{Holds, loan_of, view_due, views_due}
+use Rattle.tbl_core.specs.Core as plain
+use Rattle.tbl_core.specs.Core.{Holds, HoldsVersion, loan_of, view_due, views_due}
 use Rattle.tbl_load.specs.declared.tables.TblCore.TheInside.{Inside}
-use Rattle.tbl_load.specs.Bags.{HasBag, KeepsBags, lent_tables, loans_of}
+use Rattle.tbl_load.specs.Bags.{HasBag, KeepsBags, AreOneLoan, lent_tables, loans_of}
 use Rattle.tbl_load.specs.Core.{Core, state_of}
 use Rattle.tbl_load.specs.Inside.{core_of, Stands}
 use Rattle.tbl_load.specs.Notes.{noted}
@@ -51,3 +53,28 @@ bag_out a app bag stands has = record {
 -- so what keeps the core's bags keeps those of the history
 pub bags_over : (a next : Inside) (old : Core) → core_of a ≡ old → Stands a → Stands next → ((app : ℕ) (bag : HeldViews) → Holds a.core app bag → Holds next.core app bag) → KeepsBags old (core_of next)
 bags_over a next old is stands stands_next keeps app bag has = bag_out next app bag stands_next (keeps app bag (bag_in a old app bag is stands has))
+
+-- handles that hold one version of one table have one loan noted, as the core's loans are one
+pub one_loan : (a : Inside) → Stands a → plain.AreOneLoan a.core → AreOneLoan (core_of a)
+one_loan a stands told number other table version holds too =
+    sym (stands.loans number (held_one number here)) ∙ told number other table version here there ∙ stands.loans other (held_one other there)
+  where
+    P : ℕ → State → Type 0
+    P n s = HoldsVersion s.handles n table version
+
+    here : HoldsVersion a.core.state.handles number table version
+    here = subst (P number) (sym stands.state) holds
+
+    there : HoldsVersion a.core.state.handles other table version
+    there = subst (P other) (sym stands.state) too
+
+    held_one : (n : ℕ) → HoldsVersion a.core.state.handles n table version → is_some (hold_of a.core.state.handles n) ≡ true
+    held_one n its = by_found (handle_at a.core.state.handles n) its
+      where
+        by_hold : (o : Option Hold) → option_map (λ (hold : Hold). hold.version) o ≡ Some version → is_some o ≡ true
+        by_hold None never = absurd (cc (never))
+        by_hold (Some hold) is = refl
+
+        by_found : (o : Option Handle) → IsSomeAnd o (λ (h : Handle). (h.table ≡ table) × (option_map (λ (hold : Hold). hold.version) h.hold ≡ Some version)) → is_some (option_and_then (λ (h : Handle). h.hold) o) ≡ true
+        by_found None never = absurd never
+        by_found (Some h) its = by_hold h.hold its.1

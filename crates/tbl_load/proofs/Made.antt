@@ -1,5 +1,5 @@
 -- What the calls leave, each by what the core tells of bags.
-use Rattle.std.proofs.Common.{◌≡◌, ◌≢◌, ℕ, ◌&&◌, Bool, true, false, cond, true≢false, eqb, eqb-true, List, [], ◌∷◌, ◌++◌, length, Option, Some, None, is_some, Result, Ok, Err, refl, ap, sym, ◌∙◌, subst, arith}
+use Rattle.std.proofs.Common.{◌≡◌, ◌≢◌, ℕ, ◌&&◌, Bool, true, false, cond, true≢false, eqb, eqb-true, List, [], ◌∷◌, ◌++◌, Option, Some, None, is_some, Result, Ok, Err, refl, ap, sym, ◌∙◌, subst, arith}
 use Rattle.std.specs.Option.{IsSome, option_and_then}
 use Rattle.std.specs.Result.{OnOk, OnErr}
 use Rattle.std.proofs.lemmas.Bool.Decides.{nat_tests}
@@ -26,7 +26,7 @@ use Rattle.tbl_core.specs.Answers.{registered, shared, figures_told, addressed, 
 use Rattle.tbl_core.specs.Core.{Plain, Acts, Holds, changes_bag, loan_of, view_due}
 use Rattle.tbl_load.specs.declared.tables.TblCore.TheInside.{Inside}
 use Rattle.tbl_load.specs.Inside.{Stands}
-use Rattle.tbl_load.specs.Notes.{NotedLog, gives_for, is_address, loan_in, note_due, note_seen}
+use Rattle.tbl_load.specs.Notes.{NotedLog, IsDue, AreDue, gives_for, is_address, loan_in, note_due, note_seen}
 use Rattle.tbl_load.proofs.CoreBags.{rise_in}
 use Rattle.tbl_load.proofs.Dues.{due_by, dues_same, found_number, kept_from, viewed}
 use Rattle.tbl_load.proofs.Over.{Made}
@@ -50,6 +50,10 @@ pub done-nothing : (told : Result (Unit {0}) TblStatus) → note_due (done told)
 done-nothing (Ok nothing) = refl
 done-nothing (Err status) = refl
 
+-- so nothing is due to them
+pub nothing_due : (told answer : TblAnswer) → told ≡ answer → note_due answer 0 ≡ Nothing → IsDue told Nothing
+nothing_due told answer is nothing = (0, sym nothing ∙ sym (ap (λ x. note_due x 0) is))
+
 itself : (n : ℕ) → eqb n n ≡ true
 itself n = grind (arith, nat_tests)
 
@@ -57,7 +61,7 @@ apart : (m n : ℕ) → eqb m n ≡ false → m ≢ n
 apart m n is same = true≢false (sym (itself m) ∙ ap (eqb m) same ∙ is)
 
 module _ (a : Inside) (core : Plain) (next : NotedLog) (app : ℕ) (call : Call) (answer told : TblAnswer) (now : TblUse) (stands : Stands a) (acts : Acts a.core core app call answer)
-    (as_told : told ≡ answer) (in_use : now ≡ use_of core.limits core.state) (even : length next.notes ≡ length next.log.entries) where
+    (as_told : told ≡ answer) (in_use : now ≡ use_of core.limits core.state) (noted : AreDue next.log.entries next.notes) where
   -- what the pushed entry is
   abbrev Pushed : Note → Type 0
   Pushed note = next ≡ record { log = with_entry a.noted.log (record { app = app; call = call; answer = told }); notes = a.noted.notes ++ note ∷ []; peak = greater_of a.noted.peak now }
@@ -85,7 +89,7 @@ module _ (a : Inside) (core : Plain) (next : NotedLog) (app : ℕ) (call : Call)
     acts = acts;
     loan = 0;
     pushed = entered Nothing (note_due answer 0) pushed (sym nothing);
-    even = even;
+    due = noted;
     given = λ n gives. absurd (true≢false (sym gives ∙ none n));
     kept = λ n not_given. by_handle n _ (λ h at some.
         kept_from a.core core n h at some (dues_same a.core core h.app (rise_in a stands) (λ bag. acts.bags h.app bag (λ changes. absurd (true≢false (sym changes ∙ quiet)))) n));
@@ -120,7 +124,7 @@ module _ (a : Inside) (core : Plain) (next : NotedLog) (app : ℕ) (call : Call)
       acts = acts;
       loan = 0;
       pushed = entered Nothing (note_due answer 0) pushed (sym nothing);
-      even = even;
+      due = noted;
       given = λ n gives. absurd (true≢false (sym gives ∙ none n));
       kept = kept_own;
     }
@@ -132,7 +136,7 @@ module _ (a : Inside) (core : Plain) (next : NotedLog) (app : ℕ) (call : Call)
       acts = acts;
       loan = loan_of core.lent handle;
       pushed = entered note (note_due answer (loan_of core.lent handle)) pushed due;
-      even = even;
+      due = noted;
       given = λ n gives. let its = for_it n gives in (ap (loan_of core.lent) (sym its.0), named answer (loan_of core.lent handle) its.1);
       kept = kept_own;
     }

@@ -3,7 +3,7 @@ use Rattle.std.proofs.Common.{◌≡◌, ◌≢◌, ℕ, Bool, true, false, cond
 use Rattle.std.specs.List.{All}
 use Rattle.std.specs.Option.{option_map_or}
 use Rattle.std.proofs.lemmas.List.{length_push}
-use Rattle.std.proofs.lemmas.List.Elements.{All-head, All-tail}
+use Rattle.std.proofs.lemmas.List.Elements.{All-append, All-cons, All-head, All-nil, All-tail}
 use Rattle.lend_block.specs.declared.note.Note.{Note}
 use Rattle.tbl_words.specs.declared.calls.TblAnswer.{TblAnswer}
 use Rattle.tbl_words.specs.declared.history.Call.{Call}
@@ -18,7 +18,7 @@ use Rattle.tbl_load.specs.Bags.{HasBag, KeepsOtherBags, CalledByOthers, lent_tab
 use Rattle.tbl_load.specs.Core.{Core, Does, IsLegalCore, IsNoted, with_noted, apps_of, state_of}
 use Rattle.tbl_load.specs.Notes.{gives_for, noted, note_due}
 use Rattle.tbl_load.proofs.Dues.{due_of, due_alike, due_own, dues_own, told_each, viewed}
-use Rattle.tbl_load.proofs.Notes.{noted-other}
+use Rattle.tbl_load.proofs.Notes.{due-append, due-front, even-due, noted-other}
 use Rattle.tbl_load.proofs.Own.{Rise, owned, step_alone, gives_alone}
 
 -- Legal histories. --
@@ -47,7 +47,7 @@ due_noted core app n =
     due_alike (loan_of (loans_of core)) (λ k. noted k core.log.entries core.notes) app (state_of core).handles (told_each (λ k. noted k core.log.entries core.notes) (state_of core).handles) n
     ∙ due_own (λ k. noted k core.log.entries core.notes) app (state_of core).handles n (handles_rise core.limits (apps_of core) core.log.entries)
 
-module _ (old : Core) (e : Entry) (note : Note) (app : ℕ) (even : IsNoted old) (legal : IsLegalCore (with_noted old e note)) (other : e.app ≢ app) where
+module _ (old : Core) (e : Entry) (note : Note) (app : ℕ) (even : length old.notes ≡ length old.log.entries) (legal : IsLegalCore (with_noted old e note)) (other : e.app ≢ app) where
   abbrev s : State
   s = state_of old
 
@@ -114,7 +114,8 @@ others_keep old new app call answer does other bag differ has =
     let note = note_due answer does.loan in
     let legal : IsLegalCore (with_noted old e note) = subst (λ core. IsLegalCore core) does.entry does.legal in
     let pushed : IsNoted (with_noted old e note) = subst (λ core. IsNoted core) does.entry does.noted in
-    let even : IsNoted old = omega (arith, pushed, length_push old.notes note, length_push old.log.entries e) in
+    let whole = even-due (old.log.entries ++ e ∷ []) (old.notes ++ note ∷ []) pushed in
+    let even : length old.notes ≡ length old.log.entries = omega (arith, whole, length_push old.notes note, length_push old.log.entries e) in
     subst (λ core. HasBag core other bag) (sym does.entry) (others_stay old e note other even legal (λ same. differ (sym same)) bag has)
 
 -- Many entries. --
@@ -124,7 +125,7 @@ abbrev grown : Core → List Entry → List Note → Core
 grown core entries notes = record { limits = core.limits; log = record { budgets = core.log.budgets; entries = core.log.entries ++ entries }; notes = core.notes ++ notes }
 
 behind : (old : Core) (app : ℕ) (bag : HeldViews) (entries : List Entry) (notes : List Note) → All (λ (entry : Entry). entry.app ≢ app) entries → length notes ≡ length entries →
-    IsNoted old → IsLegalCore (grown old entries notes) → HasBag old app bag → HasBag (grown old entries notes) app bag
+    length old.notes ≡ length old.log.entries → IsLegalCore (grown old entries notes) → HasBag old app bag → HasBag (grown old entries notes) app bag
 behind old app bag [] [] others even noted legal has =
     subst (λ ns. HasBag (record old { log = record { budgets = old.log.budgets; entries = old.log.entries ++ [] }; notes = ns }) app bag) (sym (append-nil old.notes))
     (subst (λ es. HasBag (record old { log = record { budgets = old.log.budgets; entries = es } }) app bag) (sym (append-nil old.log.entries)) has)
@@ -148,4 +149,36 @@ behind old app bag (e ∷ es) (n ∷ ns) others even noted legal has =
 pub others_behind : (old new : Core) (app : ℕ) (bag : HeldViews) → CalledByOthers old new app → HasBag old app bag → HasBag new app bag
 others_behind old new app bag called has =
     subst (λ core. HasBag core app bag) (sym called.grown)
-    (behind old app bag called.entries called.notes called.by_others called.noted called.before (subst (λ core. IsLegalCore core) called.grown called.legal) has)
+    (behind old app bag called.entries called.notes called.by_others (even-due called.entries called.notes called.noted) (even-due old.log.entries old.notes called.before) (subst (λ core. IsLegalCore core) called.grown called.legal) has)
+
+-- one call of another
+pub called_by : (old new : Core) (app other : ℕ) (call : Call) (answer : TblAnswer) → Does old new app call answer → app ≢ other → CalledByOthers old new other
+called_by old new app other call answer does differ =
+    let e : Entry = record { app = app; call = call; answer = answer } in
+    let note = note_due answer does.loan in
+    let pushed : IsNoted (with_noted old e note) = subst (λ core. IsNoted core) does.entry does.noted in
+    record {
+      entries = e ∷ [];
+      notes = note ∷ [];
+      by_others = All-cons (λ (x : Entry). x.app ≢ other) e [] differ (All-nil (λ (x : Entry). x.app ≢ other));
+      grown = does.entry;
+      legal = does.legal;
+      before = due-front old.log.entries e old.notes note pushed;
+      noted = ((does.loan, refl), tt);
+    }
+
+-- and those that came behind it
+pub called_further : (old mid new : Core) (app : ℕ) → CalledByOthers old mid app → CalledByOthers mid new app → CalledByOthers old new app
+called_further old mid new app first second = record {
+  entries = first.entries ++ second.entries;
+  notes = first.notes ++ second.notes;
+  by_others = All-append (λ (x : Entry). x.app ≢ app) first.entries second.entries first.by_others second.by_others;
+  grown =
+      second.grown
+      ∙ ap (λ (core : Core). grown core second.entries second.notes) first.grown
+      ∙ ap (λ xs. record { limits = old.limits; log = record { budgets = old.log.budgets; entries = xs }; notes = (old.notes ++ first.notes) ++ second.notes }) (append_assoc old.log.entries first.entries second.entries)
+      ∙ ap (λ xs. record { limits = old.limits; log = record { budgets = old.log.budgets; entries = old.log.entries ++ (first.entries ++ second.entries) }; notes = xs }) (append_assoc old.notes first.notes second.notes);
+  legal = second.legal;
+  before = first.before;
+  noted = due-append first.entries second.entries first.notes second.notes first.noted second.noted;
+}

@@ -1,7 +1,7 @@
 -- The one lemma of all calls: what the core's call, the push of its entry and the note leave.
 use Rattle.std.proofs.Common.{◌≡◌, ℕ, ◌+◌, ◌^◌, ◌<◌, true, false, [], ◌∷◌, ◌++◌, length, All, is_some, IsTrue, refl, ap, sym, ◌∙◌, subst, arith}
 use Rattle.std.proofs.lemmas.List.{length_push}
-use Rattle.journal_store.specs.Budgets.{allowances, entries_left}
+use Rattle.journal_store.specs.Budgets.{HasRoom, allowances, entries_left}
 use Rattle.journal_store.proofs.Charges.{entries_left-charged}
 use Rattle.tbl_words.specs.declared.calls.TblAnswer.{TblAnswer}
 use Rattle.tbl_words.specs.declared.history.Call.{Call}
@@ -21,9 +21,9 @@ use Rattle.tbl_core.specs.Core.{Plain, MayAct, Acts, loan_of}
 use Rattle.tbl_load.specs.declared.tables.TblCore.TheInside.{Inside}
 use Rattle.tbl_load.specs.Core.{Core, MayCall, Does, IsLegalCore, with_noted, state_of}
 use Rattle.tbl_load.specs.Inside.{core_of, Stands}
-use Rattle.tbl_load.specs.Notes.{NotedLog, gives_for, loan_in, note_due, noted}
+use Rattle.tbl_load.specs.Notes.{NotedLog, AreDue, gives_for, loan_in, note_due, noted}
 use Rattle.tbl_load.proofs.Journals.{left_from-push}
-use Rattle.tbl_load.proofs.Notes.{noted-other, noted-given}
+use Rattle.tbl_load.proofs.Notes.{even-due, noted-other, noted-given}
 
 -- the core's state is that of the history
 pub state_now : (a : Inside) (now : Core) → core_of a ≡ now → Stands a → a.core.state ≡ state_of now
@@ -44,6 +44,13 @@ may_act a old app call is stands may_old =
     ) in
     record { standing = all.0; within = may.within; handles = all.1; versions = all.2 }
 
+-- and the entry has room in the journal
+pub may_push : (a : Inside) (old : Core) (app : ℕ) (call : Call) → core_of a ≡ old → MayCall old app call → HasRoom (left_of a.noted.log) app (call_bytes call)
+may_push a old app call is may_old =
+    let Q : Core → Type 0 = λ o. MayCall o app call in
+    let may : MayCall (core_of a) app call = subst Q (sym is) may_old in
+    may.room
+
 -- What a call left: the core did what the tables do, the call with its answer was entered, with the greatest numbers in use so far,
 -- and noted was the loan by which what was given is lent; what other handles hold is lent as before.
 pub record Made (a : Inside) (core : Plain) (next : NotedLog) (app : ℕ) (call : Call) (answer : TblAnswer) : Type 0 where
@@ -54,7 +61,7 @@ pub record Made (a : Inside) (core : Plain) (next : NotedLog) (app : ℕ) (call 
     notes = a.noted.notes ++ note_due answer loan ∷ [];
     peak = greater_of a.noted.peak (use_of core.limits core.state);
   }
-  pub even : length next.notes ≡ length next.log.entries
+  pub due : AreDue next.log.entries next.notes
   pub given : (n : ℕ) → gives_for n call answer ≡ true → (loan_of core.lent n ≡ loan) × (loan_in (note_due answer loan) ≡ loan)
   pub kept : (n : ℕ) → gives_for n call answer ≡ false → is_some (hold_of core.state.handles n) ≡ true → (is_some (hold_of a.core.state.handles n) ≡ true) × (loan_of core.lent n ≡ loan_of a.core.lent n)
 
@@ -105,7 +112,7 @@ module _ (a : Inside) (core : Plain) (next : NotedLog) (old : Core) (app : ℕ) 
         as_machine = answered;
         state = ap state_of same_core ∙ state_after_is;
         legal = let L : Core → Type 0 = λ c. IsLegalCore c in subst L (sym same_core) legal_after;
-        noted = made.even;
+        noted = made.due;
       })
 
   state_is : core.state ≡ state_after a.core.limits apps (a.noted.log.entries ++ e ∷ [])
@@ -129,9 +136,10 @@ module _ (a : Inside) (core : Plain) (next : NotedLog) (old : Core) (app : ℕ) 
 
   even_before : length a.noted.notes ≡ length a.noted.log.entries
   even_before =
+      let whole = even-due next.log.entries next.notes made.due in
       let notes : length next.notes ≡ length a.noted.notes + 1 = ap (λ (n : NotedLog). length n.notes) made.pushed ∙ length_push a.noted.notes (note_due answer made.loan) in
       let entries : length next.log.entries ≡ length a.noted.log.entries + 1 = ap (λ (n : NotedLog). length n.log.entries) made.pushed ∙ length_push a.noted.log.entries e in
-      omega (arith, notes, entries, made.even)
+      omega (arith, notes, entries, whole)
 
   loans_after : (n : ℕ) → is_some (hold_of core.state.handles n) ≡ true → loan_of core.lent n ≡ noted n (a.noted.log.entries ++ e ∷ []) (a.noted.notes ++ note_due answer made.loan ∷ [])
   loans_after n some =

@@ -1,13 +1,13 @@
 -- What an application has in its bag of what its handles hold, said of the history, its notes and the bag.
-use Rattle.std.specs.Prelude.{◌≡◌, ◌≢◌, ℕ, ◌==◌, ◌++◌, All, List, length, map, Option, None, if◌then◌else◌}
+use Rattle.std.specs.Prelude.{◌≡◌, ◌≢◌, ℕ, ◌==◌, ◌++◌, All, List, map, Option, None, if◌then◌else◌}
 use Rattle.std.specs.Option.{option_map, option_and_then}
 use Rattle.lend_block.specs.declared.note.Note.{Note}
 use Rattle.tbl_words.specs.declared.history.Entry.{Entry}
 use Rattle.tbl_words.specs.Tables.{State, handle_at}
 use Rattle.tbl_blocks.specs.Held.{HeldViews, held_at}
-use Rattle.tbl_core.specs.Core.{Lent, Plain, Holds}
+use Rattle.tbl_core.specs.Core.{Lent, Plain, Holds, HoldsVersion}
 use Rattle.tbl_load.specs.Core.{Core, IsLegalCore, IsNoted, state_of}
-use Rattle.tbl_load.specs.Notes.{noted}
+use Rattle.tbl_load.specs.Notes.{AreDue, noted}
 
 -- of each live handle, the loan that was noted of it
 abbrev pub loans_of : Core → List Lent
@@ -38,7 +38,13 @@ abbrev pub held_bytes : State → ℕ → ℕ → Option (List ℕ)
 held_bytes s app number =
     option_and_then (λ h. if h.app == app then option_map (λ hold. hold.value) h.hold else None) (handle_at s.handles number)
 
--- Only others called meanwhile: their entries with their notes stand behind those that were there, and none of this
+-- handles that hold one version of one table have one loan noted, by which the bags of their applications have it
+abbrev pub AreOneLoan : Core → Type 0
+AreOneLoan core =
+    (number other table version : ℕ) → HoldsVersion (state_of core).handles number table version → HoldsVersion (state_of core).handles other table version →
+    noted number core.log.entries core.notes ≡ noted other core.log.entries core.notes
+
+-- Only others called meanwhile: their entries, each with the note that is due, stand behind those that were there, and none of this
 -- application's own.
 pub record CalledByOthers (old new : Core) (app : ℕ) : Type 0 where
   pub entries : List Entry
@@ -47,4 +53,4 @@ pub record CalledByOthers (old new : Core) (app : ℕ) : Type 0 where
   pub grown : new ≡ record { limits = old.limits; log = record { budgets = old.log.budgets; entries = old.log.entries ++ entries }; notes = old.notes ++ notes }
   pub legal : IsLegalCore new
   pub before : IsNoted old
-  pub noted : length notes ≡ length entries
+  pub noted : AreDue entries notes

@@ -12,7 +12,7 @@ use Rattle.tbl_words.specs.Log.{Log, left_of, with_entry}
 use Rattle.tbl_words.specs.Tables.{State}
 use Rattle.tbl_words.specs.Machine.{IsLegal, may_call, state_after, step}
 use Rattle.tbl_core.specs.Core.{is_within}
-use Rattle.tbl_load.specs.Notes.{note_due}
+use Rattle.tbl_load.specs.Notes.{AreDue, note_due}
 
 pub record Core : Type 0 where
   pub limits : Limits
@@ -31,9 +31,9 @@ state_of core = state_after core.limits (apps_of core) core.log.entries
 abbrev pub IsLegalCore : Core → Type 0
 IsLegalCore core = IsLegal core.limits (apps_of core) core.log.entries
 
--- each entry has its note
+-- each entry has the note that is due
 abbrev pub IsNoted : Core → Type 0
-IsNoted core = length core.notes ≡ length core.log.entries
+IsNoted core = AreDue core.log.entries core.notes
 
 -- the application may make this call now: it is known and hasn't ended, has an entry and the call's bytes left, and the call keeps
 -- to the bounds of names and ranges

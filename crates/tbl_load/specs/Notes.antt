@@ -1,5 +1,5 @@
 -- The notes beside the entries of a journal: which loan each version that was given is lent by.
-use Rattle.std.specs.Prelude.{ℕ, ◌==◌, ◌&&◌, Bool, true, false, List, ◌∷◌, Option, Some, if◌then◌else◌}
+use Rattle.std.specs.Prelude.{◌≡◌, ℕ, ◌==◌, ◌&&◌, Bool, true, false, List, [], ◌∷◌, Option, Some, if◌then◌else◌}
 use Rattle.lend_block.specs.Loan.{LentBytes}
 use Rattle.lend_block.specs.declared.note.Note.{Note}
 use Rattle.lend_block.specs.declared.note.Note.TheVariants.{Nothing, Desc, Loan}
@@ -21,6 +21,16 @@ pub record NotedLog : Type 0 where
 abbrev pub note_due : TblAnswer → ℕ → Note
 note_due (Address told version) loan = Loan (record { loan = loan })
 note_due answer loan = Nothing
+
+-- a note is the one that is due to an entry with this answer
+abbrev pub IsDue : TblAnswer → Note → Type 0
+IsDue answer note = (loan : ℕ) × (note ≡ note_due answer loan)
+
+-- each entry has the note that is due
+abbrev pub AreDue : List Entry → List Note → Type 0
+AreDue [] [] = Unit {0}
+AreDue (e ∷ es) (note ∷ notes) = IsDue e.answer note × AreDue es notes
+AreDue es notes = ⊥
 
 -- the loan that a note names; 0 where it names none
 abbrev pub loan_in : Note → ℕ

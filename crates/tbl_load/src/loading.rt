@@ -121,7 +121,8 @@ impl<'r> TblCore<'r> {
 
     /// Makes the present value of the table of a handle of the caller's, with the bytes from
     /// `offset` on replaced by these, its present one, a version later: as `stage`, `validate` and
-    /// `update` in one. No working buffer is used.
+    /// `update` in one. By the code no working buffer is used; it is refused all the same where
+    /// four are taken.
     ///
     /// # Errors
     /// Those of [`TblCore::stage`]; then `Validation` with the number, from 1, of the first rule

@@ -1,11 +1,12 @@
 //! A journal whose entries have notes, with the peak of what was in use.
 ghost use Rattle.std.specs.Prelude.{◌≡◌, ◌<◌, [], ◌∷◌, ◌++◌, length, Some, slice_get, IfOk};
 ghost use Rattle.journal_store.specs.Budgets.{AreBudgets, HasRoom};
+ghost use Rattle.tbl_words.specs.declared.history.Entry.{Entry};
 ghost use Rattle.tbl_words.specs.Entries.{call_of, call_bytes, entry_of};
 ghost use Rattle.tbl_words.specs.Log.{left_of, with_entry};
 ghost use Rattle.tbl_words.specs.Uses.{greater_of};
 ghost use Rattle.tbl_blocks.specs.Held.{held_at};
-ghost use Rattle.tbl_load.specs.Notes.{note_seen};
+ghost use Rattle.tbl_load.specs.Notes.{IsDue, AreDue, note_seen};
 
 use crate::opening::total_entries;
 use fsw_base::Budget;
@@ -32,11 +33,11 @@ impl Model for NotedJournal {
 
     ghost Value = { NotedLog };
 
-    ghost use Rattle.tbl_load.specs.InsideNoted.{noted_log, IsEven};
+    ghost use Rattle.tbl_load.specs.InsideNoted.{noted_log, HasDueNotes};
 
     ghost view = { noted_log };
 
-    ghost invariant = { IsEven };
+    ghost invariant = { HasDueNotes };
 }
 
 impl NotedJournal {
@@ -66,17 +67,18 @@ impl NotedJournal {
         })
     }
 
-    /// One entry more, at the end, its note, and what is in use behind it.
+    /// One entry more, at the end, the note that is due to it, and what is in use behind it.
     pub(crate) fn push(&mut self, entry: &TblEntry<'_>, note: Note, now: TblUse)
-        requires { HasRoom (left_of self.old.log) entry.now.app
+        requires room { HasRoom (left_of self.old.log) entry.now.app
             (call_bytes (call_of entry.now.call)) }
+        requires due { IsDue entry.now.answer note }
         ensures pushed { self.new ≡
             record {
               log = with_entry self.old.log (entry_of entry.now);
               notes = self.old.notes ++ note ∷ [];
               peak = greater_of self.old.peak now;
             } }
-        ensures even { length self.new.notes ≡ length self.new.log.entries }
+        ensures due { AreDue self.new.log.entries self.new.notes }
     {
         self.journal.push(entry);
         self.notes.push_reserved(note);
@@ -86,7 +88,7 @@ impl NotedJournal {
     /// The entries.
     pub(crate) fn journal(&self) -> &TblJournal
         ensures journal { result.now ≡ self.now.log }
-        ensures even { length self.now.notes ≡ length self.now.log.entries }
+        ensures due { AreDue self.now.log.entries self.now.notes }
     {
         &self.journal
     }
@@ -94,7 +96,9 @@ impl NotedJournal {
     /// The note of the entry of this number, from 0.
     pub(crate) fn note(&self, i: u32) -> Note
         requires { i < length self.now.log.entries }
-        ensures { Some result ≡ slice_get self.now.notes i }
+        ensures note { Some result ≡ slice_get self.now.notes i }
+        ensures due { (e : Entry) → Some e ≡ slice_get self.now.log.entries i →
+            IsDue e.answer result }
     {
         self.notes[i as usize].again()
     }

@@ -21,12 +21,12 @@ impl<'r> TblCore<'r> {
     ///
     /// # Errors
     /// `ErrInvalidName` for a name that hasn't 1 to 15 bytes; `ErrInvalidSize` for 0 bytes or more
-    /// than the configuration allows; `ErrInvalidOptions` for an option past 2, and for rules that
-    /// no table of this size can have; `ErrDuplicateNotOwned` where another application has
-    /// registered a table of this name; `ErrDuplicateDiffSize` where the caller has, of another
-    /// size; `ErrRegistryFull` and `ErrHandlesFull` where as many tables have a handle, or as many
-    /// handles are live, as the configuration allows; `ErrMemBlockSize` where the pool hasn't the
-    /// blocks. The first that applies.
+    /// than the configuration allows; `ErrInvalidOptions` for an option past 2, and for a rule
+    /// whose byte isn't below the size, or whose `low` is above its `high`; `ErrDuplicateNotOwned`
+    /// where another application has registered a table of this name; `ErrDuplicateDiffSize` where
+    /// the caller has, of another size; `ErrRegistryFull` where as many tables have a handle as the
+    /// configuration allows, unregistered ones too; `ErrHandlesFull` where as many handles are live
+    /// as it allows; `ErrMemBlockSize` where the pool hasn't the blocks. The first that applies.
     pub fn register<L: Ledger>(
         &mut self,
         app: AppNo,

@@ -4,10 +4,13 @@ ghost use Rattle.fsw_base.specs.Limits.{limits_of};
 ghost use Rattle.es_pool.specs.Account.{IsAccountOf};
 ghost use Rattle.es_pool.specs.Pool.{in_use_by};
 ghost use Rattle.journal_store.specs.Budgets.{AreBudgets, allowance_of};
+ghost use Rattle.tbl_words.specs.declared.history.Entry.{Entry};
 ghost use Rattle.tbl_words.specs.Log.{left_of};
 ghost use Rattle.tbl_words.specs.Tables.{account_of, bytes_in_use};
 ghost use Rattle.tbl_words.specs.Uses.{use_of, peak_after};
+ghost use Rattle.tbl_load.specs.Bags.{AreOneLoan};
 ghost use Rattle.tbl_load.specs.Core.{IsLegalCore, IsNoted, apps_of, state_of};
+ghost use Rattle.tbl_load.specs.Notes.{IsDue};
 
 use crate::noted::NotedJournal;
 use es_pool::Pool;
@@ -97,20 +100,27 @@ impl<'r> TblCore<'r> {
     }
 
     /// Every call with its answer, in order: a history that the tables can have, each entry with
-    /// its note.
+    /// the note that is due to it. Handles that hold one version of one table were given views of
+    /// one loan.
     pub fn journal(&self) -> &TblJournal
         ensures journal { result.now ≡ self.now.log }
         ensures legal { IsLegalCore self.now }
         ensures noted { IsNoted self.now }
+        ensures loans { AreOneLoan self.now }
     {
+        // Does nothing; the proof learns of it that there is one loan for a version.
+        self.core.recall_loans();
         self.noted.journal()
     }
 
-    /// What was noted beside the journal's entry of this number, from 0: where its call gave an
-    /// address, the loan of the view that was given, else nothing.
+    /// What was noted beside the journal's entry of this number, from 0: a loan where its call gave
+    /// an address, else nothing. The loan of a handle's newest address is that of the view which
+    /// its application's bag has for it.
     pub fn note(&self, i: u32) -> Note
         requires { i < length self.now.log.entries }
-        ensures { Some result ≡ slice_get self.now.notes i }
+        ensures note { Some result ≡ slice_get self.now.notes i }
+        ensures due { (e : Entry) → Some e ≡ slice_get self.now.log.entries i →
+            IsDue e.answer result }
     {
         self.noted.note(i)
     }
@@ -126,15 +136,15 @@ impl<'r> TblCore<'r> {
         self.core.pool()
     }
 
-    /// What is in use now. Nothing is counted for it.
+    /// What is in use now. By the code, kept and not counted anew.
     pub fn tables_now(&self) -> TblUse
         ensures { result ≡ use_of self.now.limits (state_of self.now) }
     {
         self.core.in_use()
     }
 
-    /// The greatest numbers that were in use after any beginning of the history, each by itself.
-    /// Nothing is counted for it.
+    /// The greatest numbers that were in use after any beginning of the history, each by itself. By
+    /// the code, kept and not counted anew.
     pub fn tables_peak(&self) -> TblUse
         ensures { result ≡ peak_after self.now.limits (apps_of self.now) self.now.log.entries }
     {

@@ -1,4 +1,4 @@
-use Rattle.tbl_load.proofs.OthersBags.{others_keep, others_behind}
+use Rattle.tbl_load.proofs.OthersBags.{others_keep, others_behind, called_by, called_further}
 use Rattle.tbl_load.proofs.Shown.{shown}
 use Rattle.tbl_load.proofs.laws.bags_stay.Goals as goal
 
@@ -10,3 +10,9 @@ returns-clause-other_bags c = others_keep
 
 pub returns-clause-behind : goal.returns-clause-behind
 returns-clause-behind c = others_behind
+
+pub returns-clause-called : goal.returns-clause-called
+returns-clause-called c = called_by
+
+pub returns-clause-further : goal.returns-clause-further
+returns-clause-further c = called_further

@@ -1,6 +1,7 @@
-use Rattle.std.proofs.Common.{length, ap, ◌∙◌, arith}
+use Rattle.std.proofs.Common.{[], length, ap, sym, ◌∙◌, subst, arith}
 use Rattle.journal_store.specs.Budgets.{entries_left}
 use Rattle.tbl_words.specs.Log.{Log, left_of}
+use Rattle.tbl_load.specs.Notes.{AreDue}
 use Rattle.tbl_load.proofs.Opened.{entries_left-allowances}
 use Rattle.tbl_load.proofs.noted.NotedJournal.new.Goals as goal
 
@@ -10,6 +11,7 @@ invariant_of-result c =
     let no_entry = ap (λ (l : Log). length l.entries) log in
     let entries = ap (λ (l : Log). entries_left (left_of l)) log ∙ entries_left-allowances c.args.budgets.now in
     record {
-      even = ap (λ xs. length xs) c.in_ok-with_capacity.ensures.items ∙ omega (arith, no_entry);
+      due = subst (λ (l : Log). AreDue l.entries c.in_ok-with_capacity.field-0.items) (sym log)
+          (subst (λ notes. AreDue [] notes) (sym c.in_ok-with_capacity.ensures.items) tt);
       room = omega (arith, no_entry, entries, c.total_entries-entries.ensures, c.in_ok-with_capacity.ensures.exact);
     }

@@ -5,7 +5,7 @@ use Rattle.tbl_words.specs.Tables.{Handle, State}
 use Rattle.tbl_load.proofs.Made.{made_taking, none_stays}
 use Rattle.tbl_load.proofs.CoreBags.{bag_in, bag_out}
 use Rattle.tbl_load.proofs.OthersBags.{others_keep}
-use Rattle.tbl_load.proofs.Over.{may_act, stands_over, does_over, state_now}
+use Rattle.tbl_load.proofs.Over.{may_act, may_push, stands_over, does_over, state_now}
 use Rattle.tbl_load.proofs.tables.TblCore.end.Goals as goal
 
 pub end-requires : goal.end-requires
@@ -14,17 +14,23 @@ end-requires g c = record {
   bag = bag_in c.self.inside c.args.self.now c.args.app c.args.held.now c.self.view_is c.self.invariant c.requires.bag;
 }
 
+pub push-requires : goal.push-requires
+push-requires g c = record {
+  room = may_push c.self.inside c.args.self.now c.args.app End c.self.view_is c.requires.may;
+  due = (0, refl);
+}
+
 pub invariant_of-self : goal.invariant_of-self
 invariant_of-self g c =
     stands_over c.self.inside c.end.new.self c.push.new.self c.args.self.now c.args.app End Done c.self.view_is c.self.invariant c.requires.may
-    (made_taking c.self.inside c.end.new.self c.push.new.self c.args.app End Done Done c.in_use-now.result c.self.invariant c.end.ensures.does refl c.in_use-now.ensures c.push.ensures.even
+    (made_taking c.self.inside c.end.new.self c.push.new.self c.args.app End Done Done c.in_use-now.result c.self.invariant c.end.ensures.does refl c.in_use-now.ensures c.push.ensures.due
     c.args.held.now c.end.new.held (bag_in c.self.inside c.args.self.now c.args.app c.args.held.now c.self.view_is c.self.invariant c.requires.bag) c.end.ensures.bag (λ n none. none_stays c.args.held.now c.end.new.held c.end.ensures.views n)
     c.push.ensures.pushed refl (λ n. refl))
 
 pub returns-clause-does : goal.returns-clause-does
 returns-clause-does g c =
     does_over c.self.inside c.end.new.self c.push.new.self c.args.self.now c.args.app End Done c.self.view_is c.self.invariant c.requires.may
-    (made_taking c.self.inside c.end.new.self c.push.new.self c.args.app End Done Done c.in_use-now.result c.self.invariant c.end.ensures.does refl c.in_use-now.ensures c.push.ensures.even
+    (made_taking c.self.inside c.end.new.self c.push.new.self c.args.app End Done Done c.in_use-now.result c.self.invariant c.end.ensures.does refl c.in_use-now.ensures c.push.ensures.due
     c.args.held.now c.end.new.held (bag_in c.self.inside c.args.self.now c.args.app c.args.held.now c.self.view_is c.self.invariant c.requires.bag) c.end.ensures.bag (λ n none. none_stays c.args.held.now c.end.new.held c.end.ensures.views n)
     c.push.ensures.pushed refl (λ n. refl))
 

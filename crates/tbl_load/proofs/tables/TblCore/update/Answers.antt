@@ -1,23 +1,29 @@
 use Rattle.std.proofs.Common.{refl}
 use Rattle.tbl_words.specs.declared.history.Call.TheVariants.{Update}
 use Rattle.tbl_load.proofs.CoreBags.{bags_over}
-use Rattle.tbl_load.proofs.Made.{made_quiet, quiet_bags, done-nothing}
-use Rattle.tbl_load.proofs.Over.{may_act, stands_over, does_over}
+use Rattle.tbl_load.proofs.Made.{made_quiet, quiet_bags, nothing_due, done-nothing}
+use Rattle.tbl_load.proofs.Over.{may_act, may_push, stands_over, does_over}
 use Rattle.tbl_load.proofs.tables.TblCore.update.Goals as goal
 
 pub update-result-requires : goal.update-result-requires
 update-result-requires c = record { may = may_act c.self.inside c.args.self.now c.args.app (Update c.args.handle) c.self.view_is c.self.invariant c.requires.may }
 
+pub push-requires : goal.push-requires
+push-requires c = record {
+  room = may_push c.self.inside c.args.self.now c.args.app (Update c.args.handle) c.self.view_is c.requires.may;
+  due = nothing_due c.of_done.result _ c.of_done.ensures (done-nothing c.update-result.result);
+}
+
 pub invariant_of-self : goal.invariant_of-self
 invariant_of-self c =
     stands_over c.self.inside c.update-result.new.self c.push.new.self c.args.self.now c.args.app (Update c.args.handle) _ c.self.view_is c.self.invariant c.requires.may
-    (made_quiet c.self.inside c.update-result.new.self c.push.new.self c.args.app (Update c.args.handle) _ c.of_done.result c.in_use-now.result c.self.invariant c.update-result.ensures c.of_done.ensures c.in_use-now.ensures c.push.ensures.even
+    (made_quiet c.self.inside c.update-result.new.self c.push.new.self c.args.app (Update c.args.handle) _ c.of_done.result c.in_use-now.result c.self.invariant c.update-result.ensures c.of_done.ensures c.in_use-now.ensures c.push.ensures.due
     c.push.ensures.pushed (done-nothing c.update-result.result) (λ n. refl) refl)
 
 pub returns-clause-does : goal.returns-clause-does
 returns-clause-does c =
     does_over c.self.inside c.update-result.new.self c.push.new.self c.args.self.now c.args.app (Update c.args.handle) _ c.self.view_is c.self.invariant c.requires.may
-    (made_quiet c.self.inside c.update-result.new.self c.push.new.self c.args.app (Update c.args.handle) _ c.of_done.result c.in_use-now.result c.self.invariant c.update-result.ensures c.of_done.ensures c.in_use-now.ensures c.push.ensures.even
+    (made_quiet c.self.inside c.update-result.new.self c.push.new.self c.args.app (Update c.args.handle) _ c.of_done.result c.in_use-now.result c.self.invariant c.update-result.ensures c.of_done.ensures c.in_use-now.ensures c.push.ensures.due
     c.push.ensures.pushed (done-nothing c.update-result.result) (λ n. refl) refl)
 
 pub returns-clause-bags : goal.returns-clause-bags
