@@ -7,12 +7,13 @@ A step is spelled as the report spells a call, with pipes by their numbers: its 
 the call is given; `put` writes bytes over the first ones of a buffer, and `show` is a receipt of the pipe's last message.
 """
 import sys
+from types import SimpleNamespace
 
 sys.dont_write_bytecode = True  # nothing is left beside the scripts
 
-from model_answers import compared, model_of
+from model_answers import STAGE, compared, model_of
 
-STAGE = "zero-copy"
+NEWLINE = "\n"
 
 # A title, the limits that aren't the usual ones, the sequence counts at which ids start, and how many applications there are,
 # each with its steps.
@@ -270,6 +271,134 @@ EXAMPLES = [
         a2 xmit 4
         a2 end
     """),
+    ("events that filters keep back", {}, {}, 2, """
+        a1 event 7 3 early
+        a1 evreset 7
+        a1 evreg 7:0xfffe 9:0x0000
+        a1 event 7 2 one
+        a1 event 7 2 two
+        a1 event 7 2 three
+        a1 evreset 8
+        a1 evreset 7
+        a1 event 7 2 four
+        a1 event 8 4 unfiltered
+        a1 event 9 1
+        a2 event 9 1 another's
+        a2 evreg
+        a2 event 9 1 another's
+        a1 evreg 9:0xffff
+        a1 event 7 2 five
+        a1 event 9 3 six
+        a1 event 9 3 seven
+        a1 end
+        a2 event 7 2 last
+        a2 end
+    """),
+    ("event texts that are cut", {}, {}, 1, f"""
+        a1 evreg
+        a1 event 1 2 {"x" * 122}
+        a1 event 2 2 {"x" * 123}
+        a1 event 3 2 {"x" * 200}
+        a1 end
+    """),
+    ("a full event log", {}, {}, 1, f"""
+        a1 evreg
+        {NEWLINE.join(["a1 event 1 2 early"] * 20)}
+        a1 event 2 3 kept out
+        a1 logmode 0
+        a1 event 3 3 in place of the oldest
+        a1 logmode 1
+        a1 event 4 3 kept out too
+        a1 end
+    """),
+    ("an emptied event log", {}, {}, 1, """
+        a1 logmode 0
+        a1 evreg
+        a1 event 1 2 before
+        a1 logclear
+        a1 event 2 2 after
+        a1 logclear
+        a1 event 3 2 after once more
+        a1 end
+    """),
+    ("what the bus tells of its calls", {}, {}, 2, """
+        a1 create 1 A
+        a1 create 4 B
+        a1 sub 0x0801 1 4
+        a1 sub 0x0801 1 9
+        a1 sub 0x0801 2 1
+        a1 unsub 0x0802 1
+        a2 send 0x0802 8 0
+        a2 send 0x0801 8 0
+        a2 send 0x0801 8 0
+        a2 alloc 8
+        a2 put 3 0801c00000010b16
+        a2 xmit 3
+        a2 alloc 7
+        a2 put 4 0802c000000016
+        a2 xmit 4
+        a1 opts 1 1
+        a1 send 0x0801 8 0
+        a2 sendraw 0801c0000000
+        a2 unsub 0x0801 1
+        a1 recv 1
+        a1 recv 2
+        a2 end
+        a1 end
+    """),
+    ("housekeeping", {}, {}, 2, """
+        a1 hk
+        a1 create 4 HK
+        a1 sub 0x0803 1 4
+        a1 hk
+        a1 recv 1
+        a1 stats
+        a2 create 0 A
+        a2 delete 1
+        a2 opts 1 1
+        a2 getopts 9
+        a2 find A
+        a2 pname 9
+        a2 sub 0x0801 1 4
+        a2 unsub 0x0801 1
+        a2 sendraw 0801c0000000
+        a2 alloc 6
+        a2 xmit 9
+        a2 release 9
+        a2 recv 1
+        a2 pend 1
+        a1 alloc 100
+        a1 hk
+        a1 recv 1
+        a1 recv 1
+        a1 stats
+        a1 opts 1 1
+        a1 hk
+        a2 hk
+        a1 end
+        a2 stats
+        a2 end
+    """),
+    ("messages too small for housekeeping", {"msgmax": 63}, {}, 1, """
+        a1 hk
+        a1 create 4 HK
+        a1 sub 0x0803 1 4
+        a1 hk
+        a1 stats
+        a1 end
+    """),
+    ("a pool too small for housekeeping", {"pool": 160, "sizes": [64]}, {}, 1, """
+        a1 create 4 HK
+        a1 sub 0x0803 1 4
+        a1 hk
+        a1 hk
+        a1 hk
+        a1 stats
+        a1 recv 1
+        a1 recv 1
+        a1 hk
+        a1 end
+    """),
 ]
 
 # The largest configuration: each application makes as many pipes as every other, each id has a subscription, and the first id
@@ -297,6 +426,12 @@ def call_of(model, word, given):
     if word in ("send", "sendraw"):
         message = bytes.fromhex(given[0]) if word == "sendraw" else model.make_message(*(int(part, 0) for part in given))
         return ("send", message, True), f"send {len(message)} {sum(message)} inc"
+    if word == "evreg":
+        filters = [tuple(int(part, 0) for part in pair.split(":")) for pair in given]
+        return (word, filters), f"evreg {len(filters)}"
+    if word == "event":
+        text = " ".join(given[2:])
+        return (word, int(given[0]), int(given[1]), text), f"event {given[0]} {given[1]} {len(text)}"
     if word in ("create", "find"):
         name = b"" if given[-1] == "-" else given[-1].encode()
         return (word, *map(int, given[:-1]), name), " ".join([word, *given])
@@ -331,7 +466,11 @@ def report(model, example):
             pipe = int(given[0])
             item = bus.last_item(application, pipe)
             receipts[application].append(model.receipt_text(application, item and ("msg", pipe, item)))
-    return ["fsw 1", "bus", *bus.lines, "receipts", *sum(receipts.values(), []), "end"]
+    script = SimpleNamespace(config=bus.cfg)
+    apps = [SimpleNamespace(receipt_lines=lambda lines=lines: lines) for lines in receipts.values()]
+    world = SimpleNamespace(bus=bus, stage=bus.stage, script=script, apps=apps)
+    world.counter_lines = lambda: model.World.counter_lines(world)
+    return ["fsw 1", "bus", *bus.lines, *model.World.tail(world)]
 
 
 def largest(model):

@@ -1,5 +1,9 @@
 """The executable model, loaded from its file, and the comparison of what it answers with a stored file."""
 import importlib.util
+from pathlib import Path
+
+# How far the program is built, as the model names it.
+STAGE = Path(__file__).with_name("stage").read_text().strip()
 
 
 def model_of(path):

@@ -3,6 +3,7 @@ each example of a fault must be answered with that fault at that line.
 
     script_examples.py docs/SCRIPT.md
 """
+import itertools
 import re
 import subprocess
 import sys
@@ -30,14 +31,16 @@ def section(page, title):
 
 
 def rows(text):
-    lines = [line for line in text.splitlines() if line.startswith("|")]
+    """The rows of the first table of a text."""
+    lines = itertools.dropwhile(lambda line: not line.startswith("|"), text.splitlines())
+    lines = list(itertools.takewhile(lambda line: line.startswith("|"), lines))
     return [[cell.strip() for cell in line.strip("|").split("|")] for line in lines[2:]]
 
 
 def call_lines(page):
     """Each example line with what it must be answered with; None where it must run."""
-    for title in "Call lines of the software bus", "Call lines of memory pools":
-        for row in rows(section(page, title)):
+    for title in "the software bus", "memory pools", "events", "housekeeping":
+        for row in rows(section(page, f"Call lines of {title}")):
             yield row[-1].strip("`"), None
     for row in rows(section(page, "Call lines that aren't built yet")):
         yield row[-1].strip("`"), "script:4:NotYet\n"

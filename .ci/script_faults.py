@@ -8,9 +8,8 @@ import sys
 
 sys.dont_write_bytecode = True  # nothing is left beside the scripts
 
-from model_answers import compared, model_of
+from model_answers import STAGE, compared, model_of
 
-STAGE = "zero-copy"
 BYTES = {b"n": b"\n", b"r": b"\r", b"t": b"\t"}
 
 

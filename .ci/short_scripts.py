@@ -7,6 +7,10 @@ import random
 import subprocess
 import sys
 
+sys.dont_write_bytecode = True  # nothing is left beside the scripts
+
+from model_answers import STAGE
+
 NAME_BYTES = "ABCDEFGHIJKLMNOPQRSTUVWXYZabcdefghijklmnopqrstuvwxyz0123456789_"
 
 
@@ -35,7 +39,7 @@ def main():
     model, count = sys.argv[1], int(sys.argv[2])
     for seed in range(count):
         text = script(random.Random(seed))
-        wanted = printed([sys.executable, model, "--stage", "zero-copy"], text)
+        wanted = printed([sys.executable, model, "--stage", STAGE], text)
         if printed(["./fsw"], text) != wanted:
             print(f"script {seed} prints something else than the model:\n{text.decode()}")
             return 1

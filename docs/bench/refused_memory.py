@@ -2,7 +2,7 @@
 """Runs scripts with one request for memory refused, each request in turn: the program must then end
 with the status of no memory and nothing written, or write the whole report.
 
-    python3 docs/bench/refused_memory.py SCRIPT ..
+    python3 docs/bench/refused_memory.py SCRIPT|"gen N"|"soak N" ..
 
 The program is the built one, crates/host_run/out/host_run; refuse_nth.c beside this file refuses the
 request. A line for each script says how many requests it made and what came of refusing each.
@@ -20,8 +20,10 @@ NO_MEMORY = 6
 def run(script, library, number, told):
     """The program's status and what it wrote, with this request refused (none: 0)."""
     settings = {**os.environ, "LD_PRELOAD": library, "REFUSE": str(number), "REQUESTS": told}
-    with open(script, "rb") as text:
-        done = subprocess.run([PROGRAM, "lockstep"], stdin=text, stdout=subprocess.PIPE, env=settings)
+    is_drawn = script.startswith(("gen ", "soak "))
+    words = script.split() if is_drawn else ["lockstep"]
+    with open(os.devnull if is_drawn else script, "rb") as text:
+        done = subprocess.run([PROGRAM, *words], stdin=text, stdout=subprocess.PIPE, env=settings)
     return done.returncode, done.stdout
 
 

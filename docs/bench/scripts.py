@@ -1,9 +1,11 @@
 """Scripts to be timed: `largest` has as many call lines and charges as a script may have, `mixed` has 20,000 lines of all the
 calls of the bus over four applications, and `longest` has as many bytes as a script may have. `narrow` and `wide` make the
 same sends, the one with four pipes and ids, the other with 256 pipes and 1024 ids; `cycles` makes, subscribes and deletes a
-pipe again and again; `copied` and `written` send the same messages, the one from their bytes, the other in buffers.
+pipe again and again; `copied` and `written` send the same messages, the one from their bytes, the other in buffers. `queued`,
+`missed` and `logged` make the same sends to one pipe, which takes each, or is full; then the event log drops each event, or
+has its oldest line overwritten.
 
-    scripts.py largest|mixed|longest|narrow|wide|cycles|copied|written
+    scripts.py largest|mixed|longest|narrow|wide|cycles|copied|written|queued|missed|logged
 """
 import sys
 
@@ -109,8 +111,37 @@ def written():
         yield "recv p0"
 
 
+def turns(mode, pipe):
+    """One pipe with a message on it, and 8,000 turns: a send to it and a receive from one of the two pipes."""
+    yield "app A"
+    yield f"logmode {mode}"
+    yield "create p0 1 A"
+    yield "create p1 4 B"
+    yield "sub 0x0801 p0"
+    yield "send 0x0801 8 1"
+    yield f"recv p{pipe}"
+    for _ in range(8000):
+        yield "send 0x0801 8 1"
+        yield f"recv p{pipe}"
+
+
+def queued():
+    """Each send finds the pipe empty."""
+    yield from turns(1, 0)
+
+
+def missed():
+    """The pipe is full at each of the 8,000; the log is full after the first 20."""
+    yield from turns(1, 1)
+
+
+def logged():
+    """The same, and each event overwrites the log's oldest line."""
+    yield from turns(0, 1)
+
+
 def main():
-    lines = {"copied": copied, "written": written, "cycles": cycles, "narrow": narrow, "wide": wide, "largest": largest, "mixed": mixed, "longest": longest}[sys.argv[1]]()
+    lines = {"queued": queued, "missed": missed, "logged": logged, "copied": copied, "written": written, "cycles": cycles, "narrow": narrow, "wide": wide, "largest": largest, "mixed": mixed, "longest": longest}[sys.argv[1]]()
     sys.stdout.write("\n".join(lines) + "\n")
 
 

@@ -9,7 +9,7 @@ use Rattle.bus_words.specs.declared.history.Call.{Call}
 use Rattle.bus_words.specs.declared.history.Call.TheVariants as calls
 use Rattle.bus_words.specs.declared.history.Entry.{Entry}
 use Rattle.bus_words.specs.Bus.{State, Sending, Subscription, route}
-use Rattle.bus_words.specs.Refusals.{Refusal, OfBus, OfPools}
+use Rattle.bus_words.specs.Refusals.{Refusal, OfBus, OfPools, OfEvents}
 use Rattle.bus_words.specs.Machine.{step, cause, decided, buffer_gone, passed_along}
 use Rattle.bus_words.proofs.Steps.{after_step}
 use Rattle.script_lines.specs.declared.line.Line.{Line}
@@ -38,6 +38,7 @@ given-step limits history s app call =
       pools = λ next follows. omega arith;
       allocates = λ size none. omega arith;
       leaves = λ buf has. omega arith;
+      records = λ t desk statistics is. is;
       passes = λ sending id who has asked. omega arith;
     })
 
@@ -157,6 +158,7 @@ asked-alloc : (limits : Limits) (history : List Entry) (s : State) (app : ℕ) (
     ((decided limits history s app (calls.Allocate size) why).1).numbers_given (slice_set asked buf size)
 asked-alloc limits history s app registers asked written buf size (Some (OfBus status)) are = asked-refused registers asked written s.numbers_given s.numbers_given buf size are (omega arith)
 asked-alloc limits history s app registers asked written buf size (Some (OfPools status)) are = asked-refused registers asked written s.numbers_given s.numbers_given buf size are (omega arith)
+asked-alloc limits history s app registers asked written buf size (Some (OfEvents status)) are = asked-refused registers asked written s.numbers_given s.numbers_given buf size are (omega arith)
 asked-alloc limits history s app registers asked written buf size None are = asked-given registers asked written s.numbers_given buf size are
 
 asked-passed : (registers asked : List ℕ) (written : Written) (buf : ℕ) (bytes : List ℕ) (inc : Bool) (subs : List Subscription) (sending : Sending) (s : State) →
@@ -171,6 +173,7 @@ asked-xmit : (limits : Limits) (history : List Entry) (s : State) (app : ℕ) (r
     ((decided limits history s app (calls.TransmitBuffer buf bytes inc) why).1).numbers_given asked
 asked-xmit limits history s app registers asked written buf bytes inc (Some (OfBus status)) are = are
 asked-xmit limits history s app registers asked written buf bytes inc (Some (OfPools status)) are = are
+asked-xmit limits history s app registers asked written buf bytes inc (Some (OfEvents status)) are = are
 asked-xmit limits history s app registers asked written buf bytes inc None are =
     asked-passed registers asked written buf bytes inc (route s.subscriptions (message_id bytes)) _ (buffer_gone s app buf)
     (asked-gone registers asked written buf s.numbers_given s.numbers_given are (omega arith))
@@ -181,6 +184,7 @@ asked-release : (limits : Limits) (history : List Entry) (s : State) (app : ℕ)
     ((decided limits history s app (calls.Release buf) why).1).numbers_given asked
 asked-release limits history s app registers asked written buf (Some (OfBus status)) are = are
 asked-release limits history s app registers asked written buf (Some (OfPools status)) are = are
+asked-release limits history s app registers asked written buf (Some (OfEvents status)) are = are
 asked-release limits history s app registers asked written buf None are = asked-gone registers asked written buf s.numbers_given s.numbers_given are (omega arith)
 
 -- after a line's call
@@ -212,4 +216,11 @@ asked-line limits history s app registers written asked (lines.PoolCreate pool b
 asked-line limits history s app registers written asked (lines.PoolGet grant pool size) are = asked-more registers.buffers asked written _ _ are (given-step limits history s app (calls.PoolGet _ size))
 asked-line limits history s app registers written asked (lines.PoolPut pool grant) are = asked-more registers.buffers asked written _ _ are (given-step limits history s app (calls.PoolPut _ _))
 asked-line limits history s app registers written asked (lines.PoolFigures pool) are = asked-more registers.buffers asked written _ _ are (given-step limits history s app (calls.PoolFigures _))
+asked-line limits history s app registers written asked (lines.Register filters) are = asked-more registers.buffers asked written _ _ are (given-step limits history s app (calls.Register filters))
+asked-line limits history s app registers written asked (lines.SendEvent id kind text) are = asked-more registers.buffers asked written _ _ are (given-step limits history s app (calls.SendEvent id kind text))
+asked-line limits history s app registers written asked (lines.ResetFilter id) are = asked-more registers.buffers asked written _ _ are (given-step limits history s app (calls.ResetFilter id))
+asked-line limits history s app registers written asked (lines.LogMode mode) are = asked-more registers.buffers asked written _ _ are (given-step limits history s app (calls.LogMode mode))
+asked-line limits history s app registers written asked lines.ClearLog are = asked-more registers.buffers asked written _ _ are (given-step limits history s app calls.ClearLog)
+asked-line limits history s app registers written asked lines.Housekeeping are = asked-more registers.buffers asked written _ _ are (given-step limits history s app calls.Housekeeping)
+asked-line limits history s app registers written asked lines.Figures are = asked-more registers.buffers asked written _ _ are (given-step limits history s app calls.Figures)
 asked-line limits history s app registers written asked line are = tt

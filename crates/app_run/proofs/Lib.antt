@@ -1,13 +1,10 @@
 pub mod Settling
 pub mod Newest
 pub mod Taken
-pub mod Wrote
 pub mod AskedLaws
 pub mod OthersLaws
 pub mod TurnLaws
 pub mod ToldLaws
 pub mod RoundLaws
 pub mod BagLaws
-pub mod Answered
-pub mod BufferCalls
 pub mod OpenLaws

@@ -28,7 +28,7 @@ use Rattle.script_runs.proofs.Merged.{rotation-ends}
 use Rattle.app_run.specs.Lines.{line_bytes, entries_due, bytes_due}
 use Rattle.lend_block.specs.Loan.{LentBytes}
 use Rattle.buf_desc.specs.Held.{Holding}
-use Rattle.app_run.specs.Callers.{written_in}
+use Rattle.core_calls.specs.Callers.{written_in}
 use Rattle.app_run.specs.Openings.{budgets_for, empty_bag, empty_bags, opened}
 use Rattle.app_run.specs.Rounds.{all_beginning, all_going, equipped, AreNumbered, AllStand, AllTold, HasTold, Rotates, RotatesTimes, told_on}
 use Rattle.app_run.specs.Runners.{Progress, Equipped, beginning, running_of, standing_for}

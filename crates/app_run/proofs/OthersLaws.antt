@@ -20,7 +20,7 @@ use Rattle.script_runs.specs.Told.{own_last}
 use Rattle.script_runs.proofs.LastMessages.{own_last-other}
 use Rattle.bus_words.proofs.LegalSteps.{caller-first, standing-step, legal-last, legal-front}
 use Rattle.fsw_base.specs.Limits.{Limits}
-use Rattle.app_run.specs.Callers.{Caller, Meets, written_in}
+use Rattle.core_calls.specs.Callers.{Caller, Meets, written_in}
 use Rattle.app_run.specs.Lines.{bytes_due}
 use Rattle.app_run.specs.Received.{newest_number}
 use Rattle.app_run.specs.Runners.{Progress, Equipped}

@@ -10,10 +10,10 @@ use Rattle.bus_words.specs.declared.history.Call.{Call}
 use Rattle.bus_words.specs.declared.history.Call.TheVariants as calls
 use Rattle.bus_words.specs.declared.history.Entry.{Entry}
 use Rattle.bus_words.specs.Bus.{State, Standing, Active, Waiting, Ended, Sending, Subscription, standing_of, with_standing, is_empty, others_idle, is_subscribed, route}
-use Rattle.bus_words.specs.Refusals.{Refusal, OfBus, OfPools}
-use Rattle.bus_words.specs.Machine.{step, cause, decided, refused_state, buffer_gone, sent_along, passed_along, received}
+use Rattle.bus_words.specs.Refusals.{Refusal, OfBus, OfPools, OfEvents}
+use Rattle.bus_words.specs.Machine.{step, cause, decided, recorded, reads_after, refused_state, buffer_gone, sent_along, passed_along, packet_in, received}
 use Rattle.script_lines.specs.declared.line.Line.{Line}
-use Rattle.script_lines.specs.declared.line.Line.TheVariants.{Create, Delete, SetOpts, GetOpts, Find, PipeName, Subscribe, Unsubscribe, Send, SendRaw, Receive, Pend, Allocate, TransmitBuffer, Release, PoolCreate, PoolGet, PoolPut, PoolFigures}
+use Rattle.script_lines.specs.declared.line.Line.TheVariants.{Create, Delete, SetOpts, GetOpts, Find, PipeName, Subscribe, Unsubscribe, Send, SendRaw, Receive, Pend, Allocate, TransmitBuffer, Release, PoolCreate, PoolGet, PoolPut, PoolFigures, Register, SendEvent, ResetFilter, LogMode, ClearLog, Housekeeping, Figures}
 use Rattle.script_runs.specs.Trace.{Registers, call_of}
 use Rattle.script_runs.specs.Written.{Written, bytes_in}
 use Rattle.app_run.specs.Lines.{pipe_waited_for}
@@ -62,18 +62,31 @@ not_ended h = cc h
 waiting_not_ended : (pipe : ℕ) → Waiting pipe ≡ Ended → ⊥
 waiting_not_ended pipe h = cc h
 
+-- the bus once a call so answered is told and counted
+abbrev after_it : Limits → List Entry → State → ℕ → Call → BusAnswer × State → State
+after_it limits history s app call made = (recorded (reads_after limits history) limits s app call made).1
+
+-- what is told and counted is no matter here
+settles-recorded : (limits : Limits) (history : List Entry) (s : State) (app : ℕ) (call : Call) (made : BusAnswer × State) (waits : Option ℕ) → Settles app made.0 made.1 waits →
+    Settles app made.0 (after_it limits history s app call made) waits
+settles-recorded limits history s app call made waits settles = record { standing = settles.standing; pending = settles.pending }
+
 -- a step that is decided either way
 settles-decided : (limits : Limits) (history : List Entry) (s : State) (app : ℕ) (call : Call) (why : Option Refusal) →
     ((why : Refusal) → (refused_state s call why).standings ≡ s.standings) →
     ((decided limits history s app call None).1).standings ≡ s.standings → is_pending (decided limits history s app call None).0 ≡ false →
     standing_of s app ≡ Active →
-    Settles app (decided limits history s app call why).0 (decided limits history s app call why).1 None
+    Settles app (decided limits history s app call why).0 (after_it limits history s app call (decided limits history s app call why)) None
 settles-decided limits history s app call (Some (OfBus status)) refused accepted told active = record {
   standing = kept s (refused_state s call (OfBus status)) app Active (refused (OfBus status)) active;
   pending = refl;
 }
 settles-decided limits history s app call (Some (OfPools status)) refused accepted told active = record {
   standing = kept s (refused_state s call (OfPools status)) app Active (refused (OfPools status)) active;
+  pending = refl;
+}
+settles-decided limits history s app call (Some (OfEvents status)) refused accepted told active = record {
+  standing = kept s (refused_state s call (OfEvents status)) app Active (refused (OfEvents status)) active;
   pending = refl;
 }
 settles-decided limits history s app call None refused accepted told active = record {
@@ -92,6 +105,7 @@ refused-receive s pipe (OfBus BufAlocErr) = refl
 refused-receive s pipe (OfBus NoMessage) = refl
 refused-receive s pipe (OfBus BufferInvalid) = refl
 refused-receive s pipe (OfPools status) = refl
+refused-receive s pipe (OfEvents status) = refl
 
 either : (b : Bool) (s t : State) → t.standings ≡ s.standings → (cond {A = State} b s t).standings ≡ s.standings
 either true s t same = refl
@@ -132,14 +146,18 @@ settles-pended true false n s t app r registers same active = record {
 }
 
 settles-pend : (limits : Limits) (history : List Entry) (s : State) (app r : ℕ) (registers : Registers) (why : Option Refusal) → standing_of s app ≡ Active →
-    Settles app (decided limits history s app (calls.Pend (slice_index registers.pipes r)) why).0 (decided limits history s app (calls.Pend (slice_index registers.pipes r)) why).1
+    Settles app (decided limits history s app (calls.Pend (slice_index registers.pipes r)) why).0
+    (after_it limits history s app (calls.Pend (slice_index registers.pipes r)) (decided limits history s app (calls.Pend (slice_index registers.pipes r)) why))
     (pipe_waited_for registers (Pend r) (decided limits history s app (calls.Pend (slice_index registers.pipes r)) why).0)
 unfolding pipe_waited_for
 settles-pend limits history s app r registers (Some (OfBus status)) active = record { standing = active; pending = refl }
 settles-pend limits history s app r registers (Some (OfPools status)) active = record { standing = active; pending = refl }
+settles-pend limits history s app r registers (Some (OfEvents status)) active = record { standing = active; pending = refl }
 settles-pend limits history s app r registers None active =
     let pipe = slice_index registers.pipes r in
-    settles-pended (is_empty s.pipes pipe) (others_idle s app) _ s (received s pipe) app r registers refl active
+    let made = decided limits history s app (calls.Pend pipe) None in
+    settles-recorded limits history s app (calls.Pend pipe) made (pipe_waited_for registers (Pend r) made.0)
+    (settles-pended (is_empty s.pipes pipe) (others_idle s app) _ s (received s pipe) app r registers refl active)
 
 -- the call of an active application's line
 pub settles-line : (limits : Limits) (history : List Entry) (s : State) (app : ℕ) (registers : Registers) (written : Written) (line : Line) → standing_of s app ≡ Active →
@@ -189,6 +207,21 @@ settles-line limits history s app registers written (PoolPut pool grant) active 
 settles-line limits history s app registers written (PoolFigures pool) active =
     let call = calls.PoolFigures (slice_index registers.pools pool) in
     settles-decided limits history s app call (cause limits history s app call) (λ why. refl) refl refl active
+settles-line limits history s app registers written (Register filters) active =
+    settles-decided limits history s app (calls.Register filters) (cause limits history s app (calls.Register filters)) (λ why. refl) refl refl active
+settles-line limits history s app registers written (SendEvent id kind text) active =
+    settles-decided limits history s app (calls.SendEvent id kind text) (cause limits history s app (calls.SendEvent id kind text)) (λ why. refl) refl refl active
+settles-line limits history s app registers written (ResetFilter id) active =
+    settles-decided limits history s app (calls.ResetFilter id) (cause limits history s app (calls.ResetFilter id)) (λ why. refl) refl refl active
+settles-line limits history s app registers written (LogMode mode) active =
+    settles-decided limits history s app (calls.LogMode mode) (cause limits history s app (calls.LogMode mode)) (λ why. refl) refl refl active
+settles-line limits history s app registers written ClearLog active =
+    settles-decided limits history s app calls.ClearLog (cause limits history s app calls.ClearLog) (λ why. refl) refl refl active
+settles-line limits history s app registers written Housekeeping active =
+    settles-decided limits history s app calls.Housekeeping (cause limits history s app calls.Housekeeping) (λ why. refl)
+    (along limits (route s.subscriptions (message_id (packet_in limits s))) _ s) (along-told limits (route s.subscriptions (message_id (packet_in limits s))) _ s) active
+settles-line limits history s app registers written Figures active =
+    settles-decided limits history s app calls.Figures (cause limits history s app calls.Figures) (λ why. refl) refl refl active
 settles-line limits history s app registers written line active = tt
 
 -- a look that finds a message, or that none can come

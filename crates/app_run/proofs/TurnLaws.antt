@@ -11,12 +11,12 @@ use Rattle.bus_words.specs.Bus.{waited_on}
 use Rattle.sb_core.specs.declared.pending.Pended.TheVariants as waits
 use Rattle.lend_block.specs.Loan.{LentBytes}
 use Rattle.buf_desc.specs.Held.{Holding}
-use Rattle.app_run.specs.Callers.{Answers, AnswersLook, HasOwnBag, LeavesBuffers, FindsRoom, Meets, MayWrite, SameBus, Writes, buffers_asked, pipe_waited_on, written_in}
+use Rattle.core_calls.specs.Callers.{Answers, AnswersLook, HasOwnBag, LeavesBuffers, FindsRoom, Meets, MayWrite, SameBus, Writes, buffers_asked, pipe_waited_on, written_in}
 use Rattle.app_run.specs.Lines.{IsRun, most_receipts}
 use Rattle.app_run.specs.Received.{Remember, taken_from, taken_by}
 use Rattle.app_run.specs.Turns.{MayTurn, TakesTurnBy, with_bag}
 use Rattle.app_run.proofs.AskedLaws.{AskedLine, asked-fewer, asked-line, asked-more, given-step}
-use Rattle.app_run.proofs.Wrote.{alike-long, alike-none}
+use Rattle.core_calls.proofs.Wrote.{alike-long, alike-none}
 use Rattle.app_run.proofs.Newest.{remember-step, remember-shown}
 use Rattle.app_run.proofs.OthersLaws.{stands-met}
 use Rattle.app_run.proofs.Taken.{taken-told}
@@ -38,7 +38,7 @@ use Rattle.bus_words.specs.Machine.{IsLegal, may_call}
 use Rattle.bus_words.proofs.LegalSteps.{AreWaiters-after, legal-last}
 use Rattle.sb_calls.specs.Core.{Core, Does, IsLegalCore, MayCall, apps_of, state_of, is_within}
 use Rattle.script_lines.specs.declared.line.Line.{Line}
-use Rattle.script_lines.specs.declared.line.Line.TheVariants.{Create, Delete, SetOpts, GetOpts, Find, PipeName, Subscribe, Unsubscribe, Send, SendRaw, Receive, Pend, Allocate, TransmitBuffer, Release, PoolCreate, PoolGet, PoolPut, PoolFigures}
+use Rattle.script_lines.specs.declared.line.Line.TheVariants.{Create, Delete, SetOpts, GetOpts, Find, PipeName, Subscribe, Unsubscribe, Send, SendRaw, Receive, Pend, Allocate, TransmitBuffer, Release, PoolCreate, PoolGet, PoolPut, PoolFigures, Register, SendEvent, ResetFilter, LogMode, ClearLog, Housekeeping, Figures}
 use Rattle.script_settings.specs.Accounts.{waits_of, buffers_of, sizes_after}
 use Rattle.script_runs.specs.Messages.{sent_message}
 use Rattle.app_script.specs.Ranges.{IsLineInRange}
@@ -48,7 +48,7 @@ use Rattle.script_runs.specs.Trace.{Registers, call_of, registers_after}
 use Rattle.script_runs.specs.Written.{Written, bytes_in, written_after, written_by}
 use Rattle.script_runs.proofs.Buffers.{length-sent_message}
 use Rattle.std.proofs.Math.Path.{fun_ext}
-use Rattle.app_run.specs.Callers.{Caller}
+use Rattle.core_calls.specs.Callers.{Caller}
 use Rattle.app_run.specs.Lines.{MayRun, pipe_waited_for, line_bytes, entries_due, bytes_due, AreAsked}
 use Rattle.app_run.specs.Runners.{Place, Progress, Equipped, running_of, standing_for}
 use Rattle.app_run.specs.Turns.{so_far, Stands, TakesTurn, tells, tells_in, line_tells, active_tells}
@@ -273,6 +273,13 @@ allowed-line registers written given asked (PoolCreate pool bytes) are range = r
 allowed-line registers written given asked (PoolGet grant pool size) are range = record { bytes = omega arith; within = refl; active = refl; asks = omega arith }
 allowed-line registers written given asked (PoolPut pool grant) are range = record { bytes = omega arith; within = refl; active = refl; asks = omega arith }
 allowed-line registers written given asked (PoolFigures pool) are range = record { bytes = omega arith; within = refl; active = refl; asks = omega arith }
+allowed-line registers written given asked (Register filters) are range = record { bytes = omega arith; within = refl; active = refl; asks = omega arith }
+allowed-line registers written given asked (SendEvent id kind text) are range = record { bytes = omega arith; within = le-leb (length text) 200 range; active = refl; asks = omega arith }
+allowed-line registers written given asked (ResetFilter id) are range = record { bytes = omega arith; within = refl; active = refl; asks = omega arith }
+allowed-line registers written given asked (LogMode mode) are range = record { bytes = omega arith; within = le-leb mode 1 range; active = refl; asks = omega arith }
+allowed-line registers written given asked ClearLog are range = record { bytes = omega arith; within = refl; active = refl; asks = omega arith }
+allowed-line registers written given asked Housekeeping are range = record { bytes = omega arith; within = refl; active = refl; asks = omega arith }
+allowed-line registers written given asked Figures are range = record { bytes = omega arith; within = refl; active = refl; asks = omega arith }
 allowed-line registers written given asked line are range = tt
 
 -- a bag that has room for what is asked for

@@ -1,5 +1,3 @@
-pub mod Callers
-pub mod Buffers
 pub mod Lines
 pub mod Openings
 pub mod Received

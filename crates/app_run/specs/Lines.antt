@@ -4,11 +4,11 @@ use Rattle.bus_words.specs.declared.calls.BusAnswer.{BusAnswer}
 use Rattle.bus_words.specs.declared.calls.BusAnswer.TheVariants.{Pending, Got}
 use Rattle.bus_words.specs.declared.history.Call.{Call}
 use Rattle.script_lines.specs.declared.line.Line.{Line}
-use Rattle.script_lines.specs.declared.line.Line.TheVariants.{Create, Find, Send, SendRaw, Pend, TransmitBuffer}
+use Rattle.script_lines.specs.declared.line.Line.TheVariants.{Create, Find, Send, SendRaw, Pend, TransmitBuffer, SendEvent}
 use Rattle.script_settings.specs.Accounts.{waits_of, sizes_after}
 use Rattle.script_runs.specs.Trace.{Registers}
 use Rattle.script_runs.specs.Written.{Written, bytes_in}
-use Rattle.app_run.specs.Callers.{Caller, MayCallBus, Answers}
+use Rattle.core_calls.specs.Callers.{Caller, MayCallBus, Answers}
 
 -- the application may make the call of its line, where the line makes one
 abbrev pub MayRun : Caller → Option Call → Type 0
@@ -39,6 +39,7 @@ line_bytes asked (Find pipe name) = length name
 line_bytes asked (Send id size fill inc) = size
 line_bytes asked (SendRaw bytes inc) = length bytes
 line_bytes asked (TransmitBuffer buf inc) = slice_index asked buf
+line_bytes asked (SendEvent id kind text) = length text
 line_bytes asked line = 0
 
 -- how many entries these lines may make, with the end

@@ -11,7 +11,7 @@ use Rattle.bus_words.specs.Bus.{State}
 use Rattle.bus_words.specs.Receipts.{message_receipt}
 use Rattle.sb_calls.specs.Core.{state_of}
 use Rattle.script_runs.specs.Told.{own_last}
-use Rattle.app_run.specs.Callers.{Caller}
+use Rattle.core_calls.specs.Callers.{Caller}
 
 -- the receipt of the caller's last message from a pipe, under this send number
 abbrev pub taken_from : Caller → ℕ → ℕ → List Receipt

@@ -8,7 +8,7 @@ use Rattle.app_script.specs.Script.{ScriptText, app_at}
 use Rattle.script_lines.specs.declared.line.Line.{Line}
 use Rattle.script_runs.specs.Trace.{Registers, first_registers}
 use Rattle.script_runs.specs.Rotation.{Running}
-use Rattle.app_run.specs.Callers.{written_in}
+use Rattle.core_calls.specs.Callers.{written_in}
 
 -- Where an application is in its script: its number, the lines left and its registers.
 pub record Place : Type 0 where

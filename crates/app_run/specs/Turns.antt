@@ -16,7 +16,7 @@ use Rattle.script_runs.specs.Told.{got_in, shown}
 use Rattle.app_run.specs.declared.runner.Turned.{Turned}
 use Rattle.app_run.specs.declared.runner.Turned.TheVariants as turned
 use Rattle.script_settings.specs.Accounts.{buffers_of}
-use Rattle.app_run.specs.Callers.{Caller, Meets, SameBus, HasOwnBag, written_in}
+use Rattle.core_calls.specs.Callers.{Caller, Meets, SameBus, HasOwnBag, written_in}
 use Rattle.app_run.specs.Lines.{entries_due, bytes_due, AreAsked}
 use Rattle.app_run.specs.Received.{Remember}
 use Rattle.app_run.specs.Runners.{Progress, Equipped, standing_in, running_of, going}

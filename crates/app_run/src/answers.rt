@@ -1,9 +1,9 @@
 //! The answers of the calls, as entries of the journal have them.
 ghost use Rattle.std.specs.Prelude.{◌≡◌};
-ghost use Rattle.sb_core.specs.Answers.{created, done, named, sent, got, waited, pended, allocated, pool_told, grant_back, figures_told};
+ghost use Rattle.sb_core.specs.Answers.{created, done, named, sent, got, waited, pended, allocated, pool_told, grant_back, figures_told, event_told};
 
 use bus_words::{BusAnswer, PipeText};
-use fsw_base::{EsStatus, PoolStats, SbStatus};
+use fsw_base::{EsStatus, EvsStatus, PoolStats, SbStatus};
 use sb_calls::{Pended, Sent};
 
 /// A number that was asked for, or the refusal.
@@ -126,5 +126,15 @@ pub(crate) fn figures(answer: Result<PoolStats, EsStatus>) -> BusAnswer
     match answer {
         Ok(figures) => BusAnswer::Pool(figures),
         Err(status) => BusAnswer::Es(status),
+    }
+}
+
+/// Done, or the refusal of the event services.
+pub(crate) fn event_told(answer: Result<(), EvsStatus>) -> BusAnswer
+    ensures { result ≡ event_told answer }
+{
+    match answer {
+        Ok(()) => BusAnswer::Done,
+        Err(status) => BusAnswer::Evs(status),
     }
 }

@@ -15,19 +15,14 @@
 #![tactic(auto)]
 
 mod answers;
-mod buffers;
-mod calls;
-mod core_calls;
 mod line_calls;
-mod messages;
 mod receipts;
 mod regions;
 mod registers;
 mod rotating;
 mod runner;
 
-pub use calls::Calls;
-pub use core_calls::CoreCalls;
+pub use core_calls::{Calls, CoreCalls};
 pub use regions::Regions;
 pub use rotating::{Finished, lockstep};
 pub use runner::{Runner, Turned};

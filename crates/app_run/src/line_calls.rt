@@ -5,15 +5,14 @@ ghost use Rattle.app_script.specs.Ranges.{IsLineInRange};
 ghost use Rattle.script_runs.specs.Trace.{call_of};
 ghost use Rattle.buf_desc.specs.Held.{bytes_at};
 ghost use Rattle.script_runs.specs.Written.{written_by};
-ghost use Rattle.app_run.specs.Callers.{MayCallBus, MayWrite, Answers, Writes, written_in};
+ghost use Rattle.core_calls.specs.Callers.{MayCallBus, MayWrite, Answers, Writes, written_in};
 ghost use Rattle.app_run.specs.Lines.{MayRun, IsRun, message_size};
 
 use crate::answers;
-use crate::calls::Calls;
-use crate::messages::make_message;
 use crate::registers::Registers;
 use bus_words::{BusAnswer, Call};
-use fsw_base::Scope;
+use core_calls::{Calls, make_message};
+use fsw_base::{EventKind, FilterList, Scope};
 use script_lines::Line;
 
 /// Makes the call of a line, its registers filled in, and tells what it was answered; None for a
@@ -68,6 +67,13 @@ pub(crate) fn run_line<C: Calls>(
             Some(pool_put(calls, pool, registers.grant(*grant)))
         }
         Line::PoolFigures { pool } => Some(pool_figures(calls, registers.pool(*pool))),
+        Line::Register { filters } => Some(register(calls, filters)),
+        Line::SendEvent { id, kind, text } => Some(send_event(calls, *id, *kind, text.as_slice())),
+        Line::ResetFilter { id } => Some(reset_filter(calls, *id)),
+        Line::LogMode { mode } => Some(set_log_mode(calls, *mode)),
+        Line::ClearLog => Some(clear_log(calls)),
+        Line::Housekeeping => Some(send_housekeeping(calls)),
+        Line::Figures => Some(figures(calls)),
         _ => None,
     }
 }
@@ -257,4 +263,61 @@ fn pool_figures<C: Calls>(calls: &mut C, pool: u32) -> BusAnswer
 {
     let answer = calls.pool_stats(pool);
     answers::figures(answer)
+}
+
+fn register<C: Calls>(calls: &mut C, filters: &FilterList) -> BusAnswer
+    requires { MayCallBus (C.caller calls.old) (Call.Register filters.now) }
+    ensures { Answers (C.caller calls.old) (C.caller calls.new) (Call.Register filters.now) result }
+{
+    calls.evs_register(filters);
+    BusAnswer::Done
+}
+
+fn send_event<C: Calls>(calls: &mut C, id: u16, kind: EventKind, text: &[u8]) -> BusAnswer
+    requires { MayCallBus (C.caller calls.old) (Call.SendEvent id kind text.now) }
+    ensures { Answers (C.caller calls.old) (C.caller calls.new) (Call.SendEvent id kind text.now)
+        result }
+{
+    let answer = calls.send_event(id, kind, text);
+    answers::event_told(answer)
+}
+
+fn reset_filter<C: Calls>(calls: &mut C, id: u16) -> BusAnswer
+    requires { MayCallBus (C.caller calls.old) (Call.ResetFilter id) }
+    ensures { Answers (C.caller calls.old) (C.caller calls.new) (Call.ResetFilter id) result }
+{
+    let answer = calls.reset_filter(id);
+    answers::event_told(answer)
+}
+
+fn set_log_mode<C: Calls>(calls: &mut C, mode: u8) -> BusAnswer
+    requires { MayCallBus (C.caller calls.old) (Call.LogMode mode) }
+    ensures { Answers (C.caller calls.old) (C.caller calls.new) (Call.LogMode mode) result }
+{
+    calls.set_log_mode(mode);
+    BusAnswer::Done
+}
+
+fn clear_log<C: Calls>(calls: &mut C) -> BusAnswer
+    requires { MayCallBus (C.caller calls.old) Call.ClearLog }
+    ensures { Answers (C.caller calls.old) (C.caller calls.new) Call.ClearLog result }
+{
+    calls.clear_log();
+    BusAnswer::Done
+}
+
+fn send_housekeeping<C: Calls>(calls: &mut C) -> BusAnswer
+    requires { MayCallBus (C.caller calls.old) Call.Housekeeping }
+    ensures { Answers (C.caller calls.old) (C.caller calls.new) Call.Housekeeping result }
+{
+    let answer = calls.send_housekeeping();
+    answers::sent(answer)
+}
+
+fn figures<C: Calls>(calls: &mut C) -> BusAnswer
+    requires { MayCallBus (C.caller calls.old) Call.Figures }
+    ensures { Answers (C.caller calls.old) (C.caller calls.new) Call.Figures result }
+{
+    let answer = calls.bus_stats();
+    BusAnswer::Bus(answer)
 }

@@ -6,13 +6,13 @@ ghost use Rattle.sb_calls.specs.Core.{state_of};
 ghost use Rattle.script_runs.specs.Told.{shown};
 ghost use Rattle.script_runs.specs.Trace.{call_of};
 ghost use Rattle.script_runs.specs.Written.{Written};
-ghost use Rattle.app_run.specs.Callers.{HasOwnBag};
+ghost use Rattle.core_calls.specs.Callers.{HasOwnBag};
 ghost use Rattle.app_run.specs.Lines.{most_receipts};
 ghost use Rattle.app_run.specs.Received.{taken_from, taken_by, number_from, newest_number, Remember};
 
-use crate::calls::Calls;
 use crate::registers::Registers;
 use bus_words::{BusAnswer, Receipt, ReceiptList};
+use core_calls::Calls;
 use script_lines::Line;
 
 /// Adds the receipt of a line that was so answered: one where it got a message.

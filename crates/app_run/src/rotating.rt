@@ -11,13 +11,13 @@ ghost use Rattle.app_run.specs.Openings.{opened, empty_bags};
 ghost use Rattle.app_run.specs.Turns.{so_far, Stands};
 ghost use Rattle.app_run.specs.Rounds.{all_beginning, all_going, equipped, AllStand, AllTold, AllHold, MovesOn, Rotates, RotatesTimes};
 
-use crate::core_calls::CoreCalls;
 use crate::regions::Regions;
 use crate::runner::Runner;
 use app_script::Script;
 use bucket_list::{Blank, Ledger, Steps};
 use buf_desc::Held;
 use bus_words::ReceiptList;
+use core_calls::CoreCalls;
 use fsw_base::{AppNo, Budget};
 use sb_calls::{BusCore, bags_stay};
 use std::alloc::{AllocError, Global};

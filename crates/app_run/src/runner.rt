@@ -4,12 +4,12 @@ ghost use Rattle.app_script.specs.Script.{app_at};
 ghost use Rattle.app_run.specs.Lines.{message_size, pipe_waited_for};
 ghost use Rattle.app_run.specs.Runners.{beginning};
 
-use crate::calls::Calls;
 use crate::line_calls::{run_line, write_line};
 use crate::receipts::{show, take_got, take_receipt};
 use crate::registers::Registers;
 use app_script::Script;
 use bus_words::{BusAnswer, ReceiptList};
+use core_calls::Calls;
 use fsw_base::AppNo;
 use sb_calls::Pended;
 use script_lines::Line;
@@ -62,7 +62,7 @@ impl<'s> Model for Runner<'s> {
 
 impl<'s> Runner<'s> {
     ghost use Rattle.app_run.specs.Turns.{MayTurn, TakesTurnBy, Turns, turned_of};
-    ghost use Rattle.app_run.specs.Callers.{SameBus};
+    ghost use Rattle.core_calls.specs.Callers.{SameBus};
 
     /// The application before its first line: its registers are 0, and it has no receipt. By
     /// the code, all memory that its run takes is taken here.

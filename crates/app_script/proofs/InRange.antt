@@ -4,10 +4,10 @@ use Rattle.std.specs.List.{list_all}
 use Rattle.std.proofs.lemmas.Bool.{leb-true}
 use Rattle.std.proofs.lemmas.List.Elements.{All-nil, All-cons}
 use Rattle.std.proofs.lemmas.List.Sums.{sum_by-cons}
-use Rattle.script_words.specs.Text.{is_same}
+use Rattle.script_words.specs.Text.{is_text, is_same, trimmed}
 use Rattle.script_lines.specs.declared.line.Line.{Line}
-use Rattle.script_lines.specs.declared.line.Line.TheVariants.{Create, Find, Send, SendRaw}
-use Rattle.script_lines.specs.Ranges.{is_visible, is_name, is_readable}
+use Rattle.script_lines.specs.declared.line.Line.TheVariants.{Create, Find, Send, SendRaw, SendEvent, LogMode}
+use Rattle.script_lines.specs.Ranges.{is_visible, is_name, is_event_text, is_readable}
 use Rattle.script_lines.proofs.Booleans.{and_first, and_second}
 use Rattle.script_settings.specs.Settings.{is_app_name}
 use Rattle.script_settings.specs.Accounts.{account_of, budget_of}
@@ -21,6 +21,10 @@ name_short : (name : List ℕ) → is_name name ≡ true → length name ≤ 64
 name_short name h =
     leb-true (length name) 64 (and_first (nat_le (length name) 64) (list_all is_visible name) (and_first (nat_le (length name) 64 && list_all is_visible name) (not (is_same name (codes "-"))) h))
 
+text_short : (text : List ℕ) → is_event_text text ≡ true → length text ≤ 200
+text_short text h =
+    leb-true (length text) 200 (and_first (nat_le (length text) 200) (list_all is_text text) (and_first (nat_le (length text) 200 && list_all is_text text) (is_same (trimmed text) text) h))
+
 line_in : (line : Line) → is_readable line ≡ true → IsLineInRange line
 unfolding is_readable IsLineInRange
 line_in (Create pipe depth name) h = name_short name (and_second (nat_lt pipe 64 && nat_le depth 65535) (is_name name) h)
@@ -33,6 +37,8 @@ line_in (Send id size fill inc) h =
 line_in (SendRaw bytes inc) h =
     let short = leb-true (length bytes) 256 (and_second (nat_le 1 (length bytes)) (nat_le (length bytes) 256) (and_first (nat_le 1 (length bytes) && nat_le (length bytes) 256) (list_all (λ byte. nat_le byte 255) bytes) h)) in
     omega arith
+line_in (SendEvent id kind text) h = text_short text (and_second (nat_le id 65535) (is_event_text text) h)
+line_in (LogMode mode) h = leb-true mode 1 h
 line_in line h = tt
 
 lines_in : (lines : List Line) → list_all is_readable lines ≡ true → All IsLineInRange lines

@@ -1,8 +1,9 @@
 -- What holds of the lines that a match leaves over.
 use Rattle.std.proofs.Common.{◌≡◌, ℕ, Bool, false, List, refl}
 use Rattle.fsw_base.specs.declared.config.Scope.{Scope}
+use Rattle.fsw_base.specs.declared.events.EventKind.{EventKind}
 use Rattle.script_lines.specs.declared.line.Line.{Line}
-use Rattle.script_lines.specs.declared.line.Line.TheVariants.{Create, Delete, SetOpts, GetOpts, Find, PipeName, Subscribe, Unsubscribe, Send, SendRaw, Receive, Pend, Allocate, TransmitBuffer, Release, PoolCreate, PoolGet, PoolPut, PoolFigures, Form, Put, ShowPipe}
+use Rattle.script_lines.specs.declared.line.Line.TheVariants.{Create, Delete, SetOpts, GetOpts, Find, PipeName, Subscribe, Unsubscribe, Send, SendRaw, Receive, Pend, Allocate, TransmitBuffer, Release, PoolCreate, PoolGet, PoolPut, PoolFigures, Register, SendEvent, ResetFilter, LogMode, ClearLog, Housekeeping, Figures, Form, Put, ShowPipe}
 use Rattle.app_script.specs.Built.{is_built}
 
 -- a line that is none of those built
@@ -26,6 +27,13 @@ pub record IsLater (line : Line) : Type 0 where
   pub pget : (grant pool size : ℕ) → line ≡ PoolGet grant pool size → ⊥
   pub pput : (pool grant : ℕ) → line ≡ PoolPut pool grant → ⊥
   pub pstats : (pool : ℕ) → line ≡ PoolFigures pool → ⊥
+  pub evreg : (filters : List (ℕ × ℕ)) → line ≡ Register filters → ⊥
+  pub event : (id : ℕ) (kind : EventKind) (text : List ℕ) → line ≡ SendEvent id kind text → ⊥
+  pub evreset : (id : ℕ) → line ≡ ResetFilter id → ⊥
+  pub logmode : (mode : ℕ) → line ≡ LogMode mode → ⊥
+  pub logclear : line ≡ ClearLog → ⊥
+  pub hk : line ≡ Housekeeping → ⊥
+  pub stats : line ≡ Figures → ⊥
   pub form : (buf id fill : ℕ) → line ≡ Form buf id fill → ⊥
   pub put : (buf offset : ℕ) (bytes : List ℕ) → line ≡ Put buf offset bytes → ⊥
   pub show : (pipe : ℕ) → line ≡ ShowPipe pipe → ⊥
@@ -51,6 +59,13 @@ built_default (PoolCreate pool bytes) never = absurd (never.pool pool bytes refl
 built_default (PoolGet grant pool size) never = absurd (never.pget grant pool size refl)
 built_default (PoolPut pool grant) never = absurd (never.pput pool grant refl)
 built_default (PoolFigures pool) never = absurd (never.pstats pool refl)
+built_default (Register filters) never = absurd (never.evreg filters refl)
+built_default (SendEvent id kind text) never = absurd (never.event id kind text refl)
+built_default (ResetFilter id) never = absurd (never.evreset id refl)
+built_default (LogMode mode) never = absurd (never.logmode mode refl)
+built_default ClearLog never = absurd (never.logclear refl)
+built_default Housekeeping never = absurd (never.hk refl)
+built_default Figures never = absurd (never.stats refl)
 built_default (Form buf id fill) never = absurd (never.form buf id fill refl)
 built_default (Put buf offset bytes) never = absurd (never.put buf offset bytes refl)
 built_default (ShowPipe pipe) never = absurd (never.show pipe refl)

@@ -2,16 +2,18 @@
 -- of a whole script.
 use Rattle.std.specs.Prelude.{◌≤◌, length, sum_by, All}
 use Rattle.script_lines.specs.declared.line.Line.{Line}
-use Rattle.script_lines.specs.declared.line.Line.TheVariants.{Create, Find, Send, SendRaw}
+use Rattle.script_lines.specs.declared.line.Line.TheVariants.{Create, Find, Send, SendRaw, SendEvent, LogMode}
 use Rattle.script_settings.specs.Accounts.{budget_of}
 use Rattle.app_script.specs.Script.{ScriptText}
 
--- a name of at most 64 bytes, a message of 7 to 65542
+-- a name of at most 64 bytes, a message of 7 to 65542, an event's text of at most 200, a mode of 0 or 1
 unfoldable pub IsLineInRange : Line → Type 0
 IsLineInRange (Create pipe depth name) = length name ≤ 64
 IsLineInRange (Find pipe name) = length name ≤ 64
 IsLineInRange (Send id size fill inc) = (7 ≤ size) × (size ≤ 65542)
 IsLineInRange (SendRaw bytes inc) = length bytes ≤ 65542
+IsLineInRange (SendEvent id kind text) = length text ≤ 200
+IsLineInRange (LogMode mode) = mode ≤ 1
 IsLineInRange line = Unit {0}
 
 pub record IsInRange (script : ScriptText) : Type 0 where

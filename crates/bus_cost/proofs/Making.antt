@@ -49,7 +49,9 @@ made_one : (old new : Plain) (app : ℕ) (call : Call) (answer : BusAnswer) → 
 made_one old new app call answer acts accepted =
     let goes = goes_decided (reads_in old.whole) old.limits old.whole.bus app call (cause_with (reads_in old.whole) old.limits old.whole.bus app call) accepted in
     let is : ((act old.limits old.whole app call).1) ≡ new.whole = ap (λ (made : BusAnswer × Whole). made.1) acts.made in
-    let after : Goes old.whole.bus new.whole.bus = subst (λ (w : Whole). Goes old.whole.bus w.bus) is goes in
+    let noted : Goes old.whole.bus (act old.limits old.whole app call).1.bus =
+    record { standings = goes.standings; pipes = goes.pipes; subscriptions = goes.subscriptions; sends = goes.sends } in
+    let after : Goes old.whole.bus new.whole.bus = subst (λ (w : Whole). Goes old.whole.bus w.bus) is noted in
     record { standings = after.standings; pipes = after.pipes; subscriptions = after.subscriptions; sends = after.sends }
 
 pub made_create : (old new : Plain) (app depth : ℕ) (name : List ℕ) (answer : BusAnswer) → Acts old new app (Create depth name) answer → Made old new 1

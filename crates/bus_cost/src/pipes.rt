@@ -11,7 +11,7 @@ use sb_core::SbCore;
 pub const IDS: u32 = 4;
 
 // The depth of each pipe, and the limit of each subscription.
-const DEPTH: u32 = 4;
+const DEPTH: u32 = 256;
 
 /// The message id of a place; the ids come in turn.
 pub fn id_of(place: u32) -> u16 {

@@ -11,65 +11,67 @@ use fsw_base::AppNo;
 use sb_core::SbCore;
 
 /// Has application 1 make the pipes, so many for each message id, then send so many messages and
-/// receive them. Answers how many were received.
+/// receive each on so many of its pipes: the load says how many messages, pipes and receives.
+/// Answers how many were received.
 pub fn carry<'r, L: Ledger>(
     core: &mut SbCore<'r>,
     held: &mut Held<'r>,
     message: &mut [u8],
-    turns: u32,
-    dests: u32,
+    load: (u32, u32, u32),
     blank: Blank,
 ) -> u32
     requires name { blank.name ≡ L.name }
     requires parts { blank.parts ≡ L.parts }
     requires some_part { 0 < blank.parts }
     requires message { (7 ≤ length message.old) × (length message.old ≤ 65542) }
-    requires dests { dests ≤ 16 }
-    requires may { MayMake core.old 1 (128 + 17 * turns) }
+    requires dests { load.1 ≤ 16 }
+    requires reads { load.2 ≤ 16 }
+    requires may { MayMake core.old 1 (128 + 17 * load.0) }
     requires bag { HasBag core.old 1 held.old }
 {
+    let (turns, dests, reads) = load;
     let mut steps = Steps::<L>::new(blank);
     let app = AppNo::try_new(1).unwrap();
     open(core, app, IDS * dests, &mut steps);
-    carry_all(core, app, held, message, turns, dests, &mut steps)
+    carry_all(core, app, held, message, turns, reads, &mut steps)
 }
 
-// Sends so many messages and receives them. Answers how many were received.
+// Sends so many messages and receives each on so many pipes. Answers how many were received.
 fn carry_all<'r, L: Ledger>(
     core: &mut SbCore<'r>,
     app: AppNo,
     held: &mut Held<'r>,
     message: &mut [u8],
     turns: u32,
-    dests: u32,
+    reads: u32,
     steps: &mut Steps<L>,
 ) -> u32
     requires message { (7 ≤ length message.old) × (length message.old ≤ 65542) }
-    requires dests { dests ≤ 16 }
+    requires reads { reads ≤ 16 }
     requires may { MayMake core.old app (17 * turns) }
     requires bag { HasBag core.old app held.old }
 {
     let mut received = 0u32;
     for turn in 0..turns {
-        let got = carry_one(core, app, held, message, turn % IDS, dests, steps);
+        let got = carry_one(core, app, held, message, turn % IDS, reads, steps);
         received = received.saturating_add(got);
     }
     received
 }
 
-// Sends a message to the id of a place and receives it. Answers how many pipes had it.
+// Sends a message to the id of a place and receives it on so many pipes. Answers how many had it.
 fn carry_one<'r, L: Ledger>(
     core: &mut SbCore<'r>,
     app: AppNo,
     held: &mut Held<'r>,
     message: &mut [u8],
     place: u32,
-    dests: u32,
+    reads: u32,
     steps: &mut Steps<L>,
 ) -> u32
     requires message { (7 ≤ length message.old) × (length message.old ≤ 65542) }
     requires place { place ≤ 3 }
-    requires dests { dests ≤ 16 }
+    requires reads { reads ≤ 16 }
     requires may { MayMake core.old app 17 }
     requires bag { HasBag core.old app held.old }
     ensures message { length message.new ≡ length message.old }
@@ -80,27 +82,28 @@ fn carry_one<'r, L: Ledger>(
     if core.transmit(app, message, true, steps).is_err() {
         return 0;
     }
-    receive_all(core, app, held, place, dests, steps)
+    receive_all(core, app, held, place, reads, steps)
 }
 
-// Receives on each pipe that is subscribed to the id of a place. Answers on how many a message was.
+// Receives on so many of the pipes that are subscribed to the id of a place. Answers on how many a
+// message was.
 fn receive_all<'r, L: Ledger>(
     core: &mut SbCore<'r>,
     app: AppNo,
     held: &mut Held<'r>,
     place: u32,
-    dests: u32,
+    reads: u32,
     steps: &mut Steps<L>,
 ) -> u32
     requires place { place ≤ 3 }
-    requires dests { dests ≤ 16 }
+    requires reads { reads ≤ 16 }
     requires may { MayMake core.old app 16 }
     requires bag { HasBag core.old app held.old }
     ensures made { Made core.old core.new 16 }
     ensures bag { HasBag core.new app held.new }
 {
     let mut received = 0;
-    for dest in 0..dests {
+    for dest in 0..reads {
         let pipe = place + 1 + IDS * dest;
         if core.receive(app, pipe, held, steps).is_ok() {
             received += 1;

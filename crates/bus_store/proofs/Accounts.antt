@@ -3,14 +3,16 @@ use Rattle.std.proofs.Common.{◌≡◌, ℕ, zero, suc, Bool, true, false, cond
 use Rattle.std.specs.Option.{option_map_or}
 use Rattle.fsw_base.specs.Blocks.{class_of}
 use Rattle.fsw_base.specs.PoolAccounts.{Account, after_return}
-use Rattle.es_pool.specs.Pool.{is_out, out_in}
+use Rattle.fsw_base.specs.Limits.{usual_limits}
+use Rattle.es_pool.specs.Pool.{is_out, out_in, in_use_by}
 use Rattle.buf_desc.specs.Slots.{slot_at, is_live}
-use Rattle.bus_words.specs.Bus.{Item, Pipe, Buffer}
+use Rattle.bus_words.specs.Bus.{Item, Pipe, Buffer, opening}
 use Rattle.bus_store.specs.declared.store.BusStore.TheInside.{Inside}
-use Rattle.bus_words.specs.Held.{is_on_pipes, held, has_class, each_below}
+use Rattle.bus_words.specs.Held.{is_on_pipes, held, has_class, each_below, bytes_in_use}
+use Rattle.bus_words.proofs.HeldBlocks.{bytes_of_sends}
 use Rattle.bus_store.specs.Words.{with_held}
 use Rattle.bus_store.specs.Inside.{store_of, Keeps, account_in, returned, after_send, after_release}
-use Rattle.bus_store.proofs.Blocked.{out_held}
+use Rattle.bus_store.proofs.Blocked.{out_held, in_use_held}
 
 each-same : (f g : ℕ → ℕ) → ((i : ℕ) → f i ≡ g i) → (n : ℕ) → each_below f n ≡ each_below g n
 each-same f g same zero = refl
@@ -25,6 +27,15 @@ held_law a keeps live_out =
     ap (λ (l : List ℕ). let v : Account = record (account_in a.desk.pool) { out = l } in v)
     (each-same (out_in a.desk.pool.blocks) (λ class. count_by (has_class (store_of a).pipes (store_of a).unsent a.desk.pool.sizes class) (held (store_of a).pipes (store_of a).unsent a.given))
     (λ class. out_held a.desk a.tables.pipes a.lists.lists a.given keeps.backed keeps.listed live_out class) (length a.desk.pool.sizes))
+
+-- and the sizes of the blocks that are out are those that it adds up
+pub bytes_law : (a : Inside) → Keeps a → ((d : ℕ) → is_live (slot_at a.desk.slots d) ≡ is_out a.desk.pool d) →
+    in_use_by a.desk.pool.sizes a.desk.pool.blocks ≡ bytes_in_use (store_of a).account
+bytes_law a keeps live_out =
+    in_use_held a.desk a.tables.pipes a.lists.lists a.given keeps.backed keeps.listed live_out
+    ∙ sym (bytes_of_sends (record usual_limits { sizes = a.desk.pool.sizes })
+    (record (opening usual_limits 0) { pipes = (store_of a).pipes; unsent = (store_of a).unsent; numbers_given = a.given }))
+    ∙ sym (ap bytes_in_use (held_law a keeps live_out))
 
 -- What changes in the number of blocks that are out alone. --
 

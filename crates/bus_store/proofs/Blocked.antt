@@ -8,7 +8,7 @@ use Rattle.std.proofs.lemmas.List.{get_or_default, get_or_past}
 use Rattle.std.proofs.lemmas.List.Elements.{All-head, All-tail}
 use Rattle.std.proofs.lemmas.List.Sums.{sum_by-cons, sum_by_push}
 use Rattle.fsw_base.specs.Blocks.{class_of}
-use Rattle.es_pool.specs.Pool.{is_out, class_at, size_at, out_in, in_use_by}
+use Rattle.es_pool.specs.Pool.{is_out, class_at, size_at, out_in, out_among, in_use_by}
 use Rattle.es_pool.specs.declared.blocks.CutBlock.{CutBlock}
 use Rattle.buf_desc.specs.Slots.{slot_at, sealed_at, is_sealed, is_open, is_live, number_in, asked_in}
 use Rattle.buf_desc.specs.Desk.{Buffers}
@@ -381,3 +381,14 @@ module _ (b : Buffers) (rows : List Row) (lists : List (List ℕ)) (given : ℕ)
       weighed b rows lists given backed listed live_out (size_at b.pool) (block_of b.pool.sizes (pipes_in b.slots rows) (unsent_in b.slots lists))
       (λ d live. sym (ap (λ (o : Option ℕ). option_map_or {U = ℕ} (λ c. get_or b.pool.sizes c 0) o 0) (block_class b rows lists given backed listed d live)))
       (λ x. cond {A = ℕ} x.out (get_or b.pool.sizes x.class 0) 0) (λ x out. ap (λ t. cond {A = ℕ} t (get_or b.pool.sizes x.class 0) 0) out) (λ d. refl)
+
+  -- as many blocks are out as numbers are held
+  pub out_all : out_among b.pool.blocks ≡ length (held (pipes_in b.slots rows) (unsent_in b.slots lists) given)
+  out_all =
+      weighed b rows lists given backed listed live_out (λ d. 1) (λ n. 1) (λ d live. refl)
+      (λ x. cond {A = ℕ} x.out 1 0) (λ x out. ap (λ t. cond {A = ℕ} t 1 0) out) (λ d. refl)
+      ∙ ones (held (pipes_in b.slots rows) (unsent_in b.slots lists) given)
+    where
+      ones : (numbers : List ℕ) → sum_by (λ n. 1) numbers ≡ length numbers
+      ones [] = refl
+      ones (n ∷ numbers) = let one = sum_by-cons (λ (m : ℕ). 1) n numbers in omega (arith, one, ones numbers)

@@ -1,17 +1,14 @@
 -- What is sent, who misses it, which buffer has which block, and what the numbers that are held do to the pool.
-use Rattle.std.specs.Prelude.{ℕ, ◌+◌, ◌%◌, ◌<◌, ◌==◌, Bool, List, [], ◌∷◌, ◌++◌, length, map, find, slice_index, Option, Some, None, if◌then◌else◌}
+use Rattle.std.specs.Prelude.{ℕ, ◌+◌, ◌%◌, ◌<◌, ◌==◌, Bool, List, [], ◌∷◌, length, map, find, slice_index, Option, if◌then◌else◌}
 use Rattle.std.specs.Option.{option_map_or, option_and_then}
 use Rattle.fsw_base.specs.Blocks.{class_of}
 use Rattle.fsw_base.specs.Starts.{start_of}
 use Rattle.fsw_base.specs.PoolAccounts.{Account}
-use Rattle.bus_words.specs.Bus.{Item, Pipe, Subscription, Buffer, Sending, Verdict, Skip, In, verdict, pipe_at, with_pipe, offered, oldest, unsent_size}
-use Rattle.bus_words.specs.Bus as bus
+use Rattle.bus_words.specs.Bus.{Item, Pipe, Buffer, Sending, pipe_at, oldest, unsent_size}
 use Rattle.bus_words.specs.Held.{blocks_held}
 use Rattle.bus_words.specs.Machine.{Reads, stamped, front_of}
 use Rattle.bus_words.specs.Acts.{NextCount, next_in}
-use Rattle.bus_tables.specs.declared.misses.Miss.{Miss}
-use Rattle.bus_tables.specs.declared.misses.MissCause.{MissCause}
-use Rattle.bus_tables.specs.declared.misses.MissCause.TheVariants as causes
+pub use Rattle.bus_tables.specs.Missed.{cause_of, missed_by, missed}
 use Rattle.bus_tables.specs.Rows.{RouteRow, counted_on}
 use Rattle.bus_store.specs.Store.{Store, LastLoan, BufferDesc}
 
@@ -84,24 +81,6 @@ passing_of store sender buf bytes inc = record {
   asked = unsent_size store.unsent sender buf;
   message = stamped (reads_of store) (front_of bytes) inc;
 }
-
--- why a pipe misses a message; none where it takes it or ignores its sender
-abbrev pub cause_of : Verdict → Option MissCause
-cause_of Skip = None
-cause_of bus.OverLimit = Some causes.OverLimit
-cause_of bus.Full = Some causes.Full
-cause_of In = None
-
--- the subscription's pipe and why it misses what is sent, where it does
-abbrev pub missed_by : Sending → Subscription → List Pipe → List Miss
-missed_by sending sub pipes =
-    option_map_or (λ cause. record { pipe = sub.pipe; cause = cause } ∷ [])
-    (option_and_then (λ pipe. cause_of (verdict pipe sub sending.sender)) (pipe_at pipes sub.pipe)) []
-
--- the pipes that miss what is sent, in order of the subscriptions, each as its turn comes
-abbrev pub missed : Sending → List Subscription → List Pipe → List Miss
-missed sending [] pipes = []
-missed sending (sub ∷ subs) pipes = missed_by sending sub pipes ++ missed sending subs (with_pipe (offered sending sub) sub.pipe pipes)
 
 -- The pool. --
 

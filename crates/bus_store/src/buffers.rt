@@ -5,10 +5,11 @@ ghost use Rattle.fsw_base.specs.PoolAccounts.{has_room, after_request};
 ghost use Rattle.lend_block.specs.Loan.{LentBytes};
 ghost use Rattle.buf_desc.specs.Held.{Holding, buffer_at, bytes_at, with_bytes_at};
 ghost use Rattle.bus_words.specs.Bus.{Pipe, Buffer, route, deliver, reached, has_unsent, unsent_of, with_unsent, without_unsent, without_all_unsent};
+ghost use Rattle.bus_tables.specs.Missed.{missed};
 ghost use Rattle.bus_tables.specs.Rows.{has_way};
 ghost use Rattle.bus_store.specs.Bag.{HoldsViews, HoldsBuffers};
 ghost use Rattle.bus_store.specs.Store.{LastLoan, BufferDesc};
-ghost use Rattle.bus_store.specs.Words.{desc_of, passing_of, missed, counted_up, with_held};
+ghost use Rattle.bus_store.specs.Words.{desc_of, passing_of, counted_up, with_held};
 
 use crate::blocks::{drawn_empty, seal_front, settle_message};
 use crate::sending::{Sent, next_count};

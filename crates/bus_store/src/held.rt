@@ -1,7 +1,7 @@
 //! Which numbers are held, and which blocks that takes.
-ghost use Rattle.std.specs.Prelude.{◌≡◌, ℕ, true, List, Some, All, AllPairs, sum_by};
+ghost use Rattle.std.specs.Prelude.{◌≡◌, ℕ, true, List, Some, All, AllPairs, length, sum_by};
 ghost use Rattle.bus_words.specs.Bus.{Item, Pipe, Buffer, owns};
-ghost use Rattle.bus_words.specs.Held.{items_of, held, block_of};
+ghost use Rattle.bus_words.specs.Held.{items_of, held, block_of, bytes_in_use};
 ghost use Rattle.es_pool.specs.Account.{IsAccountOf};
 ghost use Rattle.es_pool.specs.Pool.{in_use_by};
 ghost use Rattle.lend_block.specs.Loan.{LentBytes};
@@ -38,6 +38,26 @@ impl<'r> BusStore<'r> {
             with_held self.now.account self.now.pipes self.now.unsent self.now.numbers_given }
     {
         self.desk.recall_live();
+    }
+
+    /// How many numbers are held, of sends and of unsent buffers: as many blocks are out, one for
+    /// each. By the code, takes a constant time.
+    pub fn sends_held(&self) -> u32
+        ensures { result ≡
+            length (held self.now.pipes self.now.unsent self.now.numbers_given) }
+    {
+        // Does nothing; the proof learns of it, here and below, which blocks are out.
+        self.desk.recall_live();
+        self.desk.pool().blocks_in_use()
+    }
+
+    /// The sizes of the blocks that are out, added up, in bytes. By the code, takes a constant
+    /// time.
+    pub fn bytes_in_use(&self) -> u32
+        ensures { result ≡ bytes_in_use self.now.account }
+    {
+        self.desk.recall_live();
+        self.desk.pool().bytes_in_use()
     }
 
     /// The last messages of two pipes have one loan where they are of one send: there is one block

@@ -12,9 +12,10 @@ use bus_words::PipeText;
 use fsw_base::AppNo;
 
 impl<'r> BusStore<'r> {
-    /// How many pipes are live.
+    /// How many pipes are live, at most 256. By the code, takes a constant time.
     pub fn pipes_len(&self) -> usize
-        ensures { result ≡ length self.now.pipes }
+        ensures len { result ≡ length self.now.pipes }
+        ensures few { result ≤ 256 }
     {
         self.tables.pipes_len()
     }

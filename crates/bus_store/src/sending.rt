@@ -3,12 +3,13 @@ ghost use Rattle.std.specs.Prelude.{◌≡◌, ℕ, ◌+◌, ◌*◌, ◌<◌, �
 ghost use Rattle.ccsds_msg.specs.Message.{message_id};
 ghost use Rattle.fsw_base.specs.PoolAccounts.{has_room, after_request};
 ghost use Rattle.bus_words.specs.Bus.{route, deliver, reached};
+ghost use Rattle.bus_tables.specs.Missed.{missed};
 ghost use Rattle.bus_tables.specs.Rows.{has_way};
 ghost use Rattle.bus_words.specs.Acts.{next_in};
 ghost use Rattle.buf_desc.specs.Held.{Holding};
 ghost use Rattle.lend_block.specs.Loan.{LentBytes};
 ghost use Rattle.bus_store.specs.Bag.{HoldsViews};
-ghost use Rattle.bus_store.specs.Words.{next_of, sending_of, missed, counted_up, with_held};
+ghost use Rattle.bus_store.specs.Words.{next_of, sending_of, counted_up, with_held};
 
 use crate::blocks::{put_message, settle_message};
 use crate::store::BusStore;

@@ -27,14 +27,14 @@ impl<'r> BusStore<'r> {
         self.tables.has_route(id)
     }
 
-    /// How many subscriptions are live.
+    /// How many subscriptions are live. By the code, takes a constant time.
     pub fn subscriptions_len(&self) -> u32
         ensures { result ≡ length self.now.subscriptions }
     {
         self.tables.subscriptions_len()
     }
 
-    /// How many ids have a route.
+    /// How many ids have a route. By the code, takes a constant time.
     pub fn routes_len(&self) -> u32
         ensures { result ≡ length self.now.routes }
     {
@@ -94,9 +94,10 @@ impl<'r> BusStore<'r> {
         self.tables.subscribe(id, pipe, limit, scope, steps);
     }
 
-    /// Ends the pipe's subscription to the id; no effect where it has none. What waits stays. At
-    /// most 3 steps for each subscription of the id, and 10 more.
-    pub fn unsubscribe<L: Ledger>(&mut self, id: u16, pipe: u32, steps: &mut Steps<L>)
+    /// Ends the pipe's subscription to the id, and answers whether it had one; no effect where it
+    /// had none. What waits stays. At most 3 steps for each subscription of the id, and 10 more.
+    pub fn unsubscribe<L: Ledger>(&mut self, id: u16, pipe: u32, steps: &mut Steps<L>) -> bool
+        ensures there { result ≡ is_subscribed self.old.subscriptions id pipe }
         ensures after { self.new ≡
             record
             self.old {
@@ -108,6 +109,6 @@ impl<'r> BusStore<'r> {
             HoldsViews self.new.pipes self.new.loans self.new.room.pipes app bag }
         ensures cost { steps.new ≤ steps.old + 3 * length (route self.old.subscriptions id) + 10 }
     {
-        self.tables.unsubscribe(id, pipe, steps);
+        self.tables.unsubscribe(id, pipe, steps)
     }
 }

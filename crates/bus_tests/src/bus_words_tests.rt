@@ -7,15 +7,17 @@ ghost use Rattle.bus_words.specs.Log.{left_of};
 use bus_words::{
     Allowance, BusAnswer, BusCall, BusEntry, BusJournal, Head, PipeText, Receipt, ReceiptList,
 };
-use fsw_base::{AppNo, Budget, EsStatus, PoolStats, SbStatus, Scope};
+use fsw_base::{
+    AppNo, Budget, BusStats, EsStatus, EventKind, EvsStatus, FilterList, PoolStats, SbStatus, Scope,
+};
 use std::alloc::{AllocError, Global};
 use std::test::Fail;
 
 #[test]
 fn journal_gives_back_each_kind_of_call(rt: HostRuntime) -> Result<(), Fail> {
     let budget = Budget {
-        entries: 19,
-        bytes: 24,
+        entries: 26,
+        bytes: 31,
         buffers: 0,
     };
     let mut journal = BusJournal::new(rt.alloc(), &[budget, budget])?;
@@ -85,17 +87,50 @@ fn journal_gives_back_each_kind_of_call(rt: HostRuntime) -> Result<(), Fail> {
                 free: 432,
             }),
         ),
+        (
+            BusCall::Register {
+                filters: FilterList::try_new(&[(7, 0xfffe), (0, 1)]).expect(&rt, "two filters"),
+            },
+            BusAnswer::Done,
+        ),
+        (
+            BusCall::SendEvent {
+                id: 7,
+                kind: EventKind::Critical,
+                text: b"pump on",
+            },
+            BusAnswer::Done,
+        ),
+        (
+            BusCall::ResetFilter { id: 8 },
+            BusAnswer::Evs(EvsStatus::EvtNotRegistered),
+        ),
+        (BusCall::LogMode { mode: 0 }, BusAnswer::Done),
+        (BusCall::ClearLog, BusAnswer::Done),
+        (
+            BusCall::Housekeeping,
+            BusAnswer::Sent {
+                number: 0,
+                reached: 0,
+            },
+        ),
+        (
+            BusCall::Figures,
+            BusAnswer::Bus(BusStats {
+                nosub: 1,
+                limit: 2,
+                overflow: 3,
+                buffers: 4,
+                bytes: 5,
+            }),
+        ),
         (BusCall::End, BusAnswer::Done),
     ];
-    for (call, answer) in &rows {
-        let entry = BusEntry {
-            app,
-            call: *call,
-            answer: answer.again(),
-        };
+    for (call, answer) in rows {
+        let entry = BusEntry { app, call, answer };
         assert!(rt; keeps(rt.alloc(), &mut journal, &entry)?, "at {entry:?}");
     }
-    assert_eq!(rt; journal.len(), 19);
+    assert_eq!(rt; journal.len(), 26);
     Ok(())
 }
 
@@ -134,6 +169,7 @@ fn call_len(call: &BusCall<'_>) -> usize
     match call {
         BusCall::Create { name, .. } | BusCall::Find { name } => name.len(),
         BusCall::Transmit { bytes, .. } | BusCall::TransmitBuffer { bytes, .. } => bytes.len(),
+        BusCall::SendEvent { text, .. } => text.len(),
         BusCall::Delete { .. }
         | BusCall::SetOpts { .. }
         | BusCall::GetOpts { .. }
@@ -149,6 +185,12 @@ fn call_len(call: &BusCall<'_>) -> usize
         | BusCall::PoolGet { .. }
         | BusCall::PoolPut { .. }
         | BusCall::PoolFigures { .. }
+        | BusCall::Register { .. }
+        | BusCall::ResetFilter { .. }
+        | BusCall::LogMode { .. }
+        | BusCall::ClearLog
+        | BusCall::Housekeeping
+        | BusCall::Figures
         | BusCall::End => 0,
     }
 }

@@ -6,6 +6,8 @@
 #![tactic(auto)]
 
 #[cfg(test)]
+mod bus_records_tests;
+#[cfg(test)]
 mod bus_tables_tests;
 #[cfg(test)]
 mod bus_words_tests;

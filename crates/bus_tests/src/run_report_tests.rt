@@ -1,16 +1,22 @@
-//! Whole reports, and one that a sink cuts short.
+//! Whole reports, of a bus on which nothing was counted and of one that tells events, and one that
+//! a sink cuts short. What is written of events and counters is an executable model's.
 ghost use Rattle.std.specs.Prelude.{◌≡◌, IsTrue};
 ghost use Rattle.bus_words.specs.Entries.{call_of, call_bytes};
 ghost use Rattle.journal_store.specs.Budgets.{HasRoom};
 ghost use Rattle.bus_words.specs.Log.{left_of};
 
+use app_pools::AppPools;
 use bus_words::{
     Allowance, BusAnswer, BusCall, BusEntry, BusJournal, Head, PipeText, Receipt, ReceiptList,
 };
+use es_pool::Pool;
+use evs_events::EventDesk;
 use fsw_base::{
-    AppNo, Budget, EsStatus, MemSink, PoolStats, SbStatus, Scope, SinkGuard, WriteFault,
+    AppNo, BlockSizes, Budget, BusStats, Config, EsStatus, EventKind, EvsStatus, FilterList,
+    MemSink, PoolStats, SbStatus, Scope, SinkGuard, WriteFault,
 };
-use run_report::write_journal;
+use housekeeping::{CounterName, Counters, InUse};
+use run_report::{BusReadings, write_report};
 use std::alloc::{AllocError, Global};
 use std::test::Fail;
 
@@ -57,6 +63,12 @@ bus
 5 a1 end -> CFE_SUCCESS
 receipts
 a1 msg p1 n1 id=0x0801 seq=1 size=8 sum=236 head=0801c00100011011
+events
+counters
+bus nosub=0 send=0 recv=0 create=0 sub=0 opts=0 find=0 dup=0 limit=0 overflow=0
+use msgids=0/0 pipes=0/0 subs=0/0 buffers=0/0 bytes=0/0
+pool size=512 free=512 requests=0 errors=0
+evs sent=0 filtered=0 cut=0 refused=0 logged=0 lost=0 mode=1
 end
 ";
 
@@ -94,6 +106,12 @@ bus
 3 a1 recv 0 -> CFE_SB_BAD_ARGUMENT
 4 a1 end -> CFE_SUCCESS
 receipts
+events
+counters
+bus nosub=0 send=0 recv=0 create=0 sub=0 opts=0 find=0 dup=0 limit=0 overflow=0
+use msgids=0/0 pipes=0/0 subs=0/0 buffers=0/0 bytes=0/0
+pool size=512 free=512 requests=0 errors=0
+evs sent=0 filtered=0 cut=0 refused=0 logged=0 lost=0 mode=1
 end
 ";
 
@@ -114,6 +132,12 @@ bus
 12 a1 end -> CFE_SUCCESS
 receipts
 a1 none
+events
+counters
+bus nosub=0 send=0 recv=0 create=0 sub=0 opts=0 find=0 dup=0 limit=0 overflow=0
+use msgids=0/0 pipes=0/0 subs=0/0 buffers=0/0 bytes=0/0
+pool size=512 free=512 requests=0 errors=0
+evs sent=0 filtered=0 cut=0 refused=0 logged=0 lost=0 mode=1
 end
 ";
 
@@ -130,6 +154,41 @@ bus
 8 a2 pstats 2 -> NO_SUCH_POOL
 9 a1 end -> CFE_SUCCESS
 receipts
+events
+counters
+bus nosub=0 send=0 recv=0 create=0 sub=0 opts=0 find=0 dup=0 limit=0 overflow=0
+use msgids=0/0 pipes=0/0 subs=0/0 buffers=0/0 bytes=0/0
+pool size=512 free=512 requests=0 errors=0
+evs sent=0 filtered=0 cut=0 refused=0 logged=0 lost=0 mode=1
+end
+";
+
+// Calls on events and figures, an event that a filter held back and one without a text.
+const EVENTS_REPORT: &[u8] = b"fsw 1
+bus
+1 a1 logclear -> CFE_SUCCESS
+2 a1 evreg 1 -> CFE_SUCCESS
+3 a1 event 1 2 5 -> CFE_SUCCESS
+4 a1 event 1 2 5 -> CFE_SUCCESS
+5 a1 event 2 3 0 -> CFE_SUCCESS
+6 a1 evreset 9 -> CFE_EVS_EVT_NOT_REGISTERED
+7 a1 logmode 0 -> CFE_SUCCESS
+8 a1 hk -> CFE_SUCCESS 0 0
+9 a1 stats -> CFE_SUCCESS 1 0 0 0 0
+10 a1 create 0 A -> CFE_SB_BAD_ARGUMENT
+11 a1 pool 512 -> CFE_SUCCESS 1
+12 a1 end -> CFE_SUCCESS
+receipts
+events
+a1 1 2 ready
+a1 2 3
+a0 3 2 no subscribers id 0x0803
+counters
+bus nosub=1 send=0 recv=0 create=1 sub=0 opts=0 find=0 dup=0 limit=0 overflow=0
+use msgids=0/0 pipes=0/0 subs=0/0 buffers=0/0 bytes=0/0
+pool size=512 free=512 requests=0 errors=0
+apool 1 size=512 free=512 requests=0 errors=0
+evs sent=3 filtered=1 cut=0 refused=1 logged=3 lost=0 mode=0
 end
 ";
 
@@ -146,9 +205,12 @@ fn message_on_its_path_is_reported(rt: HostRuntime) -> Result<(), Fail> {
         head: Head::try_new(&[8, 1, 192, 1, 0, 1, 16, 17]).expect(&rt, "a short head"),
     });
     let mut sink = MemSink::new(rt.alloc(), 1000, 100, &[])?;
-    let journal = journal_of(rt.alloc(), &PATH)?;
+    let mut journal = empty_journal(rt.alloc())?;
+    for (number, call, answer) in PATH {
+        enter(&mut journal, number, call, answer);
+    }
     assert_eq!(rt;
-        write_journal(&journal, &[receipts], &mut SinkGuard::new(&mut sink)),
+        write_idle(rt.alloc(), &journal, &[receipts], &mut sink)?,
         Ok(())
     );
     assert_eq!(rt; sink.written(), PATH_REPORT);
@@ -158,13 +220,13 @@ fn message_on_its_path_is_reported(rt: HostRuntime) -> Result<(), Fail> {
 #[test]
 fn refusals_are_reported_by_name(rt: HostRuntime) -> Result<(), Fail> {
     let mut sink = MemSink::new(rt.alloc(), 1000, 1000, &[])?;
-    let journal = journal_of(rt.alloc(), &REFUSALS)?;
+    let mut journal = empty_journal(rt.alloc())?;
+    for (number, call, answer) in REFUSALS {
+        enter(&mut journal, number, call, answer);
+    }
+    let receipts = [ReceiptList::new(rt.alloc(), 0)?];
     assert_eq!(rt;
-        write_journal(
-            &journal,
-            &[ReceiptList::new(rt.alloc(), 0)?],
-            &mut SinkGuard::new(&mut sink)
-        ),
+        write_idle(rt.alloc(), &journal, &receipts, &mut sink)?,
         Ok(())
     );
     assert_eq!(rt; sink.written(), REFUSALS_REPORT);
@@ -174,9 +236,12 @@ fn refusals_are_reported_by_name(rt: HostRuntime) -> Result<(), Fail> {
 #[test]
 fn failing_write_leaves_a_front(rt: HostRuntime) -> Result<(), Fail> {
     let mut sink = MemSink::new(rt.alloc(), 1000, 10, &[2])?;
-    let journal = journal_of(rt.alloc(), &PATH)?;
+    let mut journal = empty_journal(rt.alloc())?;
+    for (number, call, answer) in PATH {
+        enter(&mut journal, number, call, answer);
+    }
     assert_eq!(rt;
-        write_journal(&journal, &[], &mut SinkGuard::new(&mut sink)),
+        write_idle(rt.alloc(), &journal, &[], &mut sink)?,
         Err(WriteFault)
     );
     assert_eq!(rt; sink.written(), b"fsw 1\nbus\n".as_slice());
@@ -218,9 +283,12 @@ fn calls_on_pipes_are_reported(rt: HostRuntime) -> Result<(), Fail> {
     let mut receipts = ReceiptList::new(rt.alloc(), 1)?;
     receipts.push(Receipt::Nothing);
     let mut sink = MemSink::new(rt.alloc(), 1000, 1000, &[])?;
-    let journal = journal_of(rt.alloc(), &rows)?;
+    let mut journal = empty_journal(rt.alloc())?;
+    for (number, call, answer) in rows {
+        enter(&mut journal, number, call, answer);
+    }
     assert_eq!(rt;
-        write_journal(&journal, &[receipts], &mut SinkGuard::new(&mut sink)),
+        write_idle(rt.alloc(), &journal, &[receipts], &mut sink)?,
         Ok(())
     );
     assert_eq!(rt; sink.written(), PIPES_REPORT);
@@ -271,45 +339,154 @@ fn calls_on_pools_are_reported(rt: HostRuntime) -> Result<(), Fail> {
         (1, BusCall::End, BusAnswer::Done),
     ];
     let mut sink = MemSink::new(rt.alloc(), 1000, 1000, &[])?;
-    let journal = journal_of(rt.alloc(), &rows)?;
-    assert_eq!(rt;
-        write_journal(&journal, &[], &mut SinkGuard::new(&mut sink)),
-        Ok(())
-    );
+    let mut journal = empty_journal(rt.alloc())?;
+    for (number, call, answer) in rows {
+        enter(&mut journal, number, call, answer);
+    }
+    assert_eq!(rt; write_idle(rt.alloc(), &journal, &[], &mut sink)?, Ok(()));
     assert_eq!(rt; sink.written(), POOLS_REPORT);
     Ok(())
 }
 
-// The journal with these calls and answers, each of the application of this number.
-fn journal_of(
-    alloc: Global,
-    rows: &[(u32, BusCall<'static>, BusAnswer)],
-) -> Result<BusJournal, AllocError> {
-    let budget = Budget {
-        entries: 8,
-        bytes: 20,
-        buffers: 0,
+#[test]
+fn events_and_figures_are_reported(rt: HostRuntime) -> Result<(), Fail> {
+    let filters = FilterList::try_new(&[(1, 0xffff)]).ok_or("a filter")?;
+    let events = desk_of_events(rt.alloc(), &filters)?;
+    let journal = journal_of_events(rt.alloc(), filters)?;
+    let mut counters = Counters::new();
+    counters.tick(CounterName::Nosub);
+    counters.tick(CounterName::Create);
+    let pool = Pool::new(rt.alloc(), 512, BlockSizes::usual())?;
+    let mut pools = AppPools::new(rt.alloc(), &Config::usual())?;
+    assert_eq!(rt; pools.create(512), Ok(1));
+    let readings = BusReadings {
+        events: &events,
+        counters: &counters,
+        in_use: InUse::default(),
+        pool: &pool,
+        pools: &pools,
     };
-    let mut journal = BusJournal::new(alloc, &[budget, budget])?;
-    for (number, call, answer) in rows {
-        if let Some(app) = AppNo::try_new(*number) {
-            enter(
-                &mut journal,
-                &BusEntry {
-                    app,
-                    call: *call,
-                    answer: answer.again(),
-                },
-            );
-        }
+    let mut sink = MemSink::new(rt.alloc(), 1000, 1000, &[])?;
+    let written = write_report(&journal, &[], &readings, &mut SinkGuard::new(&mut sink));
+    assert_eq!(rt; written, Ok(()));
+    assert_eq!(rt; sink.written(), EVENTS_REPORT);
+    Ok(())
+}
+
+// A desk at which application 1 sent three events, of which its filter held one back, and was
+// refused a reset.
+fn desk_of_events(alloc: Global, filters: &FilterList) -> Result<EventDesk, Fail> {
+    let app = AppNo::try_new(1).ok_or("a number of 1 to 16")?;
+    let information = EventKind::Information;
+    let mut events = EventDesk::new(alloc)?;
+    events.register(app, filters);
+    let _ = events.send(app, 1, information, b"ready");
+    let _ = events.send(app, 1, information, b"ready");
+    let _ = events.send(app, 2, EventKind::Error, b"");
+    let _ = events.reset_filter(app, 9);
+    events.set_log_mode(0);
+    events.service(3, information, b"no subscribers id 0x0803");
+    Ok(events)
+}
+
+// The journal of the calls on events and figures.
+fn journal_of_events(alloc: Global, filters: FilterList) -> Result<BusJournal, AllocError> {
+    let mut journal = empty_journal(alloc)?;
+    for (number, call, answer) in event_rows(filters) {
+        enter(&mut journal, number, call, answer);
     }
     Ok(journal)
 }
 
-// Adds the entry where it has room.
-fn enter(journal: &mut BusJournal, entry: &BusEntry<'_>) {
-    if has_room(journal, entry) {
-        journal.push(entry);
+// The calls on events and figures, and what they were answered.
+fn event_rows(filters: FilterList) -> [(u32, BusCall<'static>, BusAnswer); 12] {
+    let refused = BusAnswer::Evs(EvsStatus::EvtNotRegistered);
+    let nobody = BusAnswer::Sent {
+        number: 0,
+        reached: 0,
+    };
+    let figures = BusStats {
+        nosub: 1,
+        limit: 0,
+        overflow: 0,
+        buffers: 0,
+        bytes: 0,
+    };
+    let create = BusCall::Create {
+        depth: 0,
+        name: b"A",
+    };
+    [
+        (1, BusCall::ClearLog, BusAnswer::Done),
+        (1, BusCall::Register { filters }, BusAnswer::Done),
+        (1, information(b"ready"), BusAnswer::Done),
+        (1, information(b"ready"), BusAnswer::Done),
+        (1, error(b""), BusAnswer::Done),
+        (1, BusCall::ResetFilter { id: 9 }, refused),
+        (1, BusCall::LogMode { mode: 0 }, BusAnswer::Done),
+        (1, BusCall::Housekeeping, nobody),
+        (1, BusCall::Figures, BusAnswer::Bus(figures)),
+        (1, create, BusAnswer::Sb(SbStatus::BadArgument)),
+        (1, BusCall::PoolCreate { bytes: 512 }, BusAnswer::Number(1)),
+        (1, BusCall::End, BusAnswer::Done),
+    ]
+}
+
+// The event 1, for information.
+fn information(text: &'static [u8]) -> BusCall<'static> {
+    BusCall::SendEvent {
+        id: 1,
+        kind: EventKind::Information,
+        text,
+    }
+}
+
+// The event 2, an error.
+fn error(text: &'static [u8]) -> BusCall<'static> {
+    BusCall::SendEvent {
+        id: 2,
+        kind: EventKind::Error,
+        text,
+    }
+}
+
+// Writes the report of a bus on which nothing was told, counted or drawn.
+fn write_idle(
+    alloc: Global,
+    journal: &BusJournal,
+    receipts: &[ReceiptList],
+    sink: &mut MemSink,
+) -> Result<Result<(), WriteFault>, AllocError> {
+    let events = EventDesk::new(alloc)?;
+    let pool = Pool::new(alloc, 512, BlockSizes::usual())?;
+    let pools = AppPools::new(alloc, &Config::usual())?;
+    let readings = BusReadings {
+        events: &events,
+        counters: &Counters::new(),
+        in_use: InUse::default(),
+        pool: &pool,
+        pools: &pools,
+    };
+    Ok(write_report(journal, receipts, &readings, &mut SinkGuard::new(sink)))
+}
+
+// A journal of two applications, with room for the calls of each test.
+fn empty_journal(alloc: Global) -> Result<BusJournal, AllocError> {
+    let budget = Budget {
+        entries: 12,
+        bytes: 20,
+        buffers: 0,
+    };
+    BusJournal::new(alloc, &[budget, budget])
+}
+
+// Adds the entry of the application of this number, where it has room.
+fn enter(journal: &mut BusJournal, number: u32, call: BusCall<'_>, answer: BusAnswer) {
+    if let Some(app) = AppNo::try_new(number) {
+        let entry = BusEntry { app, call, answer };
+        if has_room(journal, &entry) {
+            journal.push(&entry);
+        }
     }
 }
 
@@ -332,6 +509,7 @@ fn call_len(call: &BusCall<'_>) -> usize
     match call {
         BusCall::Create { name, .. } | BusCall::Find { name } => name.len(),
         BusCall::Transmit { bytes, .. } | BusCall::TransmitBuffer { bytes, .. } => bytes.len(),
+        BusCall::SendEvent { text, .. } => text.len(),
         BusCall::Delete { .. }
         | BusCall::SetOpts { .. }
         | BusCall::GetOpts { .. }
@@ -347,6 +525,12 @@ fn call_len(call: &BusCall<'_>) -> usize
         | BusCall::PoolGet { .. }
         | BusCall::PoolPut { .. }
         | BusCall::PoolFigures { .. }
+        | BusCall::Register { .. }
+        | BusCall::ResetFilter { .. }
+        | BusCall::LogMode { .. }
+        | BusCall::ClearLog
+        | BusCall::Housekeeping
+        | BusCall::Figures
         | BusCall::End => 0,
     }
 }

@@ -12,14 +12,20 @@ use Rattle.ccsds_msg.proofs.MessageLemmas.{header_of-take}
 use Rattle.fsw_base.specs.declared.config.Scope.{Scope}
 use Rattle.fsw_base.specs.Limits.{Limits}
 use Rattle.fsw_base.specs.Starts.{start_of}
+use Rattle.housekeeping.specs.Packet.{housekeeping_id}
+use Rattle.housekeeping.proofs.PacketLemmas.{message_id-housekeeping_packet}
+use Rattle.service_events.specs.declared.event.ServiceEvent.{ServiceEvent}
 use Rattle.bus_words.specs.declared.calls.BusAnswer.{BusAnswer}
 use Rattle.bus_words.specs.declared.calls.BusAnswer.TheVariants.{Done, Sent}
 use Rattle.bus_words.specs.declared.history.Call.{Call}
-use Rattle.bus_words.specs.declared.history.Call.TheVariants.{Create, Delete, SetOpts, GetOpts, Find, PipeName, Subscribe, Unsubscribe, Transmit, Receive, Pend, Look, Allocate, TransmitBuffer, Release, PoolCreate, PoolGet, PoolPut, PoolFigures, End}
+use Rattle.bus_words.specs.declared.history.Call.TheVariants.{Create, Delete, SetOpts, GetOpts, Find, PipeName, Subscribe, Unsubscribe, Transmit, Receive, Pend, Look, Allocate, TransmitBuffer, Release, PoolCreate, PoolGet, PoolPut, PoolFigures, Register, SendEvent, ResetFilter, LogMode, ClearLog, Housekeeping, Figures, End}
 use Rattle.bus_words.specs.declared.history.Entry.{Entry}
 use Rattle.bus_words.specs.Bus.{Subscription, State, Sending, Active, Waiting, opening, with_standing, is_empty, others_idle, route, is_subscribed, has_route, reached, unsent_size, deliver}
-use Rattle.bus_words.specs.Refusals.{Refusal, OfBus, OfPools, refusal_answer}
-use Rattle.bus_words.specs.Machine.{Reads, reads_after, counts_for, next_count, stamped, front_of, delivered, sent_along, transmitted, buffer_gone, passed_along, buffer_transmitted, received, refused_state, accept, accept_with, decided, decided_with, cause, cause_with, step, step_with, state_from, state_after, LegalFrom, IsLegal}
+use Rattle.bus_words.specs.Refusals.{Refusal, OfBus, OfPools, OfEvents, refusal_answer}
+use Rattle.bus_words.specs.Held.{in_use}
+use Rattle.bus_words.specs.Events.{unless_refused, send_events, sent_events, call_events, desk_by}
+use Rattle.bus_words.specs.Counters.{statistics_by}
+use Rattle.bus_words.specs.Machine.{Reads, sending_from, packet_in, recorded, reads_after, counts_for, next_count, stamped, front_of, delivered, sent_along, transmitted, buffer_gone, passed_along, buffer_transmitted, received, refused_state, accept, accept_with, decided, decided_with, cause, cause_with, step, step_with, state_from, state_after, LegalFrom, IsLegal}
 use Rattle.bus_words.specs.Acts.{NextCount, Whole, AreAlike, reads_in, next_in, has_next, moved_on, first_next, nexts_after, completed, act, whole_from, whole_after, nexts_of, whole_of}
 use Rattle.bus_words.proofs.Finds.{Each, Each-push, Each-drop, Each-filter, any-push, any-map, same-self, same-sym}
 use Rattle.bus_words.proofs.Steps.{after_step, after_refusal, after_choice, with_subscription, with_sent, state_from-keeps}
@@ -67,6 +73,7 @@ HaveWays-step limits history s app call ways =
       pools = λ next follows. ways;
       allocates = λ size none. ways;
       leaves = λ buf has. ways;
+      records = λ t desk statistics is. is;
       passes = λ sending id who has asked. ways;
     })
 
@@ -149,6 +156,13 @@ accepts_alike reads other limits s app (PoolCreate bytes) same ways = refl
 accepts_alike reads other limits s app (PoolGet pool size) same ways = refl
 accepts_alike reads other limits s app (PoolPut pool grant) same ways = refl
 accepts_alike reads other limits s app (PoolFigures pool) same ways = refl
+accepts_alike reads other limits s app (Register filters) same ways = refl
+accepts_alike reads other limits s app (SendEvent event kind text) same ways = refl
+accepts_alike reads other limits s app (ResetFilter event) same ways = refl
+accepts_alike reads other limits s app (LogMode mode) same ways = refl
+accepts_alike reads other limits s app ClearLog same ways = refl
+accepts_alike reads other limits s app Housekeeping same ways = sends_alike reads other limits s app (packet_in limits s) true same ways
+accepts_alike reads other limits s app Figures same ways = refl
 accepts_alike reads other limits s app End same ways = refl
 
 pub causes_alike : (reads other : Reads) (limits : Limits) (s : State) (app : ℕ) (call : Call) → cause_with reads limits s app call ≡ cause_with other limits s app call
@@ -171,12 +185,87 @@ causes_alike reads other limits s app (PoolCreate bytes) = refl
 causes_alike reads other limits s app (PoolGet pool size) = refl
 causes_alike reads other limits s app (PoolPut pool grant) = refl
 causes_alike reads other limits s app (PoolFigures pool) = refl
+causes_alike reads other limits s app (Register filters) = refl
+causes_alike reads other limits s app (SendEvent event kind text) = refl
+causes_alike reads other limits s app (ResetFilter event) = refl
+causes_alike reads other limits s app (LogMode mode) = refl
+causes_alike reads other limits s app ClearLog = refl
+causes_alike reads other limits s app Housekeeping = refl
+causes_alike reads other limits s app Figures = refl
 causes_alike reads other limits s app End = refl
+
+-- the housekeeping packet's id
+pub id-packet : (limits : Limits) (s : State) → message_id (packet_in limits s) ≡ housekeeping_id
+id-packet limits s = message_id-housekeeping_packet s.statistics.counts (in_use limits s)
+
+-- what the bus tells of a send is the same
+told_alike : (reads other : Reads) (s : State) (id app number asked : ℕ) (bytes : List ℕ) (inc : Bool) → AreAlike reads other s → HaveWays s → message_id bytes ≡ id →
+    sent_events s id (record { sender = app; number = number; asked = asked; message = stamped reads bytes inc })
+    ≡ sent_events s id (record { sender = app; number = number; asked = asked; message = stamped other bytes inc })
+told_alike reads other s id app number asked bytes inc same ways named = by_route (route s.subscriptions id) refl
+  where
+    stamp : (counts : Bool) → has_route s.routed id ≡ true → stamped reads bytes counts ≡ stamped other bytes counts
+    stamp true there = ap (with_count bytes) (same.next (message_id bytes) (ap (has_route s.routed) named ∙ there))
+    stamp false there = refl
+
+    by_route : (subs : List Subscription) → route s.subscriptions id ≡ subs →
+        send_events id (record { sender = app; number = number; asked = asked; message = stamped reads bytes inc }) subs s.pipes
+        ≡ send_events id (record { sender = app; number = number; asked = asked; message = stamped other bytes inc }) subs s.pipes
+    by_route [] is = refl
+    by_route (first ∷ more) is =
+        ap (λ m. send_events id (record { sender = app; number = number; asked = asked; message = m }) (first ∷ more) s.pipes)
+        (stamp inc (way_of s.routed id s.subscriptions first more ways is))
+
+-- and so is what it tells of each call
+events_alike : (reads other : Reads) (limits : Limits) (s : State) (app : ℕ) (call : Call) (answer : BusAnswer) → AreAlike reads other s → HaveWays s →
+    call_events limits reads s app call answer ≡ call_events limits other s app call answer
+unfolding call_events
+events_alike reads other limits s app (Create depth name) answer same ways = refl
+events_alike reads other limits s app (Delete pipe) answer same ways = refl
+events_alike reads other limits s app (SetOpts pipe bits) answer same ways = refl
+events_alike reads other limits s app (GetOpts pipe) answer same ways = refl
+events_alike reads other limits s app (Find name) answer same ways = refl
+events_alike reads other limits s app (PipeName pipe) answer same ways = refl
+events_alike reads other limits s app (Subscribe id pipe limit scope) answer same ways = refl
+events_alike reads other limits s app (Unsubscribe id pipe) answer same ways = refl
+events_alike reads other limits s app (Transmit bytes inc) answer same ways =
+    ap (unless_refused answer) (told_alike reads other s (message_id bytes) app (s.numbers_given + 1) (length bytes) bytes inc same ways refl)
+events_alike reads other limits s app (Receive pipe) answer same ways = refl
+events_alike reads other limits s app (Pend pipe) answer same ways = refl
+events_alike reads other limits s app (Look pipe) answer same ways = refl
+events_alike reads other limits s app (Allocate size) answer same ways = refl
+events_alike reads other limits s app (TransmitBuffer buf bytes inc) answer same ways =
+    ap (unless_refused answer) (told_alike reads other s (message_id bytes) app buf (unsent_size s.unsent app buf) (front_of bytes) inc same ways (id-front bytes))
+events_alike reads other limits s app (Release buf) answer same ways = refl
+events_alike reads other limits s app (PoolCreate bytes) answer same ways = refl
+events_alike reads other limits s app (PoolGet pool size) answer same ways = refl
+events_alike reads other limits s app (PoolPut pool grant) answer same ways = refl
+events_alike reads other limits s app (PoolFigures pool) answer same ways = refl
+events_alike reads other limits s app (Register filters) answer same ways = refl
+events_alike reads other limits s app (SendEvent id kind text) answer same ways = refl
+events_alike reads other limits s app (ResetFilter id) answer same ways = refl
+events_alike reads other limits s app (LogMode mode) answer same ways = refl
+events_alike reads other limits s app ClearLog answer same ways = refl
+events_alike reads other limits s app Housekeeping answer same ways =
+    ap (unless_refused answer)
+    (told_alike reads other s housekeeping_id app (s.numbers_given + 1) (length (packet_in limits s)) (packet_in limits s) true same ways (id-packet limits s))
+events_alike reads other limits s app Figures answer same ways = refl
+events_alike reads other limits s app End answer same ways = refl
+
+-- so what is told and counted is the same
+recorded_alike : (reads other : Reads) (limits : Limits) (s : State) (app : ℕ) (call : Call) (made : BusAnswer × State) → AreAlike reads other s → HaveWays s →
+    recorded reads limits s app call made ≡ recorded other limits s app call made
+recorded_alike reads other limits s app call made same ways =
+    ap (λ (events : List ServiceEvent).
+    (made.0, record made.1 { events = desk_by s.events app call events; statistics = statistics_by s.statistics call made.0 events (in_use limits made.1) }))
+    (events_alike reads other limits s app call made.0 same ways)
 
 pub steps_alike : (reads other : Reads) (limits : Limits) (s : State) (app : ℕ) (call : Call) → AreAlike reads other s → HaveWays s →
     step_with reads limits s app call ≡ step_with other limits s app call
 steps_alike reads other limits s app call same ways =
-    ap (decided_with reads limits s app call) (causes_alike reads other limits s app call) ∙ by_cause (cause_with other limits s app call)
+    ap (λ why. recorded reads limits s app call (decided_with reads limits s app call why)) (causes_alike reads other limits s app call)
+    ∙ ap (recorded reads limits s app call) (by_cause (cause_with other limits s app call))
+    ∙ recorded_alike reads other limits s app call (decided_with other limits s app call (cause_with other limits s app call)) same ways
   where
     by_cause : (why : Option Refusal) → decided_with reads limits s app call why ≡ decided_with other limits s app call why
     by_cause (Some why) = refl
@@ -196,6 +285,11 @@ counted_more history e id =
 counted_still : (history : List Entry) (e : Entry) (id : ℕ) → counts_for id e.call e.answer ≡ false → counted_sends (history ++ e ∷ []) id ≡ counted_sends history id
 counted_still history e id silent =
     counted_more history e id ∙ ap (λ b. counted_sends history id + cond {A = ℕ} b 1 0) silent ∙ add-zero (counted_sends history id)
+
+counted_same : (history : List Entry) (e f : Entry) (id : ℕ) → counts_for id e.call e.answer ≡ counts_for id f.call f.answer →
+    counted_sends (history ++ e ∷ []) id ≡ counted_sends (history ++ f ∷ []) id
+counted_same history e f id same =
+    counted_more history e id ∙ ap (λ b. counted_sends history id + cond {A = ℕ} b 1 0) same ∙ sym (counted_more history f id)
 
 -- the routed ids' next counts, read off a history, are found
 pub next_in-nexts_of : (limits : Limits) (history : List Entry) (ids : List ℕ) (id : ℕ) → has_route ids id ≡ true →
@@ -223,6 +317,14 @@ nexts_still limits history e [] silent = refl
 nexts_still limits history e (id ∷ ids) silent =
     ap (λ (n : ℕ). record { id = id; next = (start_of limits.starts id + n + 1) % 16384 } ∷ nexts_of limits (history ++ e ∷ []) ids) (counted_still history e id (silent id))
     ∙ ap (λ (ns : List NextCount). record { id = id; next = next_count limits history id } ∷ ns) (nexts_still limits history e ids silent)
+
+-- entries that move the same counts leave the same
+nexts_same : (limits : Limits) (history : List Entry) (e f : Entry) (ids : List ℕ) → ((id : ℕ) → counts_for id e.call e.answer ≡ counts_for id f.call f.answer) →
+    nexts_of limits (history ++ e ∷ []) ids ≡ nexts_of limits (history ++ f ∷ []) ids
+nexts_same limits history e f [] same = refl
+nexts_same limits history e f (id ∷ ids) same =
+    ap (λ (n : ℕ). record { id = id; next = (start_of limits.starts id + n + 1) % 16384 } ∷ nexts_of limits (history ++ e ∷ []) ids) (counted_same history e f id (same id))
+    ∙ ap (λ (ns : List NextCount). record { id = id; next = next_count limits (history ++ f ∷ []) id } ∷ ns) (nexts_same limits history e f ids same)
 
 one_more : (start counted : ℕ) → ((start + counted + 1) % 16384 + 1) % 16384 ≡ (start + (counted + 1) + 1) % 16384
 one_more start counted = omega arith
@@ -273,10 +375,17 @@ module _ (limits : Limits) (history : List Entry) (s : State) (app : ℕ) (ways 
       unsent : (id : ℕ) (bytes : List ℕ) (inc : Bool) (because : Refusal) → counts_for id (Transmit bytes inc) (refusal_answer because) ≡ false
       unsent id bytes inc (OfBus status) = refl
       unsent id bytes inc (OfPools status) = refl
+      unsent id bytes inc (OfEvents status) = refl
 
       unpassed : (id buf : ℕ) (bytes : List ℕ) (inc : Bool) (because : Refusal) → counts_for id (TransmitBuffer buf bytes inc) (refusal_answer because) ≡ false
       unpassed id buf bytes inc (OfBus status) = refl
       unpassed id buf bytes inc (OfPools status) = refl
+      unpassed id buf bytes inc (OfEvents status) = refl
+
+      untold : (id : ℕ) (because : Refusal) → counts_for id Housekeeping (refusal_answer because) ≡ false
+      untold id (OfBus status) = refl
+      untold id (OfPools status) = refl
+      untold id (OfEvents status) = refl
 
       uncounted : (id : ℕ) (made : Call) (because : Refusal) → counts_for id made (refusal_answer because) ≡ false
       uncounted id (Create depth name) because = refl
@@ -298,22 +407,37 @@ module _ (limits : Limits) (history : List Entry) (s : State) (app : ℕ) (ways 
       uncounted id (PoolGet pool size) because = refl
       uncounted id (PoolPut pool grant) because = refl
       uncounted id (PoolFigures pool) because = refl
+      uncounted id (Register filters) because = refl
+      uncounted id (SendEvent event kind text) because = refl
+      uncounted id (ResetFilter event) because = refl
+      uncounted id (LogMode mode) because = refl
+      uncounted id ClearLog because = refl
+      uncounted id Housekeeping because = untold id because
+      uncounted id Figures because = refl
       uncounted id End because = refl
 
       unrouted : (id pipe limit : ℕ) (scope : Scope) (because : Refusal) →
           nexts_after limits (nexts_of limits history s.routed) (Subscribe id pipe limit scope) (refusal_answer because) ≡ nexts_of limits history s.routed
       unrouted id pipe limit scope (OfBus status) = refl
       unrouted id pipe limit scope (OfPools status) = refl
+      unrouted id pipe limit scope (OfEvents status) = refl
 
       unstamped : (bytes : List ℕ) (inc : Bool) (because : Refusal) →
           nexts_after limits (nexts_of limits history s.routed) (Transmit bytes inc) (refusal_answer because) ≡ nexts_of limits history s.routed
       unstamped bytes inc (OfBus status) = refl
       unstamped bytes inc (OfPools status) = refl
+      unstamped bytes inc (OfEvents status) = refl
 
       unwritten : (buf : ℕ) (bytes : List ℕ) (inc : Bool) (because : Refusal) →
           nexts_after limits (nexts_of limits history s.routed) (TransmitBuffer buf bytes inc) (refusal_answer because) ≡ nexts_of limits history s.routed
       unwritten buf bytes inc (OfBus status) = refl
       unwritten buf bytes inc (OfPools status) = refl
+      unwritten buf bytes inc (OfEvents status) = refl
+
+      unpacked : (because : Refusal) → nexts_after limits (nexts_of limits history s.routed) Housekeeping (refusal_answer because) ≡ nexts_of limits history s.routed
+      unpacked (OfBus status) = refl
+      unpacked (OfPools status) = refl
+      unpacked (OfEvents status) = refl
 
       unmoved : (made : Call) (because : Refusal) → nexts_after limits (nexts_of limits history s.routed) made (refusal_answer because) ≡ nexts_of limits history s.routed
       unmoved (Create depth name) because = refl
@@ -335,6 +459,13 @@ module _ (limits : Limits) (history : List Entry) (s : State) (app : ℕ) (ways 
       unmoved (PoolGet pool size) because = refl
       unmoved (PoolPut pool grant) because = refl
       unmoved (PoolFigures pool) because = refl
+      unmoved (Register filters) because = refl
+      unmoved (SendEvent event kind text) because = refl
+      unmoved (ResetFilter event) because = refl
+      unmoved (LogMode mode) because = refl
+      unmoved ClearLog because = refl
+      unmoved Housekeeping because = unpacked because
+      unmoved Figures because = refl
       unmoved End because = refl
 
   -- an accepted subscription gives its id a route, if it has none
@@ -475,6 +606,40 @@ module _ (limits : Limits) (history : List Entry) (s : State) (app : ℕ) (ways 
           counted buf (reached sending (first ∷ more) s.pipes) (record (buffer_gone s app buf) { pipes = deliver sending (first ∷ more) s.pipes }) refl
           (way_of s.routed moved s.subscriptions first more ways is) (nat_le 1 buf) refl inc
 
+  -- a call that moves the same counts as another, so answered
+  moves_as : (call other : Call) (made : BusAnswer × State) → ((id : ℕ) → counts_for id other made.0 ≡ counts_for id call made.0) →
+      nexts_after limits (nexts_of limits history s.routed) other made.0 ≡ nexts_after limits (nexts_of limits history s.routed) call made.0 →
+      Moves limits history s app other made → Moves limits history s app call made
+  moves_as call other made counts same moves =
+      let e : Entry = record { app = app; call = call; answer = made.0 } in
+      let f : Entry = record { app = app; call = other; answer = made.0 } in
+      record {
+        nexts = sym same ∙ moves.nexts ∙ nexts_same limits history f e made.1.routed counts;
+        silent = λ id none. counted_same history e f id (sym (counts id)) ∙ moves.silent id none;
+      }
+
+  -- housekeeping is a send of its packet
+  tells : Moves limits history s app Housekeeping (accept limits history s app Housekeeping)
+  tells = by_route (route s.subscriptions (message_id packet)) (sends packet true)
+    where
+      packet : List ℕ
+      packet = packet_in limits s
+
+      sending : Sending
+      sending = sending_from (reads_after limits history) s app packet true
+
+      as_send : (number reached : ℕ) (t : State) → Moves limits history s app (Transmit packet true) (Sent number reached, t) →
+          Moves limits history s app Housekeeping (Sent number reached, t)
+      as_send number reached t moves =
+          moves_as Housekeeping (Transmit packet true) (Sent number reached, t) (λ n. ap (λ id. (id == n) && nat_le 1 number) (id-packet limits s))
+          (ap (λ id. cond {A = List NextCount} (nat_le 1 number) (map (moved_on id) (nexts_of limits history s.routed)) (nexts_of limits history s.routed)) (id-packet limits s))
+          moves
+
+      by_route : (subs : List Subscription) → Moves limits history s app (Transmit packet true) (sent_along limits subs sending s) →
+          Moves limits history s app Housekeeping (sent_along limits subs sending s)
+      by_route [] moves = as_send 0 0 s moves
+      by_route (first ∷ more) moves = as_send sending.number (reached sending (first ∷ more) s.pipes) (with_sent limits s sending (first ∷ more)) moves
+
   accepts : (call : Call) → Moves limits history s app call (accept limits history s app call)
   accepts (Create depth name) = stays (Create depth name) (accept limits history s app (Create depth name)) refl (λ id. refl) refl
   accepts (Delete pipe) = stays (Delete pipe) (accept limits history s app (Delete pipe)) refl (λ id. refl) refl
@@ -501,14 +666,24 @@ module _ (limits : Limits) (history : List Entry) (s : State) (app : ℕ) (ways 
   accepts (PoolGet pool size) = stays (PoolGet pool size) (accept limits history s app (PoolGet pool size)) refl (λ id. refl) refl
   accepts (PoolPut pool grant) = stays (PoolPut pool grant) (accept limits history s app (PoolPut pool grant)) refl (λ id. refl) refl
   accepts (PoolFigures pool) = stays (PoolFigures pool) (accept limits history s app (PoolFigures pool)) refl (λ id. refl) refl
+  accepts (Register filters) = stays (Register filters) (accept limits history s app (Register filters)) refl (λ id. refl) refl
+  accepts (SendEvent event kind text) = stays (SendEvent event kind text) (accept limits history s app (SendEvent event kind text)) refl (λ id. refl) refl
+  accepts (ResetFilter event) = stays (ResetFilter event) (accept limits history s app (ResetFilter event)) refl (λ id. refl) refl
+  accepts (LogMode mode) = stays (LogMode mode) (accept limits history s app (LogMode mode)) refl (λ id. refl) refl
+  accepts ClearLog = stays ClearLog (accept limits history s app ClearLog) refl (λ id. refl) refl
+  accepts Housekeeping = tells
+  accepts Figures = stays Figures (accept limits history s app Figures) refl (λ id. refl) refl
   accepts End = stays End (accept limits history s app End) refl (λ id. refl) refl
 
   moves : (call : Call) → Moves limits history s app call (step limits history s app call)
-  moves call = by_cause (cause limits history s app call)
+  moves call = record { nexts = decides.nexts; silent = decides.silent }
     where
       by_cause : (why : Option Refusal) → Moves limits history s app call (decided limits history s app call why)
       by_cause (Some why) = refuses call why
       by_cause None = accepts call
+
+      decides : Moves limits history s app call (decided limits history s app call (cause limits history s app call))
+      decides = by_cause (cause limits history s app call)
 
   -- one call of the whole state is the history's step, and leaves what the longer history is read as
   pub acts : (call : Call) →

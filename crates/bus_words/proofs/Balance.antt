@@ -407,6 +407,7 @@ AreCovered-step limits history s app call covered =
       allocates = λ size none. allocated_covered limits s app size (may_allocate limits s size none).room covered;
       leaves = λ buf has.
           kept_covered limits s s.pipes (without_unsent s.unsent app buf) (λ P each. each) (λ P each. Each-without_unsent P s.unsent app buf each) covered;
+      records = λ t desk statistics is. is;
       passes = λ sending id who has asked. passed_covered limits s app sending (route s.subscriptions id) has asked covered;
     })
 

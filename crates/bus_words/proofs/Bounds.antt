@@ -273,6 +273,7 @@ IsWithin-step limits history s app call within =
       pools = λ next follows. record { pipes = within.pipes; each = within.each; routed = within.routed; routes = within.routes };
       allocates = λ size none. record { pipes = within.pipes; each = within.each; routed = within.routed; routes = within.routes };
       leaves = λ buf has. record { pipes = within.pipes; each = within.each; routed = within.routed; routes = within.routes };
+      records = λ t desk statistics is. record { pipes = is.pipes; each = is.each; routed = is.routed; routes = is.routes };
       passes = λ sending id who has asked. record {
         pipes = omega (arith, length-deliver sending (route s.subscriptions id) s.pipes);
         each = all-deliver limits sending (route s.subscriptions id) s.pipes within.each;

@@ -166,6 +166,7 @@ AreDrawn-step limits history s app call drawn =
       pools = λ next follows. drawn;
       allocates = λ size none. AreDrawn-more limits s size (s.numbers_given + 1) refl (may_allocate limits s size none).room drawn;
       leaves = λ buf has. drawn;
+      records = λ t desk statistics is. is;
       passes = λ sending id who has asked. drawn;
     })
 

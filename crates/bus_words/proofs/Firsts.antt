@@ -49,6 +49,7 @@ AreFirst-step limits history s app call first =
           none_set s.unsent (app - 1) _ first
           (ap (λ b. b || list_any is_zero (unsent_of s.unsent app)) (ne_eqb (s.numbers_given + 1) 0 (λ is. omega (arith, is))) ∙ none_of s.unsent (app - 1) first);
       leaves = left;
+      records = λ t desk statistics is. is;
       passes = λ sending id who has asked. left sending.number has;
     })
   where

@@ -1,19 +1,22 @@
 -- Each pipe stands alone: through every legal history it stays alike the pipe alone that gets its inputs.
 use Rattle.std.proofs.Common.{◌≡◌, ℕ, ◌+◌, ◌≤◌, ◌==◌, ◌&&◌, not, Bool, true, false, cond, true≢false, eqb-true, le-leb, leb-false, append-nil, append_assoc, List, [], ◌∷◌, ◌++◌, length, Option, Some, None, is_some, IsTrue, refl, ap, sym, ◌∙◌, subst, arith}
+use Rattle.std.specs.Prelude.{nat_le}
 use Rattle.std.specs.Option.{option_map, option_map_or}
 use Rattle.fsw_base.specs.declared.config.Scope.{Scope}
 use Rattle.fsw_base.specs.declared.statuses.SbStatus.{SbStatus}
 use Rattle.fsw_base.specs.declared.statuses.SbStatus.TheVariants.{BadArgument, MaxPipesMet, PipeCrErr, MaxMsgsMet, MaxDestsMet, MsgTooBig, BufAlocErr, NoMessage, BufferInvalid}
 use Rattle.fsw_base.specs.Limits.{Limits}
 use Rattle.ccsds_msg.specs.Message.{message_id}
+use Rattle.housekeeping.proofs.PacketLemmas.{message_id-housekeeping_packet}
 use Rattle.bus_words.specs.declared.calls.BusAnswer.{BusAnswer}
 use Rattle.bus_words.specs.declared.calls.BusAnswer.TheVariants.{Done, Got, TimeOut, Pending, Sb}
 use Rattle.bus_words.specs.declared.history.Call.{Call}
-use Rattle.bus_words.specs.declared.history.Call.TheVariants.{Create, Delete, SetOpts, GetOpts, Find, PipeName, Subscribe, Unsubscribe, Transmit, Receive, Pend, Look, Allocate, TransmitBuffer, Release, PoolCreate, PoolGet, PoolPut, PoolFigures, End}
+use Rattle.bus_words.specs.declared.history.Call.TheVariants.{Create, Delete, SetOpts, GetOpts, Find, PipeName, Subscribe, Unsubscribe, Transmit, Receive, Pend, Look, Allocate, TransmitBuffer, Release, PoolCreate, PoolGet, PoolPut, PoolFigures, Register, SendEvent, ResetFilter, LogMode, ClearLog, Housekeeping, Figures, End}
 use Rattle.bus_words.specs.declared.history.Entry.{Entry}
 use Rattle.bus_words.specs.Bus.{Item, Pipe, Subscription, State, Sending, Waiting, Active, opening, pipe_at, with_pipe, is_empty, is_subscribed, others_idle, owns, route, unsent_size, deliver, oldest, after_receive, with_standing}
-use Rattle.bus_words.specs.Refusals.{Refusal, OfBus, OfPools, refusal_answer}
-use Rattle.bus_words.specs.Machine.{delivered, front_of, refused_if, unowned_cause, receive_cause, transmit_buffer_cause, subscribed, sent_along, buffer_gone, passed_along, received, oldest_number, cause, accept, decided, refused_state, step, makes_entry, state_from, LegalFrom, IsLegal}
+use Rattle.bus_words.specs.Refusals.{Refusal, OfBus, OfPools, OfEvents, refusal_answer}
+use Rattle.bus_words.specs.Held.{in_use}
+use Rattle.bus_words.specs.Machine.{sending_from, packet_in, reads_after, delivered, front_of, refused_if, unowned_cause, receive_cause, transmit_buffer_cause, subscribed, sent_along, buffer_gone, passed_along, received, oldest_number, cause, accept, decided, refused_state, step, makes_entry, state_from, LegalFrom, IsLegal}
 use Rattle.bus_words.specs.Alone.{Alone, Input, Send, Received, unmade, solo, solo_receipts, input_alone, given, inputs_of, gets_from, was_made, cut_from, cut, last_on, receipts_from, receipts, received_of, last_of, Gives}
 use Rattle.bus_words.proofs.Steps.{AreNumbered, AreNumbered-step, with_subscription, by_bus-none, by_bus-some, transmit_buffer_cause-none}
 use Rattle.bus_words.proofs.Firsts.{AreFirst, AreFirst-step, AreFirst-opening, first-of}
@@ -102,6 +105,13 @@ does-refused limits history s p a own app (PoolCreate bytes) (OfBus status) alik
 does-refused limits history s p a own app (PoolGet pool size) (OfBus status) alike is = goes_by own p s.subscriptions_made s.pipes s.subscriptions a alike
 does-refused limits history s p a own app (PoolPut pool grant) (OfBus status) alike is = goes_by own p s.subscriptions_made s.pipes s.subscriptions a alike
 does-refused limits history s p a own app (PoolFigures pool) (OfBus status) alike is = goes_by own p s.subscriptions_made s.pipes s.subscriptions a alike
+does-refused limits history s p a own app (Register filters) (OfBus status) alike is = goes_by own p s.subscriptions_made s.pipes s.subscriptions a alike
+does-refused limits history s p a own app (SendEvent event kind text) (OfBus status) alike is = goes_by own p s.subscriptions_made s.pipes s.subscriptions a alike
+does-refused limits history s p a own app (ResetFilter event) (OfBus status) alike is = goes_by own p s.subscriptions_made s.pipes s.subscriptions a alike
+does-refused limits history s p a own app (LogMode mode) (OfBus status) alike is = goes_by own p s.subscriptions_made s.pipes s.subscriptions a alike
+does-refused limits history s p a own app ClearLog (OfBus status) alike is = goes_by own p s.subscriptions_made s.pipes s.subscriptions a alike
+does-refused limits history s p a own app Housekeeping (OfBus status) alike is = goes_by own p s.subscriptions_made s.pipes s.subscriptions a alike
+does-refused limits history s p a own app Figures (OfBus status) alike is = goes_by own p s.subscriptions_made s.pipes s.subscriptions a alike
 does-refused limits history s p a own app End (OfBus status) alike is = absurd (some_none (OfBus status) (sym is))
 does-refused limits history s p a own app (Create depth name) (OfPools status) alike is = goes_by own p s.subscriptions_made s.pipes s.subscriptions a alike
 does-refused limits history s p a own app (Delete pipe) (OfPools status) alike is = goes_by own p s.subscriptions_made s.pipes s.subscriptions a alike
@@ -122,7 +132,41 @@ does-refused limits history s p a own app (PoolCreate bytes) (OfPools status) al
 does-refused limits history s p a own app (PoolGet pool size) (OfPools status) alike is = goes_by own p s.subscriptions_made s.pipes s.subscriptions a alike
 does-refused limits history s p a own app (PoolPut pool grant) (OfPools status) alike is = goes_by own p s.subscriptions_made s.pipes s.subscriptions a alike
 does-refused limits history s p a own app (PoolFigures pool) (OfPools status) alike is = goes_by own p s.subscriptions_made s.pipes s.subscriptions a alike
+does-refused limits history s p a own app (Register filters) (OfPools status) alike is = goes_by own p s.subscriptions_made s.pipes s.subscriptions a alike
+does-refused limits history s p a own app (SendEvent event kind text) (OfPools status) alike is = goes_by own p s.subscriptions_made s.pipes s.subscriptions a alike
+does-refused limits history s p a own app (ResetFilter event) (OfPools status) alike is = goes_by own p s.subscriptions_made s.pipes s.subscriptions a alike
+does-refused limits history s p a own app (LogMode mode) (OfPools status) alike is = goes_by own p s.subscriptions_made s.pipes s.subscriptions a alike
+does-refused limits history s p a own app ClearLog (OfPools status) alike is = goes_by own p s.subscriptions_made s.pipes s.subscriptions a alike
+does-refused limits history s p a own app Housekeeping (OfPools status) alike is = goes_by own p s.subscriptions_made s.pipes s.subscriptions a alike
+does-refused limits history s p a own app Figures (OfPools status) alike is = goes_by own p s.subscriptions_made s.pipes s.subscriptions a alike
 does-refused limits history s p a own app End (OfPools status) alike is = absurd (some_none (OfPools status) (sym is))
+does-refused limits history s p a own app (Create depth name) (OfEvents status) alike is = goes_by own p s.subscriptions_made s.pipes s.subscriptions a alike
+does-refused limits history s p a own app (Delete pipe) (OfEvents status) alike is = goes_by own p s.subscriptions_made s.pipes s.subscriptions a alike
+does-refused limits history s p a own app (SetOpts pipe bits) (OfEvents status) alike is = goes_by own p s.subscriptions_made s.pipes s.subscriptions a alike
+does-refused limits history s p a own app (GetOpts pipe) (OfEvents status) alike is = goes_by own p s.subscriptions_made s.pipes s.subscriptions a alike
+does-refused limits history s p a own app (Find name) (OfEvents status) alike is = goes_by own p s.subscriptions_made s.pipes s.subscriptions a alike
+does-refused limits history s p a own app (PipeName pipe) (OfEvents status) alike is = goes_by own p s.subscriptions_made s.pipes s.subscriptions a alike
+does-refused limits history s p a own app (Subscribe id pipe limit scope) (OfEvents status) alike is = goes_by own p s.subscriptions_made s.pipes s.subscriptions a alike
+does-refused limits history s p a own app (Unsubscribe id pipe) (OfEvents status) alike is = goes_by own p s.subscriptions_made s.pipes s.subscriptions a alike
+does-refused limits history s p a own app (Transmit bytes inc) (OfEvents status) alike is = goes_by own p s.subscriptions_made s.pipes s.subscriptions a alike
+does-refused limits history s p a own app (Receive pipe) (OfEvents status) alike is = goes_by own p s.subscriptions_made s.pipes s.subscriptions a alike
+does-refused limits history s p a own app (Pend pipe) (OfEvents status) alike is = goes_by own p s.subscriptions_made s.pipes s.subscriptions a alike
+does-refused limits history s p a own app (Look pipe) (OfEvents status) alike is = goes_by own p s.subscriptions_made s.pipes s.subscriptions a alike
+does-refused limits history s p a own app (Allocate size) (OfEvents status) alike is = goes_by own p s.subscriptions_made s.pipes s.subscriptions a alike
+does-refused limits history s p a own app (TransmitBuffer buf bytes inc) (OfEvents status) alike is = goes_by own p s.subscriptions_made s.pipes s.subscriptions a alike
+does-refused limits history s p a own app (Release buf) (OfEvents status) alike is = goes_by own p s.subscriptions_made s.pipes s.subscriptions a alike
+does-refused limits history s p a own app (PoolCreate bytes) (OfEvents status) alike is = goes_by own p s.subscriptions_made s.pipes s.subscriptions a alike
+does-refused limits history s p a own app (PoolGet pool size) (OfEvents status) alike is = goes_by own p s.subscriptions_made s.pipes s.subscriptions a alike
+does-refused limits history s p a own app (PoolPut pool grant) (OfEvents status) alike is = goes_by own p s.subscriptions_made s.pipes s.subscriptions a alike
+does-refused limits history s p a own app (PoolFigures pool) (OfEvents status) alike is = goes_by own p s.subscriptions_made s.pipes s.subscriptions a alike
+does-refused limits history s p a own app (Register filters) (OfEvents status) alike is = goes_by own p s.subscriptions_made s.pipes s.subscriptions a alike
+does-refused limits history s p a own app (SendEvent event kind text) (OfEvents status) alike is = goes_by own p s.subscriptions_made s.pipes s.subscriptions a alike
+does-refused limits history s p a own app (ResetFilter event) (OfEvents status) alike is = goes_by own p s.subscriptions_made s.pipes s.subscriptions a alike
+does-refused limits history s p a own app (LogMode mode) (OfEvents status) alike is = goes_by own p s.subscriptions_made s.pipes s.subscriptions a alike
+does-refused limits history s p a own app ClearLog (OfEvents status) alike is = goes_by own p s.subscriptions_made s.pipes s.subscriptions a alike
+does-refused limits history s p a own app Housekeeping (OfEvents status) alike is = goes_by own p s.subscriptions_made s.pipes s.subscriptions a alike
+does-refused limits history s p a own app Figures (OfEvents status) alike is = goes_by own p s.subscriptions_made s.pipes s.subscriptions a alike
+does-refused limits history s p a own app End (OfEvents status) alike is = absurd (some_none (OfEvents status) (sym is))
 
 -- Accepted calls. --
 
@@ -169,6 +213,18 @@ does-pass limits history s p a own app buf bytes inc ordered first alike (sub �
       | true ↦ λ made. goes-send own p s.subscriptions_made id sending s.pipes s.subscriptions a ordered.tied.pairs ordered.tied.live alike
       | false ↦ λ early. goes-early own p s.subscriptions_made s.pipes_created id sending s.pipes s.subscriptions a ordered.tied.pairs ordered.numbered.pipes (leb-false p s.pipes_created early) alike
     ] refl))
+
+-- housekeeping is a send of its packet
+does-tell : (limits : Limits) (history : List Entry) (s : State) (p : ℕ) (a : Alone) (own : ℕ → ℕ) (app : ℕ) → AreOrdered s →
+    Stand own p s a → (subs : List Subscription) → route s.subscriptions (message_id (packet_in limits s)) ≡ subs →
+    Does limits history s p a app Housekeeping (sent_along limits subs (sending_from (reads_after limits history) s app (packet_in limits s) true) s)
+does-tell limits history s p a own app ordered alike [] is = goes_by own p s.subscriptions_made s.pipes s.subscriptions a alike
+does-tell limits history s p a own app ordered alike (sub ∷ subs) is =
+    let sending : Sending = sending_from (reads_after limits history) s app (packet_in limits s) true in
+    let input : ℕ → Input = λ id. Send app id (s.numbers_given + 1) sending.message in
+    subst (λ id. Goes p (cond {A = List Input} (nat_le 1 (s.numbers_given + 1) && was_made s p) (input id ∷ []) []) false s.subscriptions_made (deliver sending (sub ∷ subs) s.pipes) s.subscriptions a)
+    (message_id-housekeeping_packet s.statistics.counts (in_use limits s))
+    (does-send limits history s p a own app (packet_in limits s) true ordered alike (sub ∷ subs) is)
 
 does-pend : (limits : Limits) (history : List Entry) (s : State) (p : ℕ) (a : Alone) (own : ℕ → ℕ) (app pipe : ℕ) → Stand own p s a →
     Does limits history s p a app (Pend pipe) (accept limits history s app (Pend pipe))
@@ -224,6 +280,13 @@ does-accepted limits history s p a own app (PoolCreate bytes) none ordered alike
 does-accepted limits history s p a own app (PoolGet pool size) none ordered alike enters = goes_by own p s.subscriptions_made s.pipes s.subscriptions a alike
 does-accepted limits history s p a own app (PoolPut pool grant) none ordered alike enters = goes_by own p s.subscriptions_made s.pipes s.subscriptions a alike
 does-accepted limits history s p a own app (PoolFigures pool) none ordered alike enters = goes_by own p s.subscriptions_made s.pipes s.subscriptions a alike
+does-accepted limits history s p a own app (Register filters) none ordered alike enters = goes_by own p s.subscriptions_made s.pipes s.subscriptions a alike
+does-accepted limits history s p a own app (SendEvent event kind text) none ordered alike enters = goes_by own p s.subscriptions_made s.pipes s.subscriptions a alike
+does-accepted limits history s p a own app (ResetFilter event) none ordered alike enters = goes_by own p s.subscriptions_made s.pipes s.subscriptions a alike
+does-accepted limits history s p a own app (LogMode mode) none ordered alike enters = goes_by own p s.subscriptions_made s.pipes s.subscriptions a alike
+does-accepted limits history s p a own app ClearLog none ordered alike enters = goes_by own p s.subscriptions_made s.pipes s.subscriptions a alike
+does-accepted limits history s p a own app Housekeeping none ordered alike enters = does-tell limits history s p a own app ordered alike (route s.subscriptions (message_id (packet_in limits s))) refl
+does-accepted limits history s p a own app Figures none ordered alike enters = goes_by own p s.subscriptions_made s.pipes s.subscriptions a alike
 does-accepted limits history s p a own app End none ordered alike enters = goes-end own p s.subscriptions_made s.pipes_created app s.pipes s.subscriptions a ordered.numbered.pipes alike
 
 does-decided : (limits : Limits) (history : List Entry) (s : State) (p : ℕ) (a : Alone) (own : ℕ → ℕ) (app : ℕ) (call : Call) (why : Option Refusal) →
@@ -345,10 +408,13 @@ gave-refused s p app (Unsubscribe id pipe) why gets = absurd (true≢false (sym 
 gave-refused s p app (Transmit bytes inc) why gets = absurd (true≢false (sym gets))
 gave-refused s p app (Receive pipe) (OfBus status) gets = absurd (true≢false (sym gets))
 gave-refused s p app (Receive pipe) (OfPools status) gets = absurd (true≢false (sym gets))
+gave-refused s p app (Receive pipe) (OfEvents status) gets = absurd (true≢false (sym gets))
 gave-refused s p app (Pend pipe) (OfBus status) gets = absurd (true≢false (sym gets))
 gave-refused s p app (Pend pipe) (OfPools status) gets = absurd (true≢false (sym gets))
+gave-refused s p app (Pend pipe) (OfEvents status) gets = absurd (true≢false (sym gets))
 gave-refused s p app (Look pipe) (OfBus status) gets = absurd (true≢false (sym gets))
 gave-refused s p app (Look pipe) (OfPools status) gets = absurd (true≢false (sym gets))
+gave-refused s p app (Look pipe) (OfEvents status) gets = absurd (true≢false (sym gets))
 gave-refused s p app (Allocate size) why gets = absurd (true≢false (sym gets))
 gave-refused s p app (TransmitBuffer buf bytes inc) why gets = absurd (true≢false (sym gets))
 gave-refused s p app (Release buf) why gets = absurd (true≢false (sym gets))
@@ -356,6 +422,13 @@ gave-refused s p app (PoolCreate bytes) why gets = absurd (true≢false (sym get
 gave-refused s p app (PoolGet pool size) why gets = absurd (true≢false (sym gets))
 gave-refused s p app (PoolPut pool grant) why gets = absurd (true≢false (sym gets))
 gave-refused s p app (PoolFigures pool) why gets = absurd (true≢false (sym gets))
+gave-refused s p app (Register filters) why gets = absurd (true≢false (sym gets))
+gave-refused s p app (SendEvent event kind text) why gets = absurd (true≢false (sym gets))
+gave-refused s p app (ResetFilter event) why gets = absurd (true≢false (sym gets))
+gave-refused s p app (LogMode mode) why gets = absurd (true≢false (sym gets))
+gave-refused s p app ClearLog why gets = absurd (true≢false (sym gets))
+gave-refused s p app Housekeeping why gets = absurd (true≢false (sym gets))
+gave-refused s p app Figures why gets = absurd (true≢false (sym gets))
 gave-refused s p app End why gets = absurd (true≢false (sym gets))
 
 gave-pend : (limits : Limits) (history : List Entry) (s : State) (p app pipe : ℕ) → Gave p app (Pend pipe) (accept limits history s app (Pend pipe))
@@ -404,6 +477,13 @@ gave-accepted limits history s p app (PoolCreate bytes) none gets = absurd (true
 gave-accepted limits history s p app (PoolGet pool size) none gets = absurd (true≢false (sym gets))
 gave-accepted limits history s p app (PoolPut pool grant) none gets = absurd (true≢false (sym gets))
 gave-accepted limits history s p app (PoolFigures pool) none gets = absurd (true≢false (sym gets))
+gave-accepted limits history s p app (Register filters) none gets = absurd (true≢false (sym gets))
+gave-accepted limits history s p app (SendEvent event kind text) none gets = absurd (true≢false (sym gets))
+gave-accepted limits history s p app (ResetFilter event) none gets = absurd (true≢false (sym gets))
+gave-accepted limits history s p app (LogMode mode) none gets = absurd (true≢false (sym gets))
+gave-accepted limits history s p app ClearLog none gets = absurd (true≢false (sym gets))
+gave-accepted limits history s p app Housekeeping none gets = absurd (true≢false (sym gets))
+gave-accepted limits history s p app Figures none gets = absurd (true≢false (sym gets))
 gave-accepted limits history s p app End none gets = absurd (true≢false (sym gets))
 
 gave-decided : (limits : Limits) (history : List Entry) (s : State) (p app : ℕ) (call : Call) (why : Option Refusal) → cause limits history s app call ≡ why → Gave p app call (decided limits history s app call why)

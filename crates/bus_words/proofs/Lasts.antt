@@ -12,11 +12,11 @@ use Rattle.fsw_base.specs.Limits.{Limits}
 use Rattle.bus_words.specs.declared.calls.BusAnswer.{BusAnswer}
 use Rattle.bus_words.specs.declared.calls.BusAnswer.TheVariants.{Got, TimeOut, Pending}
 use Rattle.bus_words.specs.declared.history.Call.{Call}
-use Rattle.bus_words.specs.declared.history.Call.TheVariants.{Create, Delete, SetOpts, GetOpts, Find, PipeName, Subscribe, Unsubscribe, Transmit, Receive, Pend, Look, Allocate, TransmitBuffer, Release, PoolCreate, PoolGet, PoolPut, PoolFigures, End}
+use Rattle.bus_words.specs.declared.history.Call.TheVariants.{Create, Delete, SetOpts, GetOpts, Find, PipeName, Subscribe, Unsubscribe, Transmit, Receive, Pend, Look, Allocate, TransmitBuffer, Release, PoolCreate, PoolGet, PoolPut, PoolFigures, Register, SendEvent, ResetFilter, LogMode, ClearLog, Housekeeping, Figures, End}
 use Rattle.bus_words.specs.declared.history.Entry.{Entry}
 use Rattle.bus_words.specs.Bus.{Item, Pipe, Subscription, State, Sending, Active, Waiting, standing_of, pipe_at, is_live, owns, with_pipe, with_bits, with_standing, is_empty, others_idle, is_subscribed, route, unsent_size, deliver, offered, oldest, after_receive}
 use Rattle.bus_words.specs.Refusals.{Refusal, OfBus}
-use Rattle.bus_words.specs.Machine.{by_bus, unowned_cause, receive_cause, delivered, front_of, oldest_number, received, sent_along, buffer_gone, passed_along, subscribed, cause, refused_state, decided, step, may_call}
+use Rattle.bus_words.specs.Machine.{sending_from, packet_in, reads_after, by_bus, unowned_cause, receive_cause, delivered, front_of, oldest_number, received, sent_along, buffer_gone, passed_along, subscribed, cause, refused_state, decided, step, may_call}
 use Rattle.bus_words.specs.Alone.{gets_from}
 use Rattle.bus_words.proofs.Finds.{neither, not_false, same-sym, Each, Each-drop, find-any, any-filter_none}
 use Rattle.bus_words.proofs.Isolation.{no_message}
@@ -87,6 +87,13 @@ module _ (limits : Limits) (history : List Entry) (s : State) (p app : ℕ) wher
   gets-owns (PoolGet pool size) waiters may gets = absurd (true≢false (sym gets))
   gets-owns (PoolPut pool grant) waiters may gets = absurd (true≢false (sym gets))
   gets-owns (PoolFigures pool) waiters may gets = absurd (true≢false (sym gets))
+  gets-owns (Register filters) waiters may gets = absurd (true≢false (sym gets))
+  gets-owns (SendEvent event kind text) waiters may gets = absurd (true≢false (sym gets))
+  gets-owns (ResetFilter event) waiters may gets = absurd (true≢false (sym gets))
+  gets-owns (LogMode mode) waiters may gets = absurd (true≢false (sym gets))
+  gets-owns ClearLog waiters may gets = absurd (true≢false (sym gets))
+  gets-owns Housekeeping waiters may gets = absurd (true≢false (sym gets))
+  gets-owns Figures waiters may gets = absurd (true≢false (sym gets))
   gets-owns End waiters may gets = absurd (true≢false (sym gets))
 
 -- No message comes but by an entry that gives it. --
@@ -261,6 +268,21 @@ module _ (limits : Limits) (history : List Entry) (s : State) (p app : ℕ) (num
   comes (PoolPut pool grant) None is none = same
   comes (PoolFigures pool) (Some why) is none = same
   comes (PoolFigures pool) None is none = same
+  comes (Register filters) (Some why) is none = same
+  comes (Register filters) None is none = same
+  comes (SendEvent event kind text) (Some why) is none = same
+  comes (SendEvent event kind text) None is none = same
+  comes (ResetFilter event) (Some why) is none = same
+  comes (ResetFilter event) None is none = same
+  comes (LogMode mode) (Some why) is none = same
+  comes (LogMode mode) None is none = same
+  comes ClearLog (Some why) is none = same
+  comes ClearLog None is none = same
+  comes Housekeeping (Some why) is none = same
+  comes Housekeeping None is none =
+      from-sent limits s (sending_from (reads_after limits history) s app (packet_in limits s) true) (route s.subscriptions (message_id (packet_in limits s))) p
+  comes Figures (Some why) is none = same
+  comes Figures None is none = same
   comes End (Some why) is none = same
   comes End None is none = from-filter (λ pipe. not (pipe.owner == app)) s.pipes p single
 
@@ -354,6 +376,7 @@ count-step limits history s who app call waiters may differ =
       pools = λ pools. refl;
       allocates = λ size. refl;
       leaves = λ buf. refl;
+      records = λ t desk statistics is. is;
       passes = λ sending id. count-deliver app sending (route s.subscriptions id) s.pipes;
     })
   where

@@ -1,19 +1,21 @@
 -- What a step that its application may make leaves as it is: the other applications' pipes and standings; and that who
 -- waits, waits on a pipe of its own.
-use Rattle.std.proofs.Common.{◌≡◌, ℕ, zero, suc, ◌+◌, ◌-◌, ◌≤◌, ◌==◌, ◌&&◌, not, Bool, true, false, cond, true≢false, eqb-true, eq-eqb, ne_eqb, IsTrue, List, [], ◌∷◌, ◌++◌, append-nil, append_assoc, length, replicate, slice_index_or, slice_set, Option, Some, None, refl, ap, sym, ◌∙◌, subst, arith}
+use Rattle.std.proofs.Common.{◌≡◌, ℕ, zero, suc, ◌-◌, ◌≤◌, ◌==◌, ◌&&◌, not, Bool, true, false, cond, true≢false, eqb-true, eq-eqb, ne_eqb, IsTrue, List, [], ◌∷◌, ◌++◌, append-nil, append_assoc, replicate, slice_index_or, slice_set, Option, Some, None, refl, ap, sym, ◌∙◌, subst, arith}
 use Rattle.std.proofs.lemmas.List.{get_or-set_other}
 use Rattle.ccsds_msg.specs.Message.{message_id}
 use Rattle.fsw_base.specs.declared.config.Scope.{Scope}
 use Rattle.fsw_base.specs.declared.statuses.SbStatus.{SbStatus}
 use Rattle.fsw_base.specs.declared.statuses.SbStatus.TheVariants.{BadArgument, MaxPipesMet, PipeCrErr, MaxMsgsMet, MaxDestsMet, MsgTooBig, BufAlocErr, NoMessage, BufferInvalid}
 use Rattle.fsw_base.specs.Limits.{Limits}
+use Rattle.fsw_base.specs.EventDesk.{Desk}
+use Rattle.housekeeping.specs.Statistics.{Statistics}
 use Rattle.pool_words.specs.Grants.{Pools, pool_in, with_pool, after_create, after_get, after_put}
 use Rattle.bus_words.specs.declared.history.Call.{Call}
-use Rattle.bus_words.specs.declared.history.Call.TheVariants.{Create, Delete, SetOpts, GetOpts, Find, PipeName, Subscribe, Unsubscribe, Transmit, Receive, Pend, Look, Allocate, TransmitBuffer, Release, PoolCreate, PoolGet, PoolPut, PoolFigures, End}
+use Rattle.bus_words.specs.declared.history.Call.TheVariants.{Create, Delete, SetOpts, GetOpts, Find, PipeName, Subscribe, Unsubscribe, Transmit, Receive, Pend, Look, Allocate, TransmitBuffer, Release, PoolCreate, PoolGet, PoolPut, PoolFigures, Register, SendEvent, ResetFilter, LogMode, ClearLog, Housekeeping, Figures, End}
 use Rattle.bus_words.specs.declared.history.Entry.{Entry}
 use Rattle.bus_words.specs.Bus.{Pipe, Subscription, State, Standing, Active, Waiting, Ended, Sending, opening, standing_of, with_pipe, with_bits, with_standing, is_empty, others_idle, route, is_subscribed, after_receive, owns, deliver, unsent_size}
-use Rattle.bus_words.specs.Refusals.{Refusal, OfBus, OfPools}
-use Rattle.bus_words.specs.Machine.{by_bus, delivered, created, deleted, unsubscribed, stamped, front_of, reads_after, sent_along, allocated, buffer_gone, passed_along, received, ended, cause, unowned_cause, receive_cause, refused_if, accept, refused_state, decided, step, may_call, state_from, state_after, LegalFrom, IsLegal}
+use Rattle.bus_words.specs.Refusals.{Refusal, OfBus, OfPools, OfEvents}
+use Rattle.bus_words.specs.Machine.{sending_from, packet_in, transmitted, recorded, by_bus, created, deleted, unsubscribed, stamped, front_of, reads_after, sent_along, allocated, buffer_gone, passed_along, received, ended, cause, unowned_cause, receive_cause, refused_if, accept, refused_state, decided, step, may_call, state_from, state_after, LegalFrom, IsLegal}
 use Rattle.bus_words.proofs.Finds.{not_false, same-sym}
 use Rattle.bus_words.proofs.Steps.{by_bus-none, by_bus-some, with_subscription, with_sent, AreNumbered, AreNumbered-step}
 use Rattle.bus_words.proofs.Ties.{refused_none}
@@ -37,6 +39,7 @@ pub record KeepsLegal (F : State → Type 0) (limits : Limits) (s : State) (app 
   pub pools : (pools : Pools) → F (record s { pools = pools })
   pub allocates : (size : ℕ) → F ((allocated limits s app size).1)
   pub leaves : (buf : ℕ) → F (buffer_gone s app buf)
+  pub records : (t : State) (desk : Desk) (statistics : Statistics) → F t → F (record t { events = desk; statistics = statistics })
   pub passes : (sending : Sending) (id : ℕ) → F (record (buffer_gone s app sending.number) { pipes = deliver sending (route s.subscriptions id) s.pipes })
 
 after_subscribe : (F : State → Type 0) (s next : State) (live : Bool) → F s → F next → F (cond {A = State} live s next)
@@ -90,6 +93,7 @@ legal-refused_receive F limits s app pipe (OfBus BufAlocErr) is keeps = keeps.sa
 legal-refused_receive F limits s app pipe (OfBus NoMessage) is keeps = keeps.receives pipe (no_message-owns s app pipe (by_bus-some (receive_cause s app pipe) NoMessage is))
 legal-refused_receive F limits s app pipe (OfBus BufferInvalid) is keeps = keeps.same
 legal-refused_receive F limits s app pipe (OfPools status) is keeps = keeps.same
+legal-refused_receive F limits s app pipe (OfEvents status) is keeps = keeps.same
 
 legal-refused : (F : State → Type 0) (limits : Limits) (history : List Entry) (s : State) (app : ℕ) (call : Call) (why : Refusal) → cause limits history s app call ≡ Some why →
     KeepsLegal F limits s app → F (refused_state s call why)
@@ -112,7 +116,20 @@ legal-refused F limits history s app (PoolCreate bytes) why is keeps = keeps.sam
 legal-refused F limits history s app (PoolGet pool size) why is keeps = keeps.same
 legal-refused F limits history s app (PoolPut pool grant) why is keeps = keeps.pools (with_pool s.pools pool (after_put (pool_in s.pools pool) grant))
 legal-refused F limits history s app (PoolFigures pool) why is keeps = keeps.same
+legal-refused F limits history s app (Register filters) why is keeps = keeps.same
+legal-refused F limits history s app (SendEvent event kind text) why is keeps = keeps.same
+legal-refused F limits history s app (ResetFilter event) why is keeps = keeps.same
+legal-refused F limits history s app (LogMode mode) why is keeps = keeps.same
+legal-refused F limits history s app ClearLog why is keeps = keeps.same
+legal-refused F limits history s app Housekeeping why is keeps = keeps.same
+legal-refused F limits history s app Figures why is keeps = keeps.same
 legal-refused F limits history s app End why is keeps = keeps.same
+
+legal-transmit : (F : State → Type 0) (limits : Limits) (history : List Entry) (s : State) (app : ℕ) (bytes : List ℕ) (inc : Bool) →
+    KeepsLegal F limits s app → F ((transmitted (reads_after limits history) limits s app bytes inc).1)
+legal-transmit F limits history s app bytes inc keeps =
+    after_send F limits s (sending_from (reads_after limits history) s app bytes inc) (route s.subscriptions (message_id bytes)) keeps.same
+    (keeps.sends (sending_from (reads_after limits history) s app bytes inc) (message_id bytes))
 
 legal-accepted : (F : State → Type 0) (limits : Limits) (history : List Entry) (s : State) (app : ℕ) (call : Call) →
     cause limits history s app call ≡ None → IsTrue (may_call (standing_of s app) call) → KeepsLegal F limits s app → F ((accept limits history s app call).1)
@@ -125,9 +142,7 @@ legal-accepted F limits history s app (PipeName pipe) none may keeps = keeps.sam
 legal-accepted F limits history s app (Subscribe id pipe limit scope) none may keeps =
     after_subscribe F s (with_subscription s id pipe limit scope) (is_subscribed s.subscriptions id pipe) keeps.same (keeps.subscribes id pipe limit scope)
 legal-accepted F limits history s app (Unsubscribe id pipe) none may keeps = keeps.unsubscribes id pipe
-legal-accepted F limits history s app (Transmit bytes inc) none may keeps =
-    let sending : Sending = record { sender = app; number = s.numbers_given + 1; asked = length bytes; message = delivered limits history bytes inc } in
-    after_send F limits s sending (route s.subscriptions (message_id bytes)) keeps.same (keeps.sends sending (message_id bytes))
+legal-accepted F limits history s app (Transmit bytes inc) none may keeps = legal-transmit F limits history s app bytes inc keeps
 legal-accepted F limits history s app (Receive pipe) none may keeps = keeps.receives pipe (received-owns s app pipe (by_bus-none (receive_cause s app pipe) none))
 legal-accepted F limits history s app (Pend pipe) none may keeps =
     after_choice F (is_empty s.pipes pipe && not (others_idle s app)) (with_standing (received s pipe) app (Waiting pipe)) (received s pipe)
@@ -145,6 +160,13 @@ legal-accepted F limits history s app (PoolCreate bytes) none may keeps = keeps.
 legal-accepted F limits history s app (PoolGet pool size) none may keeps = keeps.pools (with_pool s.pools pool (after_get (pool_in s.pools pool) app size))
 legal-accepted F limits history s app (PoolPut pool grant) none may keeps = keeps.pools (with_pool s.pools pool (after_put (pool_in s.pools pool) grant))
 legal-accepted F limits history s app (PoolFigures pool) none may keeps = keeps.same
+legal-accepted F limits history s app (Register filters) none may keeps = keeps.same
+legal-accepted F limits history s app (SendEvent event kind text) none may keeps = keeps.same
+legal-accepted F limits history s app (ResetFilter event) none may keeps = keeps.same
+legal-accepted F limits history s app (LogMode mode) none may keeps = keeps.same
+legal-accepted F limits history s app ClearLog none may keeps = keeps.same
+legal-accepted F limits history s app Housekeeping none may keeps = legal-transmit F limits history s app (packet_in limits s) true keeps
+legal-accepted F limits history s app Figures none may keeps = keeps.same
 legal-accepted F limits history s app End none may keeps = keeps.ends
 
 legal-decided : (F : State → Type 0) (limits : Limits) (history : List Entry) (s : State) (app : ℕ) (call : Call) (why : Option Refusal) →
@@ -155,7 +177,10 @@ legal-decided F limits history s app call None is may keeps = legal-accepted F l
 -- what each change keeps holds after a step that the application may make
 pub legal-step : (F : State → Type 0) (limits : Limits) (history : List Entry) (s : State) (app : ℕ) (call : Call) →
     IsTrue (may_call (standing_of s app) call) → KeepsLegal F limits s app → F ((step limits history s app call).1)
-legal-step F limits history s app call may keeps = legal-decided F limits history s app call (cause limits history s app call) refl may keeps
+legal-step F limits history s app call may keeps =
+    let made = decided limits history s app call (cause limits history s app call) in
+    let next = recorded (reads_after limits history) limits s app call made in
+    keeps.records made.1 next.1.events next.1.statistics (legal-decided F limits history s app call (cause limits history s app call) refl may keeps)
 
 -- Standings. --
 
@@ -201,6 +226,7 @@ standing-step limits history s app other call may differ =
       pools = λ pools. refl;
       allocates = λ size. refl;
       leaves = λ buf. refl;
+      records = λ t desk statistics is. is;
       passes = λ sending id. refl;
     })
 
@@ -277,6 +303,7 @@ kept-step limits history s who app pipe call waiters may differ =
       pools = λ pools. kept-same s.pipes app pipe;
       allocates = λ size. kept-same s.pipes app pipe;
       leaves = λ buf. kept-same s.pipes app pipe;
+      records = λ t desk statistics is. is;
       passes = λ sending id. kept-deliver sending (route s.subscriptions id) s.pipes app pipe;
     })
 
@@ -303,6 +330,7 @@ waits-from_active limits history s who call is may =
       pools = λ pools. waits-active s.pipes who (standing_of s who) is;
       allocates = λ size. waits-active s.pipes who (standing_of s who) is;
       leaves = λ buf. waits-active s.pipes who (standing_of s who) is;
+      records = λ t desk statistics is. is;
       passes = λ sending id. waits-active _ who (standing_of s who) is;
     })
 
@@ -328,6 +356,13 @@ waits-from_waiting limits history s who at (PoolCreate bytes) is own may = absur
 waits-from_waiting limits history s who at (PoolGet pool size) is own may = absurd (true≢false (sym may))
 waits-from_waiting limits history s who at (PoolPut pool grant) is own may = absurd (true≢false (sym may))
 waits-from_waiting limits history s who at (PoolFigures pool) is own may = absurd (true≢false (sym may))
+waits-from_waiting limits history s who at (Register filters) is own may = absurd (true≢false (sym may))
+waits-from_waiting limits history s who at (SendEvent event kind text) is own may = absurd (true≢false (sym may))
+waits-from_waiting limits history s who at (ResetFilter event) is own may = absurd (true≢false (sym may))
+waits-from_waiting limits history s who at (LogMode mode) is own may = absurd (true≢false (sym may))
+waits-from_waiting limits history s who at ClearLog is own may = absurd (true≢false (sym may))
+waits-from_waiting limits history s who at Housekeeping is own may = absurd (true≢false (sym may))
+waits-from_waiting limits history s who at Figures is own may = absurd (true≢false (sym may))
 waits-from_waiting limits history s who at (Look pipe) is own may =
     let before : WaitsOwn s.pipes who (standing_of s who) = subst (WaitsOwn s.pipes who) (sym is) own in
     let taken = with_pipe after_receive pipe s.pipes in

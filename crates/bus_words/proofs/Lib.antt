@@ -3,6 +3,7 @@ pub mod Alike
 pub mod Balance
 pub mod Bounds
 pub mod Buffers
+pub mod Counted
 pub mod Drawn
 pub mod Finds
 pub mod Firsts
@@ -19,5 +20,6 @@ pub mod Replay
 pub mod Solo
 pub mod Steps
 pub mod Ties
+pub mod Told
 pub mod Unsent
 pub mod UnsentSteps

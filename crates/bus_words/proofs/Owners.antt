@@ -104,6 +104,7 @@ AreOwned-step limits history s app call going owned =
       pools = λ next follows. owned;
       allocates = λ size none. owned;
       leaves = λ buf has. owned;
+      records = λ t desk statistics is. is;
       passes = λ sending id who has asked. Each-deliver Owned sending (owner-offered Goes sending) (route s.subscriptions id) s.pipes owned;
     })
 
@@ -195,6 +196,7 @@ AreHanded-step limits history s app call going handed =
       pools = λ next follows. handed;
       allocates = λ size none. handed_set s app going handed (record { number = s.numbers_given + 1; size = size } ∷ unsent_of s.unsent app);
       leaves = λ buf has. handed_set s app going handed (filter (λ buffer. not (buffer.number == buf)) (unsent_of s.unsent app));
+      records = λ t desk statistics is. is;
       passes = λ sending id who has asked. handed_set s app going handed (filter (λ buffer. not (buffer.number == sending.number)) (unsent_of s.unsent app));
     })
 

@@ -39,6 +39,7 @@ ArePools-step limits history s app call entries are =
       pools = λ next follows. one_more limits entries s.pools next are follows;
       allocates = λ size none. same;
       leaves = λ buf has. same;
+      records = λ t desk statistics is. is;
       passes = λ sending id who has asked. same;
     })
 

@@ -9,15 +9,17 @@ use Rattle.fsw_base.specs.declared.statuses.SbStatus.{SbStatus}
 use Rattle.fsw_base.specs.declared.statuses.SbStatus.TheVariants.{BadArgument, MaxPipesMet, PipeCrErr, MaxMsgsMet, MaxDestsMet, MsgTooBig, BufAlocErr, NoMessage, BufferInvalid}
 use Rattle.fsw_base.specs.Limits.{Limits}
 use Rattle.fsw_base.specs.PoolAccounts.{has_room}
+use Rattle.fsw_base.specs.EventDesk.{Desk}
+use Rattle.housekeeping.specs.Statistics.{Statistics}
 use Rattle.pool_words.specs.Grants.{Pools, pool_in, with_pool, after_create, after_get, after_put}
 use Rattle.pool_words.proofs.Following.{Follow, follows_create, follows_get, follows_put}
 use Rattle.bus_words.specs.declared.history.Call.{Call}
-use Rattle.bus_words.specs.declared.history.Call.TheVariants.{Create, Delete, SetOpts, GetOpts, Find, PipeName, Subscribe, Unsubscribe, Transmit, Receive, Pend, Look, Allocate, TransmitBuffer, Release, PoolCreate, PoolGet, PoolPut, PoolFigures, End}
+use Rattle.bus_words.specs.declared.history.Call.TheVariants.{Create, Delete, SetOpts, GetOpts, Find, PipeName, Subscribe, Unsubscribe, Transmit, Receive, Pend, Look, Allocate, TransmitBuffer, Release, PoolCreate, PoolGet, PoolPut, PoolFigures, Register, SendEvent, ResetFilter, LogMode, ClearLog, Housekeeping, Figures, End}
 use Rattle.bus_words.specs.declared.history.Entry.{Entry}
 use Rattle.bus_words.specs.Bus.{Pipe, Subscription, State, Standing, Active, Waiting, Ended, Sending, opening, with_pipe, with_bits, with_standing, has_ended, is_empty, others_idle, route, is_subscribed, has_route, offered, deliver, is_in, verdict, item_for, after_receive, owns, has_unsent, unsent_size}
 use Rattle.bus_words.specs.Held.{account_of, account_drawn}
-use Rattle.bus_words.specs.Refusals.{Refusal, OfBus, OfPools}
-use Rattle.bus_words.specs.Machine.{by_bus, delivered, created, deleted, unsubscribed, sent_along, allocated, buffer_gone, passed_along, stamped, front_of, reads_after, received, ended, cause, create_cause, subscribe_cause, unowned_cause, set_opts_cause, unsubscribe_cause, transmit_cause, allocate_cause, transmit_buffer_cause, release_cause, refused_if, accept, refused_state, decided, step, state_from, state_after}
+use Rattle.bus_words.specs.Refusals.{Refusal, OfBus, OfPools, OfEvents}
+use Rattle.bus_words.specs.Machine.{sending_from, packet_in, transmitted, recorded, by_bus, created, deleted, unsubscribed, sent_along, allocated, buffer_gone, passed_along, stamped, front_of, reads_after, received, ended, cause, create_cause, subscribe_cause, unowned_cause, set_opts_cause, unsubscribe_cause, transmit_cause, allocate_cause, transmit_buffer_cause, release_cause, refused_if, accept, refused_state, decided, step, state_from, state_after}
 
 -- Steps by cases. --
 
@@ -35,6 +37,7 @@ by_bus-some (Some other) status is = ap status_of is
     status_of None = None
     status_of (Some (OfBus found)) = Some found
     status_of (Some (OfPools found)) = None
+    status_of (Some (OfEvents found)) = None
 
 -- the bus with one subscription more
 abbrev pub with_subscription : State → ℕ → ℕ → ℕ → Scope → State
@@ -106,6 +109,7 @@ pub record Keeps (F : State → Type 0) (limits : Limits) (s : State) (app : ℕ
   pub pools : (next : Pools) → Follow s.pools next → F (record s { pools = next })
   pub allocates : (size : ℕ) → allocate_cause limits s size ≡ None → F ((allocated limits s app size).1)
   pub leaves : (buf : ℕ) → has_unsent s.unsent app buf ≡ true → F (buffer_gone s app buf)
+  pub records : (t : State) (desk : Desk) (statistics : Statistics) → F t → F (record t { events = desk; statistics = statistics })
   pub passes : (sending : Sending) (id : ℕ) → sending.sender ≡ app → has_unsent s.unsent app sending.number ≡ true →
       sending.asked ≡ unsent_size s.unsent app sending.number →
       F (record (buffer_gone s app sending.number) { pipes = deliver sending (route s.subscriptions id) s.pipes })
@@ -121,6 +125,7 @@ refused_receive F s pipe (OfBus BufAlocErr) same receives = same
 refused_receive F s pipe (OfBus NoMessage) same receives = receives
 refused_receive F s pipe (OfBus BufferInvalid) same receives = same
 refused_receive F s pipe (OfPools status) same receives = same
+refused_receive F s pipe (OfEvents status) same receives = same
 
 pub after_refusal : (F : State → Type 0) (s : State) (call : Call) (why : Refusal) → F s → ((pipe : ℕ) → F (received s pipe)) → ((next : Pools) → Follow s.pools next → F (record s { pools = next })) →
     F (refused_state s call why)
@@ -143,6 +148,13 @@ after_refusal F s (PoolCreate bytes) why same receives pools = same
 after_refusal F s (PoolGet pool size) why same receives pools = same
 after_refusal F s (PoolPut pool grant) why same receives pools = pools (with_pool s.pools pool (after_put (pool_in s.pools pool) grant)) (follows_put s.pools pool grant)
 after_refusal F s (PoolFigures pool) why same receives pools = same
+after_refusal F s (Register filters) why same receives pools = same
+after_refusal F s (SendEvent event kind text) why same receives pools = same
+after_refusal F s (ResetFilter event) why same receives pools = same
+after_refusal F s (LogMode mode) why same receives pools = same
+after_refusal F s ClearLog why same receives pools = same
+after_refusal F s Housekeeping why same receives pools = same
+after_refusal F s Figures why same receives pools = same
 after_refusal F s End why same receives pools = same
 
 after_subscribe : (F : State → Type 0) (s next : State) (live : Bool) → F s → (live ≡ false → F next) → F (if live then s else next)
@@ -163,6 +175,13 @@ pub after_choice : (F : State → Type 0) (test : Bool) (one other : State) → 
 after_choice F true one other first second = first
 after_choice F false one other first second = second
 
+after_transmit : (F : State → Type 0) (limits : Limits) (history : List Entry) (s : State) (app : ℕ) (bytes : List ℕ) (inc : Bool) →
+    transmit_cause limits s bytes ≡ None → Keeps F limits s app → F ((transmitted (reads_after limits history) limits s app bytes inc).1)
+after_transmit F limits history s app bytes inc none keeps =
+    let sending : Sending = sending_from (reads_after limits history) s app bytes inc in
+    after_send F limits s sending (route s.subscriptions (message_id bytes)) keeps.same
+    (λ some. keeps.sends sending (message_id bytes) refl refl (transmit_cause-none limits s bytes none some))
+
 after_accepted : (F : State → Type 0) (limits : Limits) (history : List Entry) (s : State) (app : ℕ) (call : Call) →
     cause limits history s app call ≡ None → Keeps F limits s app → F ((accept limits history s app call).1)
 after_accepted F limits history s app (Create depth name) none keeps = keeps.creates depth name (by_bus-none (create_cause limits s depth name) none)
@@ -174,11 +193,7 @@ after_accepted F limits history s app (PipeName pipe) none keeps = keeps.same
 after_accepted F limits history s app (Subscribe id pipe limit scope) none keeps =
     after_subscribe F s (with_subscription s id pipe limit scope) (is_subscribed s.subscriptions id pipe) keeps.same (keeps.subscribes id pipe limit scope (by_bus-none (subscribe_cause limits s app id pipe) none))
 after_accepted F limits history s app (Unsubscribe id pipe) none keeps = keeps.unsubscribes id pipe (by_bus-none (unsubscribe_cause s app id pipe) none)
-after_accepted F limits history s app (Transmit bytes inc) none keeps =
-    let sending : Sending = record { sender = app; number = s.numbers_given + 1; asked = length bytes; message = delivered limits history bytes inc } in
-    let accepted = by_bus-none (transmit_cause limits s bytes) none in
-    after_send F limits s sending (route s.subscriptions (message_id bytes)) keeps.same
-    (λ some. keeps.sends sending (message_id bytes) refl refl (transmit_cause-none limits s bytes accepted some))
+after_accepted F limits history s app (Transmit bytes inc) none keeps = after_transmit F limits history s app bytes inc (by_bus-none (transmit_cause limits s bytes) none) keeps
 after_accepted F limits history s app (Receive pipe) none keeps = keeps.receives pipe
 after_accepted F limits history s app (Pend pipe) none keeps =
     after_choice F (is_empty s.pipes pipe && not (others_idle s app)) (with_standing (received s pipe) app (Waiting pipe)) (received s pipe)
@@ -197,6 +212,14 @@ after_accepted F limits history s app (PoolCreate bytes) none keeps = keeps.pool
 after_accepted F limits history s app (PoolGet pool size) none keeps = keeps.pools (with_pool s.pools pool (after_get (pool_in s.pools pool) app size)) (follows_get s.pools pool app size)
 after_accepted F limits history s app (PoolPut pool grant) none keeps = keeps.pools (with_pool s.pools pool (after_put (pool_in s.pools pool) grant)) (follows_put s.pools pool grant)
 after_accepted F limits history s app (PoolFigures pool) none keeps = keeps.same
+after_accepted F limits history s app (Register filters) none keeps = keeps.same
+after_accepted F limits history s app (SendEvent event kind text) none keeps = keeps.same
+after_accepted F limits history s app (ResetFilter event) none keeps = keeps.same
+after_accepted F limits history s app (LogMode mode) none keeps = keeps.same
+after_accepted F limits history s app ClearLog none keeps = keeps.same
+after_accepted F limits history s app Housekeeping none keeps =
+    after_transmit F limits history s app (packet_in limits s) true (by_bus-none (transmit_cause limits s (packet_in limits s)) none) keeps
+after_accepted F limits history s app Figures none keeps = keeps.same
 after_accepted F limits history s app End none keeps = keeps.ends
 
 after_decided : (F : State → Type 0) (limits : Limits) (history : List Entry) (s : State) (app : ℕ) (call : Call) (why : Option Refusal) →
@@ -207,7 +230,10 @@ after_decided F limits history s app call None is keeps = after_accepted F limit
 -- what each change keeps holds after a step
 pub after_step : (F : State → Type 0) (limits : Limits) (history : List Entry) (s : State) (app : ℕ) (call : Call) →
     Keeps F limits s app → F ((step limits history s app call).1)
-after_step F limits history s app call keeps = after_decided F limits history s app call (cause limits history s app call) refl keeps
+after_step F limits history s app call keeps =
+    let made = decided limits history s app call (cause limits history s app call) in
+    let next = recorded (reads_after limits history) limits s app call made in
+    keeps.records made.1 next.1.events next.1.statistics (after_decided F limits history s app call (cause limits history s app call) refl keeps)
 
 -- what each step keeps holds after more entries
 pub state_from-keeps : (F : State → Type 0) (limits : Limits) →
@@ -237,6 +263,7 @@ length-standings-step limits history s app call =
       pools = λ next follows. refl;
       allocates = λ size none. refl;
       leaves = λ buf has. refl;
+      records = λ t desk statistics is. is;
       passes = λ sending id who has asked. refl;
     })
 
@@ -352,6 +379,7 @@ AreNumbered-step limits history s app call numbered =
       pools = λ next follows. record { pipes = numbered.pipes; subscriptions = numbered.subscriptions };
       allocates = λ size none. record { pipes = numbered.pipes; subscriptions = numbered.subscriptions };
       leaves = λ buf has. record { pipes = numbered.pipes; subscriptions = numbered.subscriptions };
+      records = λ t desk statistics is. record { pipes = is.pipes; subscriptions = is.subscriptions };
       passes = λ sending id who has asked. record {
         pipes = subst (AreRising 0 s.pipes_created) (sym (pipe_numbers-deliver sending (route s.subscriptions id) s.pipes)) numbered.pipes;
         subscriptions = numbered.subscriptions;
@@ -388,6 +416,7 @@ AtMostOneMore-step limits history s app call =
       pools = λ next follows. record { pipes = omega arith; subscriptions = omega arith; numbers = omega arith };
       allocates = λ size none. record { pipes = omega arith; subscriptions = omega arith; numbers = omega arith };
       leaves = λ buf has. record { pipes = omega arith; subscriptions = omega arith; numbers = omega arith };
+      records = λ t desk statistics is. record { pipes = is.pipes; subscriptions = is.subscriptions; numbers = is.numbers };
       passes = λ sending id who has asked. record { pipes = omega arith; subscriptions = omega arith; numbers = omega arith };
     })
 

@@ -121,6 +121,7 @@ AreTied-step limits history s app call tied =
       pools = λ next follows. record { pairs = tied.pairs; live = tied.live };
       allocates = λ size none. record { pairs = tied.pairs; live = tied.live };
       leaves = λ buf has. record { pairs = tied.pairs; live = tied.live };
+      records = λ t desk statistics is. record { pairs = is.pairs; live = is.live };
       passes = λ sending id who has asked. record {
         pairs = tied.pairs;
         live = live-same s.subscriptions s.pipes _ (pipe_numbers-deliver sending (route s.subscriptions id) s.pipes) tied.live;

@@ -191,6 +191,7 @@ AreApart-step limits apps history s app call are =
       pools = λ next follows. are;
       allocates = λ size none. let may = may_allocate limits s size none in given_out limits apps s are app size may.least may.most;
       leaves = λ buf has. left limits apps s are app buf;
+      records = λ t desk statistics is. is;
       passes = λ sending id who has asked. passed limits apps s are app sending (route s.subscriptions id) has;
     })
 

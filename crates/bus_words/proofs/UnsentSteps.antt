@@ -36,6 +36,7 @@ unsent-other limits history s who app call may differ first =
       pools = λ pools. refl;
       allocates = λ size. other _;
       leaves = λ buf. other _;
+      records = λ t desk statistics is. is;
       passes = λ sending id. other _;
     })
 

@@ -6,10 +6,11 @@ use Rattle.std.specs.Option.{option_map_or}
 use Rattle.fsw_base.specs.Limits.{Limits}
 use Rattle.fsw_base.specs.Starts.{start_of}
 use Rattle.ccsds_msg.specs.Message.{message_id}
+use Rattle.housekeeping.specs.Packet.{housekeeping_id}
 use Rattle.bus_words.specs.declared.calls.BusAnswer.{BusAnswer}
 use Rattle.bus_words.specs.declared.calls.BusAnswer.TheVariants.{Done, Sent}
 use Rattle.bus_words.specs.declared.history.Call.{Call}
-use Rattle.bus_words.specs.declared.history.Call.TheVariants.{Subscribe, Transmit, TransmitBuffer}
+use Rattle.bus_words.specs.declared.history.Call.TheVariants.{Subscribe, Transmit, TransmitBuffer, Housekeeping}
 use Rattle.bus_words.specs.declared.history.Entry.{Entry}
 use Rattle.bus_words.specs.Bus.{State, opening, has_route}
 use Rattle.bus_words.specs.Machine.{Reads, next_count, step_with}
@@ -51,6 +52,8 @@ nexts_after limits nexts (Transmit bytes inc) (Sent number reached) =
     if inc && nat_le 1 number then map (moved_on (message_id bytes)) nexts else nexts
 nexts_after limits nexts (TransmitBuffer buf bytes inc) (Sent number reached) =
     if inc && nat_le 1 number then map (moved_on (message_id bytes)) nexts else nexts
+nexts_after limits nexts Housekeeping (Sent number reached) =
+    if nat_le 1 number then map (moved_on housekeeping_id) nexts else nexts
 nexts_after limits nexts call answer = nexts
 
 -- what a call was answered, with all of the state after it

@@ -7,13 +7,14 @@ use Rattle.fsw_base.specs.declared.config.Scope.TheVariants.{Global}
 use Rattle.fsw_base.specs.declared.statuses.SbStatus.TheVariants.{NoMessage}
 use Rattle.fsw_base.specs.Limits.{Limits}
 use Rattle.ccsds_msg.specs.Message.{message_id}
+use Rattle.housekeeping.specs.Packet.{housekeeping_id}
 use Rattle.bus_words.specs.declared.calls.BusAnswer.{BusAnswer}
 use Rattle.bus_words.specs.declared.calls.BusAnswer.TheVariants.{Done, Number, Sent, Got, TimeOut, Pending, Sb}
 use Rattle.bus_words.specs.declared.history.Call.{Call}
-use Rattle.bus_words.specs.declared.history.Call.TheVariants.{Create, Delete, SetOpts, Subscribe, Unsubscribe, Transmit, Receive, Pend, Look, TransmitBuffer, End}
+use Rattle.bus_words.specs.declared.history.Call.TheVariants.{Create, Delete, SetOpts, Subscribe, Unsubscribe, Transmit, Receive, Pend, Look, TransmitBuffer, Housekeeping, End}
 use Rattle.bus_words.specs.declared.history.Entry.{Entry}
 use Rattle.bus_words.specs.Bus.{Item, Pipe, Subscription, State, opening, pipe_at, owns, with_bits, offered, after_receive}
-use Rattle.bus_words.specs.Machine.{delivered, front_of, step, state_after}
+use Rattle.bus_words.specs.Machine.{packet_in, front_of, delivered, step, state_after}
 
 -- What happens to a pipe.
 pub data Input : Type 0 where
@@ -139,6 +140,8 @@ inputs_of limits history s p e = of_call e.call e.answer
     of_call (Unsubscribe id pipe) Done = if_on p pipe (Unsub id)
     of_call (Transmit bytes inc) (Sent number reached) =
         if nat_le 1 number && was_made s p then Send e.app (message_id bytes) number (delivered limits history bytes inc) ∷ [] else []
+    of_call Housekeeping (Sent number reached) =
+        if nat_le 1 number && was_made s p then Send e.app housekeeping_id number (delivered limits history (packet_in limits s) true) ∷ [] else []
     of_call (TransmitBuffer buf bytes inc) (Sent number reached) =
         if nat_le 1 number && was_made s p then Send e.app (message_id bytes) number (delivered limits history (front_of bytes) inc) ∷ [] else []
     of_call (Receive pipe) answer = if takes answer then if_on p pipe Take else []

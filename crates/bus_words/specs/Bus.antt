@@ -6,6 +6,8 @@ use Rattle.std.specs.Option.{option_map_or}
 use Rattle.std.specs.Str.{bytes_eq}
 use Rattle.fsw_base.specs.Limits.{Limits}
 use Rattle.fsw_base.specs.declared.config.Scope.{Scope}
+use Rattle.fsw_base.specs.EventDesk.{Desk, new_desk}
+use Rattle.housekeeping.specs.Statistics.{Statistics, no_statistics}
 use Rattle.pool_words.specs.Grants.{Pools, IsCounted}
 
 -- A message that is queued for one subscription: its send number, the size first asked for, the subscription's number, its bytes.
@@ -51,9 +53,9 @@ pub record Buffer : Type 0 where
 
 -- The bus: the live pipes and how many were created, the live subscriptions and how many were made, each in order of
 -- number; the ids that have a route; of each application, from 1, the buffers that it hasn't sent, the newest first; how
--- many send numbers were given; the standing of each application, from 1; the memory pools of applications; and of the
--- bus's own pool how many blocks of each size were made, which is the greatest number that were ever out at once, and how
--- many blocks were drawn, told up to 2^32 - 1.
+-- many send numbers were given; the standing of each application, from 1; the memory pools of applications; of the bus's
+-- own pool how many blocks of each size were made, which is the greatest number that were ever out at once, and how many
+-- blocks were drawn, told up to 2^32 - 1; the event desk; and the counters with the peaks of what was in use.
 pub record State : Type 0 where
   pub pipes : List Pipe
   pub pipes_created : ℕ
@@ -66,6 +68,8 @@ pub record State : Type 0 where
   pub pools : Pools
   pub made : List ℕ
   pub drawn : ℕ
+  pub events : Desk
+  pub statistics : Statistics
 
 -- before the first call of so many applications
 abbrev pub opening : Limits → ℕ → State
@@ -81,6 +85,8 @@ opening limits apps = record {
   pools = record { most = limits.apppool; sizes = limits.sizes; pools = [] };
   made = replicate (length limits.sizes) 0;
   drawn = 0;
+  events = new_desk;
+  statistics = no_statistics;
 }
 
 -- the memory pools of a bus after so many entries: they have the limits' block sizes, each is counted, and each gave at most as

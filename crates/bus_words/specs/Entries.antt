@@ -4,7 +4,7 @@ use Rattle.bus_words.specs.declared.calls.BusCall.{BusCall}
 use Rattle.bus_words.specs.declared.calls.BusCall.TheVariants as borrowed
 use Rattle.bus_words.specs.declared.calls.BusEntry.{BusEntry}
 use Rattle.bus_words.specs.declared.history.Call.{Call}
-use Rattle.bus_words.specs.declared.history.Call.TheVariants.{Create, Delete, SetOpts, GetOpts, Find, PipeName, Subscribe, Unsubscribe, Transmit, Receive, Pend, Look, Allocate, TransmitBuffer, Release, PoolCreate, PoolGet, PoolPut, PoolFigures, End}
+use Rattle.bus_words.specs.declared.history.Call.TheVariants.{Create, Delete, SetOpts, GetOpts, Find, PipeName, Subscribe, Unsubscribe, Transmit, Receive, Pend, Look, Allocate, TransmitBuffer, Release, PoolCreate, PoolGet, PoolPut, PoolFigures, Register, SendEvent, ResetFilter, LogMode, ClearLog, Housekeeping, Figures, End}
 use Rattle.bus_words.specs.declared.history.Entry.{Entry}
 
 -- the call with its bytes
@@ -28,13 +28,20 @@ call_of (borrowed.PoolCreate bytes) = PoolCreate bytes
 call_of (borrowed.PoolGet pool size) = PoolGet pool size
 call_of (borrowed.PoolPut pool grant) = PoolPut pool grant
 call_of (borrowed.PoolFigures pool) = PoolFigures pool
+call_of (borrowed.Register filters) = Register filters
+call_of (borrowed.SendEvent id kind text) = SendEvent id kind text.now
+call_of (borrowed.ResetFilter id) = ResetFilter id
+call_of (borrowed.LogMode mode) = LogMode mode
+call_of borrowed.ClearLog = ClearLog
+call_of borrowed.Housekeeping = Housekeeping
+call_of borrowed.Figures = Figures
 call_of borrowed.End = End
 
 -- the entry with its bytes
 abbrev pub entry_of : BusEntry → Entry
 entry_of e = record { app = e.app; call = call_of e.call; answer = e.answer }
 
--- the bytes that a call brings: its name, its message or its buffer
+-- the bytes that a call brings: its name, its message, its buffer or its event's text
 abbrev pub call_text : Call → List ℕ
 call_text (Create depth name) = name
 call_text (Delete pipe) = []
@@ -55,6 +62,13 @@ call_text (PoolCreate bytes) = []
 call_text (PoolGet pool size) = []
 call_text (PoolPut pool grant) = []
 call_text (PoolFigures pool) = []
+call_text (Register filters) = []
+call_text (SendEvent id kind text) = text
+call_text (ResetFilter id) = []
+call_text (LogMode mode) = []
+call_text ClearLog = []
+call_text Housekeeping = []
+call_text Figures = []
 call_text End = []
 
 -- how many they are

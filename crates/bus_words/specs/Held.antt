@@ -4,6 +4,7 @@ use Rattle.std.specs.Prelude.{◌≡◌, ℕ, zero, suc, ◌+◌, ◌-◌, ◌*�
 use Rattle.std.specs.Option.{option_map_or, option_to_list}
 use Rattle.std.specs.List.{list_any}
 use Rattle.fsw_base.specs.Blocks.{class_of}
+use Rattle.housekeeping.specs.declared.in_use.InUse.{InUse}
 use Rattle.fsw_base.specs.Limits.{Limits}
 use Rattle.fsw_base.specs.PoolAccounts.{Account, cost_of, after_request}
 use Rattle.bus_words.specs.Bus.{Item, Pipe, Buffer, State}
@@ -105,6 +106,19 @@ bytes_of (count ∷ counts) (size ∷ sizes) = count * size + bytes_of counts si
 -- the sizes of the blocks that are out, added up
 abbrev pub bytes_in_use : Account → ℕ
 bytes_in_use account = bytes_of account.out account.sizes
+
+-- What is in use. --
+
+-- the ids that have a route, the live pipes, the live subscriptions, the numbers that are held, unsent buffers' among them, and
+-- the sizes of their blocks, added up
+abbrev pub in_use : Limits → State → InUse
+in_use limits s = record {
+  msgids = length s.routed;
+  pipes = length s.pipes;
+  subs = length s.subscriptions;
+  buffers = length (held s.pipes s.unsent s.numbers_given);
+  bytes = bytes_in_use (account_of limits s);
+}
 
 -- What histories keep. --
 

@@ -3,7 +3,7 @@ use Rattle.std.specs.Prelude.{◌≡◌, ℕ, List, map}
 use Rattle.journal_store.specs.Store.{Stored}
 use Rattle.journal_store.specs.Store as store
 use Rattle.bus_words.specs.declared.history.Call.{Call}
-use Rattle.bus_words.specs.declared.history.Call.TheVariants.{Create, Delete, SetOpts, GetOpts, Find, PipeName, Subscribe, Unsubscribe, Transmit, Receive, Pend, Look, Allocate, TransmitBuffer, Release, PoolCreate, PoolGet, PoolPut, PoolFigures, End}
+use Rattle.bus_words.specs.declared.history.Call.TheVariants.{Create, Delete, SetOpts, GetOpts, Find, PipeName, Subscribe, Unsubscribe, Transmit, Receive, Pend, Look, Allocate, TransmitBuffer, Release, PoolCreate, PoolGet, PoolPut, PoolFigures, Register, SendEvent, ResetFilter, LogMode, ClearLog, Housekeeping, Figures, End}
 use Rattle.bus_words.specs.declared.history.Entry.{Entry}
 use Rattle.bus_words.specs.declared.journal.Row.{Row}
 use Rattle.bus_words.specs.declared.journal.RowCall.{RowCall}
@@ -31,6 +31,13 @@ call_in (rows.PoolCreate bytes) text = PoolCreate bytes
 call_in (rows.PoolGet pool size) text = PoolGet pool size
 call_in (rows.PoolPut pool grant) text = PoolPut pool grant
 call_in (rows.PoolFigures pool) text = PoolFigures pool
+call_in (rows.Register filters) text = Register filters
+call_in (rows.SendEvent id kind) text = SendEvent id kind text
+call_in (rows.ResetFilter id) text = ResetFilter id
+call_in (rows.LogMode mode) text = LogMode mode
+call_in rows.ClearLog text = ClearLog
+call_in rows.Housekeeping text = Housekeeping
+call_in rows.Figures text = Figures
 call_in rows.End text = End
 
 -- the entry of a row

@@ -1,12 +1,15 @@
 pub mod Acts
 pub mod Alone
 pub mod Bus
+pub mod Counters
 pub mod Entries
+pub mod Events
 pub mod Held
 pub mod Log
 pub mod Machine
 pub mod ReceiptLists
 pub mod Receipts
 pub mod Refusals
+pub mod Sends
 pub mod Inside
 pub mod Runs

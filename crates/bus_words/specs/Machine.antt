@@ -1,5 +1,5 @@
 -- The bus as a machine: why a call is refused, what it answers and what it changes, and which histories are legal.
-use Rattle.std.specs.Prelude.{◌≡◌, ℕ, ◌+◌, ◌-◌, ◌%◌, ◌==◌, ◌&&◌, ◌||◌, not, nat_le, nat_lt, Bool, true, false, List, [], ◌∷◌, ◌++◌, length, take, filter, count_by, slice_set, Option, Some, None, is_some, IsTrue, if◌then◌else◌}
+use Rattle.std.specs.Prelude.{◌≡◌, ℕ, ◌+◌, ◌-◌, ◌%◌, ◌==◌, ◌&&◌, ◌||◌, not, nat_le, nat_lt, Bool, true, false, List, [], ◌∷◌, ◌++◌, length, filter, count_by, slice_set, Option, Some, None, is_some, IsTrue, if◌then◌else◌}
 use Rattle.std.specs.Option.{option_map, option_map_or}
 use Rattle.fsw_base.specs.declared.config.Scope.{Scope}
 use Rattle.fsw_base.specs.Limits.{Limits}
@@ -8,16 +8,23 @@ use Rattle.fsw_base.specs.declared.statuses.SbStatus.{SbStatus}
 use Rattle.fsw_base.specs.declared.statuses.SbStatus.TheVariants.{BadArgument, MaxPipesMet, PipeCrErr, MaxMsgsMet, MaxDestsMet, MsgTooBig, BufAlocErr, NoMessage, BufferInvalid}
 use Rattle.fsw_base.specs.declared.statuses.EsStatus.{EsStatus}
 use Rattle.fsw_base.specs.declared.statuses.EsStatus.TheVariants.{ErrMemBlockSize, BufferNotInPool, PoolBlockInvalid, NoPool}
+use Rattle.fsw_base.specs.declared.statuses.EvsStatus.{EvsStatus}
+use Rattle.fsw_base.specs.EventDesk.{Desk, send_refusal, reset_refusal}
 use Rattle.fsw_base.specs.PoolAccounts.{has_room}
 use Rattle.pool_words.specs.Grants.{is_pool, pool_in, with_pool, refuses_pool, after_create, was_given, is_among, after_get, after_put, figures_of, all_after_end}
-use Rattle.ccsds_msg.specs.Message.{fault, front_fault, message_id, message_size, with_count, is_valid_id}
+use Rattle.ccsds_msg.specs.Message.{fault, front_fault, message_id, is_valid_id}
+use Rattle.housekeeping.specs.Packet.{housekeeping_id}
+use Rattle.housekeeping.specs.Statistics.{Statistics}
 use Rattle.bus_words.specs.declared.calls.BusAnswer.{BusAnswer}
-use Rattle.bus_words.specs.declared.calls.BusAnswer.TheVariants.{Done, Number, Name, Sent, Got, TimeOut, Pending, Pool}
+use Rattle.bus_words.specs.declared.calls.BusAnswer.TheVariants.{Done, Number, Name, Sent, Got, TimeOut, Pending, Pool, Bus}
 use Rattle.bus_words.specs.declared.history.Call.{Call}
-use Rattle.bus_words.specs.declared.history.Call.TheVariants.{Create, Delete, SetOpts, GetOpts, Find, PipeName, Subscribe, Unsubscribe, Transmit, Receive, Pend, Look, Allocate, TransmitBuffer, Release, PoolCreate, PoolGet, PoolPut, PoolFigures, End}
+use Rattle.bus_words.specs.declared.history.Call.TheVariants.{Create, Delete, SetOpts, GetOpts, Find, PipeName, Subscribe, Unsubscribe, Transmit, Receive, Pend, Look, Allocate, TransmitBuffer, Release, PoolCreate, PoolGet, PoolPut, PoolFigures, Register, SendEvent, ResetFilter, LogMode, ClearLog, Housekeeping, Figures, End}
 use Rattle.bus_words.specs.declared.history.Entry.{Entry}
-use Rattle.bus_words.specs.Refusals.{Refusal, OfBus, OfPools, refusal_answer}
+use Rattle.bus_words.specs.Refusals.{Refusal, OfBus, OfPools, OfEvents, refusal_answer}
 use Rattle.bus_words.specs.Held.{account_of, account_drawn}
+use Rattle.bus_words.specs.Events.{Moment, desk_then, desk_told}
+use Rattle.bus_words.specs.Counters.{statistics_then, statistics_told, stats_in}
+pub use Rattle.bus_words.specs.Sends.{Reads, stamped, front_of, sending_from, sending_in, packet_in}
 use Rattle.bus_words.specs.Bus.{Pipe, Subscription, Buffer, State, Standing, Active, Waiting, Ended, Sending, opening, standing_of, pipe_at, pipe_named, is_live, is_named, owns, with_pipe, with_bits, with_standing, route, is_subscribed, has_route, is_empty, others_idle, deliver, reached, oldest, after_receive, has_unsent, unsent_size, with_unsent, without_unsent, without_all_unsent}
 
 -- Sequence counts (CCSDS 133.0-B, 4.1.3.4.3). --
@@ -26,32 +33,20 @@ use Rattle.bus_words.specs.Bus.{Pipe, Subscription, Buffer, State, Standing, Act
 abbrev pub counts_for : ℕ → Call → BusAnswer → Bool
 counts_for id (Transmit bytes inc) (Sent number reached) = inc && (message_id bytes == id) && nat_le 1 number
 counts_for id (TransmitBuffer buf bytes inc) (Sent number reached) = inc && (message_id bytes == id) && nat_le 1 number
+counts_for id Housekeeping (Sent number reached) = (housekeeping_id == id) && nat_le 1 number
 counts_for id call answer = false
 
 -- the id's next count: its start, one for each accepted send of it that moved it, and one more, in 14 bits
 abbrev pub next_count : Limits → List Entry → ℕ → ℕ
 next_count limits history id = (start_of limits.starts id + count_by (λ e. counts_for id e.call e.answer) history + 1) % 16384
 
--- What a call sees beside the bus's own state. All else that a later definition reads off a history has its place here.
-pub record Reads : Type 0 where
-  -- the count that the next send of an id gets
-  pub next : ℕ → ℕ
-
 -- what a call sees after a history
 abbrev pub reads_after : Limits → List Entry → Reads
 reads_after limits history = record { next = next_count limits history }
 
--- the message as it is delivered: with its id's next count where the send asks for it, else as given
-abbrev pub stamped : Reads → List ℕ → Bool → List ℕ
-stamped reads bytes inc = if inc then with_count bytes (reads.next (message_id bytes)) else bytes
-
 -- the message as it is delivered after a history
 abbrev pub delivered : Limits → List Entry → List ℕ → Bool → List ℕ
 delivered limits history bytes inc = stamped (reads_after limits history) bytes inc
-
--- the message that a buffer's bytes begin with: as many of them as its header says (CCSDS 133.0-B, 4.1.3.5)
-abbrev pub front_of : List ℕ → List ℕ
-front_of bytes = take (message_size bytes) bytes
 
 -- Refusals. Each call has its own, in the order in which they are tried. --
 
@@ -147,7 +142,11 @@ by_bus why = option_map OfBus why
 abbrev pub by_pools : Option EsStatus → Option Refusal
 by_pools why = option_map OfPools why
 
--- the first refusal whose condition holds
+-- a refusal of the event services, if there is one
+abbrev pub by_events : Option EvsStatus → Option Refusal
+by_events why = option_map OfEvents why
+
+-- the first refusal whose condition holds. Housekeeping is a send of its packet.
 abbrev pub cause_with : Reads → Limits → State → ℕ → Call → Option Refusal
 cause_with reads limits s app (Create depth name) = by_bus (create_cause limits s depth name)
 cause_with reads limits s app (Delete pipe) = by_bus (unowned_cause s app pipe)
@@ -168,6 +167,13 @@ cause_with reads limits s app (PoolCreate bytes) = by_pools (pool_create_cause s
 cause_with reads limits s app (PoolGet pool size) = by_pools (pool_get_cause s pool size)
 cause_with reads limits s app (PoolPut pool grant) = by_pools (pool_put_cause s pool grant)
 cause_with reads limits s app (PoolFigures pool) = by_pools (no_pool_cause s pool)
+cause_with reads limits s app (Register filters) = None
+cause_with reads limits s app (SendEvent id kind text) = by_events (send_refusal s.events app)
+cause_with reads limits s app (ResetFilter id) = by_events (reset_refusal s.events app id)
+cause_with reads limits s app (LogMode mode) = None
+cause_with reads limits s app ClearLog = None
+cause_with reads limits s app Housekeeping = by_bus (transmit_cause limits s (packet_in limits s))
+cause_with reads limits s app Figures = None
 cause_with reads limits s app End = None
 
 -- the first refusal after a history
@@ -235,8 +241,7 @@ sent_along limits (sub ∷ subs) sending s = (
 
 abbrev pub transmitted : Reads → Limits → State → ℕ → List ℕ → Bool → BusAnswer × State
 transmitted reads limits s app bytes inc =
-    sent_along limits (route s.subscriptions (message_id bytes))
-    (record { sender = app; number = s.numbers_given + 1; asked = length bytes; message = stamped reads bytes inc }) s
+    sent_along limits (route s.subscriptions (message_id bytes)) (sending_from reads s app bytes inc) s
 
 -- a buffer, whose number is one more than were given; its block is drawn
 abbrev pub allocated : Limits → State → ℕ → ℕ → BusAnswer × State
@@ -264,9 +269,7 @@ passed_along (sub ∷ subs) sending s =
 -- the buffer leaves, and the message that its bytes begin with is sent
 abbrev pub buffer_transmitted : Reads → State → ℕ → ℕ → List ℕ → Bool → BusAnswer × State
 buffer_transmitted reads s app buf bytes inc =
-    passed_along (route s.subscriptions (message_id bytes))
-    (record { sender = app; number = buf; asked = unsent_size s.unsent app buf; message = stamped reads (front_of bytes) inc })
-    (buffer_gone s app buf)
+    passed_along (route s.subscriptions (message_id bytes)) (sending_in reads s app buf bytes inc) (buffer_gone s app buf)
 
 -- the number of the oldest message that is queued on the pipe
 abbrev pub oldest_number : List Pipe → ℕ → ℕ
@@ -321,6 +324,7 @@ ended s app = record s {
   pools = all_after_end app s.pools;
 }
 
+-- What a call that isn't refused answers and changes, but for the event desk and the statistics: `recorded` alone changes these.
 abbrev pub accept_with : Reads → Limits → State → ℕ → Call → BusAnswer × State
 accept_with reads limits s app (Create depth name) = created s app depth name
 accept_with reads limits s app (Delete pipe) = (Done, deleted s pipe)
@@ -341,6 +345,13 @@ accept_with reads limits s app (PoolCreate bytes) = pool_created s bytes
 accept_with reads limits s app (PoolGet pool size) = pool_given s app pool size
 accept_with reads limits s app (PoolPut pool grant) = (Done, pool_returned s pool grant)
 accept_with reads limits s app (PoolFigures pool) = (Pool (figures_of (pool_in s.pools pool)), s)
+accept_with reads limits s app (Register filters) = (Done, s)
+accept_with reads limits s app (SendEvent id kind text) = (Done, s)
+accept_with reads limits s app (ResetFilter id) = (Done, s)
+accept_with reads limits s app (LogMode mode) = (Done, s)
+accept_with reads limits s app ClearLog = (Done, s)
+accept_with reads limits s app Housekeeping = transmitted reads limits s app (packet_in limits s) true
+accept_with reads limits s app Figures = (Bus (stats_in limits s), s)
 accept_with reads limits s app End = (Done, ended s app)
 
 -- what a call that isn't refused answers and changes after a history
@@ -363,9 +374,23 @@ decided_with reads limits s app call None = accept_with reads limits s app call
 abbrev pub decided : Limits → List Entry → State → ℕ → Call → Option Refusal → BusAnswer × State
 decided limits history s app call why = decided_with (reads_after limits history) limits s app call why
 
+-- a call so answered at its moment
+abbrev pub moment_of : Reads → State → ℕ → Call → BusAnswer × State → Moment
+moment_of reads s app call made = record { reads = reads; before = s; entry = record { app = app; call = call; answer = made.0 }; after = made.1 }
+
+-- what a call so answered leaves, refused or not, with what the event desk is told and what is counted
+abbrev pub recorded : Reads → Limits → State → ℕ → Call → BusAnswer × State → BusAnswer × State
+recorded reads limits s app call made = (
+  made.0,
+  record made.1 {
+    events = desk_then limits s.events (moment_of reads s app call made);
+    statistics = statistics_then limits s.statistics (moment_of reads s app call made);
+  },
+)
+
 -- what the call answers where it sees this beside the bus, and the bus afterwards
 abbrev pub step_with : Reads → Limits → State → ℕ → Call → BusAnswer × State
-step_with reads limits s app call = decided_with reads limits s app call (cause_with reads limits s app call)
+step_with reads limits s app call = recorded reads limits s app call (decided_with reads limits s app call (cause_with reads limits s app call))
 
 -- what the call answers after this history, and the bus afterwards
 abbrev pub step : Limits → List Entry → State → ℕ → Call → BusAnswer × State
@@ -415,3 +440,24 @@ LegalFrom limits history s (e ∷ es) =
 -- a history that the bus can have
 abbrev pub IsLegal : Limits → ℕ → List Entry → Type 0
 IsLegal limits apps history = LegalFrom limits [] (opening limits apps) history
+
+-- Read off a history. --
+
+-- the entries that follow a history, each at its moment
+abbrev pub moments_from : Limits → List Entry → State → List Entry → List Moment
+moments_from limits history s [] = []
+moments_from limits history s (e ∷ es) =
+    let after = (step limits history s e.app e.call).1 in
+    record { reads = reads_after limits history; before = s; entry = e; after = after } ∷ moments_from limits (history ++ e ∷ []) after es
+
+-- the entries of a history of so many applications, each at its moment
+abbrev pub moments : Limits → ℕ → List Entry → List Moment
+moments limits apps history = moments_from limits [] (opening limits apps) history
+
+-- the event desk that a history tells
+abbrev pub desk_after : Limits → ℕ → List Entry → Desk
+desk_after limits apps history = desk_told limits (moments limits apps history)
+
+-- the statistics that a history tells
+abbrev pub statistics_after : Limits → ℕ → List Entry → Statistics
+statistics_after limits apps history = statistics_told limits (moments limits apps history)

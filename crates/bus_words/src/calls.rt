@@ -2,10 +2,12 @@
 ghost use Rattle.std.specs.Prelude.{◌≡◌};
 
 use crate::pipe_text::PipeText;
-use fsw_base::{AppNo, EsStatus, PoolStats, SbStatus, Scope};
+use fsw_base::{
+    AppNo, BusStats, EsStatus, EventKind, EvsStatus, FilterList, PoolStats, SbStatus, Scope,
+};
 
 /// A call of the software bus by one application, with its bytes borrowed (cFE Software Bus).
-#[derive(Clone, Copy, Debug)]
+#[derive(Debug, Drop)]
 pub enum BusCall<'a> {
     /// Makes a pipe that holds up to `depth` messages.
     Create {
@@ -124,6 +126,37 @@ pub enum BusCall<'a> {
         /// The pool's number.
         pool: u32,
     },
+    /// Registers the application with the event services, with these filters in place of any
+    /// that it had (`CFE_EVS_Register`).
+    Register {
+        /// The filters: up to 8 event ids, each with its mask.
+        filters: FilterList,
+    },
+    /// Sends an event.
+    SendEvent {
+        /// The event's id.
+        id: u16,
+        /// What it tells of.
+        kind: EventKind,
+        /// Its text.
+        text: &'a [u8],
+    },
+    /// Has the application's filter for an event id count from 0 again.
+    ResetFilter {
+        /// The event's id.
+        id: u16,
+    },
+    /// Sets what a full event log drops.
+    LogMode {
+        /// 0: the oldest event; 1: the new one.
+        mode: u8,
+    },
+    /// Empties the event log.
+    ClearLog,
+    /// Sends the housekeeping packet.
+    Housekeeping,
+    /// Asks for the figures of the bus.
+    Figures,
     /// The application's last call.
     End,
 }
@@ -154,10 +187,14 @@ pub enum BusAnswer {
     Pending,
     /// The pool's figures.
     Pool(PoolStats),
+    /// The figures of the bus.
+    Bus(BusStats),
     /// Refused by the bus.
     Sb(SbStatus),
     /// Refused by the memory pools.
     Es(EsStatus),
+    /// Refused by the event services.
+    Evs(EvsStatus),
 }
 
 impl BusAnswer {
@@ -177,8 +214,10 @@ impl BusAnswer {
             BusAnswer::TimeOut => BusAnswer::TimeOut,
             BusAnswer::Pending => BusAnswer::Pending,
             BusAnswer::Pool(figures) => BusAnswer::Pool(*figures),
+            BusAnswer::Bus(figures) => BusAnswer::Bus(*figures),
             BusAnswer::Sb(status) => BusAnswer::Sb(*status),
             BusAnswer::Es(status) => BusAnswer::Es(*status),
+            BusAnswer::Evs(status) => BusAnswer::Evs(*status),
         }
     }
 }

@@ -3,7 +3,7 @@
 //! made.
 
 use crate::calls::BusAnswer;
-use fsw_base::{AppNo, Scope};
+use fsw_base::{AppNo, EventKind, FilterList, Scope};
 use std::collections::LinkedList;
 
 /// A call of the software bus with its bytes.
@@ -125,6 +125,37 @@ pub enum Call {
         /// The pool's number.
         pool: u32,
     },
+    /// Registers the application with the event services, with these filters in place of any
+    /// that it had (`CFE_EVS_Register`).
+    Register {
+        /// The filters: up to 8 event ids, each with its mask.
+        filters: FilterList,
+    },
+    /// Sends an event.
+    SendEvent {
+        /// The event's id.
+        id: u16,
+        /// What it tells of.
+        kind: EventKind,
+        /// Its text.
+        text: LinkedList<u8>,
+    },
+    /// Has the application's filter for an event id count from 0 again.
+    ResetFilter {
+        /// The event's id.
+        id: u16,
+    },
+    /// Sets what a full event log drops.
+    LogMode {
+        /// 0: the oldest event; 1: the new one.
+        mode: u8,
+    },
+    /// Empties the event log.
+    ClearLog,
+    /// Sends the housekeeping packet.
+    Housekeeping,
+    /// Asks for the figures of the bus.
+    Figures,
     /// Ends the application.
     End,
 }

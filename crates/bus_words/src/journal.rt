@@ -7,13 +7,13 @@ ghost use Rattle.bus_words.specs.Entries.{call_of, entry_of, call_text, call_byt
 ghost use Rattle.bus_words.specs.Inside.{call_in};
 
 use crate::calls::{BusAnswer, BusCall, BusEntry};
-use fsw_base::{AppNo, Budget, Scope};
+use fsw_base::{AppNo, Budget, EventKind, FilterList, Scope};
 use journal_store::{Allowance, JournalStore};
 use std::alloc::{AllocError, Global};
 use std::marker::Model;
 
 // A call but for its bytes.
-#[derive(Clone, Copy, Debug)]
+#[derive(Debug, Drop)]
 enum RowCall {
     Create {
         depth: u32,
@@ -78,7 +78,90 @@ enum RowCall {
     PoolFigures {
         pool: u32,
     },
+    Register {
+        filters: FilterList,
+    },
+    SendEvent {
+        id: u16,
+        kind: EventKind,
+    },
+    ResetFilter {
+        id: u16,
+    },
+    LogMode {
+        mode: u8,
+    },
+    ClearLog,
+    Housekeeping,
+    Figures,
     End,
+}
+
+impl RowCall {
+    // The same call once more.
+    fn again(&self) -> RowCall
+        ensures { result ≡ self.now }
+    {
+        match self {
+            RowCall::Create { depth } => RowCall::Create { depth: *depth },
+            RowCall::Delete { pipe } => RowCall::Delete { pipe: *pipe },
+            RowCall::SetOpts { pipe, bits } => RowCall::SetOpts {
+                pipe: *pipe,
+                bits: *bits,
+            },
+            RowCall::GetOpts { pipe } => RowCall::GetOpts { pipe: *pipe },
+            RowCall::Find => RowCall::Find,
+            RowCall::PipeName { pipe } => RowCall::PipeName { pipe: *pipe },
+            RowCall::Subscribe {
+                id,
+                pipe,
+                limit,
+                scope,
+            } => RowCall::Subscribe {
+                id: *id,
+                pipe: *pipe,
+                limit: *limit,
+                scope: *scope,
+            },
+            RowCall::Unsubscribe { id, pipe } => RowCall::Unsubscribe {
+                id: *id,
+                pipe: *pipe,
+            },
+            RowCall::Transmit { inc } => RowCall::Transmit { inc: *inc },
+            RowCall::Receive { pipe } => RowCall::Receive { pipe: *pipe },
+            RowCall::Pend { pipe } => RowCall::Pend { pipe: *pipe },
+            RowCall::Look { pipe } => RowCall::Look { pipe: *pipe },
+            RowCall::Allocate { size } => RowCall::Allocate { size: *size },
+            RowCall::TransmitBuffer { buf, inc } => RowCall::TransmitBuffer {
+                buf: *buf,
+                inc: *inc,
+            },
+            RowCall::Release { buf } => RowCall::Release { buf: *buf },
+            RowCall::PoolCreate { bytes } => RowCall::PoolCreate { bytes: *bytes },
+            RowCall::PoolGet { pool, size } => RowCall::PoolGet {
+                pool: *pool,
+                size: *size,
+            },
+            RowCall::PoolPut { pool, grant } => RowCall::PoolPut {
+                pool: *pool,
+                grant: *grant,
+            },
+            RowCall::PoolFigures { pool } => RowCall::PoolFigures { pool: *pool },
+            RowCall::Register { filters } => RowCall::Register {
+                filters: filters.again(),
+            },
+            RowCall::SendEvent { id, kind } => RowCall::SendEvent {
+                id: *id,
+                kind: *kind,
+            },
+            RowCall::ResetFilter { id } => RowCall::ResetFilter { id: *id },
+            RowCall::LogMode { mode } => RowCall::LogMode { mode: *mode },
+            RowCall::ClearLog => RowCall::ClearLog,
+            RowCall::Housekeeping => RowCall::Housekeeping,
+            RowCall::Figures => RowCall::Figures,
+            RowCall::End => RowCall::End,
+        }
+    }
 }
 
 // An entry but for its application and its bytes.
@@ -155,22 +238,22 @@ impl BusJournal {
         let row = self.store.row(i);
         BusEntry {
             app: self.store.app(i),
-            call: call_with(row.call, self.store.text(i)),
+            call: call_with(&row.call, self.store.text(i)),
             answer: row.answer.again(),
         }
     }
 
     /// Adds an entry at the end. Its application must have an entry left, and the bytes of its
-    /// name, message or buffer.
+    /// name, message, buffer or event's text.
     pub fn push(&mut self, entry: &BusEntry<'_>)
         requires { HasRoom (left_of self.old) entry.now.app (call_bytes (call_of entry.now.call)) }
         ensures { self.new ≡ with_entry self.old (entry_of entry.now) }
     {
         let row = Row {
-            call: row_of(entry.call),
+            call: row_of(&entry.call),
             answer: entry.answer.again(),
         };
-        self.store.push(entry.app, row, text_of(entry.call));
+        self.store.push(entry.app, row, text_of(&entry.call));
     }
 
     /// Gives the last entry another answer. Its application and its call stay, and so do all other
@@ -182,98 +265,157 @@ impl BusJournal {
             self.new.entries ≡ front ++ (record last { answer = answer }) ∷ [] }
         ensures budgets { self.new.budgets ≡ self.old.budgets }
     {
-        let call = self.store.row(self.store.len() - 1).call;
+        let call = self.store.row(self.store.len() - 1).call.again();
         self.store.replace_last(Row { call, answer });
     }
 }
 
 // The call of a row with these bytes.
-fn call_with(call: RowCall, text: &[u8]) -> BusCall<'_>
-    ensures { call_of result ≡ call_in call text.now }
+fn call_with<'a>(call: &RowCall, text: &'a [u8]) -> BusCall<'a>
+    ensures { call_of result ≡ call_in call.now text.entry.now }
 {
     match call {
-        RowCall::Create { depth } => BusCall::Create { depth, name: text },
-        RowCall::Delete { pipe } => BusCall::Delete { pipe },
-        RowCall::SetOpts { pipe, bits } => BusCall::SetOpts { pipe, bits },
-        RowCall::GetOpts { pipe } => BusCall::GetOpts { pipe },
+        RowCall::Create { depth } => BusCall::Create {
+            depth: *depth,
+            name: text,
+        },
+        RowCall::Delete { pipe } => BusCall::Delete { pipe: *pipe },
+        RowCall::SetOpts { pipe, bits } => BusCall::SetOpts {
+            pipe: *pipe,
+            bits: *bits,
+        },
+        RowCall::GetOpts { pipe } => BusCall::GetOpts { pipe: *pipe },
         RowCall::Find => BusCall::Find { name: text },
-        RowCall::PipeName { pipe } => BusCall::PipeName { pipe },
+        RowCall::PipeName { pipe } => BusCall::PipeName { pipe: *pipe },
         RowCall::Subscribe {
             id,
             pipe,
             limit,
             scope,
         } => BusCall::Subscribe {
-            id,
-            pipe,
-            limit,
-            scope,
+            id: *id,
+            pipe: *pipe,
+            limit: *limit,
+            scope: *scope,
         },
-        RowCall::Unsubscribe { id, pipe } => BusCall::Unsubscribe { id, pipe },
-        RowCall::Transmit { inc } => BusCall::Transmit { bytes: text, inc },
-        RowCall::Receive { pipe } => BusCall::Receive { pipe },
-        RowCall::Pend { pipe } => BusCall::Pend { pipe },
-        RowCall::Look { pipe } => BusCall::Look { pipe },
-        RowCall::Allocate { size } => BusCall::Allocate { size },
-        RowCall::TransmitBuffer { buf, inc } => BusCall::TransmitBuffer {
-            buf,
+        RowCall::Unsubscribe { id, pipe } => BusCall::Unsubscribe {
+            id: *id,
+            pipe: *pipe,
+        },
+        RowCall::Transmit { inc } => BusCall::Transmit {
+            inc: *inc,
             bytes: text,
-            inc,
         },
-        RowCall::Release { buf } => BusCall::Release { buf },
-        RowCall::PoolCreate { bytes } => BusCall::PoolCreate { bytes },
-        RowCall::PoolGet { pool, size } => BusCall::PoolGet { pool, size },
-        RowCall::PoolPut { pool, grant } => BusCall::PoolPut { pool, grant },
-        RowCall::PoolFigures { pool } => BusCall::PoolFigures { pool },
+        RowCall::Receive { pipe } => BusCall::Receive { pipe: *pipe },
+        RowCall::Pend { pipe } => BusCall::Pend { pipe: *pipe },
+        RowCall::Look { pipe } => BusCall::Look { pipe: *pipe },
+        RowCall::Allocate { size } => BusCall::Allocate { size: *size },
+        RowCall::TransmitBuffer { buf, inc } => BusCall::TransmitBuffer {
+            buf: *buf,
+            inc: *inc,
+            bytes: text,
+        },
+        RowCall::Release { buf } => BusCall::Release { buf: *buf },
+        RowCall::PoolCreate { bytes } => BusCall::PoolCreate { bytes: *bytes },
+        RowCall::PoolGet { pool, size } => BusCall::PoolGet {
+            pool: *pool,
+            size: *size,
+        },
+        RowCall::PoolPut { pool, grant } => BusCall::PoolPut {
+            pool: *pool,
+            grant: *grant,
+        },
+        RowCall::PoolFigures { pool } => BusCall::PoolFigures { pool: *pool },
+        RowCall::Register { filters } => BusCall::Register {
+            filters: filters.again(),
+        },
+        RowCall::SendEvent { id, kind } => BusCall::SendEvent {
+            id: *id,
+            kind: *kind,
+            text,
+        },
+        RowCall::ResetFilter { id } => BusCall::ResetFilter { id: *id },
+        RowCall::LogMode { mode } => BusCall::LogMode { mode: *mode },
+        RowCall::ClearLog => BusCall::ClearLog,
+        RowCall::Housekeeping => BusCall::Housekeeping,
+        RowCall::Figures => BusCall::Figures,
         RowCall::End => BusCall::End,
     }
 }
 
 // The call but for its bytes.
-fn row_of(call: BusCall<'_>) -> RowCall
-    ensures { call_in result (call_text (call_of call.entry)) ≡ call_of call.entry }
+fn row_of(call: &BusCall<'_>) -> RowCall
+    ensures { call_in result (call_text (call_of call.now)) ≡ call_of call.now }
 {
     match call {
-        BusCall::Create { depth, .. } => RowCall::Create { depth },
-        BusCall::Delete { pipe } => RowCall::Delete { pipe },
-        BusCall::SetOpts { pipe, bits } => RowCall::SetOpts { pipe, bits },
-        BusCall::GetOpts { pipe } => RowCall::GetOpts { pipe },
+        BusCall::Create { depth, .. } => RowCall::Create { depth: *depth },
+        BusCall::Delete { pipe } => RowCall::Delete { pipe: *pipe },
+        BusCall::SetOpts { pipe, bits } => RowCall::SetOpts {
+            pipe: *pipe,
+            bits: *bits,
+        },
+        BusCall::GetOpts { pipe } => RowCall::GetOpts { pipe: *pipe },
         BusCall::Find { .. } => RowCall::Find,
-        BusCall::PipeName { pipe } => RowCall::PipeName { pipe },
+        BusCall::PipeName { pipe } => RowCall::PipeName { pipe: *pipe },
         BusCall::Subscribe {
             id,
             pipe,
             limit,
             scope,
         } => RowCall::Subscribe {
-            id,
-            pipe,
-            limit,
-            scope,
+            id: *id,
+            pipe: *pipe,
+            limit: *limit,
+            scope: *scope,
         },
-        BusCall::Unsubscribe { id, pipe } => RowCall::Unsubscribe { id, pipe },
-        BusCall::Transmit { inc, .. } => RowCall::Transmit { inc },
-        BusCall::Receive { pipe } => RowCall::Receive { pipe },
-        BusCall::Pend { pipe } => RowCall::Pend { pipe },
-        BusCall::Look { pipe } => RowCall::Look { pipe },
-        BusCall::Allocate { size } => RowCall::Allocate { size },
-        BusCall::TransmitBuffer { buf, inc, .. } => RowCall::TransmitBuffer { buf, inc },
-        BusCall::Release { buf } => RowCall::Release { buf },
-        BusCall::PoolCreate { bytes } => RowCall::PoolCreate { bytes },
-        BusCall::PoolGet { pool, size } => RowCall::PoolGet { pool, size },
-        BusCall::PoolPut { pool, grant } => RowCall::PoolPut { pool, grant },
-        BusCall::PoolFigures { pool } => RowCall::PoolFigures { pool },
+        BusCall::Unsubscribe { id, pipe } => RowCall::Unsubscribe {
+            id: *id,
+            pipe: *pipe,
+        },
+        BusCall::Transmit { inc, .. } => RowCall::Transmit { inc: *inc },
+        BusCall::Receive { pipe } => RowCall::Receive { pipe: *pipe },
+        BusCall::Pend { pipe } => RowCall::Pend { pipe: *pipe },
+        BusCall::Look { pipe } => RowCall::Look { pipe: *pipe },
+        BusCall::Allocate { size } => RowCall::Allocate { size: *size },
+        BusCall::TransmitBuffer { buf, inc, .. } => RowCall::TransmitBuffer {
+            buf: *buf,
+            inc: *inc,
+        },
+        BusCall::Release { buf } => RowCall::Release { buf: *buf },
+        BusCall::PoolCreate { bytes } => RowCall::PoolCreate { bytes: *bytes },
+        BusCall::PoolGet { pool, size } => RowCall::PoolGet {
+            pool: *pool,
+            size: *size,
+        },
+        BusCall::PoolPut { pool, grant } => RowCall::PoolPut {
+            pool: *pool,
+            grant: *grant,
+        },
+        BusCall::PoolFigures { pool } => RowCall::PoolFigures { pool: *pool },
+        BusCall::Register { filters } => RowCall::Register {
+            filters: filters.again(),
+        },
+        BusCall::SendEvent { id, kind, .. } => RowCall::SendEvent {
+            id: *id,
+            kind: *kind,
+        },
+        BusCall::ResetFilter { id } => RowCall::ResetFilter { id: *id },
+        BusCall::LogMode { mode } => RowCall::LogMode { mode: *mode },
+        BusCall::ClearLog => RowCall::ClearLog,
+        BusCall::Housekeeping => RowCall::Housekeeping,
+        BusCall::Figures => RowCall::Figures,
         BusCall::End => RowCall::End,
     }
 }
 
 // The bytes of a call; none where it has none.
-fn text_of(call: BusCall<'_>) -> &[u8]
-    ensures { result.now ≡ call_text (call_of call.entry) }
+fn text_of<'a>(call: &BusCall<'a>) -> &'a [u8]
+    ensures { result.now ≡ call_text (call_of call.now) }
 {
     match call {
         BusCall::Create { name, .. } | BusCall::Find { name } => name,
         BusCall::Transmit { bytes, .. } | BusCall::TransmitBuffer { bytes, .. } => bytes,
+        BusCall::SendEvent { text, .. } => text,
         _ => &[],
     }
 }

@@ -1,12 +1,15 @@
 //! What holds of every history of the bus, whoever kept it.
 ghost use Rattle.std.specs.Prelude.{◌≡◌, ℕ, ◌≤◌, List, [], ◌∷◌, ◌++◌, length, sum_by, true, false, IsTrue};
 ghost use Rattle.fsw_base.specs.Limits.{Limits};
+ghost use Rattle.housekeeping.specs.Peaks.{greater};
 ghost use Rattle.bus_words.specs.declared.history.Call.{Call};
+ghost use Rattle.bus_words.specs.declared.history.Call.TheVariants.{Transmit, Housekeeping};
 ghost use Rattle.bus_words.specs.declared.history.Entry.{Entry};
 ghost use Rattle.bus_words.specs.Bus.{ArePools, State, opening, standing_of, has_ended, owns, unsent_of};
-ghost use Rattle.bus_words.specs.Held.{AreUnsent, IsAccounted, HoldsNothing, held, block_of, account_of, bytes_in_use};
-ghost use Rattle.bus_words.specs.Machine.{reads_after, cause, cause_with, step, state_after, may_call, makes_entry, brings, IsLegal};
-ghost use Rattle.bus_words.specs.Acts.{AreAlike, act, reads_in, whole_after, whole_of};
+ghost use Rattle.bus_words.specs.Held.{AreUnsent, IsAccounted, HoldsNothing, held, block_of, account_of, bytes_in_use, in_use};
+ghost use Rattle.bus_words.specs.Machine.{reads_after, cause, cause_with, step, state_after, may_call, makes_entry, brings, desk_after, statistics_after, IsLegal};
+ghost use Rattle.bus_words.specs.Sends.{packet_in};
+ghost use Rattle.bus_words.specs.Acts.{AreAlike, Whole, act, reads_in, whole_after, whole_of};
 ghost use Rattle.bus_words.specs.Runs.{callers, stepped, Follows};
 ghost use Rattle.bus_words.specs.Alone.{Received, Gives, unmade, solo_receipts, cut, gets_from, receipts};
 
@@ -126,4 +129,32 @@ pub fn ends_leave_nothing()
         ((app : ℕ) → 1 ≤ app → app ≤ apps →
         has_ended (standing_of (state_after limits apps history) app) ≡ true) →
         HoldsNothing limits (state_after limits apps history) }
+{}
+
+/// The event desk of the bus is the one that its history tells: the events that its applications
+/// sent and those that the bus told of their calls, in the order of the entries and of a send's
+/// destinations, at a desk where nobody was registered before. Does nothing.
+pub fn events_are_told()
+    ensures { (limits : Limits) (apps : ℕ) (history : List Entry) → IsLegal limits apps history →
+        (state_after limits apps history).events ≡ desk_after limits apps history }
+{}
+
+/// The statistics of the bus are those that its history tells: each counter shows how often the
+/// entries raised it, and each peak is the greatest number that was in use after an entry. Nothing
+/// in use is above its peak. Does nothing.
+pub fn statistics_are_counted()
+    ensures statistics { (limits : Limits) (apps : ℕ) (history : List Entry) →
+        IsLegal limits apps history →
+        (state_after limits apps history).statistics ≡ statistics_after limits apps history }
+    ensures peaks { (limits : Limits) (apps : ℕ) (history : List Entry) →
+        greater (state_after limits apps history).statistics.peak
+        (in_use limits (state_after limits apps history))
+        ≡ (state_after limits apps history).statistics.peak }
+{}
+
+/// A housekeeping call is a send of its packet that counts on: it is answered and leaves what such
+/// a send is answered and leaves. Does nothing.
+pub fn housekeeping_is_a_send()
+    ensures { (limits : Limits) (w : Whole) (app : ℕ) →
+        act limits w app Housekeeping ≡ act limits w app (Transmit (packet_in limits w.bus) true) }
 {}

@@ -1,5 +1,7 @@
 //! What an example is made of.
 
+use fsw_base::EventKind;
+
 /// A worked example: what its applications do, in this order.
 pub struct Example {
     /// What it shows.
@@ -24,6 +26,10 @@ pub enum Limit {
     Depth(u32),
     /// A message id, and the sequence count at which it starts.
     Start(u16, u16),
+    /// The greatest size of a message, in bytes.
+    MsgMax(u32),
+    /// How many bytes the bus's pool has.
+    Pool(u32),
     /// The block sizes of every memory pool.
     Sizes(&'static [u32]),
 }
@@ -76,6 +82,20 @@ pub enum Act {
     PoolPut(u32, u32),
     /// Asks for a pool's figures.
     PoolFigures(u32),
+    /// Registers with the event services, with these filters: an event id and a mask each.
+    Register(&'static [(u16, u16)]),
+    /// Sends an event of this id, kind and text.
+    SendEvent(u16, EventKind, &'static [u8]),
+    /// Has its filter for an event id count from 0 again.
+    ResetFilter(u16),
+    /// Sets what a full event log drops.
+    LogMode(u8),
+    /// Empties the event log.
+    ClearLog,
+    /// Sends the housekeeping packet.
+    Housekeeping,
+    /// Asks for the figures of the bus.
+    Figures,
     /// Makes its last call.
     End,
     /// Tells a pipe's last message.

@@ -1,4 +1,4 @@
-//! The examples.
+//! The examples of pipes, subscriptions and messages, of memory pools and of buffers.
 use crate::example::Act::{
     Allocate, Create, Delete, End, Find, GetOpts, Look, Pend, PipeName, PoolCreate, PoolFigures,
     PoolGet, PoolPut, Put, Receive, Release, Send, SendRaw, SetOpts, Show, Subscribe,
@@ -7,8 +7,13 @@ use crate::example::Act::{
 use crate::example::Example;
 use crate::example::Limit::{Dests, MsgIds, Pipes, Sizes, Start};
 
-/// The examples, in the order in which they are printed.
-pub static EXAMPLES: [Example; 17] = [
+/// The examples of pipes, messages, memory pools and buffers, in the order in which they are
+/// printed.
+pub fn bus_examples() -> &'static [Example] {
+    &BUS_EXAMPLES
+}
+
+static BUS_EXAMPLES: [Example; 17] = [
     Example {
         title: "a message limit",
         limits: &[],

@@ -125,7 +125,7 @@ fn is_filled<L: Ledger>(
 }
 
 // A call that subscribes the pipe to the id.
-fn subscription(id: u16, pipe: u32) -> BusCall<'static> {
+fn subscription<'a>(id: u16, pipe: u32) -> BusCall<'a> {
     BusCall::Subscribe {
         id,
         pipe,

@@ -45,6 +45,8 @@ fn set_limit(config: &mut Config, limit: &Limit) {
                 config.starts = starts;
             }
         }
+        Limit::MsgMax(bytes) => config.msgmax = (*bytes).clamp(7, 65542),
+        Limit::Pool(bytes) => config.pool = (*bytes).clamp(24, 16_777_216),
         Limit::Sizes(sizes) => {
             if let Some(sizes) = BlockSizes::try_new(sizes) {
                 config.sizes = sizes;

@@ -14,6 +14,7 @@ use buf_desc::{Held, recall_written};
 use bus_words::{BusAnswer, BusCall, BusJournal, Call, Receipt};
 use ccsds_msg::read_header;
 use fsw_base::{AppNo, Config, MAX_MESSAGE_BYTES};
+use run_report::BusReadings;
 use sb_calls::BusCore;
 use std::alloc::{AllocError, Global};
 use std::marker::Model;
@@ -121,6 +122,17 @@ impl<'r> PlayedBus<'r> {
     /// Every call with its answer, in order.
     pub fn journal(&self) -> &BusJournal {
         self.core.journal()
+    }
+
+    /// What the bus tells beside its journal: the event desk, the counters, and what is in use.
+    pub fn readings(&self) -> BusReadings<'_> {
+        BusReadings {
+            events: self.core.events(),
+            counters: self.core.counters(),
+            in_use: self.core.in_use(),
+            pool: self.core.pool(),
+            pools: self.core.pools(),
+        }
     }
 
     /// The receipt of the message that the application received last from its live pipe of this

@@ -10,7 +10,7 @@ use bucket_list::{Ledger, Steps};
 use buf_desc::Held;
 use bus_words::{BusCall, Receipt};
 use ccsds_msg::write_header;
-use fsw_base::{AppNo, MAX_MESSAGE_BYTES, Scope};
+use fsw_base::{AppNo, FilterList, MAX_MESSAGE_BYTES, Scope};
 use sb_calls::{BusCore, Pended};
 
 /// The most bytes that a message can have.
@@ -108,15 +108,36 @@ fn make_without_bag<L: Ledger>(
         BusCall::PoolGet { pool, size } => core.pool_get(app, pool, size, steps).is_ok(),
         BusCall::PoolPut { pool, grant } => core.pool_put(app, pool, grant, steps).is_ok(),
         BusCall::PoolFigures { pool } => core.pool_stats(app, pool).is_ok(),
-        BusCall::Delete { .. }
-        | BusCall::Receive { .. }
-        | BusCall::Pend { .. }
-        | BusCall::Look { .. }
-        | BusCall::Allocate { .. }
-        | BusCall::TransmitBuffer { .. }
-        | BusCall::Release { .. }
-        | BusCall::End => false,
+        _ => make_of_events(core, app, call, steps),
     }
+}
+
+// Makes a call of events or of what the bus counts; whether it was accepted. False for any other
+// call.
+fn make_of_events<L: Ledger>(
+    core: &mut BusCore<'_>,
+    app: AppNo,
+    call: BusCall<'_>,
+    steps: &mut Steps<L>,
+) -> bool
+    requires may { MayCall core.old app (call_of call) }
+    ensures bags { KeepsBags core.old core.new }
+{
+    match call {
+        BusCall::Register { filters } => core.evs_register(app, &filters),
+        BusCall::SendEvent { id, kind, text } => {
+            return core.send_event(app, id, kind, text).is_ok();
+        }
+        BusCall::ResetFilter { id } => return core.reset_filter(app, id).is_ok(),
+        BusCall::LogMode { mode } => core.set_log_mode(app, mode),
+        BusCall::ClearLog => core.clear_log(app),
+        BusCall::Housekeeping => return core.send_housekeeping(app, steps).is_ok(),
+        BusCall::Figures => {
+            let _ = core.bus_stats(app);
+        }
+        _ => return false,
+    }
+    true
 }
 
 // The call of the bus that this is; None where it is none, or is one that takes its bytes from the
@@ -166,9 +187,27 @@ fn call_of<'b>(act: &Act, buffer: &'b mut [u8]) -> Option<BusCall<'b>> {
         },
         Act::PoolFigures(pool) => BusCall::PoolFigures { pool: *pool },
         Act::End => BusCall::End,
-        Act::TransmitBuffer(_) => return None,
-        Act::Put(_, _) => return None,
-        Act::Show(_) => return None,
+        _ => return event_call_of(act),
+    })
+}
+
+// The call of events, or of what the bus counts, that this is; None where it is none.
+fn event_call_of(act: &Act) -> Option<BusCall<'static>> {
+    Some(match act {
+        Act::Register(pairs) => BusCall::Register {
+            filters: FilterList::try_new(pairs)?,
+        },
+        Act::SendEvent(id, kind, text) => BusCall::SendEvent {
+            id: *id,
+            kind: *kind,
+            text,
+        },
+        Act::ResetFilter(id) => BusCall::ResetFilter { id: *id },
+        Act::LogMode(mode) => BusCall::LogMode { mode: *mode },
+        Act::ClearLog => BusCall::ClearLog,
+        Act::Housekeeping => BusCall::Housekeeping,
+        Act::Figures => BusCall::Figures,
+        _ => return None,
     })
 }
 

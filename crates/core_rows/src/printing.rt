@@ -9,7 +9,7 @@ use crate::playing::{MOST_BYTES, Outcome, play};
 use bucket_list::{Blank, Ledger, Steps};
 use bus_words::{Receipt, ReceiptList};
 use fsw_base::{AppNo, Sink, SinkGuard, WriteFault};
-use run_report::write_journal;
+use run_report::write_report;
 use std::alloc::{AllocError, Global};
 use text_page::write_text;
 
@@ -56,7 +56,7 @@ fn print_played<L: Ledger, K: Sink>(
         tell(outcome, &mut seen, sink)?;
     }
     let receipts = receipt_lists(alloc, example.apps, &seen)?;
-    write_journal(played.journal(), &receipts, sink)?;
+    write_report(played.journal(), &receipts, &played.readings(), sink)?;
     Ok(())
 }
 

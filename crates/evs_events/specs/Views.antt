@@ -1,7 +1,7 @@
 -- What a caller is shown of a desk, and the number of a mode.
-use Rattle.std.specs.Prelude.{ℕ}
+use Rattle.std.specs.Prelude.{ℕ, ◌==◌, ◌&&◌, not, Bool}
 use Rattle.fsw_base.specs.EventDesk.{Desk}
-use Rattle.fsw_base.specs.EventLog.{Line}
+use Rattle.fsw_base.specs.EventLog.{Line, Log, is_full}
 use Rattle.evs_events.specs.declared.line.LogLine.{LogLine}
 use Rattle.evs_events.specs.declared.counts.EventCounts.{EventCounts}
 use Rattle.evs_events.specs.declared.log.LogMode.{LogMode}
@@ -26,3 +26,7 @@ counts_of desk = record {
 abbrev pub mode_number : LogMode → ℕ
 mode_number Overwrite = 0
 mode_number Discard = 1
+
+-- whether the log drops the line of the next event that passes: it is full, and in mode 1
+abbrev pub drops_next : Log → Bool
+drops_next log = is_full log && not (log.mode == 0)

@@ -1,8 +1,9 @@
 //! The event desk.
-ghost use Rattle.std.specs.Prelude.{◌≡◌, ◌-◌, ◌<◌, ◌≤◌, length, slice_get, Some, IfOk};
+ghost use Rattle.std.specs.Prelude.{◌≡◌, ℕ, ◌-◌, ◌<◌, ◌≤◌, true, List, length, slice_get, Some, IfOk};
 ghost use Rattle.std.specs.Result.{result_err};
 ghost use Rattle.fsw_base.specs.EventDesk.{Desk, new_desk, registered, unregistered, passed, sent, served, send_refusal, reset_refusal, reset, refused_once, with_mode, cleared};
-ghost use Rattle.evs_events.specs.Views.{line_shown, counts_of};
+ghost use Rattle.fsw_base.specs.declared.events.EventKind.{EventKind};
+ghost use Rattle.evs_events.specs.Views.{drops_next, line_shown, counts_of};
 
 use crate::counts::EventCounts;
 use crate::filters::Registration;
@@ -125,6 +126,26 @@ impl EventDesk {
         ensures { self.new ≡ served self.old id kind text.now }
     {
         self.pass(0, id, kind, text);
+    }
+
+    /// Whether the log drops the line of the next event that passes: it is full, and in mode 1.
+    pub fn drops_next(&self) -> bool
+        ensures { result ≡ drops_next self.now.log }
+    {
+        self.log.drops_next()
+    }
+
+    /// Counts an event of a service whose line the log drops, whichever it is: as
+    /// [`EventDesk::service`] does, where the event's text has at most [`MAX_TEXT`] bytes, and
+    /// without it.
+    #[tactic(auto, unfolding(fsw_base::specs::EventDesk::passed))]
+    pub fn service_dropped(&mut self)
+        requires { drops_next self.old.log ≡ true }
+        ensures { (id : ℕ) (kind : EventKind) (text : List ℕ) →
+            length text ≤ MAX_TEXT → self.new ≡ served self.old id kind text }
+    {
+        self.sent = self.sent.saturating_add(1);
+        self.lost = self.lost.saturating_add(1);
     }
 
     /// Sets the count of an application's filter for this event id to 0.

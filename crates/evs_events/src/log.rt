@@ -1,7 +1,7 @@
 //! The log of the latest events (cFE Event Services, local event log).
 ghost use Rattle.std.specs.Prelude.{◌≡◌, ◌==◌, ◌<◌, ◌≤◌, not, [], length, slice_get, Some, IfOk};
 ghost use Rattle.fsw_base.specs.EventLog.{Log, empty_log, is_full, event_line, kept};
-ghost use Rattle.evs_events.specs.Views.{line_shown, mode_number};
+ghost use Rattle.evs_events.specs.Views.{drops_next, line_shown, mode_number};
 
 use crate::line::{LogLine, MAX_TEXT, StoredLine};
 use circular_buffer::HeapCircularBuffer;
@@ -99,12 +99,19 @@ impl EventLog {
         ensures full { result ≡ is_full self.old }
         ensures log { self.new ≡ kept self.old (event_line app id kind text.now) }
     {
-        let was_full = self.lines.len() == LOG_LINES;
-        if was_full && self.mode.drops_new() {
+        if self.drops_next() {
             return true;
         }
+        let was_full = self.lines.len() == LOG_LINES;
         let _ = self.lines.push_back(StoredLine::new(app, id, kind, text));
         was_full
+    }
+
+    /// Whether the log is full and would drop a new line.
+    pub fn drops_next(&self) -> bool
+        ensures { result ≡ drops_next self.now }
+    {
+        self.lines.len() == LOG_LINES && self.mode.drops_new()
     }
 
     /// From now on a full log drops what this mode says; the lines stay.

@@ -1,12 +1,10 @@
 -- Why the program ended as it did, and that a script is run where nothing fails.
 use Rattle.std.proofs.Common.{◌≡◌, ◌⊎◌, ℕ, ◌<◌, List, ◌++◌, length, map, Option, Some, None, Result, Ok, Err, IfSome, inl, inr, refl, sym, ap, subst, ◌∙◌, arith, length-append}
 use Rattle.std.specs.List.{range_with_len}
-use Rattle.fsw_base.specs.Outside.{Rose}
 use Rattle.fsw_base.specs.declared.script_faults.ScriptFault.{ScriptFault}
 use Rattle.bus_words.specs.declared.history.Entry.{Entry}
-use Rattle.bus_words.specs.Log.{Log}
 use Rattle.bus_words.specs.ReceiptLists.{Receipts}
-use Rattle.run_report.specs.Report.{report_text, report_of}
+use Rattle.run_report.specs.Report.{ending_text, figures_shown, report_text}
 use Rattle.app_script.specs.Grammar.{built_script}
 use Rattle.script_runs.specs.Rotation.{rotation}
 use Rattle.app_script.specs.Script.{ScriptText}
@@ -14,7 +12,12 @@ use Rattle.script_runs.specs.Told.{receipts_told}
 use Rattle.script_runs.proofs.Merged.{rotation-legal, rotation-merges, rotation-holds_nothing}
 use Rattle.host_run.proofs.Sizes.{length-built_script}
 use Rattle.host_run.specs.Input.{most_input, IsWhole, IsTooLarge}
-use Rattle.host_run.specs.Serve.{Fed, Made, Lockstep, Read, TooLong, SourceFailed, NoRoom, OtherWords, EndsInput, EndsScript, EndsRefused, HasCauses, Completes, Headline, too_large, rotation_report}
+use Rattle.sb_calls.specs.Core.{Core, apps_of, state_of}
+use Rattle.host_run.specs.Serve.{Fed, Made, Lockstep, Read, TooLong, SourceFailed, NoRoom, OtherWords, Serves, EndsInput, EndsScript, EndsText, EndsRefused, HasCauses, Completes, CompletesUnread, Headline, too_large, figures_after, rotation_part, part_of}
+use Rattle.host_run.specs.declared.reporting.Part.{Part}
+use Rattle.host_run.specs.declared.reporting.Part.TheVariants.{Whole, Ending}
+use Rattle.host_run.specs.declared.words.Task.{Task}
+use Rattle.host_run.specs.declared.words.Task.TheVariants as task
 use Rattle.host_run.specs.declared.status.HostStatus.{HostStatus}
 use Rattle.host_run.specs.declared.status.HostStatus.TheVariants.{Done, Usage, Script as Refused, ReadFault, WriteFault, NoMemory}
 
@@ -26,34 +29,56 @@ causes-refused ReadFault fault fed fed' old new ends = absurd ends
 causes-refused WriteFault fault fed fed' old new ends = ends.cause
 causes-refused NoMemory fault fed fed' old new ends = tt
 
-causes-script : (result : HostStatus) (script : ScriptText) (fed fed' : Fed) (old new : Made) → EndsScript result script old new → HasCauses result fed fed' old new
-causes-script Done script fed fed' old new ends = tt
-causes-script Usage script fed fed' old new ends = ends
-causes-script (Refused fault) script fed fed' old new ends = tt
-causes-script ReadFault script fed fed' old new ends = absurd ends
-causes-script WriteFault script fed fed' old new ends = ends.cause
-causes-script NoMemory script fed fed' old new ends = tt
+causes-script : (result : HostStatus) (part : Part) (script : ScriptText) (fed fed' : Fed) (old new : Made) → EndsScript result part script old new → HasCauses result fed fed' old new
+causes-script Done part script fed fed' old new ends = tt
+causes-script Usage part script fed fed' old new ends = ends
+causes-script (Refused fault) part script fed fed' old new ends = tt
+causes-script ReadFault part script fed fed' old new ends = absurd ends
+causes-script WriteFault part script fed fed' old new ends = ends.cause
+causes-script NoMemory part script fed fed' old new ends = tt
+
+causes-text : (result : HostStatus) (text : List ℕ) (fed fed' : Fed) (old new : Made) → EndsText result text old new → HasCauses result fed fed' old new
+causes-text Done text fed fed' old new ends = tt
+causes-text Usage text fed fed' old new ends = ends
+causes-text (Refused fault) text fed fed' old new ends = tt
+causes-text ReadFault text fed fed' old new ends = absurd ends
+causes-text WriteFault text fed fed' old new ends = ends.cause
+causes-text NoMemory text fed fed' old new ends = tt
 
 causes-input : (result : HostStatus) (found : Result ScriptText ScriptFault) (fed fed' : Fed) (old new : Made) → EndsInput result found old new → HasCauses result fed fed' old new
-causes-input result (Ok script) fed fed' old new ends = causes-script result script fed fed' old new ends
+causes-input result (Ok script) fed fed' old new ends = causes-script result Whole script fed fed' old new ends
 causes-input result (Err fault) fed fed' old new ends = causes-refused result fault fed fed' old new ends
 
 -- each end has its cause
-pub causes-lockstep : (result : HostStatus) (fed fed' : Fed) (old new : Made) → Lockstep result fed fed' old new → HasCauses result fed fed' old new
+causes-lockstep : (result : HostStatus) (fed fed' : Fed) (old new : Made) → Lockstep result fed fed' old new → HasCauses result fed fed' old new
 causes-lockstep result fed fed' old new (Read bytes whole ends) = causes-input result (built_script bytes) fed fed' old new ends
 causes-lockstep result fed fed' old new (TooLong large ends) = causes-refused result too_large fed fed' old new ends
 causes-lockstep result fed fed' old new (SourceFailed is rose part nothing) = subst (λ r. HasCauses r fed fed' old new) (sym is) rose
 causes-lockstep result fed fed' old new (NoRoom is unread nothing) = subst (λ r. HasCauses r fed fed' old new) (sym is) tt
 
+pub causes-task : (wanted : Option Task) (result : HostStatus) (fed fed' : Fed) (old new : Made) → Serves wanted result fed fed' old new →
+    (asked : Task) → wanted ≡ Some asked → HasCauses result fed fed' old new
+causes-task wanted result fed fed' old new serves task.Lockstep is = causes-lockstep result fed fed' old new (serves.lockstep is)
+causes-task wanted result fed fed' old new serves (task.Generate number) is = causes-text result _ fed fed' old new (serves.generates number is).ends
+causes-task wanted result fed fed' old new serves (task.Soak number) is = causes-script result Ending _ fed fed' old new (serves.soaks number is).ends
+
 -- a script ends done, or without memory, where the sink didn't fail
-script-done : (result : HostStatus) (script : ScriptText) (old new : Made) → EndsScript result script old new → ¬ Rose old.faults new.faults →
-    (result ≡ Done) ⊎ (result ≡ NoMemory)
-script-done Done script old new ends clean = inl refl
-script-done Usage script old new ends clean = absurd ends
-script-done (Refused fault) script old new ends clean = absurd ends
-script-done ReadFault script old new ends clean = absurd ends
-script-done WriteFault script old new ends clean = absurd (clean ends.cause)
-script-done NoMemory script old new ends clean = inr refl
+pub script-done : (result : HostStatus) (part : Part) (script : ScriptText) (old new : Made) → EndsScript result part script old new → CompletesUnread result old new
+script-done Done part script old new ends = λ clean. inl refl
+script-done Usage part script old new ends = λ clean. absurd ends
+script-done (Refused fault) part script old new ends = λ clean. absurd ends
+script-done ReadFault part script old new ends = λ clean. absurd ends
+script-done WriteFault part script old new ends = λ clean. absurd (clean ends.cause)
+script-done NoMemory part script old new ends = λ clean. inr refl
+
+-- and so does the writing of a text
+pub text-done : (result : HostStatus) (text : List ℕ) (old new : Made) → EndsText result text old new → CompletesUnread result old new
+text-done Done text old new ends = λ clean. inl refl
+text-done Usage text old new ends = λ clean. absurd ends
+text-done (Refused fault) text old new ends = λ clean. absurd ends
+text-done ReadFault text old new ends = λ clean. absurd ends
+text-done WriteFault text old new ends = λ clean. absurd (clean ends.cause)
+text-done NoMemory text old new ends = λ clean. inr refl
 
 -- the input that was read whole is the one that was told
 whole-told : (bytes input : List ℕ) (left left' : Option (List ℕ)) → IsWhole bytes left left' → left ≡ Some input → bytes ≡ input
@@ -74,7 +99,7 @@ large-long input left None large told = absurd (cc (large.2, told))
 pub completes-lockstep : (result : HostStatus) (fed fed' : Fed) (old new : Made) → Lockstep result fed fed' old new → Completes result fed fed' old new
 completes-lockstep result fed fed' old new (Read bytes whole ends) = λ input script told form source sink.
     let same = whole-told bytes input fed.left fed'.left whole told in
-    script-done result script old new
+    script-done result Whole script old new
     (subst (λ found. EndsInput result found old new) (ap built_script same ∙ form) ends) sink
 completes-lockstep result fed fed' old new (TooLong large ends) = λ input script told form source sink.
     absurd (omega (arith, length-built_script input script form, large-long input fed.left fed'.left large told))
@@ -87,6 +112,15 @@ ends-other result fed fed' old new words = either words.usage
     either : {A B : Type 0} → ((result ≡ Usage) × A) ⊎ ((result ≡ WriteFault) × B) → (result ≡ Usage) ⊎ (result ≡ WriteFault)
     either (inl told) = inl told.0
     either (inr failed) = inr failed.0
+
+-- what happens on words that the program doesn't know is what happens
+pub serves-other : (wanted : Option Task) (result : HostStatus) (fed fed' : Fed) (old new : Made) → wanted ≡ None → OtherWords result fed fed' old new → Serves wanted result fed fed' old new
+serves-other wanted result fed fed' old new none other = record {
+  lockstep = λ words. absurd (cc (none, words));
+  generates = λ number words. absurd (cc (none, words));
+  soaks = λ number words. absurd (cc (none, words));
+  other_words = λ words. other;
+}
 
 -- where all was done the headline holds
 headline-input : (found : Result ScriptText ScriptFault) (bytes : List ℕ) (fed fed' : Fed) (old new : Made) → built_script bytes ≡ found →
@@ -112,24 +146,31 @@ headline-lockstep result fed fed' old new (TooLong large ends) = λ done. absurd
 headline-lockstep result fed fed' old new (SourceFailed is rose part nothing) = λ done. absurd (cc (is, done))
 headline-lockstep result fed fed' old new (NoRoom is unread nothing) = λ done. absurd (cc (is, done))
 
--- a run's report is that of the script's rotation
-pub report-rotation : (script : ScriptText) (log : Log) (lists : List Receipts) → log.entries ≡ rotation script →
+-- what a report shows of a core after a script's rotation
+figures-rotation : (script : ScriptText) (core : Core) → core.limits ≡ script.limits → apps_of core ≡ length script.apps → core.log.entries ≡ rotation script →
+    figures_shown core.limits (state_of core) ≡ figures_after script.limits (length script.apps) (rotation script)
+figures-rotation script core limits apps history =
+    ap (λ l. figures_after l (apps_of core) core.log.entries) limits
+    ∙ ap (λ n. figures_after script.limits n core.log.entries) apps
+    ∙ ap (figures_after script.limits (length script.apps)) history
+
+-- what is reported of a run is what is reported of the script's rotation
+pub part-rotation : (part : Part) (script : ScriptText) (core : Core) (lists : List Receipts) →
+    core.limits ≡ script.limits → apps_of core ≡ length script.apps → core.log.entries ≡ rotation script →
     map (λ list. list.receipts) lists ≡ map (receipts_told script (rotation script)) (range_with_len 1 (length script.apps)) →
-    report_of log lists ≡ rotation_report script
-report-rotation script log lists history told = ap (λ entries. report_text entries (map (λ list. list.receipts) lists)) history ∙ ap (report_text (rotation script)) told
+    part_of part core.log lists (figures_shown core.limits (state_of core)) ≡ rotation_part part script
+part-rotation Whole script core lists limits apps history told =
+    ap (report_text core.log.entries (map (λ list. list.receipts) lists)) (figures-rotation script core limits apps history)
+    ∙ ap (λ entries. report_text entries (map (λ list. list.receipts) lists) (figures_after script.limits (length script.apps) (rotation script))) history
+    ∙ ap (λ receipts. report_text (rotation script) receipts (figures_after script.limits (length script.apps) (rotation script))) told
+part-rotation Ending script core lists limits apps history told = ap ending_text (figures-rotation script core limits apps history)
 
--- the same run in other words, where what guards told is what the traits tell
-pub lockstep-as : {result : HostStatus} {fed fed' fed₂ fed₂' : Fed} {old new old₂ new₂ : Made} → fed₂ ≡ fed → fed₂' ≡ fed' → old₂ ≡ old → new₂ ≡ new →
-    Lockstep result fed₂ fed₂' old₂ new₂ → Lockstep result fed fed' old new
-lockstep-as {result} {fed} {fed'} {fed₂} {fed₂'} {old} {new} {old₂} {new₂} one two three four ends =
-    subst (λ n. Lockstep result fed fed' old n) four (subst (λ o. Lockstep result fed fed' o new₂) three
-    (subst (λ f. Lockstep result fed f old₂ new₂) two (subst (λ f. Lockstep result f fed₂' old₂ new₂) one ends)))
-
-pub other-as : {result : HostStatus} {fed fed' fed₂ fed₂' : Fed} {old new old₂ new₂ : Made} → fed₂ ≡ fed → fed₂' ≡ fed' → old₂ ≡ old → new₂ ≡ new →
-    OtherWords result fed₂ fed₂' old₂ new₂ → OtherWords result fed fed' old new
-other-as {result} {fed} {fed'} {fed₂} {fed₂'} {old} {new} {old₂} {new₂} one two three four ends =
-    subst (λ n. OtherWords result fed fed' old n) four (subst (λ o. OtherWords result fed fed' o new₂) three
-    (subst (λ f. OtherWords result fed f old₂ new₂) two (subst (λ f. OtherWords result f fed₂' old₂ new₂) one ends)))
+-- the same in other words, where what guards told is what the traits tell
+pub serves-as : {wanted : Option Task} {result : HostStatus} {fed fed' fed₂ fed₂' : Fed} {old new old₂ new₂ : Made} → fed₂ ≡ fed → fed₂' ≡ fed' → old₂ ≡ old → new₂ ≡ new →
+    Serves wanted result fed₂ fed₂' old₂ new₂ → Serves wanted result fed fed' old new
+serves-as {wanted} {result} {fed} {fed'} {fed₂} {fed₂'} {old} {new} {old₂} {new₂} one two three four serves =
+    subst (λ n. Serves wanted result fed fed' old n) four (subst (λ o. Serves wanted result fed fed' o new₂) three
+    (subst (λ f. Serves wanted result fed f old₂ new₂) two (subst (λ f. Serves wanted result f fed₂' old₂ new₂) one serves)))
 
 pub fed-as : {left left' : Option (List ℕ)} {faults faults' : ℕ} → left ≡ left' → faults ≡ faults' →
     (let f : Fed = record { left = left; faults = faults } in f) ≡ record { left = left'; faults = faults' }

@@ -1,3 +1,5 @@
 pub mod CopyLaws
 pub mod Ends
+pub mod Figures
+pub mod Numbers
 pub mod Sizes

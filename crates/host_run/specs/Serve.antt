@@ -1,5 +1,5 @@
 -- What the program does: what it reads, what it writes and what it shows an audit, by how it ended.
-use Rattle.std.specs.Prelude.{◌≡◌, ◌⊎◌, ℕ, List, ◌++◌, length, map, codes, decimal, Option, Some, Result, Ok, Err}
+use Rattle.std.specs.Prelude.{◌≡◌, ◌⊎◌, ℕ, List, ◌++◌, length, map, codes, decimal, Option, Some, None, Result, Ok, Err}
 use Rattle.std.specs.List.{range_with_len}
 use Rattle.fsw_base.specs.Guards.{GuardedSink, GuardedSource}
 use Rattle.fsw_base.specs.Outside.{Rose}
@@ -8,16 +8,26 @@ use Rattle.fsw_base.specs.declared.script_faults.FaultKind.TheVariants.{TooLarge
 use Rattle.fsw_base.specs.declared.script_faults.ScriptFault.{ScriptFault}
 use Rattle.bus_words.specs.declared.history.Entry.{Entry}
 use Rattle.bus_words.specs.Held.{HoldsNothing}
+use Rattle.bus_words.specs.Log.{Log}
 use Rattle.bus_words.specs.Machine.{IsLegal, state_after}
+use Rattle.bus_words.specs.ReceiptLists.{Receipts}
+use Rattle.fsw_base.specs.Limits.{Limits}
 use Rattle.text_page.specs.Pieces.{Grew, CutShort}
-use Rattle.run_report.specs.Report.{report_text}
+use Rattle.run_report.specs.CounterText.{BusFigures}
+use Rattle.run_report.specs.Report.{ending_text, figures_shown, report_of, report_text}
 use Rattle.app_script.specs.Grammar.{built_script}
 use Rattle.script_runs.specs.Rotation.{rotation}
 use Rattle.app_script.specs.Script.{ScriptText}
 use Rattle.script_runs.specs.Told.{receipts_told}
 use Rattle.script_runs.specs.Trace.{Merges}
+use Rattle.script_generate.specs.Generated.{generated}
+use Rattle.script_printing.specs.ScriptSpelling.{spelled_script}
 use Rattle.host_run.specs.Audit.{IsShown, GuardedAudit}
 use Rattle.host_run.specs.Input.{IsWhole, IsTooLarge, IsPartRead}
+use Rattle.host_run.specs.declared.reporting.Part.{Part}
+use Rattle.host_run.specs.declared.reporting.Part.TheVariants.{Whole, Ending}
+use Rattle.host_run.specs.declared.words.Task.{Task}
+use Rattle.host_run.specs.declared.words.Task.TheVariants as task
 use Rattle.host_run.specs.declared.status.HostStatus.{HostStatus}
 use Rattle.host_run.specs.declared.status.HostStatus.TheVariants as status
 
@@ -25,7 +35,7 @@ use Rattle.host_run.specs.declared.status.HostStatus.TheVariants as status
 
 -- the line that tells which words the program knows
 abbrev pub usage_text : List ℕ
-usage_text = codes "usage: lockstep\n"
+usage_text = codes "usage: lockstep | gen N | soak N\n"
 
 -- the line that tells a fault
 abbrev pub fault_text : ScriptFault → List ℕ
@@ -35,13 +45,30 @@ fault_text fault = codes "script:" ++ decimal fault.line ++ codes ":" ++ fault_n
 abbrev pub too_large : ScriptFault
 too_large = record { line = 0; kind = TooLarge }
 
--- the report of a script's history, with what each of its applications tells of what it received
-abbrev pub report : ScriptText → List Entry → List ℕ
-report script history = report_text history (map (receipts_told script history) (range_with_len 1 (length script.apps)))
+-- what a report shows of the bus after a history of so many applications, beside the history
+abbrev pub figures_after : Limits → ℕ → List Entry → BusFigures
+figures_after limits apps history = figures_shown limits (state_after limits apps history)
 
--- the report of a script, run in rotation
-abbrev pub rotation_report : ScriptText → List ℕ
-rotation_report script = report script (rotation script)
+-- the report of a script's history, with what each of its applications tells of what it received, and with the figures of the bus
+-- after it
+abbrev pub report : ScriptText → List Entry → List ℕ
+report script history =
+    report_text history (map (receipts_told script history) (range_with_len 1 (length script.apps)))
+    (figures_after script.limits (length script.apps) history)
+
+-- the end of this report, from its line `counters` on
+abbrev pub report_ending : ScriptText → List Entry → List ℕ
+report_ending script history = ending_text (figures_after script.limits (length script.apps) history)
+
+-- this much of the report of a script, run in rotation
+abbrev pub rotation_part : Part → ScriptText → List ℕ
+rotation_part Whole script = report script (rotation script)
+rotation_part Ending script = report_ending script (rotation script)
+
+-- this much of the report of a journal, of the applications' lists of receipts, and of these figures
+abbrev pub part_of : Part → Log → List Receipts → BusFigures → List ℕ
+part_of Whole log lists figures = report_of log lists figures
+part_of Ending log lists figures = ending_text figures
 
 -- A source: the input left, where it is told, and the count of its faults.
 pub record Fed : Type 0 where
@@ -86,30 +113,40 @@ pub record TellsFront (old new : Made) (text : List ℕ) : Type 0 where
   pub cause : Rose old.faults new.faults
   pub shown : new.shown ≡ old.shown
 
--- the history of the script's rotation was shown, and its report written
-pub record Reports (old new : Made) (script : ScriptText) : Type 0 where
-  pub written : Grew old.written new.written (rotation_report script)
-  pub shown : IsShown old.shown new.shown (rotation script)
+-- a history was shown, and a text written
+pub record Reports (old new : Made) (history : List Entry) (text : List ℕ) : Type 0 where
+  pub written : Grew old.written new.written text
+  pub shown : IsShown old.shown new.shown history
 
--- the history was shown, a front of the report written, and the sink's count of faults rose
-pub record ReportsFront (old new : Made) (script : ScriptText) : Type 0 where
-  pub front : CutShort old.written new.written (rotation_report script)
+-- a history was shown, a front of a text written, and the sink's count of faults rose
+pub record ReportsFront (old new : Made) (history : List Entry) (text : List ℕ) : Type 0 where
+  pub front : CutShort old.written new.written text
   pub cause : Rose old.faults new.faults
-  pub shown : IsShown old.shown new.shown (rotation script)
+  pub shown : IsShown old.shown new.shown history
 
 -- what a wanted end, or a failing sink in its place, made of a text
 abbrev pub EndsTelling : HostStatus → HostStatus → Made → Made → List ℕ → Type 0
 EndsTelling wanted result old new text =
     ((result ≡ wanted) × Tells old new text) ⊎ ((result ≡ status.WriteFault) × TellsFront old new text)
 
--- what was made of a script, by how it ended
-abbrev pub EndsScript : HostStatus → ScriptText → Made → Made → Type 0
-EndsScript status.Done script old new = Reports old new script
-EndsScript status.WriteFault script old new = ReportsFront old new script
-EndsScript status.NoMemory script old new = MakesNothing old new
-EndsScript status.Usage script old new = ⊥
-EndsScript (status.Script fault) script old new = ⊥
-EndsScript status.ReadFault script old new = ⊥
+-- what was made of a script of which this much is reported, by how it ended: the history of its rotation was shown, and that part
+-- of its report written
+abbrev pub EndsScript : HostStatus → Part → ScriptText → Made → Made → Type 0
+EndsScript status.Done part script old new = Reports old new (rotation script) (rotation_part part script)
+EndsScript status.WriteFault part script old new = ReportsFront old new (rotation script) (rotation_part part script)
+EndsScript status.NoMemory part script old new = MakesNothing old new
+EndsScript status.Usage part script old new = ⊥
+EndsScript (status.Script fault) part script old new = ⊥
+EndsScript status.ReadFault part script old new = ⊥
+
+-- what was made of a text that takes memory, by how it ended
+abbrev pub EndsText : HostStatus → List ℕ → Made → Made → Type 0
+EndsText status.Done text old new = Tells old new text
+EndsText status.WriteFault text old new = TellsFront old new text
+EndsText status.NoMemory text old new = MakesNothing old new
+EndsText status.Usage text old new = ⊥
+EndsText (status.Script fault) text old new = ⊥
+EndsText status.ReadFault text old new = ⊥
 
 -- what was made of an input that is no script, or one that isn't run yet, by how it ended
 abbrev pub EndsRefused : HostStatus → ScriptFault → Made → Made → Type 0
@@ -122,7 +159,7 @@ EndsRefused status.ReadFault fault old new = ⊥
 
 -- what was made of an input, by what it is: a script, or the first fault
 abbrev pub EndsInput : HostStatus → Result ScriptText ScriptFault → Made → Made → Type 0
-EndsInput result (Ok script) old new = EndsScript result script old new
+EndsInput result (Ok script) old new = EndsScript result Whole script old new
 EndsInput result (Err fault) old new = EndsRefused result fault old new
 
 -- On the word `lockstep` one of these happened.
@@ -136,10 +173,27 @@ pub data Lockstep (result : HostStatus) (fed fed' : Fed) (old new : Made) : Type
   -- no memory for the input, of which nothing was read
   NoRoom : result ≡ status.NoMemory → fed' ≡ fed → MakesNothing old new → Lockstep result fed fed' old new
 
+-- on `gen` and a number nothing is read, and the generated script of this number is written
+pub record Generates (result : HostStatus) (number : ℕ) (fed fed' : Fed) (old new : Made) : Type 0 where
+  pub unread : fed' ≡ fed
+  pub ends : EndsText result (spelled_script (generated number)) old new
+
+-- on `soak` and a number nothing is read; the generated script of this number is run, and the end of its report written
+pub record Soaks (result : HostStatus) (number : ℕ) (fed fed' : Fed) (old new : Made) : Type 0 where
+  pub unread : fed' ≡ fed
+  pub ends : EndsScript result Ending (generated number) old new
+
 -- on other words nothing is read, and the usage line is written
 pub record OtherWords (result : HostStatus) (fed fed' : Fed) (old new : Made) : Type 0 where
   pub unread : fed' ≡ fed
   pub usage : EndsTelling status.Usage result old new usage_text
+
+-- what happened, by what the words ask for
+pub record Serves (wanted : Option Task) (result : HostStatus) (fed fed' : Fed) (old new : Made) : Type 0 where
+  pub lockstep : wanted ≡ Some task.Lockstep → Lockstep result fed fed' old new
+  pub generates : (number : ℕ) → wanted ≡ Some (task.Generate number) → Generates result number fed fed' old new
+  pub soaks : (number : ℕ) → wanted ≡ Some (task.Soak number) → Soaks result number fed fed' old new
+  pub other_words : wanted ≡ None → OtherWords result fed fed' old new
 
 -- Causes. --
 
@@ -159,6 +213,10 @@ Completes result fed fed' old new =
     (input : List ℕ) (script : ScriptText) → fed.left ≡ Some input → built_script input ≡ Ok script →
     ¬ Rose fed.faults fed'.faults → ¬ Rose old.faults new.faults →
     (result ≡ status.Done) ⊎ (result ≡ status.NoMemory)
+
+-- where nothing was read, and the sink's count of faults didn't rise, all was done or there was no memory
+abbrev pub CompletesUnread : HostStatus → Made → Made → Type 0
+CompletesUnread result old new = ¬ Rose old.faults new.faults → (result ≡ status.Done) ⊎ (result ≡ status.NoMemory)
 
 -- The headline of runs in rotation: where all was done, the whole input was read and is a script, and there is a
 -- history that the bus can have under the script's limits, that merges the calls of the script's applications, each once

@@ -1,13 +1,32 @@
--- The words of a command line, as far as any form of them needs.
-use Rattle.std.specs.Prelude.{ℕ, nat_lt, Bool, false, List, [], ◌∷◌, ◌++◌, length, take, codes, if◌then◌else◌}
+-- The words of a command line, as far as any form of them needs, and what they ask for.
+use Rattle.std.specs.Prelude.{ℕ, ◌&&◌, nat_le, nat_lt, List, [], ◌∷◌, ◌++◌, length, take, codes, Option, Some, None, if◌then◌else◌}
+use Rattle.std.specs.Option.{option_map}
 use Rattle.std.specs.Str.{bytes_eq}
+use Rattle.script_words.specs.Numbers.{is_decimal, value_in}
+use Rattle.host_run.specs.declared.words.Task.{Task}
+use Rattle.host_run.specs.declared.words.Task.TheVariants.{Lockstep, Generate, Soak}
 
 -- the words with the first 64 bytes of one more, where there are fewer than five
 abbrev pub with_word : List (List ℕ) → List ℕ → List (List ℕ)
 with_word words word = if nat_lt (length words) 5 then words ++ take 64 word ∷ [] else words
 
--- the one word `lockstep`
-abbrev pub is_lockstep : List (List ℕ) → Bool
-is_lockstep [] = false
-is_lockstep (word ∷ []) = bytes_eq word (codes "lockstep")
-is_lockstep (word ∷ other ∷ others) = false
+-- the number that a word spells in decimal, with no needless 0 before it; none past 4294967295
+abbrev pub decimal_number : List ℕ → Option ℕ
+decimal_number word = if is_decimal word && nat_le (value_in 10 word) 4294967295 then Some (value_in 10 word) else None
+
+-- what one word asks for: `lockstep`
+abbrev pub task_alone : List ℕ → Option Task
+task_alone word = if bytes_eq word (codes "lockstep") then Some Lockstep else None
+
+-- what a word asks for with a number behind it: `gen N` or `soak N`
+abbrev pub task_with : List ℕ → List ℕ → Option Task
+task_with word number =
+    if bytes_eq word (codes "gen") then option_map Generate (decimal_number number)
+    else (if bytes_eq word (codes "soak") then option_map Soak (decimal_number number) else None)
+
+-- what the words ask for; none where the program doesn't know them
+abbrev pub task_of : List (List ℕ) → Option Task
+task_of [] = None
+task_of (word ∷ []) = task_alone word
+task_of (word ∷ number ∷ []) = task_with word number
+task_of (word ∷ number ∷ other ∷ others) = None

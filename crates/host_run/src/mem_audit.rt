@@ -161,7 +161,7 @@ fn copy_entry(target: &mut BusJournal, journal: &BusJournal, i: u32) -> bool
     ensures { CopiesEntry target.old target.new journal.now.entries i result }
 {
     let BusEntry { app, call, answer } = journal.get(i);
-    let fits = has_room(target, app, call);
+    let fits = has_room(target, app, &call);
     if fits {
         target.push(&BusEntry { app, call, answer });
     }
@@ -169,8 +169,8 @@ fn copy_entry(target: &mut BusJournal, journal: &BusJournal, i: u32) -> bool
 }
 
 // Whether the application may add this call.
-fn has_room(journal: &BusJournal, app: AppNo, call: BusCall<'_>) -> bool
-    ensures { result ≡ has_room (left_of journal.now) app (call_bytes (call_of call.entry)) }
+fn has_room(journal: &BusJournal, app: AppNo, call: &BusCall<'_>) -> bool
+    ensures { result ≡ has_room (left_of journal.now) app (call_bytes (call_of call.now)) }
 {
     if app.get() > journal.apps() {
         return false;
@@ -179,13 +179,14 @@ fn has_room(journal: &BusJournal, app: AppNo, call: BusCall<'_>) -> bool
     1 <= left.entries && byte_count(call) <= left.bytes as usize
 }
 
-// The bytes of the call's name or message.
-fn byte_count(call: BusCall<'_>) -> usize
-    ensures { result ≡ call_bytes (call_of call.entry) }
+// The bytes of the call's name, message or text.
+fn byte_count(call: &BusCall<'_>) -> usize
+    ensures { result ≡ call_bytes (call_of call.now) }
 {
     match call {
         BusCall::Create { name, .. } | BusCall::Find { name } => name.len(),
         BusCall::Transmit { bytes, .. } | BusCall::TransmitBuffer { bytes, .. } => bytes.len(),
+        BusCall::SendEvent { text, .. } => text.len(),
         BusCall::Delete { .. }
         | BusCall::SetOpts { .. }
         | BusCall::GetOpts { .. }
@@ -201,6 +202,12 @@ fn byte_count(call: BusCall<'_>) -> usize
         | BusCall::PoolGet { .. }
         | BusCall::PoolPut { .. }
         | BusCall::PoolFigures { .. }
+        | BusCall::Register { .. }
+        | BusCall::ResetFilter { .. }
+        | BusCall::LogMode { .. }
+        | BusCall::ClearLog
+        | BusCall::Housekeeping
+        | BusCall::Figures
         | BusCall::End => 0,
     }
 }

@@ -28,6 +28,14 @@ const REPORT: &[u8] = b"fsw 1\nbus\n\
     11 a1 pget 0 8 -> NO_SUCH_POOL\n\
     12 a1 end -> CFE_SUCCESS\n\
     receipts\n\
+    events\n\
+    counters\n\
+    bus nosub=0 send=0 recv=0 create=0 sub=0 opts=0 find=0 dup=0 limit=0 overflow=0\n\
+    use msgids=0/0 pipes=0/0 subs=0/0 buffers=0/0 bytes=0/0\n\
+    pool size=524288 free=524288 requests=0 errors=0\n\
+    apool 1 size=176 free=16 requests=3 errors=2\n\
+    aclass 1 64 made=2 free=2\n\
+    evs sent=0 filtered=0 cut=0 refused=0 logged=0 lost=0 mode=1\n\
     end\n";
 
 // The second block size of the first pool, on the bus that was shown.

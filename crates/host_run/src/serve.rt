@@ -1,20 +1,24 @@
 //! The top call: all that the program does.
-ghost use Rattle.std.specs.Prelude.{◌≡◌, ◌≤◌, ◌⊎◌, true, false};
+ghost use Rattle.std.specs.Prelude.{◌≡◌, ◌≤◌, ◌⊎◌, ℕ, Some, None, true, false};
 ghost use Rattle.app_script.specs.Grammar.{built_script};
+ghost use Rattle.script_generate.specs.Generated.{generated};
+ghost use Rattle.script_printing.specs.ScriptSpelling.{spelled_script};
 ghost use Rattle.host_run.specs.Audit.{GuardedAudit};
-ghost use Rattle.host_run.specs.Serve.{Headline, Lockstep, OtherWords, HasCauses, Completes, fed_by, made_by, fed_through, made_through, EndsInput, EndsScript, EndsRefused, EndsTelling, usage_text};
+ghost use Rattle.host_run.specs.Serve.{Headline, Lockstep, Generates, Soaks, OtherWords, Serves, HasCauses, Completes, CompletesUnread, fed_by, made_by, fed_through, made_through, EndsInput, EndsScript, EndsText, EndsRefused, EndsTelling, usage_text};
 ghost use Rattle.host_run.specs.Status.{is_read_fault, is_write_fault};
-ghost use Rattle.host_run.specs.Words.{is_lockstep};
+ghost use Rattle.host_run.specs.Words.{task_of};
 
 use crate::audit::{Audit, AuditGuard};
 use crate::fault_line::write_fault;
 use crate::reading::{Reading, read_all};
-use crate::reporting::write_report;
+use crate::reporting::{Part, write_part};
 use crate::status::HostStatus;
-use crate::words::Words;
+use crate::words::{Task, Words};
 use app_run::{Finished, Regions, lockstep};
 use app_script::{ReadFail, Script, read_script};
 use fsw_base::{FaultKind, Gate, ScriptFault, Sink, SinkGuard, Source, SourceGuard, WriteFault};
+use script_generate::generate;
+use script_printing::print_script;
 use std::alloc::Global;
 use text_page::write_text;
 
@@ -24,8 +28,11 @@ const TOO_LARGE: ScriptFault = ScriptFault {
     kind: FaultKind::TooLarge,
 };
 
-/// Does what the words say: on `lockstep` it reads a script from the source to its end, runs it in
-/// strict rotation, shows the bus to the audit, and writes the report to the sink.
+/// Does what the words say. On `lockstep` it reads a script from the source to its end, runs it in
+/// strict rotation, shows the bus to the audit, and writes the report to the sink. On `gen N` it
+/// reads nothing, and writes the generated script of number N. On `soak N` it reads nothing, runs
+/// that script as `lockstep` would, shows the bus to the audit, and writes the end of the report,
+/// from its line `counters` on. N is in decimal, with no needless 0 before it, at most 4294967295.
 ///
 /// - `Usage`, on all other words: nothing is read, and the usage line is written.
 /// - `Script`, where the input is no script, or has a line that the program doesn't run yet, or is
@@ -36,6 +43,8 @@ const TOO_LARGE: ScriptFault = ScriptFault {
 /// - `WriteFault`, only where the sink's count of faults rose, or stands at its last value: a front
 ///   of the text due is written.
 /// - `NoMemory`, never on other words: nothing is written; by the code, no application ran.
+///
+/// On `gen N` and `soak N` no answer but `Done`, `WriteFault` and `NoMemory` comes.
 pub fn serve<R, S: Source, K: Sink, G: Gate, A: Audit>(
     _rt: &R,
     alloc: Global,
@@ -45,30 +54,48 @@ pub fn serve<R, S: Source, K: Sink, G: Gate, A: Audit>(
     _gate: &G,
     audit: &mut A,
 ) -> HostStatus
-    ensures headline { is_lockstep words.now ≡ true → Headline result
+    ensures headline { task_of words.now ≡ Some Task.Lockstep → Headline result
         (fed_by S.left S.faults source.old) (fed_by S.left S.faults source.new)
         (made_by K.written K.faults A.shown sink.old audit.old)
         (made_by K.written K.faults A.shown sink.new audit.new) }
 
     // What was read, written and shown, by how it ended.
-    ensures lockstep { is_lockstep words.now ≡ true → Lockstep result
+    ensures lockstep { task_of words.now ≡ Some Task.Lockstep → Lockstep result
         (fed_by S.left S.faults source.old) (fed_by S.left S.faults source.new)
         (made_by K.written K.faults A.shown sink.old audit.old)
         (made_by K.written K.faults A.shown sink.new audit.new) }
-    ensures other_words { is_lockstep words.now ≡ false → OtherWords result
+    ensures generates { (number : ℕ) → task_of words.now ≡ Some (Task.Generate number) →
+        Generates result number
+        (fed_by S.left S.faults source.old) (fed_by S.left S.faults source.new)
+        (made_by K.written K.faults A.shown sink.old audit.old)
+        (made_by K.written K.faults A.shown sink.new audit.new) }
+    ensures soaks { (number : ℕ) → task_of words.now ≡ Some (Task.Soak number) →
+        Soaks result number
+        (fed_by S.left S.faults source.old) (fed_by S.left S.faults source.new)
+        (made_by K.written K.faults A.shown sink.old audit.old)
+        (made_by K.written K.faults A.shown sink.new audit.new) }
+    ensures other_words { task_of words.now ≡ None → OtherWords result
         (fed_by S.left S.faults source.old) (fed_by S.left S.faults source.new)
         (made_by K.written K.faults A.shown sink.old audit.old)
         (made_by K.written K.faults A.shown sink.new audit.new) }
 
-    // Why it ended so; these follow from the two above.
-    ensures causes { is_lockstep words.now ≡ true → HasCauses result
+    // Why it ended so; these follow from those above.
+    ensures causes { (task : Task) → task_of words.now ≡ Some task → HasCauses result
         (fed_by S.left S.faults source.old) (fed_by S.left S.faults source.new)
         (made_by K.written K.faults A.shown sink.old audit.old)
         (made_by K.written K.faults A.shown sink.new audit.new) }
-    ensures usage_or_fault { is_lockstep words.now ≡ false → (result ≡ HostStatus.Usage) ⊎
+    ensures usage_or_fault { task_of words.now ≡ None → (result ≡ HostStatus.Usage) ⊎
         (result ≡ HostStatus.WriteFault) }
-    ensures complete { is_lockstep words.now ≡ true → Completes result
+    ensures complete { task_of words.now ≡ Some Task.Lockstep → Completes result
         (fed_by S.left S.faults source.old) (fed_by S.left S.faults source.new)
+        (made_by K.written K.faults A.shown sink.old audit.old)
+        (made_by K.written K.faults A.shown sink.new audit.new) }
+    ensures complete_generates { (number : ℕ) → task_of words.now ≡ Some (Task.Generate number) →
+        CompletesUnread result
+        (made_by K.written K.faults A.shown sink.old audit.old)
+        (made_by K.written K.faults A.shown sink.new audit.new) }
+    ensures complete_soaks { (number : ℕ) → task_of words.now ≡ Some (Task.Soak number) →
+        CompletesUnread result
         (made_by K.written K.faults A.shown sink.old audit.old)
         (made_by K.written K.faults A.shown sink.new audit.new) }
 {
@@ -84,11 +111,7 @@ fn serve_guarded<S: Source, K: Sink, A: Audit>(
     sink: &mut K,
     audit: &mut A,
 ) -> HostStatus
-    ensures lockstep { is_lockstep words.now ≡ true → Lockstep result
-        (fed_by S.left S.faults source.old) (fed_by S.left S.faults source.new)
-        (made_by K.written K.faults A.shown sink.old audit.old)
-        (made_by K.written K.faults A.shown sink.new audit.new) }
-    ensures other_words { is_lockstep words.now ≡ false → OtherWords result
+    ensures { Serves (task_of words.now) result
         (fed_by S.left S.faults source.old) (fed_by S.left S.faults source.new)
         (made_by K.written K.faults A.shown sink.old audit.old)
         (made_by K.written K.faults A.shown sink.new audit.new) }
@@ -114,11 +137,8 @@ fn serve_words<S: Source, K: Sink, A: Audit>(
     requires no_read_failed { source.old.failed ≡ false }
     requires no_write_failed { sink.old.failed ≡ false }
     requires untouched { sink.old.untouched ≡ true }
-    ensures lockstep { is_lockstep words.now ≡ true →
-        Lockstep result (fed_through source.old) (fed_through source.new)
-        (made_through sink.old audit.old) (made_through sink.new audit.new) }
-    ensures other_words { is_lockstep words.now ≡ false →
-        OtherWords result (fed_through source.old) (fed_through source.new)
+    ensures serves { Serves (task_of words.now) result
+        (fed_through source.old) (fed_through source.new)
         (made_through sink.old audit.old) (made_through sink.new audit.new) }
     ensures read_failed { source.new.failed ≡ is_read_fault result }
     ensures write_failed { sink.new.failed ≡ is_write_fault result }
@@ -126,9 +146,32 @@ fn serve_words<S: Source, K: Sink, A: Audit>(
     ensures same_sink { sink.new.sink ≡ sink.old.sink }
     ensures same_audit { audit.new.audit ≡ audit.old.audit }
 {
-    if !words.is_lockstep() {
-        return tell_usage(sink);
+    match words.task() {
+        Some(Task::Lockstep) => serve_source(alloc, source, sink, audit),
+        Some(Task::Generate(number)) => write_generated(alloc, number, sink),
+        Some(Task::Soak(number)) => soak(alloc, number, sink, audit),
+        None => tell_usage(sink),
     }
+}
+
+// Runs the script that the source gives.
+fn serve_source<S: Source, K: Sink, A: Audit>(
+    alloc: Global,
+    source: &mut SourceGuard<'_, S>,
+    sink: &mut SinkGuard<'_, K>,
+    audit: &mut AuditGuard<'_, A>,
+) -> HostStatus
+    requires no_read_failed { source.old.failed ≡ false }
+    requires no_write_failed { sink.old.failed ≡ false }
+    requires untouched { sink.old.untouched ≡ true }
+    ensures end { Lockstep result (fed_through source.old) (fed_through source.new)
+        (made_through sink.old audit.old) (made_through sink.new audit.new) }
+    ensures read_failed { source.new.failed ≡ is_read_fault result }
+    ensures write_failed { sink.new.failed ≡ is_write_fault result }
+    ensures same_source { source.new.source ≡ source.old.source }
+    ensures same_sink { sink.new.sink ≡ sink.old.sink }
+    ensures same_audit { audit.new.audit ≡ audit.old.audit }
+{
     match read_all(alloc, source) {
         Reading::Whole(text) => serve_text(alloc, &text, sink, audit),
         Reading::TooLarge => refuse(sink, TOO_LARGE),
@@ -154,22 +197,64 @@ fn serve_text<K: Sink, A: Audit>(
     ensures same_audit { audit.new.audit ≡ audit.old.audit }
 {
     match read_script(alloc, text) {
-        Ok(script) => serve_script(alloc, &script, sink, audit),
+        Ok(script) => serve_script(alloc, &script, Part::Whole, sink, audit),
         Err(ReadFail::Fault(fault)) => refuse(sink, fault),
         Err(ReadFail::Memory(_)) => HostStatus::NoMemory,
     }
 }
 
-// Runs the script, shows its bus to the audit, and writes its report.
-fn serve_script<K: Sink, A: Audit>(
+// Writes the generated script of a number.
+fn write_generated<K: Sink>(alloc: Global, number: u32, sink: &mut SinkGuard<'_, K>) -> HostStatus
+    requires { sink.old.failed ≡ false }
+    ensures end { (audit : GuardedAudit) →
+        EndsText result (spelled_script (generated number)) (made_through sink.old audit)
+        (made_through sink.new audit) }
+    ensures failed { sink.new.failed ≡ is_write_fault result }
+    ensures no_read_fault { is_read_fault result ≡ false }
+    ensures same_sink { sink.new.sink ≡ sink.old.sink }
+{
+    let Ok(script) = generate(alloc, number) else {
+        return HostStatus::NoMemory;
+    };
+    match print_script(&script, sink) {
+        Ok(()) => HostStatus::Done,
+        Err(WriteFault) => HostStatus::WriteFault,
+    }
+}
+
+// Runs the generated script of a number, and writes the end of its report.
+fn soak<K: Sink, A: Audit>(
     alloc: Global,
-    script: &Script,
+    number: u32,
     sink: &mut SinkGuard<'_, K>,
     audit: &mut AuditGuard<'_, A>,
 ) -> HostStatus
     requires none_failed { sink.old.failed ≡ false }
     requires untouched { sink.old.untouched ≡ true }
-    ensures end { EndsScript result script.now (made_through sink.old audit.old)
+    ensures end { EndsScript result Part.Ending (generated number)
+        (made_through sink.old audit.old) (made_through sink.new audit.new) }
+    ensures failed { sink.new.failed ≡ is_write_fault result }
+    ensures no_read_fault { is_read_fault result ≡ false }
+    ensures same_sink { sink.new.sink ≡ sink.old.sink }
+    ensures same_audit { audit.new.audit ≡ audit.old.audit }
+{
+    let Ok(script) = generate(alloc, number) else {
+        return HostStatus::NoMemory;
+    };
+    serve_script(alloc, &script, Part::Ending, sink, audit)
+}
+
+// Runs the script, shows its bus to the audit, and writes so much of its report.
+fn serve_script<K: Sink, A: Audit>(
+    alloc: Global,
+    script: &Script,
+    part: Part,
+    sink: &mut SinkGuard<'_, K>,
+    audit: &mut AuditGuard<'_, A>,
+) -> HostStatus
+    requires none_failed { sink.old.failed ≡ false }
+    requires untouched { sink.old.untouched ≡ true }
+    ensures end { EndsScript result part script.now (made_through sink.old audit.old)
         (made_through sink.new audit.new) }
     ensures failed { sink.new.failed ≡ is_write_fault result }
     ensures no_read_fault { is_read_fault result ≡ false }
@@ -179,13 +264,14 @@ fn serve_script<K: Sink, A: Audit>(
     let Ok(mut regions) = Regions::new(alloc, script.config()) else {
         return HostStatus::NoMemory;
     };
-    run_script(alloc, script, &mut regions, sink, audit)
+    run_script(alloc, script, part, &mut regions, sink, audit)
 }
 
 // The same, with the memory that the messages of the run lie in.
 fn run_script<K: Sink, A: Audit>(
     alloc: Global,
     script: &Script,
+    part: Part,
     regions: &mut Regions,
     sink: &mut SinkGuard<'_, K>,
     audit: &mut AuditGuard<'_, A>,
@@ -193,7 +279,7 @@ fn run_script<K: Sink, A: Audit>(
     requires regions { script.now.limits.pool ≤ regions.old.pool }
     requires none_failed { sink.old.failed ≡ false }
     requires untouched { sink.old.untouched ≡ true }
-    ensures end { EndsScript result script.now (made_through sink.old audit.old)
+    ensures end { EndsScript result part script.now (made_through sink.old audit.old)
         (made_through sink.new audit.new) }
     ensures failed { sink.new.failed ≡ is_write_fault result }
     ensures no_read_fault { is_read_fault result ≡ false }
@@ -204,7 +290,7 @@ fn run_script<K: Sink, A: Audit>(
         return HostStatus::NoMemory;
     };
     audit.closed(&bus, sink);
-    match write_report(&bus, receipts.as_slice(), sink) {
+    match write_part(&bus, receipts.as_slice(), part, sink) {
         Ok(()) => HostStatus::Done,
         Err(WriteFault) => HostStatus::WriteFault,
     }
@@ -235,7 +321,7 @@ fn tell_usage<K: Sink>(sink: &mut SinkGuard<'_, K>) -> HostStatus
     ensures no_read_fault { is_read_fault result ≡ false }
     ensures same_sink { sink.new.sink ≡ sink.old.sink }
 {
-    match write_text(sink, b"usage: lockstep\n") {
+    match write_text(sink, b"usage: lockstep | gen N | soak N\n") {
         Ok(()) => HostStatus::Usage,
         Err(WriteFault) => HostStatus::WriteFault,
     }

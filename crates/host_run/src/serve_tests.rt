@@ -22,16 +22,47 @@ const REPORT: &[u8] = b"fsw 1\nbus\n\
     5 a1 end -> CFE_SUCCESS\n\
     receipts\n\
     a1 msg p1 n1 id=0x0801 seq=1 size=8 sum=236 head=0801c00100011011\n\
+    events\n\
+    counters\n\
+    bus nosub=0 send=0 recv=0 create=0 sub=0 opts=0 find=0 dup=0 limit=0 overflow=0\n\
+    use msgids=1/1 pipes=0/1 subs=0/1 buffers=0/1 bytes=0/8\n\
+    pool size=524288 free=524264 requests=1 errors=0\n\
+    class 8 made=1 free=1\n\
+    evs sent=0 filtered=0 cut=0 refused=0 logged=0 lost=0 mode=1\n\
     end\n";
 
 /// How many calls of a source or a sink are made to fail, one in each run.
 const CALLS: u32 = 40;
 
+/// How the generated script of number 0 begins.
+const GENERATED: &[u8] = b"app G1\ncreate p0 8 P1\nsub 0x0801 p0 4 global\nsub 0x0802 p0 4 global\n\
+    send 0x0801 19 101 inc\nalloc b0 44\nform b0 0x0804 29\nxmit b0 inc\n";
+
+/// And how its report ends.
+const SOAKED: &[u8] = b"counters\n\
+    bus nosub=1 send=0 recv=0 create=0 sub=0 opts=0 find=0 dup=0 limit=590 overflow=0\n\
+    use msgids=4/4 pipes=0/4 subs=0/8 buffers=0/32 bytes=0/1472\n\
+    pool size=524288 free=521112 requests=544 errors=0\n\
+    class 8 made=3 free=3\n\
+    class 16 made=7 free=7\n\
+    class 32 made=18 free=18\n\
+    class 48 made=14 free=14\n\
+    class 64 made=14 free=14\n\
+    evs sent=591 filtered=0 cut=0 refused=0 logged=20 lost=571 mode=1\n\
+    end\n";
+
+// So many words.
+fn words_of(words: &[&str]) -> Words {
+    let mut kept = Words::new();
+    for word in words {
+        kept.add(word);
+    }
+    kept
+}
+
 // The words `lockstep`.
 fn lockstep() -> Words {
-    let mut words = Words::new();
-    words.add("lockstep");
-    words
+    words_of(&["lockstep"])
 }
 
 // How a run over this input ends, and what it writes.
@@ -65,6 +96,13 @@ const ROTATION_REPORT: &[u8] = b"fsw 1\nbus\n\
     receipts\n\
     a1 msg p1 n1 id=0x0801 seq=1 size=7 sum=203 head=0801c001000001\n\
     a1 msg p1 n1 id=0x0801 seq=1 size=7 sum=203 head=0801c001000001\n\
+    events\n\
+    counters\n\
+    bus nosub=0 send=0 recv=0 create=0 sub=0 opts=0 find=0 dup=0 limit=0 overflow=0\n\
+    use msgids=1/1 pipes=0/1 subs=0/1 buffers=0/1 bytes=0/8\n\
+    pool size=524288 free=524264 requests=1 errors=0\n\
+    class 8 made=1 free=1\n\
+    evs sent=0 filtered=0 cut=0 refused=0 logged=0 lost=0 mode=1\n\
     end\n";
 
 /// Two applications that wait, each on a pipe that nobody sends to.
@@ -79,6 +117,12 @@ const PENDING_REPORT: &[u8] = b"fsw 1\nbus\n\
     6 a1 look 1 -> CFE_SB_TIME_OUT\n\
     7 a1 end -> CFE_SUCCESS\n\
     receipts\n\
+    events\n\
+    counters\n\
+    bus nosub=0 send=0 recv=0 create=0 sub=0 opts=0 find=0 dup=0 limit=0 overflow=0\n\
+    use msgids=0/0 pipes=0/2 subs=0/0 buffers=0/0 bytes=0/0\n\
+    pool size=524288 free=524288 requests=0 errors=0\n\
+    evs sent=0 filtered=0 cut=0 refused=0 logged=0 lost=0 mode=1\n\
     end\n";
 
 // The status of a script with this fault.
@@ -124,30 +168,76 @@ fn scripts_print_their_reports(rt: HostRuntime) -> Result<(), Fail> {
 
 #[test]
 fn other_words_are_told_the_usage(rt: HostRuntime) -> Result<(), Fail> {
-    let cases: [&[&str]; 4] = [
+    let cases: [&[&str]; 11] = [
         &[],
         &["walk"],
         &["lockstep", "x"],
         &["lockstep", "lockstep"],
+        &["gen"],
+        &["gen", "00"],
+        &["gen", "0x1"],
+        &["soak", "+1"],
+        &["soak", "4294967296"],
+        &["soak", "99999999999999999999"],
+        &["gen", "1", "2"],
     ];
     for case in &cases {
-        let mut words = Words::new();
-        for word in *case {
-            words.add(word);
-        }
         let mut source = MemSource::new(SCRIPT, 1000, &[]);
         let mut sink = MemSink::new(rt.alloc(), 100, 1000, &[])?;
         let status = serve(
             &rt,
             rt.alloc(),
-            &words,
+            &words_of(case),
             &mut source,
             &mut sink,
             &OpenGate,
             &mut NoAudit,
         );
         assert_eq!(rt; status.exit_status(), 2);
-        assert_eq!(rt; sink.written(), b"usage: lockstep\n".as_slice());
+        assert_eq!(rt;
+            sink.written(),
+            b"usage: lockstep | gen N | soak N\n".as_slice()
+        );
+    }
+    Ok(())
+}
+
+// What the program writes on two words, from a source whose first read would fail.
+fn run_unread(
+    rt: &HostRuntime,
+    words: [&str; 2],
+) -> Result<(HostStatus, MemSink<'static>), AllocError> {
+    let mut source = MemSource::new(SCRIPT, 1000, &[1]);
+    let mut sink = MemSink::new(rt.alloc(), 100_000, 1000, &[])?;
+    let status = serve(
+        rt,
+        rt.alloc(),
+        &words_of(&words),
+        &mut source,
+        &mut sink,
+        &OpenGate,
+        &mut NoAudit,
+    );
+    Ok((status, sink))
+}
+
+#[test]
+fn scripts_are_generated_by_number(rt: HostRuntime) -> Result<(), Fail> {
+    let (status, sink) = run_unread(&rt, ["gen", "0"])?;
+    assert_eq!(rt; status, HostStatus::Done);
+    assert!(rt; sink.written().starts_with(GENERATED));
+    let (status, last) = run_unread(&rt, ["gen", "4294967295"])?;
+    assert_eq!(rt; status, HostStatus::Done);
+    assert!(rt; last.written().starts_with(b"app G1\n"));
+    Ok(())
+}
+
+#[test]
+fn soak_runs_tell_their_counters_alone(rt: HostRuntime) -> Result<(), Fail> {
+    for _ in 0..2 {
+        let (status, sink) = run_unread(&rt, ["soak", "0"])?;
+        assert_eq!(rt; status, HostStatus::Done);
+        assert_eq!(rt; sink.written(), SOAKED);
     }
     Ok(())
 }
@@ -213,7 +303,7 @@ fn fail_write<R: Abort>(rt: &R, alloc: Global, piece: usize, call: u32) -> Resul
 
 #[test]
 fn failures_in_mid_stream_leave_nothing_or_a_front(rt: HostRuntime) -> Result<(), Fail> {
-    for piece in [1, 7, 1000] {
+    for piece in [1, 16, 1000] {
         for call in 1..=CALLS {
             fail_read(&rt, rt.alloc(), piece, call)?;
             fail_write(&rt, rt.alloc(), piece, call)?;

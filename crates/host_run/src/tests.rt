@@ -1,17 +1,21 @@
 //! The parts of the top call on their happy path.
 
 use crate::mem_audit::MemAudit;
-use crate::words::Words;
+use crate::words::{Task, Words};
 use fsw_base::Budget;
 use std::test::Fail;
 
 #[test]
-fn one_word_is_lockstep(rt: HostRuntime) {
+fn words_ask_for_tasks(rt: HostRuntime) {
     let mut words = Words::new();
     words.add("lockstep");
-    assert!(rt; words.is_lockstep());
+    assert_eq!(rt; words.task(), Some(Task::Lockstep));
     words.add("lockstep");
-    assert!(rt; !words.is_lockstep());
+    assert_eq!(rt; words.task(), None);
+    let mut generate = Words::new();
+    generate.add("gen");
+    generate.add("4294967295");
+    assert_eq!(rt; generate.task(), Some(Task::Generate(u32::MAX)));
 }
 
 #[test]

@@ -1,8 +1,9 @@
-//! The words of the command line, as far as any form of them needs.
+//! The words of the command line, as far as any form of them needs, and what they ask for.
 ghost use Rattle.std.specs.Prelude.{◌≡◌, ℕ, ◌≤◌, List, [], length, take};
-ghost use Rattle.host_run.specs.Words.{with_word, is_lockstep};
+ghost use Rattle.host_run.specs.Words.{with_word, decimal_number, task_alone, task_with, task_of};
 
 use arrayvec::ArrayVec;
+use script_words::numbers::number;
 use std::marker::Model;
 
 // How many words are kept at most: no form of the words has a fifth.
@@ -10,6 +11,17 @@ const MAX_WORDS: usize = 5;
 
 // How many bytes of a word are kept at most: no form has a word as long.
 const MAX_WORD_BYTES: usize = 64;
+
+/// What the words of a command line ask for.
+#[derive(Clone, Copy, Debug, PartialEq, Eq)]
+pub enum Task {
+    /// `lockstep`: to run the script that is read, and to write its report.
+    Lockstep,
+    /// `gen N`: to write the generated script of this number.
+    Generate(u32),
+    /// `soak N`: to run the generated script of this number, and to write the end of its report.
+    Soak(u32),
+}
 
 // The first bytes of a word.
 #[derive(Drop)]
@@ -75,15 +87,51 @@ impl Words {
         }
     }
 
-    /// Whether they are the one word `lockstep`.
-    pub fn is_lockstep(&self) -> bool
-        ensures { result ≡ is_lockstep self.now }
+    /// What they ask for; None where the program doesn't know them.
+    pub fn task(&self) -> Option<Task>
+        ensures { result ≡ task_of self.now }
     {
         match self.words.as_slice() {
-            [word] => word.bytes.as_slice() == b"lockstep".as_slice(),
-            _ => false,
+            [word] => task_alone(word.bytes.as_slice()),
+            [word, number] => task_with(word.bytes.as_slice(), number.bytes.as_slice()),
+            _ => None,
         }
     }
+}
+
+// What one word asks for.
+fn task_alone(word: &[u8]) -> Option<Task>
+    ensures { result ≡ task_alone word.now }
+{
+    if word == b"lockstep".as_slice() {
+        Some(Task::Lockstep)
+    } else {
+        None
+    }
+}
+
+// What a word asks for with a number behind it.
+fn task_with(word: &[u8], number: &[u8]) -> Option<Task>
+    ensures { result ≡ task_with word.now number.now }
+{
+    let number = decimal_number(number)?;
+    if word == b"gen".as_slice() {
+        Some(Task::Generate(number))
+    } else if word == b"soak".as_slice() {
+        Some(Task::Soak(number))
+    } else {
+        None
+    }
+}
+
+// The number that a word spells in decimal, with no needless 0 before it.
+fn decimal_number(word: &[u8]) -> Option<u32>
+    ensures { result ≡ decimal_number word.now }
+{
+    if word.starts_with(b"0x") {
+        return None;
+    }
+    number(word).ok()
 }
 
 // As many of the bytes as a word keeps.

@@ -1,3 +1,4 @@
+pub mod Accounts
 pub mod Legal
 pub mod Splitting
 pub mod Telling

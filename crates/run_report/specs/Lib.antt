@@ -1,4 +1,6 @@
 pub mod BusText
+pub mod CounterText
+pub mod EventText
 pub mod ReadBack
 pub mod ReceiptText
 pub mod Report

@@ -2,10 +2,11 @@
 use Rattle.std.specs.Prelude.{◌≡◌, ℕ, ◌^◌, ◌<◌, ◌&&◌, nat_le, nat_lt, Bool, true, false, List, [], ◌∷◌, map, IsTrue}
 use Rattle.std.specs.List.{list_all}
 use Rattle.fsw_base.specs.declared.config.PoolStats.{PoolStats}
+use Rattle.fsw_base.specs.declared.config.BusStats.{BusStats}
 use Rattle.bus_words.specs.declared.calls.BusAnswer.{BusAnswer}
-use Rattle.bus_words.specs.declared.calls.BusAnswer.TheVariants.{Done, Number, Name, Sent, Got, TimeOut, Pending, Pool, Sb, Es}
+use Rattle.bus_words.specs.declared.calls.BusAnswer.TheVariants.{Done, Number, Name, Sent, Got, TimeOut, Pending, Pool, Bus, Sb, Es, Evs}
 use Rattle.bus_words.specs.declared.history.Call.{Call}
-use Rattle.bus_words.specs.declared.history.Call.TheVariants.{Create, Delete, SetOpts, GetOpts, Find, PipeName, Subscribe, Unsubscribe, Transmit, Receive, Pend, Look, Allocate, TransmitBuffer, Release, PoolCreate, PoolGet, PoolPut, PoolFigures, End}
+use Rattle.bus_words.specs.declared.history.Call.TheVariants.{Create, Delete, SetOpts, GetOpts, Find, PipeName, Subscribe, Unsubscribe, Transmit, Receive, Pend, Look, Allocate, TransmitBuffer, Release, PoolCreate, PoolGet, PoolPut, PoolFigures, Register, SendEvent, ResetFilter, LogMode, ClearLog, Housekeeping, Figures, End}
 use Rattle.bus_words.specs.declared.history.Entry.{Entry}
 
 -- a printed byte that is no blank
@@ -33,6 +34,13 @@ has_plain_name (PoolCreate bytes) = true
 has_plain_name (PoolGet pool size) = true
 has_plain_name (PoolPut pool grant) = true
 has_plain_name (PoolFigures pool) = true
+has_plain_name (Register filters) = true
+has_plain_name (SendEvent id kind text) = true
+has_plain_name (ResetFilter id) = true
+has_plain_name (LogMode mode) = true
+has_plain_name ClearLog = true
+has_plain_name Housekeeping = true
+has_plain_name Figures = true
 has_plain_name End = true
 
 -- whether a call can be answered so: refused, or with what it tells where it is done; a receive that may wait also that no
@@ -40,6 +48,7 @@ has_plain_name End = true
 abbrev pub can_answer : Call → BusAnswer → Bool
 can_answer call (Sb status) = true
 can_answer call (Es status) = true
+can_answer call (Evs status) = true
 can_answer (Create depth name) (Number number) = true
 can_answer (Delete pipe) Done = true
 can_answer (SetOpts pipe bits) Done = true
@@ -63,6 +72,13 @@ can_answer (PoolCreate bytes) (Number number) = true
 can_answer (PoolGet pool size) (Number number) = true
 can_answer (PoolPut pool grant) Done = true
 can_answer (PoolFigures pool) (Pool figures) = true
+can_answer (Register filters) Done = true
+can_answer (SendEvent id kind text) Done = true
+can_answer (ResetFilter id) Done = true
+can_answer (LogMode mode) Done = true
+can_answer ClearLog Done = true
+can_answer Housekeeping (Sent number reached) = true
+can_answer Figures (Bus stats) = true
 can_answer End Done = true
 can_answer call answer = false
 
@@ -76,12 +92,19 @@ tells_plain_name (Got number) = true
 tells_plain_name TimeOut = true
 tells_plain_name Pending = true
 tells_plain_name (Pool figures) = true
+tells_plain_name (Bus stats) = true
 tells_plain_name (Sb status) = true
 tells_plain_name (Es status) = true
+tells_plain_name (Evs status) = true
 
 -- whether the figures of a pool have 32 bits
 abbrev pub are_short : PoolStats → Bool
 are_short figures = list_all (λ number. nat_lt number (2 ^ 32)) (figures.size ∷ figures.requests ∷ figures.errors ∷ figures.free ∷ [])
+
+-- whether the figures of the bus have 32 bits
+abbrev pub are_short_stats : BusStats → Bool
+are_short_stats stats =
+    list_all (λ number. nat_lt number (2 ^ 32)) (stats.nosub ∷ stats.limit ∷ stats.overflow ∷ stats.buffers ∷ stats.bytes ∷ [])
 
 -- whether an answer's numbers have 32 bits
 abbrev pub has_short_numbers : BusAnswer → Bool
@@ -93,8 +116,10 @@ has_short_numbers (Name name) = true
 has_short_numbers TimeOut = true
 has_short_numbers Pending = true
 has_short_numbers (Pool figures) = are_short figures
+has_short_numbers (Bus stats) = are_short_stats stats
 has_short_numbers (Sb status) = true
 has_short_numbers (Es status) = true
+has_short_numbers (Evs status) = true
 
 -- an entry as the applications of a script make them
 pub record IsPlain (e : Entry) : Type 0 where

@@ -1,13 +1,13 @@
 //! The lines on the calls of the software bus.
 ghost use Rattle.std.specs.Prelude.{◌≡◌, ℕ, ◌++◌, codes, decimal};
-ghost use Rattle.bus_words.specs.declared.history.Call.TheVariants.{Create, Find, Subscribe, Unsubscribe, Transmit, TransmitBuffer};
+ghost use Rattle.bus_words.specs.declared.history.Call.TheVariants.{Create, Find, Subscribe, Unsubscribe, Transmit, TransmitBuffer, SendEvent};
 ghost use Rattle.bus_words.specs.Entries.{call_of, entry_of};
 ghost use Rattle.text_page.specs.Pieces.{Puts};
-ghost use Rattle.run_report.specs.BusText.{scope_text, mode_text, call_text, figures_text, answer_text, entry_text, entries_text};
+ghost use Rattle.run_report.specs.BusText.{scope_text, mode_text, call_text, figures_text, stats_text, answer_text, entry_text, entries_text};
 
 use crate::sums::sum_of;
 use bus_words::{BusAnswer, BusCall, BusEntry, BusJournal};
-use fsw_base::{PoolStats, Scope, Sink, SinkGuard};
+use fsw_base::{BusStats, EventKind, PoolStats, Scope, Sink, SinkGuard};
 use text_page::{Page, put, put_hex_id, put_name, put_number};
 
 /// Puts the lines of a journal, whose entries are numbered from 1.
@@ -69,6 +69,13 @@ fn put_call<K: Sink>(sink: &mut SinkGuard<'_, K>, page: &mut Page, call: &BusCal
         BusCall::PoolGet { pool, size } => put_pair(sink, page, b"pget ", *pool, *size),
         BusCall::PoolPut { pool, grant } => put_pair(sink, page, b"pput ", *pool, *grant),
         BusCall::PoolFigures { pool } => put_numbered(sink, page, b"pstats ", *pool),
+        BusCall::Register { filters } => put_numbered(sink, page, b"evreg ", filters.count()),
+        BusCall::SendEvent { id, kind, text } => put_event(sink, page, *id, *kind, text),
+        BusCall::ResetFilter { id } => put_numbered(sink, page, b"evreset ", u32::from(*id)),
+        BusCall::LogMode { mode } => put_numbered(sink, page, b"logmode ", u32::from(*mode)),
+        BusCall::ClearLog => put(sink, page, b"logclear"),
+        BusCall::Housekeeping => put(sink, page, b"hk"),
+        BusCall::Figures => put(sink, page, b"stats"),
         BusCall::End => put(sink, page, b"end"),
     }
 }
@@ -177,6 +184,24 @@ fn put_transmit_buffer<K: Sink>(
     put_mode(sink, page, inc);
 }
 
+// Puts an event: its id, its kind and how long its text is.
+fn put_event<K: Sink>(
+    sink: &mut SinkGuard<'_, K>,
+    page: &mut Page,
+    id: u16,
+    kind: EventKind,
+    text: &[u8],
+)
+    ensures { Puts sink.old sink.new page.old page.new (call_text (SendEvent id kind text.now)) }
+{
+    put(sink, page, b"event ");
+    put_number(sink, page, id);
+    put(sink, page, b" ");
+    put_number(sink, page, kind.number());
+    put(sink, page, b" ");
+    put_number(sink, page, text.len());
+}
+
 // Puts a subscription's scope.
 fn put_scope<K: Sink>(sink: &mut SinkGuard<'_, K>, page: &mut Page, scope: Scope)
     ensures { Puts sink.old sink.new page.old page.new (scope_text scope) }
@@ -211,6 +236,21 @@ fn put_figures<K: Sink>(sink: &mut SinkGuard<'_, K>, page: &mut Page, figures: &
     put_number(sink, page, figures.free);
 }
 
+// Puts the figures of the bus.
+fn put_stats<K: Sink>(sink: &mut SinkGuard<'_, K>, page: &mut Page, stats: &BusStats)
+    ensures { Puts sink.old sink.new page.old page.new (stats_text stats.now) }
+{
+    put_number(sink, page, stats.nosub);
+    put(sink, page, b" ");
+    put_number(sink, page, stats.limit);
+    put(sink, page, b" ");
+    put_number(sink, page, stats.overflow);
+    put(sink, page, b" ");
+    put_number(sink, page, stats.buffers);
+    put(sink, page, b" ");
+    put_number(sink, page, stats.bytes);
+}
+
 // Puts an answer.
 fn put_answer<K: Sink>(sink: &mut SinkGuard<'_, K>, page: &mut Page, answer: &BusAnswer)
     ensures { Puts sink.old sink.new page.old page.new (answer_text answer.now) }
@@ -235,7 +275,12 @@ fn put_answer<K: Sink>(sink: &mut SinkGuard<'_, K>, page: &mut Page, answer: &Bu
             put(sink, page, b"CFE_SUCCESS ");
             put_figures(sink, page, figures);
         }
+        BusAnswer::Bus(stats) => {
+            put(sink, page, b"CFE_SUCCESS ");
+            put_stats(sink, page, stats);
+        }
         BusAnswer::Sb(status) => put(sink, page, status.name().as_bytes()),
         BusAnswer::Es(status) => put(sink, page, status.name().as_bytes()),
+        BusAnswer::Evs(status) => put(sink, page, status.name().as_bytes()),
     }
 }

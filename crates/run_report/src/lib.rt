@@ -1,10 +1,10 @@
-//! The report of a run: the calls of the software bus with their answers, and what each application
-//! received, as text written to a sink.
+//! The report of a run: the calls of the software bus with their answers, what each application
+//! received, the event log, and what was counted, as text written to a sink.
 //!
 //! It promises that the sink is given exactly the report's text, or, where it fails, a front of it.
 //!
 //! ```text
-//! write_journal(bus.journal(), &receipts, &mut sink)?;
+//! write_report(bus.journal(), &receipts, &readings, &mut sink)?;
 //! // fsw 1
 //! // bus
 //! // 1 a1 create 4 ALPHA -> CFE_SUCCESS 1
@@ -12,11 +12,16 @@
 //! ```
 #![tactic(auto)]
 
+mod counters;
 mod entries;
+mod events;
 mod laws;
+mod pools;
+mod readings;
 mod receipts;
 mod sums;
 mod writer;
 
 pub use laws::reports_tell_applications_and_answers;
-pub use writer::write_journal;
+pub use readings::BusReadings;
+pub use writer::{write_ending, write_report};

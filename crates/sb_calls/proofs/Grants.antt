@@ -5,7 +5,7 @@ use Rattle.std.proofs.lemmas.List.Elements.{All-get_or}
 use Rattle.fsw_base.specs.Limits.{Limits}
 use Rattle.pool_words.specs.Grants.{PoolGrants, Pools, new_pool, is_pool, pool_in, has_numbers}
 use Rattle.bus_words.specs.declared.history.Call.{Call}
-use Rattle.bus_words.specs.declared.history.Call.TheVariants.{Create, Delete, SetOpts, GetOpts, Find, PipeName, Subscribe, Unsubscribe, Transmit, Receive, Pend, Look, Allocate, TransmitBuffer, Release, PoolCreate, PoolGet, PoolPut, PoolFigures, End}
+use Rattle.bus_words.specs.declared.history.Call.TheVariants.{Create, Delete, SetOpts, GetOpts, Find, PipeName, Subscribe, Unsubscribe, Transmit, Receive, Pend, Look, Allocate, TransmitBuffer, Release, PoolCreate, PoolGet, PoolPut, PoolFigures, Register, SendEvent, ResetFilter, LogMode, ClearLog, Housekeeping, Figures, End}
 use Rattle.bus_words.specs.Bus.{ArePools}
 use Rattle.sb_core.specs.Core.{has_grant_numbers}
 
@@ -45,4 +45,11 @@ grants_left limits entries s (PoolCreate bytes) are few = refl
 grants_left limits entries s (PoolGet pool size) are few = numbers_left limits entries s pool are few
 grants_left limits entries s (PoolPut pool grant) are few = refl
 grants_left limits entries s (PoolFigures pool) are few = refl
+grants_left limits entries s (Register filters) are few = refl
+grants_left limits entries s (SendEvent id kind text) are few = refl
+grants_left limits entries s (ResetFilter id) are few = refl
+grants_left limits entries s (LogMode mode) are few = refl
+grants_left limits entries s ClearLog are few = refl
+grants_left limits entries s Housekeeping are few = refl
+grants_left limits entries s Figures are few = refl
 grants_left limits entries s End are few = refl

@@ -3,6 +3,7 @@ use Rattle.std.proofs.Common.{◌≡◌, ℕ, ◌==◌, ◌&&◌, ◌||◌, not,
 use Rattle.std.specs.Option.{option_map, option_map_or, option_and_then}
 use Rattle.fsw_base.specs.declared.config.PoolStats.{PoolStats}
 use Rattle.fsw_base.specs.declared.statuses.EsStatus.{EsStatus}
+use Rattle.fsw_base.specs.declared.statuses.EvsStatus.{EvsStatus}
 use Rattle.fsw_base.specs.declared.statuses.SbStatus.{SbStatus}
 use Rattle.lend_block.specs.Loan.{LentBytes}
 use Rattle.lend_block.specs.declared.note.Note.{Note}
@@ -11,7 +12,7 @@ use Rattle.buf_desc.specs.Held.{Holding, view_at}
 use Rattle.bus_words.specs.declared.calls.BusAnswer.{BusAnswer}
 use Rattle.bus_words.specs.declared.calls.BusAnswer.TheVariants.{Done, Number, Got}
 use Rattle.bus_words.specs.declared.history.Call.{Call}
-use Rattle.bus_words.specs.declared.history.Call.TheVariants.{Create, Delete, GetOpts, Find, Receive, Pend, Look, Allocate, PoolCreate, PoolGet, End}
+use Rattle.bus_words.specs.declared.history.Call.TheVariants.{Create, Delete, GetOpts, Find, Receive, Pend, Look, Allocate, PoolCreate, PoolGet, Register, End}
 use Rattle.bus_words.specs.declared.history.Entry.{Entry}
 use Rattle.bus_words.specs.Alone.{gets_from}
 use Rattle.bus_words.specs.Bus.{Item, Pipe, State, standing_of, is_live, owns, pipe_at, has_unsent, without_all_unsent}
@@ -25,7 +26,7 @@ use Rattle.bus_words.proofs.Unsent.{AreUnsent-after}
 use Rattle.bus_words.proofs.UnsentSteps.{all_gone-unsent}
 use Rattle.bus_store.specs.Words.{last_of, loan_of, desc_of}
 use Rattle.sb_core.specs.declared.calls.Sent.{Sent}
-use Rattle.sb_core.specs.Answers.{created, found, bits_told, named, done, sent, pool_told, grant_back, figures_told}
+use Rattle.sb_core.specs.Answers.{created, found, bits_told, named, done, sent, pool_told, grant_back, figures_told, event_told}
 use Rattle.sb_core.specs.Bags.{HasBag, KeepsAllLoans, KeepsLoans, KeepsOtherLoans, KeepsAllDescs, KeepsOtherDescs}
 use Rattle.sb_core.specs.Core.{Plain, Acts}
 use Rattle.sb_calls.specs.declared.bus_core.BusCore.TheInside.{Inside}
@@ -73,6 +74,10 @@ pub back-nothing : (told : Result (Unit {0}) EsStatus) (call : Call) (name : ℕ
 back-nothing (Ok nothing) call name = refl
 back-nothing (Err status) call name = refl
 
+pub event-nothing : (told : Result (Unit {0}) EvsStatus) (call : Call) (name : ℕ) → note_due (event_told told) call name ≡ Nothing
+event-nothing (Ok nothing) call name = refl
+event-nothing (Err status) call name = refl
+
 pub figures-nothing : (told : Result PoolStats EsStatus) (call : Call) (name : ℕ) → note_due (figures_told told) call name ≡ Nothing
 figures-nothing (Ok figures) call name = refl
 figures-nothing (Err status) call name = refl
@@ -114,15 +119,24 @@ module _ (a : Inside) (core : Plain) (next : NotedLog) (app : ℕ) (call : Call)
       Made a core next app call answer
   made_plain pushed nothing none no_buffer loans descs = made_quiet pushed nothing none no_buffer (λ pipe some had. loans pipe) (λ number now. descs number)
 
+-- A registration, entered with its filters once more.
+pub made_register : (a : Inside) (core : Plain) (next : NotedLog) (app : ℕ) (filters kept : List (ℕ × ℕ)) → kept ≡ filters → Acts a.core core app (Register filters) Done →
+    KeepsAllLoans a.core core → KeepsAllDescs a.core core →
+    next ≡ record { log = with_entry a.noted.log (record { app = app; call = Register kept; answer = Done }); notes = a.noted.notes ++ Nothing ∷ [] } → Made a core next app (Register filters) Done
+made_register a core next app filters kept same acts loans descs pushed =
+    made_plain a core next app (Register filters) Done Done acts refl refl refl
+    (pushed ∙ ap (λ (fs : List (ℕ × ℕ)). record { log = with_entry a.noted.log (record { app = app; call = Register fs; answer = Done }); notes = a.noted.notes ++ Nothing ∷ [] }) same)
+    refl (λ pipe. refl) (λ number. refl) loans descs
+
 -- Calls on one pipe. --
 
-module _ (a : Inside) (core : Plain) (app pipe : ℕ) (loans : KeepsLoans a.core core pipe) (unowned : owns a.core.whole.bus.pipes app pipe ≡ false → core ≡ a.core) where
+module _ (a : Inside) (core : Plain) (app pipe : ℕ) (loans : KeepsLoans a.core core pipe) (unowned : owns a.core.whole.bus.pipes app pipe ≡ false → core.loans ≡ a.core.loans) where
   -- a pipe that gives no message and has one keeps its loan
   kept_here : (gives : Bool) → Fares a.core.whole.bus.pipes core.whole.bus.pipes app pipe gives → gives ≡ false → is_some (last_of core.whole.bus.pipes pipe) ≡ true →
       loan_of core.loans pipe ≡ loan_of a.core.loans pipe
   kept_here gives (Given is own some) none has = absurd (true≢false (sym is ∙ none))
   kept_here gives (Emptied is gone) none has = absurd (true≢false (sym has ∙ ap (λ l. is_some l) gone))
-  kept_here gives (Refused is not_his stays) none has = ap (λ (p : Plain). loan_of p.loans pipe) (unowned not_his)
+  kept_here gives (Refused is not_his stays) none has = ap (λ loans. loan_of loans pipe) (unowned not_his)
 
   -- and every other pipe does
   pub kept_on : (gives : Bool) → Fares a.core.whole.bus.pipes core.whole.bus.pipes app pipe gives → (other : ℕ) → ((pipe == other) ≡ true → gives ≡ false) →
@@ -154,7 +168,7 @@ due-loan pipes loan bag false last pipe own some is = absurd (true≢false (sym 
 module _ (a : Inside) (core : Plain) (next : NotedLog) (app pipe : ℕ) (call : Call) (answer told : BusAnswer) (bag : Holding LentBytes)
     (acts : Acts a.core core app call answer) (makes : IsTrue (makes_entry call answer)) (whole : IsTrue (brings a.core.whole.bus.unsent app call)) (as_told : told ≡ answer)
     (no_buffer : (number : ℕ) → gives_buffer number (record { app = app; call = call; answer = answer }) ≡ false)
-    (loans : KeepsLoans a.core core pipe) (descs : KeepsAllDescs a.core core) (unowned : owns a.core.whole.bus.pipes app pipe ≡ false → core ≡ a.core) (has : HasBag core app bag) where
+    (loans : KeepsLoans a.core core pipe) (descs : KeepsAllDescs a.core core) (unowned : owns a.core.whole.bus.pipes app pipe ≡ false → core.loans ≡ a.core.loans) (has : HasBag core app bag) where
   abbrev e : Entry
   e = record { app = app; call = call; answer = answer }
 
@@ -265,7 +279,7 @@ pub record Left (a : Inside) (core : Plain) (next : NotedLog) (app pipe : ℕ) (
   pub as_told : told ≡ answer
   pub loans : KeepsLoans a.core core pipe
   pub descs : KeepsAllDescs a.core core
-  pub unowned : owns a.core.whole.bus.pipes app pipe ≡ false → core ≡ a.core
+  pub unowned : owns a.core.whole.bus.pipes app pipe ≡ false → core.loans ≡ a.core.loans
   pub pushed : next ≡ record { log = with_entry a.noted.log (record { app = app; call = call; answer = told }); notes = a.noted.notes ++ note ∷ [] }
 
 -- once it is known what was noted
@@ -276,7 +290,7 @@ noted_as a next app call told note pushed other is =
     pushed ∙ ap (λ n. record { log = with_entry a.noted.log (record { app = app; call = call; answer = told }); notes = a.noted.notes ++ n ∷ [] }) is
 
 -- who looks has the pipe
-pub looks_own : (a : Inside) (core : Plain) (app pipe : ℕ) → Stands a → IsTrue (may_call (standing_of a.core.whole.bus app) (Look pipe)) → owns a.core.whole.bus.pipes app pipe ≡ false → core ≡ a.core
+pub looks_own : (a : Inside) (core : Plain) (app pipe : ℕ) → Stands a → IsTrue (may_call (standing_of a.core.whole.bus app) (Look pipe)) → owns a.core.whole.bus.pipes app pipe ≡ false → core.loans ≡ a.core.loans
 looks_own a core app pipe stands may none = absurd (true≢false (sym (waits_own a.core.whole.bus app pipe (waiters_in a stands) may) ∙ none))
 
 module _ (a : Inside) (core : Plain) (next : NotedLog) (app pipe : ℕ) (answer told : BusAnswer) (note : Note) (bag : Holding LentBytes) (has : HasBag core app bag) where

@@ -8,6 +8,7 @@ use Rattle.lend_block.specs.declared.note.Note.{Note}
 use Rattle.lend_block.specs.declared.note.Note.TheVariants.{Nothing, Desc}
 use Rattle.buf_desc.specs.Block.{Unsent}
 use Rattle.buf_desc.specs.Held.{Holding, buffer_at, bytes_at}
+use Rattle.housekeeping.specs.declared.names.CounterName.TheVariants.{Send}
 use Rattle.bus_words.specs.declared.calls.BusAnswer.{BusAnswer}
 use Rattle.bus_words.specs.declared.calls.BusAnswer.TheVariants.{Done, Number, Sent, Sb}
 use Rattle.bus_words.specs.declared.history.Call.TheVariants.{Allocate, TransmitBuffer, Release}
@@ -24,7 +25,7 @@ use Rattle.bus_store.specs.Words.{desc_of, size_for}
 use Rattle.sb_core.specs.declared.calls.Sent.{Sent as SentTo}
 use Rattle.sb_core.specs.Answers.{allocated, sent, done}
 use Rattle.sb_core.specs.Bags.{HasBag, KeepsAllLoans, KeepsDescs}
-use Rattle.sb_core.specs.Core.{Plain, Acts}
+use Rattle.sb_core.specs.Core.{Plain, Acts, with_tick}
 use Rattle.sb_calls.specs.declared.bus_core.BusCore.TheInside.{Inside}
 use Rattle.sb_calls.specs.Inside.{Stands}
 use Rattle.sb_calls.specs.Notes.{NotedLog, note_given, note_told}
@@ -45,7 +46,7 @@ held-desc descs sizes number (Some block) (Some buffer) some is = ap (λ (o : Op
 
 pub made_allocate : (a : Inside) (core : Plain) (next : NotedLog) (app size : ℕ) (result : Result ℕ SbStatus) (told : BusAnswer) (note : Note) (bag : Holding LentBytes) →
     Stands a → app ≤ length a.noted.log.budgets → HasBag core app bag → Acts a.core core app (Allocate size) (allocated result) → told ≡ allocated result →
-    OnErr result (core ≡ a.core) → IfOk result (KeepsDescs a.core core) → KeepsAllLoans a.core core → note ≡ note_told result (buffer_at bag) →
+    OnErr result (core ≡ with_tick a.core Send) → IfOk result (KeepsDescs a.core core) → KeepsAllLoans a.core core → note ≡ note_told result (buffer_at bag) →
     next ≡ record { log = with_entry a.noted.log (record { app = app; call = Allocate size; answer = told }); notes = a.noted.notes ++ note ∷ [] } →
     Made a core next app (Allocate size) (allocated result)
 made_allocate a core next app size (Err status) told note bag stands known has acts as_told same descs loans noted pushed = record {
@@ -94,7 +95,7 @@ stays-noted a core app buf stands descs left number now =
 
 pub made_release : (a : Inside) (core : Plain) (next : NotedLog) (app buf : ℕ) (result : Result (Unit {0}) SbStatus) (told : BusAnswer) →
     Stands a → Acts a.core core app (Release buf) (done result) → told ≡ done result →
-    OnErr result (core ≡ a.core) → KeepsDescs a.core core buf → KeepsAllLoans a.core core →
+    OnErr result (core ≡ with_tick a.core Send) → KeepsDescs a.core core buf → KeepsAllLoans a.core core →
     next ≡ record { log = with_entry a.noted.log (record { app = app; call = Release buf; answer = told }); notes = a.noted.notes ++ Nothing ∷ [] } →
     Made a core next app (Release buf) (done result)
 made_release a core next app buf (Err status) told stands acts as_told same descs loans pushed =
@@ -111,7 +112,7 @@ brings-held a app buf inc bag has =
 
 pub made_transmit_buffer : (a : Inside) (core : Plain) (next : NotedLog) (app buf : ℕ) (bytes : List ℕ) (inc : Bool) (result : Result SentTo SbStatus) (told : BusAnswer) →
     Stands a → IsTrue (brings a.core.whole.bus.unsent app (TransmitBuffer buf bytes inc)) → Acts a.core core app (TransmitBuffer buf bytes inc) (sent result) → told ≡ sent result →
-    OnErr result (core ≡ a.core) → KeepsDescs a.core core buf → KeepsAllLoans a.core core →
+    OnErr result (core ≡ with_tick a.core Send) → KeepsDescs a.core core buf → KeepsAllLoans a.core core →
     next ≡ record { log = with_entry a.noted.log (record { app = app; call = TransmitBuffer buf bytes inc; answer = told }); notes = a.noted.notes ++ Nothing ∷ [] } →
     Made a core next app (TransmitBuffer buf bytes inc) (sent result)
 made_transmit_buffer a core next app buf bytes inc (Err status) told stands whole acts as_told same descs loans pushed =

@@ -10,8 +10,8 @@ use Rattle.bus_words.specs.declared.history.Call.TheVariants as calls
 use Rattle.bus_words.specs.declared.history.Entry.{Entry}
 use Rattle.bus_words.specs.Bus.{Buffer, Sending, State, Subscription, Active, Waiting, with_standing, unsent_of, has_unsent, with_unsent, without_unsent, without_all_unsent, is_empty, is_subscribed, others_idle, route}
 use Rattle.bus_words.specs.Held.{is_unsent, buffers_in, IsUnsentBuffer, AreUnsent}
-use Rattle.bus_words.specs.Refusals.{Refusal, OfBus, OfPools, refusal_answer}
-use Rattle.bus_words.specs.Machine.{by_bus, allocate_cause, transmit_buffer_cause, release_cause, buffer_gone, received, sent_along, passed_along, accept, cause, decided, step}
+use Rattle.bus_words.specs.Refusals.{Refusal, OfBus, OfPools, OfEvents, refusal_answer}
+use Rattle.bus_words.specs.Machine.{packet_in, by_bus, allocate_cause, transmit_buffer_cause, release_cause, buffer_gone, received, sent_along, passed_along, accept, cause, decided, step}
 use Rattle.std.specs.Prelude.{All}
 use Rattle.std.specs.List.{list_any}
 use Rattle.std.proofs.lemmas.List.{get_or-set_same}
@@ -65,6 +65,13 @@ module _ (limits : Limits) (history : List Entry) (s : State) (app n : ℕ) wher
   accepted (calls.PoolGet pool size) none = λ is. is
   accepted (calls.PoolPut pool grant) none = λ is. is
   accepted (calls.PoolFigures pool) none = λ is. is
+  accepted (calls.Register filters) none = λ is. is
+  accepted (calls.SendEvent id kind text) none = λ is. is
+  accepted (calls.ResetFilter id) none = λ is. is
+  accepted (calls.LogMode mode) none = λ is. is
+  accepted calls.ClearLog none = λ is. is
+  accepted calls.Housekeeping none = from-sent n limits s _ (route s.subscriptions (message_id (packet_in limits s)))
+  accepted calls.Figures none = λ is. is
   accepted calls.End none = was_unsent n s.unsent (without_all_unsent s.unsent app) (Each-without_all (OtherBuffer n) s.unsent app)
 
   pub unsent-from : (call : Call) → ByCall call (step limits history s app call)
@@ -80,6 +87,7 @@ module _ (limits : Limits) (history : List Entry) (s : State) (app n : ℕ) wher
   refused-gives : (call : Call) (why : Refusal) → gives_buffer n (record { app = app; call = call; answer = refusal_answer why }) ≡ false
   refused-gives (calls.Allocate size) (OfBus status) = refl
   refused-gives (calls.Allocate size) (OfPools status) = refl
+  refused-gives (calls.Allocate size) (OfEvents status) = refl
   refused-gives call why = refl
 
   next_given : (call : Call) → gives_buffer n (record { app = app; call = call; answer = (accept limits history s app call).0 }) ≡ true → n ≡ s.numbers_given + 1
@@ -124,14 +132,16 @@ is_refusal answer = false
 -- the application has the buffer that it was given
 pub allocated-there : (limits : Limits) (history : List Entry) (s t : State) (app size number : ℕ) → app - 1 < length s.unsent →
     step limits history s app (calls.Allocate size) ≡ (Number number, t) → has_unsent t.unsent app number ≡ true
-allocated-there limits history s t app size number known is = by_cause (allocate_cause limits s size) is
+allocated-there limits history s t app size number known is =
+    by_cause (allocate_cause limits s size) (ap (λ (p : BusAnswer × State). p.0) is) (ap (λ (p : BusAnswer × State). p.1.unsent) is)
   where
-    by_cause : (why : Option SbStatus) → decided limits history s app (calls.Allocate size) (by_bus why) ≡ (Number number, t) → has_unsent t.unsent app number ≡ true
-    by_cause (Some status) same = absurd (true≢false (sym (ap (λ (p : BusAnswer × State). is_number p.0) same)))
-    by_cause None same =
-        let given : s.numbers_given + 1 ≡ number = ap (λ (p : BusAnswer × State). number_in p.0) same in
+    by_cause : (why : Option SbStatus) → (decided limits history s app (calls.Allocate size) (by_bus why)).0 ≡ Number number →
+        (decided limits history s app (calls.Allocate size) (by_bus why)).1.unsent ≡ t.unsent → has_unsent t.unsent app number ≡ true
+    by_cause (Some status) told left = absurd (true≢false (sym (ap is_number told)))
+    by_cause None told left =
+        let given : s.numbers_given + 1 ≡ number = ap number_in told in
         let new : Buffer = record { number = s.numbers_given + 1; size = size } in
-        ap (λ (u : List (List Buffer)). has_unsent u app number) (sym (ap (λ (p : BusAnswer × State). p.1.unsent) same))
+        ap (λ (u : List (List Buffer)). has_unsent u app number) (sym left)
         ∙ ap (λ (bs : List Buffer). is_some (find (λ (buffer : Buffer). buffer.number == number) bs)) (get_or-set_same s.unsent (app - 1) (new ∷ unsent_of s.unsent app) [] known)
         ∙ ap (λ b. is_some (cond {A = Option Buffer} b (Some new) (find (λ (buffer : Buffer). buffer.number == number) (unsent_of s.unsent app)))) (eq-eqb (s.numbers_given + 1) number given)
 
@@ -147,23 +157,27 @@ passed-unsent s sending (sub ∷ subs) = refl
 -- an accepted transmission takes the buffer
 pub transmitted-left : (limits : Limits) (history : List Entry) (s t : State) (app buf number reached : ℕ) (bytes : List ℕ) (inc : Bool) →
     step limits history s app (calls.TransmitBuffer buf bytes inc) ≡ (Sent number reached, t) → HasLeft s t app buf
-transmitted-left limits history s t app buf number reached bytes inc is = by_cause (transmit_buffer_cause s app buf bytes) refl is
+transmitted-left limits history s t app buf number reached bytes inc is =
+    by_cause (transmit_buffer_cause s app buf bytes) refl (ap (λ (p : BusAnswer × State). p.0) is) (ap (λ (p : BusAnswer × State). p.1.unsent) is)
   where
     by_cause : (why : Option SbStatus) → transmit_buffer_cause s app buf bytes ≡ why →
-        decided limits history s app (calls.TransmitBuffer buf bytes inc) (by_bus why) ≡ (Sent number reached, t) → HasLeft s t app buf
-    by_cause (Some status) is same = absurd (true≢false (ap (λ (p : BusAnswer × State). is_refusal p.0) same))
-    by_cause None none same = record {
+        (decided limits history s app (calls.TransmitBuffer buf bytes inc) (by_bus why)).0 ≡ Sent number reached →
+        (decided limits history s app (calls.TransmitBuffer buf bytes inc) (by_bus why)).1.unsent ≡ t.unsent → HasLeft s t app buf
+    by_cause (Some status) is told left = absurd (true≢false (ap is_refusal told))
+    by_cause None none told left = record {
       had = transmit_buffer_cause-none s app buf bytes none;
-      left = sym (ap (λ (p : BusAnswer × State). p.1.unsent) same) ∙ passed-unsent (buffer_gone s app buf) _ (route s.subscriptions (message_id bytes));
+      left = sym left ∙ passed-unsent (buffer_gone s app buf) _ (route s.subscriptions (message_id bytes));
     }
 
 -- and so does a release
 pub released-left : (limits : Limits) (history : List Entry) (s t : State) (app buf : ℕ) → step limits history s app (calls.Release buf) ≡ (Done, t) → HasLeft s t app buf
-released-left limits history s t app buf is = by_cause (release_cause s app buf) refl is
+released-left limits history s t app buf is =
+    by_cause (release_cause s app buf) refl (ap (λ (p : BusAnswer × State). p.0) is) (ap (λ (p : BusAnswer × State). p.1.unsent) is)
   where
-    by_cause : (why : Option SbStatus) → release_cause s app buf ≡ why → decided limits history s app (calls.Release buf) (by_bus why) ≡ (Done, t) → HasLeft s t app buf
-    by_cause (Some status) is same = absurd (true≢false (ap (λ (p : BusAnswer × State). is_refusal p.0) same))
-    by_cause None none same = record { had = release_cause-none s app buf none; left = sym (ap (λ (p : BusAnswer × State). p.1.unsent) same) }
+    by_cause : (why : Option SbStatus) → release_cause s app buf ≡ why → (decided limits history s app (calls.Release buf) (by_bus why)).0 ≡ Done →
+        (decided limits history s app (calls.Release buf) (by_bus why)).1.unsent ≡ t.unsent → HasLeft s t app buf
+    by_cause (Some status) is told left = absurd (true≢false (ap is_refusal told))
+    by_cause None none told left = record { had = release_cause-none s app buf none; left = sym left }
 
 -- no buffer is unsent before the first call
 pub none-first : (apps n : ℕ) → is_unsent (replicate apps []) n ≡ false

@@ -1,9 +1,9 @@
 //! The answers of the calls, as the journal has them.
 ghost use Rattle.std.specs.Prelude.{◌≡◌};
-ghost use Rattle.sb_core.specs.Answers.{created, allocated, found, bits_told, named, done, sent, got, pended, pool_told, grant_back, figures_told};
+ghost use Rattle.sb_core.specs.Answers.{created, allocated, found, bits_told, named, done, sent, got, pended, pool_told, grant_back, figures_told, event_told};
 
 use bus_words::{BusAnswer, PipeText};
-use fsw_base::{EsStatus, PoolStats, SbStatus};
+use fsw_base::{EsStatus, EvsStatus, PoolStats, SbStatus};
 use sb_core::{Pended, Sent};
 
 /// Of the creation of a pipe.
@@ -126,5 +126,15 @@ pub(crate) fn of_figures(told: &Result<PoolStats, EsStatus>) -> BusAnswer
     match told {
         Ok(figures) => BusAnswer::Pool(*figures),
         Err(status) => BusAnswer::Es(*status),
+    }
+}
+
+/// Of a call of event services that may be refused.
+pub(crate) fn of_event(told: &Result<(), EvsStatus>) -> BusAnswer
+    ensures { result ≡ event_told told.now }
+{
+    match told {
+        Ok(()) => BusAnswer::Done,
+        Err(status) => BusAnswer::Evs(*status),
     }
 }

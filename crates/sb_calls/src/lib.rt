@@ -1,15 +1,17 @@
 //! The calls of the software bus (cFE Software Bus): pipes, subscriptions, messages that reach
-//! every pipe subscribed to their id, and buffers that are sent without a copy; and the memory
-//! pools that applications create. Each call is that of the bus without a journal, and one entry of
-//! a journal: the call with its answer. Beside each entry stands a note: where the call gave a
-//! message, the loan of the view that was given; where it gave a buffer, the descriptor of the
-//! block.
+//! every pipe subscribed to their id, and buffers that are sent without a copy; the memory pools
+//! that applications create; and the events that applications send and that the bus tells of their
+//! calls, with what it counts of them. Each call is that of the bus without a journal, and one
+//! entry of a journal: the call with its answer. Beside each entry stands a note: where the call
+//! gave a message, the loan of the view that was given; where it gave a buffer, the descriptor of
+//! the block.
 //!
 //! It promises that each call answers and changes what the bus of the definitions does after the
 //! journal's history; that what a pipe gives is what that pipe alone gives, whatever befalls the
 //! others; that an application's bag has, after each call, the views of its pipes' last messages by
-//! the loans that were noted, and its unsent buffers by the descriptors that were; and that the
-//! steps of a send grow with the subscriptions of its id alone.
+//! the loans that were noted, and its unsent buffers by the descriptors that were; that the event
+//! desk, the counters and the peaks are those that the journal tells; and that the steps of a send
+//! grow with the subscriptions of its id alone.
 //! No call but [`BusCore::new`] has an allocator, and none takes memory by its code.
 //!
 //! ```text
@@ -23,6 +25,9 @@
 //! let buf = core.allocate(app, 64, &mut bag, &mut steps);  // Ok(2): 64 zeros in the bag
 //! // the message is written by bag.buffer_mut(2), and then sent where it lies:
 //! let sent = core.transmit_buffer(app, 2, true, &mut bag, &mut steps);
+//! core.evs_register(app, &filters);                     // from now on it may send events
+//! let told = core.send_event(app, 7, EventKind::Error, b"LOW BUS"); // Ok(())
+//! let line = core.events().log_at(0);                   // event 7 of the application
 //! ```
 #![tactic(auto)]
 
@@ -30,6 +35,8 @@ mod answers;
 mod buffer_calls;
 mod bus_core;
 mod calls;
+mod counter_calls;
+mod event_calls;
 mod laws;
 mod noted;
 mod opening;

@@ -6,15 +6,16 @@ ghost use Rattle.sb_calls.specs.Core.{MayCall};
 
 use crate::bus_core::BusCore;
 use bus_words::{Allowance, BusCall};
-use fsw_base::{AppNo, MAX_MESSAGE_BYTES, MAX_NAME_BYTES};
+use fsw_base::{AppNo, MAX_MESSAGE_BYTES, MAX_NAME_BYTES, MAX_TEXT_BYTES};
 
 impl BusCore<'_> {
     /// Whether the application may make this call now, which is the condition of the call, beside
     /// those on its bag where it takes one along (that the bag is its own and, for an allocation,
     /// that it has room for a buffer more): the core serves it, it is active (for a look, it waits
     /// on that pipe; for its end, it hasn't ended), it has an entry and the call's bytes left, and
-    /// a name has at most 64 bytes, a message at most 65542. A buffer's transmission is asked for
-    /// with the bytes that the bag has of the buffer, none where it has no such buffer.
+    /// a name has at most 64 bytes, a message at most 65542, an event's text at most 200, and a log
+    /// mode is 0 or 1. A buffer's transmission is asked for with the bytes that the bag has of the
+    /// buffer, none where it has no such buffer.
     pub fn may_make(&self, app: AppNo, call: &BusCall<'_>) -> bool
         ensures { IsTrue result ↔ MayCall self.now app (call_of call.now) }
     {
@@ -39,7 +40,7 @@ fn is_permitted(lets: bool, left: Allowance, call: &BusCall<'_>) -> bool
     lets && 1 <= left.entries && bytes <= left.bytes as usize && short
 }
 
-// The bytes of the call's name, message or buffer.
+// The bytes of the call's name, message, buffer or event's text.
 fn bytes_of(call: &BusCall<'_>) -> usize
     ensures { result ≡ call_bytes (call_of call.now) }
 {
@@ -48,11 +49,12 @@ fn bytes_of(call: &BusCall<'_>) -> usize
         BusCall::Find { name } => name.len(),
         BusCall::Transmit { bytes, .. } => bytes.len(),
         BusCall::TransmitBuffer { bytes, .. } => bytes.len(),
+        BusCall::SendEvent { text, .. } => text.len(),
         _ => 0,
     }
 }
 
-// Whether the call's name or message is short enough.
+// Whether the call's name, message or event's text is short enough, and its log mode is one.
 fn is_within(call: &BusCall<'_>) -> bool
     ensures { result ≡ is_within (call_of call.now) }
 {
@@ -60,6 +62,8 @@ fn is_within(call: &BusCall<'_>) -> bool
         BusCall::Create { name, .. } => name.len() <= MAX_NAME_BYTES,
         BusCall::Find { name } => name.len() <= MAX_NAME_BYTES,
         BusCall::Transmit { bytes, .. } => bytes.len() <= MAX_MESSAGE_BYTES as usize,
+        BusCall::SendEvent { text, .. } => text.len() <= MAX_TEXT_BYTES,
+        BusCall::LogMode { mode } => *mode <= 1,
         _ => true,
     }
 }

@@ -10,6 +10,7 @@ ghost use Rattle.sb_core.specs.Answers.{pool_told, grant_back, figures_told};
 
 use crate::answers::{of_back, of_figures, of_pool};
 use crate::bus_core::BusCore;
+use app_pools::AppPools;
 use bucket_list::{Ledger, Steps};
 use bus_words::{BusCall, BusEntry, Call};
 use es_pool::Pool;
@@ -129,5 +130,12 @@ impl<'r> BusCore<'r> {
         ensures { IsAccountOf result.now (pool_in (state_of self.now).pools pool).account }
     {
         self.core.app_pool(pool)
+    }
+
+    /// The memory pools that were created, to be read.
+    pub fn pools(&self) -> &AppPools
+        ensures { result.now ≡ (state_of self.now).pools }
+    {
+        self.core.pools()
     }
 }

@@ -11,7 +11,7 @@ use Rattle.bus_store.specs.Words.{loan_of, desc_of}
 use Rattle.sb_core.specs.declared.plain.SbCore.TheInside.{Inside}
 use Rattle.sb_core.specs.Bags.{HasBag, KeepsBags, KeepsOtherBags}
 use Rattle.sb_core.specs.Core.{Plain}
-use Rattle.sb_core.specs.Inside.{plain_of, Keeps}
+use Rattle.sb_core.specs.Inside.{plain_of, AreInOrder}
 
 -- the bag has the application's views, as the store tells it
 abbrev pub HasViews : Store → ℕ → Holding LentBytes → Type 0
@@ -50,10 +50,10 @@ views_still old new app bag pipes loans room has =
     (subst (λ (r : Room). HoldsViews old.pipes old.loans r.pipes app bag) (sym room) has))
 
 -- there are as many pipes at most as the limits say
-most_pipes : (a b : Inside) → Keeps a → limits_of b.config ≡ limits_of a.config → b.store.room ≡ a.store.room → b.store.room.pipes ≡ (limits_of b.config).pipes
+most_pipes : (a b : Inside) → AreInOrder a → limits_of b.config ≡ limits_of a.config → b.store.room ≡ a.store.room → b.store.room.pipes ≡ (limits_of b.config).pipes
 most_pipes a b keeps limits room = ap (λ (r : Room). r.pipes) (room ∙ keeps.room) ∙ sym (ap (λ (l : Limits). l.pipes) limits)
 
-module _ (a : Inside) (old : Plain) (viewed : plain_of a ≡ old) (keeps : Keeps a) where
+module _ (a : Inside) (old : Plain) (viewed : plain_of a ≡ old) (keeps : AreInOrder a) where
   -- a bag before the call
   pub bag_before : (app : ℕ) (bag : Holding LentBytes) → HasBag old app bag → HasViews a.store app bag
   bag_before app bag has =

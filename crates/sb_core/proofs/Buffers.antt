@@ -6,7 +6,6 @@ use Rattle.std.proofs.lemmas.List.{length-set}
 use Rattle.std.proofs.lemmas.List.Elements.{All-weaker}
 use Rattle.fsw_base.specs.Limits.{Limits, limits_of}
 use Rattle.fsw_base.specs.PoolAccounts.{Account, has_room, after_request}
-use Rattle.fsw_base.specs.declared.statuses.SbStatus.{SbStatus}
 use Rattle.fsw_base.specs.declared.statuses.SbStatus.TheVariants.{BadArgument, MsgTooBig, BufAlocErr, BufferInvalid}
 use Rattle.ccsds_msg.specs.Message.{message_id, front_fault}
 use Rattle.ccsds_msg.specs.declared.packet.MsgFault.{MsgFault}
@@ -15,33 +14,34 @@ use Rattle.buf_desc.specs.Block.{Unsent as UnsentBlock}
 use Rattle.buf_desc.specs.Held.{Holding, buffer_at, bytes_at}
 use Rattle.bus_words.specs.declared.calls.BusAnswer.{BusAnswer}
 use Rattle.bus_words.specs.declared.calls.BusAnswer.TheVariants.{Done, Number, Sent}
-use Rattle.bus_words.specs.declared.calls.BusAnswer.TheVariants as answers
 use Rattle.bus_words.specs.declared.history.Call.TheVariants.{Allocate, TransmitBuffer, Release}
 use Rattle.bus_words.specs.Bus.{State, Buffer, Subscription, Sending, route, deliver, reached, has_unsent, unsent_at, unsent_of, with_unsent, without_unsent}
 use Rattle.bus_words.specs.Held.{account_of}
-use Rattle.bus_words.specs.Machine.{refused_if, by_bus, allocate_cause, transmit_buffer_cause, release_cause, passed_along, buffer_gone}
+use Rattle.bus_words.specs.Machine.{refused_if, allocate_cause, transmit_buffer_cause, release_cause, passed_along, buffer_gone}
 use Rattle.bus_words.specs.Acts.{Whole, NextCount, nexts_after, moved_on, completed}
+use Rattle.bus_tables.specs.declared.misses.Miss.{Miss}
 use Rattle.bus_tables.specs.Rows.{has_way}
+use Rattle.bus_records.specs.Records.{Recordings, told_all, miss_events}
 use Rattle.bus_store.specs.Bag.{Shape, shape_of}
 use Rattle.bus_store.specs.Store.{Store}
 use Rattle.bus_store.specs.Words.{desc_of, size_for, next_of, nexts_in, passing_of, missed, counted_up, with_held}
 use Rattle.sb_core.specs.declared.plain.SbCore.TheInside.{Inside}
-use Rattle.sb_core.specs.Core.{Plain, Acts}
-use Rattle.sb_core.specs.Inside.{plain_of, means, Keeps}
+use Rattle.sb_core.specs.Bags.{HasBag}
+use Rattle.sb_core.specs.Core.{Plain}
+use Rattle.sb_core.specs.Inside.{means, AreInOrder}
 use Rattle.sb_core.specs.Rows.{buffer_cause}
-use Rattle.sb_core.proofs.Accounts.{account_is}
-use Rattle.sb_core.proofs.After.{act_by, accepted_by, acts_by_store, acts_still}
-use Rattle.sb_core.proofs.Bags.{HasBlocks}
+use Rattle.sb_core.proofs.Accounts.{IsHeld, account_is}
+use Rattle.sb_core.proofs.After.{bare, accepted_by}
 use Rattle.sb_core.proofs.Ready.{ready_all, ready_sent}
 use Rattle.sb_core.proofs.Transmits.{request_stays, ids_of-counted_up, has_route-counted_up, once_by_ids, moved_counted}
 
 -- What the bag tells of the application's buffers. --
 
-pub has_alike : (store : Store) (app buf : ℕ) (bag : Holding LentBytes) → HasBlocks store app bag → is_some (buffer_at bag buf) ≡ has_unsent store.unsent app buf
-has_alike store app buf bag has = at (buffer_at bag buf) (unsent_at store.unsent app buf) (has.due buf)
+has_alike : (core : Plain) (app buf : ℕ) (bag : Holding LentBytes) → HasBag core app bag → is_some (buffer_at bag buf) ≡ has_unsent core.whole.bus.unsent app buf
+has_alike core app buf bag has = at (buffer_at bag buf) (unsent_at core.whole.bus.unsent app buf) (has.buffers.due buf)
   where
     shape : Buffer → Shape
-    shape b = record { desc = desc_of store.descs buf; size = size_for store.account.sizes b.size; asked = b.size }
+    shape b = record { desc = desc_of core.descs buf; size = size_for core.limits.sizes b.size; asked = b.size }
 
     at : (o : Option UnsentBlock) (x : Option Buffer) → option_map shape_of o ≡ option_map shape x → is_some o ≡ is_some x
     at None None e = refl
@@ -49,13 +49,18 @@ has_alike store app buf bag has = at (buffer_at bag buf) (unsent_at store.unsent
     at (Some b) None e = absurd (cc (e))
     at (Some b) (Some x) e = refl
 
-pub transmit_told : (a : Inside) (app buf : ℕ) (bag : Holding LentBytes) → HasBlocks a.store app bag → transmit_buffer_cause (means a).bus app buf (bytes_at bag buf) ≡ buffer_cause bag buf
-transmit_told a app buf bag has =
-    ap (λ b. refused_if (not b) BufferInvalid (refused_if (is_some (front_fault (bytes_at bag buf))) BadArgument None)) (sym (has_alike a.store app buf bag has))
+pub transmit_told : (core : Plain) (app buf : ℕ) (bag : Holding LentBytes) → HasBag core app bag → transmit_buffer_cause core.whole.bus app buf (bytes_at bag buf) ≡ buffer_cause bag buf
+transmit_told core app buf bag has =
+    ap (λ b. refused_if (not b) BufferInvalid (refused_if (is_some (front_fault (bytes_at bag buf))) BadArgument None)) (sym (has_alike core app buf bag has))
 
-pub release_told : (a : Inside) (app buf : ℕ) (bag : Holding LentBytes) (there : Bool) → HasBlocks a.store app bag → is_some (buffer_at bag buf) ≡ there →
-    release_cause (means a).bus app buf ≡ refused_if (not there) BufferInvalid None
-release_told a app buf bag there has is = ap (λ b. refused_if (not b) BufferInvalid None) (sym (has_alike a.store app buf bag has) ∙ is)
+pub release_told : (core : Plain) (app buf : ℕ) (bag : Holding LentBytes) (there : Bool) → HasBag core app bag → is_some (buffer_at bag buf) ≡ there →
+    release_cause core.whole.bus app buf ≡ refused_if (not there) BufferInvalid None
+release_told core app buf bag there has is = ap (λ b. refused_if (not b) BufferInvalid None) (sym (has_alike core app buf bag has) ∙ is)
+
+-- whether there is one, as it is looked at
+pub looked_at : {X Y : Type 0} (look : X → Y) (found : Option X) → is_some (option_map look found) ≡ is_some found
+looked_at look None = refl
+looked_at look (Some x) = refl
 
 -- what isn't refused is there, and begins with a message
 pub buffer_there : (bag : Holding LentBytes) (buf : ℕ) → buffer_cause bag buf ≡ None → is_some (buffer_at bag buf) ≡ true
@@ -86,9 +91,9 @@ size_fits limits s size none = at (ltb size 7) (ltb limits.msgmax size) (has_roo
     at false false false e = absurd (cc (e))
 
 -- and the store has it
-pub room_here : (a : Inside) (size : ℕ) → Keeps a → a.store.account ≡ with_held a.store.account a.store.pipes a.store.unsent a.store.numbers_given → allocate_cause (limits_of a.config) (means a).bus size ≡ None →
+pub room_here : (a : Inside) (size : ℕ) → AreInOrder a → IsHeld a.store → allocate_cause (limits_of a.config) (means a).bus size ≡ None →
     has_room a.store.account size ≡ true
-room_here a size keeps held none = ap (λ c. has_room c size) (account_is a keeps held) ∙ size_fits (limits_of a.config) (means a).bus size none
+room_here a size keeps held none = ap (λ c. has_room c size) (account_is a keeps.pool held) ∙ size_fits (limits_of a.config) (means a).bus size none
 
 -- the store once a buffer was given
 abbrev pub with_buffer : Store → Store → ℕ → ℕ → Store
@@ -99,14 +104,14 @@ with_buffer store next app size = record store {
   descs = next.descs;
 }
 
-module _ (a : Inside) (next : Store) (old : Plain) (app size : ℕ) (is : next ≡ with_buffer a.store next app size) (keeps : Keeps a) where
+module _ (a : Inside) (next : Store) (app size : ℕ) (is : next ≡ with_buffer a.store next app size) (keeps : AreInOrder a) where
   pub given_sizes : next.account.sizes ≡ a.store.account.sizes
   given_sizes = ap (λ (s : Store). s.account.sizes) is ∙ ap (λ (c : Account). c.sizes) (request_stays a.store.account size)
 
-  pub given_keeps : Keeps (record a { store = next })
+  pub given_keeps : AreInOrder (record a { store = next })
   given_keeps =
       let stays = request_stays a.store.account size in
-      subst (λ t. Keeps (record a { store = t })) (sym is)
+      subst (λ t. AreInOrder (record a { store = t })) (sym is)
       (record {
         room = keeps.room;
         pool = record {
@@ -120,10 +125,9 @@ module _ (a : Inside) (next : Store) (old : Plain) (app size : ℕ) (is : next �
         places = length-set a.store.unsent (app - 1) (record { number = a.store.numbers_given + 1; size = size } ∷ unsent_of a.store.unsent app) ∙ keeps.places;
       })
 
-  pub given_acts : (number : ℕ) → plain_of a ≡ old → allocate_cause (limits_of a.config) (means a).bus size ≡ None →
-      a.store.account ≡ with_held a.store.account a.store.pipes a.store.unsent a.store.numbers_given → number ≡ a.store.numbers_given + 1 →
-      Acts old (plain_of (record a { store = next })) app (Allocate size) (Number number)
-  given_acts number viewed why held numbered =
+  pub given_made : (number : ℕ) → allocate_cause (limits_of a.config) (means a).bus size ≡ None → IsHeld a.store → number ≡ a.store.numbers_given + 1 →
+      bare (limits_of a.config) (means a) app (Allocate size) ≡ (Number number, means (record a { store = next }))
+  given_made number why held numbered =
       let limits = limits_of a.config in
       let w = means a in
       let s = w.bus in
@@ -131,12 +135,11 @@ module _ (a : Inside) (next : Store) (old : Plain) (app size : ℕ) (is : next �
       let to : Account → Whole = λ account. record w {
         bus = record s { unsent = with_unsent s.unsent app (record { number = given; size = size }); numbers_given = given; made = account.made; drawn = account.requests };
       } in
-      acts_by_store a next a.activities old app (Allocate size) (Number number) viewed
-      (accepted_by limits w app (Allocate size) (allocate_cause limits s size) refl why
-      ∙ ap (λ c. (Number given, to (after_request c size))) (sym (account_is a keeps held))
+      accepted_by limits w app (Allocate size) (allocate_cause limits s size) refl why
+      ∙ ap (λ c. (Number given, to (after_request c size))) (sym (account_is a keeps.pool held))
       ∙ sym
       (ap (λ n. (Number n, means (record a { store = next }))) numbered
-      ∙ ap (λ t. (Number given, means (record a { store = t }))) is))
+      ∙ ap (λ t. (Number given, means (record a { store = t }))) is)
 
 -- Giving back. --
 
@@ -148,10 +151,10 @@ without_buffer store next app buf = record store {
   descs = next.descs;
 }
 
-module _ (a : Inside) (next : Store) (old : Plain) (app buf : ℕ) (is : next ≡ without_buffer a.store next app buf) where
-  pub gone_keeps : Keeps a → Keeps (record a { store = next })
+module _ (a : Inside) (next : Store) (app buf : ℕ) (is : next ≡ without_buffer a.store next app buf) where
+  pub gone_keeps : AreInOrder a → AreInOrder (record a { store = next })
   gone_keeps keeps =
-      subst (λ t. Keeps (record a { store = t })) (sym is)
+      subst (λ t. AreInOrder (record a { store = t })) (sym is)
       (record {
         room = keeps.room;
         pool = record { bytes = keeps.pool.bytes; sizes = keeps.pool.sizes; errors = keeps.pool.errors };
@@ -164,25 +167,23 @@ module _ (a : Inside) (next : Store) (old : Plain) (app buf : ℕ) (is : next �
   gone_means : means (record a { store = next }) ≡ record (means a) { bus = buffer_gone (means a).bus app buf }
   gone_means = ap (λ t. means (record a { store = t })) is
 
-  pub released_acts : plain_of a ≡ old → release_cause (means a).bus app buf ≡ None → Acts old (plain_of (record a { store = next })) app (Release buf) Done
-  released_acts viewed why =
-      acts_by_store a next a.activities old app (Release buf) Done viewed
-      (accepted_by (limits_of a.config) (means a) app (Release buf) (release_cause (means a).bus app buf) refl why
-      ∙ ap (λ w. (Done, w)) (sym gone_means))
+  pub released_made : release_cause (means a).bus app buf ≡ None → bare (limits_of a.config) (means a) app (Release buf) ≡ (Done, means (record a { store = next }))
+  released_made why =
+      accepted_by (limits_of a.config) (means a) app (Release buf) (release_cause (means a).bus app buf) refl why
+      ∙ ap (λ w. (Done, w)) (sym gone_means)
 
   -- a transmission that nobody subscribes to
-  pub unheard_acts : (bytes : List ℕ) (inc : Bool) → plain_of a ≡ old → transmit_buffer_cause (means a).bus app buf bytes ≡ None → route a.store.subscriptions (message_id bytes) ≡ [] →
-      Acts old (plain_of (record a { store = next })) app (TransmitBuffer buf bytes inc) (Sent 0 0)
-  unheard_acts bytes inc viewed why nobody =
+  pub unheard_made : (bytes : List ℕ) (inc : Bool) → transmit_buffer_cause (means a).bus app buf bytes ≡ None → route a.store.subscriptions (message_id bytes) ≡ [] →
+      bare (limits_of a.config) (means a) app (TransmitBuffer buf bytes inc) ≡ (Sent 0 0, means (record a { store = next }))
+  unheard_made bytes inc why nobody =
       let limits = limits_of a.config in
       let w = means a in
       let gone = buffer_gone w.bus app buf in
       let sending = passing_of a.store app buf bytes inc in
-      acts_by_store a next a.activities old app (TransmitBuffer buf bytes inc) (Sent 0 0) viewed
-      (accepted_by limits w app (TransmitBuffer buf bytes inc) (transmit_buffer_cause w.bus app buf bytes) refl why
+      accepted_by limits w app (TransmitBuffer buf bytes inc) (transmit_buffer_cause w.bus app buf bytes) refl why
       ∙ ap (λ subs. completed limits w (TransmitBuffer buf bytes inc) (passed_along subs sending gone)) nobody
       ∙ ap (λ (ns : List NextCount). (Sent 0 0, record { bus = gone; nexts = ns })) (still inc)
-      ∙ ap (λ w'. (Sent 0 0, w')) (sym gone_means))
+      ∙ ap (λ w'. (Sent 0 0, w')) (sym gone_means)
     where
       still : (counts : Bool) → nexts_after (limits_of a.config) (nexts_in a.store) (TransmitBuffer buf bytes counts) (Sent 0 0) ≡ nexts_in a.store
       still true = refl
@@ -207,17 +208,17 @@ passing : (subs : List Subscription) (first : Subscription) (more : List Subscri
 passing [] first more sending s is = absurd (cc (is))
 passing (sub ∷ subs) first more sending s is = refl
 
-module _ (a : Inside) (next : Store) (old : Plain) (app buf : ℕ) (bytes : List ℕ) (inc : Bool) (is : next ≡ with_passing a.store next app buf bytes inc) (keeps : Keeps a) where
+module _ (a : Inside) (next : Store) (app buf : ℕ) (bytes : List ℕ) (inc : Bool) (is : next ≡ with_passing a.store next app buf bytes inc) (keeps : AreInOrder a) where
   abbrev subs : List Subscription
   subs = route a.store.subscriptions (message_id bytes)
 
   abbrev sending : Sending
   sending = passing_of a.store app buf bytes inc
 
-  pub passed_keeps : Keeps (record a { store = next })
+  pub passed_keeps : AreInOrder (record a { store = next })
   passed_keeps =
       let id = message_id bytes in
-      subst (λ t. Keeps (record a { store = t })) (sym is)
+      subst (λ t. AreInOrder (record a { store = t })) (sym is)
       (record {
         room = keeps.room;
         pool = record { bytes = keeps.pool.bytes; sizes = keeps.pool.sizes; errors = keeps.pool.errors };
@@ -229,25 +230,24 @@ module _ (a : Inside) (next : Store) (old : Plain) (app buf : ℕ) (bytes : List
         places = length-set a.store.unsent (app - 1) (filter (λ (b : Buffer). not (eqb b.number buf)) (unsent_of a.store.unsent app)) ∙ keeps.places;
       })
 
-  pub passed_acts : (first : Subscription) (more : List Subscription) (number arrived : ℕ) → subs ≡ first ∷ more → plain_of a ≡ old → transmit_buffer_cause (means a).bus app buf bytes ≡ None →
+  pub passed_made : (first : Subscription) (more : List Subscription) (number arrived : ℕ) → subs ≡ first ∷ more → transmit_buffer_cause (means a).bus app buf bytes ≡ None →
       1 ≤ buf → number ≡ buf → arrived ≡ reached sending subs a.store.pipes →
-      Acts old (plain_of (record a { store = next })) app (TransmitBuffer buf bytes inc) (Sent number arrived)
-  passed_acts first more number arrived someone viewed why least numbered arrives =
+      bare (limits_of a.config) (means a) app (TransmitBuffer buf bytes inc) ≡ (Sent number arrived, means (record a { store = next }))
+  passed_made first more number arrived someone why least numbered arrives =
       let limits = limits_of a.config in
       let w = means a in
       let gone = buffer_gone w.bus app buf in
       let answer : BusAnswer = Sent buf (reached sending subs gone.pipes) in
       let to : List NextCount → Whole = λ nexts. record { bus = record gone { pipes = deliver sending subs gone.pipes }; nexts = nexts } in
       let counted = map (next_of a.store.room.starts) (counted_up a.store.routes (message_id bytes) inc) in
-      acts_by_store a next a.activities old app (TransmitBuffer buf bytes inc) (Sent number arrived) viewed
-      (accepted_by limits w app (TransmitBuffer buf bytes inc) (transmit_buffer_cause w.bus app buf bytes) refl why
+      accepted_by limits w app (TransmitBuffer buf bytes inc) (transmit_buffer_cause w.bus app buf bytes) refl why
       ∙ ap (completed limits w (TransmitBuffer buf bytes inc)) (passing subs first more sending gone someone)
       ∙ ap (λ (ns : List NextCount). (answer, to ns)) (moved inc)
       ∙ sym
       (ap (λ n. (Sent n arrived, means (record a { store = next }))) numbered
       ∙ ap (λ n. (Sent buf n, means (record a { store = next }))) arrives
       ∙ ap (λ t. (answer, means (record a { store = t }))) is
-      ∙ ap (λ (l : List ℕ). (answer, record { bus = record (to counted).bus { routed = l }; nexts = counted })) (ids_of-counted_up a.store.routes (message_id bytes) inc)))
+      ∙ ap (λ (l : List ℕ). (answer, record { bus = record (to counted).bus { routed = l }; nexts = counted })) (ids_of-counted_up a.store.routes (message_id bytes) inc))
     where
       some : leb 1 buf ≡ true
       some = grind (arith, nat_tests)
@@ -259,17 +259,10 @@ module _ (a : Inside) (next : Store) (old : Plain) (app buf : ℕ) (bytes : List
           ap (λ b. cond {A = List NextCount} b (map (moved_on (message_id bytes)) (nexts_in a.store)) (nexts_in a.store)) some
           ∙ moved_counted a.store.room.starts a.store.routes (message_id bytes) keeps.once
 
--- Refusals. --
-
--- a refused call answers its cause, and changes nothing
-pub refused_transmit : (a : Inside) (old : Plain) (app buf : ℕ) (bytes : List ℕ) (inc : Bool) (status : SbStatus) → plain_of a ≡ old → transmit_buffer_cause (means a).bus app buf bytes ≡ Some status →
-    Acts old old app (TransmitBuffer buf bytes inc) (answers.Sb status)
-refused_transmit a old app buf bytes inc status viewed why =
-    acts_still a old app (TransmitBuffer buf bytes inc) (answers.Sb status) viewed
-    (act_by (limits_of a.config) (means a) app (TransmitBuffer buf bytes inc) (by_bus (Some status)) (ap by_bus why))
-
-pub refused_release : (a : Inside) (old : Plain) (app buf : ℕ) (status : SbStatus) → plain_of a ≡ old → release_cause (means a).bus app buf ≡ Some status →
-    Acts old old app (Release buf) (answers.Sb status)
-refused_release a old app buf status viewed why =
-    acts_still a old app (Release buf) (answers.Sb status) viewed
-    (act_by (limits_of a.config) (means a) app (Release buf) (by_bus (Some status)) (ap by_bus why))
+  -- what is told of the pipes that the store tells of
+  pub passed_told : (told : Recordings) (id : ℕ) (misses : List Miss) → id ≡ message_id bytes → misses ≡ next.missed → told ≡ told_all a.records (miss_events id app misses) →
+      told ≡ told_all a.records (miss_events (message_id bytes) app (missed sending subs a.store.pipes))
+  passed_told told id misses same lists is_told =
+      is_told
+      ∙ ap (λ n. told_all a.records (miss_events n app misses)) same
+      ∙ ap (λ l. told_all a.records (miss_events (message_id bytes) app l)) (lists ∙ ap (λ (t : Store). t.missed) is)

@@ -8,16 +8,16 @@ use Rattle.bus_store.specs.Words.{IsRising, with_held}
 use Rattle.sb_core.specs.declared.plain.SbCore.TheInside.{Inside}
 use Rattle.sb_core.specs.declared.activities.Activity.{Activity}
 use Rattle.sb_core.specs.declared.activities.Activity.TheVariants as activities
-use Rattle.sb_core.specs.Inside.{Keeps, AreReady}
+use Rattle.sb_core.specs.Inside.{AreInOrder, AreReady}
 use Rattle.sb_core.specs.Rows.{activity_at}
 use Rattle.sb_core.proofs.Ready.{ready_all, ready_others, ready_pushed, ready_set_bits, ready_received, ready_without}
 
-module _ (a : Inside) (next : Store) (keeps : Keeps a) where
+module _ (a : Inside) (next : Store) (keeps : AreInOrder a) where
   -- a pipe more
   pub created_keeps : (pipe : Pipe) (created : ℕ) (loan : LastLoan) →
-      next ≡ record a.store { pipes = a.store.pipes ++ pipe ∷ []; pipes_created = created; loans = a.store.loans ++ loan ∷ [] } → Keeps (record a { store = next })
+      next ≡ record a.store { pipes = a.store.pipes ++ pipe ∷ []; pipes_created = created; loans = a.store.loans ++ loan ∷ [] } → AreInOrder (record a { store = next })
   created_keeps pipe created loan is =
-      subst (λ s. Keeps (record a { store = s })) (sym is)
+      subst (λ s. AreInOrder (record a { store = s })) (sym is)
       (record {
         room = keeps.room;
         pool = keeps.pool;
@@ -29,9 +29,9 @@ module _ (a : Inside) (next : Store) (keeps : Keeps a) where
       })
 
   -- other option bits
-  pub set_keeps : (pipe bits : ℕ) → next ≡ record a.store { pipes = with_pipe (with_bits bits) pipe a.store.pipes } → Keeps (record a { store = next })
+  pub set_keeps : (pipe bits : ℕ) → next ≡ record a.store { pipes = with_pipe (with_bits bits) pipe a.store.pipes } → AreInOrder (record a { store = next })
   set_keeps pipe bits is =
-      subst (λ s. Keeps (record a { store = s })) (sym is)
+      subst (λ s. AreInOrder (record a { store = s })) (sym is)
       (record {
         room = keeps.room;
         pool = keeps.pool;
@@ -43,9 +43,9 @@ module _ (a : Inside) (next : Store) (keeps : Keeps a) where
       })
 
   -- subscriptions that leave
-  pub unsubscribed_keeps : (stays : Subscription → Bool) → next ≡ record a.store { subscriptions = filter stays a.store.subscriptions } → Keeps (record a { store = next })
+  pub unsubscribed_keeps : (stays : Subscription → Bool) → next ≡ record a.store { subscriptions = filter stays a.store.subscriptions } → AreInOrder (record a { store = next })
   unsubscribed_keeps stays is =
-      subst (λ s. Keeps (record a { store = s })) (sym is)
+      subst (λ s. AreInOrder (record a { store = s })) (sym is)
       (record {
         room = keeps.room;
         pool = keeps.pool;
@@ -58,9 +58,9 @@ module _ (a : Inside) (next : Store) (keeps : Keeps a) where
   -- a receive, whatever the applications do then
   pub received_keeps : (pipe : ℕ) (acts : Vec Activity Global) →
       next ≡ record a.store { pipes = with_pipe after_receive pipe a.store.pipes; account = with_held a.store.account next.pipes a.store.unsent a.store.numbers_given; loans = next.loans } →
-      length acts.items ≡ length a.activities.items → AreReady (with_pipe after_receive pipe a.store.pipes) acts.items → Keeps (record a { store = next; activities = acts })
+      length acts.items ≡ length a.activities.items → AreReady (with_pipe after_receive pipe a.store.pipes) acts.items → AreInOrder (record a { store = next; activities = acts })
   received_keeps pipe acts is many ready =
-      subst (λ s. Keeps (record a { store = s; activities = acts })) (sym is)
+      subst (λ s. AreInOrder (record a { store = s; activities = acts })) (sym is)
       (record {
         room = keeps.room;
         pool = record { bytes = keeps.pool.bytes; sizes = keeps.pool.sizes; errors = keeps.pool.errors };
@@ -73,7 +73,7 @@ module _ (a : Inside) (next : Store) (keeps : Keeps a) where
   module _ (app pipe : ℕ) (rises : IsRising 0 a.store.pipes) (own : owns a.store.pipes app pipe ≡ true) where
     -- a receive of an active application
     pub taken_keeps : next ≡ record a.store { pipes = with_pipe after_receive pipe a.store.pipes; account = with_held a.store.account next.pipes a.store.unsent a.store.numbers_given; loans = next.loans } →
-        activity_at a.activities.items app ≡ activities.Active → Keeps (record a { store = next })
+        activity_at a.activities.items app ≡ activities.Active → AreInOrder (record a { store = next })
     taken_keeps is active =
         received_keeps pipe a.activities is refl
         (ready_others a.store.pipes (with_pipe after_receive pipe a.store.pipes) a.activities.items keeps.ready app active
@@ -86,9 +86,9 @@ module _ (a : Inside) (next : Store) (keeps : Keeps a) where
           subscriptions = filter (λ (sub : Subscription). not (eqb sub.pipe pipe)) a.store.subscriptions;
           account = with_held a.store.account next.pipes a.store.unsent a.store.numbers_given;
           loans = next.loans;
-        } → activity_at a.activities.items app ≡ activities.Active → Keeps (record a { store = next })
+        } → activity_at a.activities.items app ≡ activities.Active → AreInOrder (record a { store = next })
     deleted_keeps is active =
-        subst (λ s. Keeps (record a { store = s })) (sym is)
+        subst (λ s. AreInOrder (record a { store = s })) (sym is)
         (record {
           room = keeps.room;
           pool = record { bytes = keeps.pool.bytes; sizes = keeps.pool.sizes; errors = keeps.pool.errors };

@@ -3,6 +3,7 @@ use Rattle.std.proofs.Common.{◌≡◌, ℕ, ◌+◌, ◌-◌, ◌≤◌, Bool,
 use Rattle.std.proofs.lemmas.List.{map-set, length-set, nil_from_length}
 use Rattle.std.proofs.lemmas.List.Elements.{All-filter}
 use Rattle.std.proofs.lemmas.List.Sums.{sum_by-cons}
+use Rattle.fsw_base.specs.Limits.{limits_of}
 use Rattle.fsw_base.specs.PoolAccounts.{Account}
 use Rattle.pool_words.specs.Grants.{Pools, all_after_end}
 use Rattle.lend_block.specs.Loan.{LentBytes}
@@ -18,10 +19,9 @@ use Rattle.bus_store.specs.Words.{IsRising, with_held}
 use Rattle.sb_core.specs.declared.plain.SbCore.TheInside.{Inside}
 use Rattle.sb_core.specs.declared.activities.Activity.{Activity}
 use Rattle.sb_core.specs.declared.activities.Activity.TheVariants as activities
-use Rattle.sb_core.specs.Core.{Plain, Acts}
-use Rattle.sb_core.specs.Inside.{plain_of, means, Keeps, AreReady}
+use Rattle.sb_core.specs.Inside.{means, AreInOrder, AreReady}
 use Rattle.sb_core.specs.Rows.{standing_in}
-use Rattle.sb_core.proofs.After.{acts_from}
+use Rattle.sb_core.proofs.After.{bare}
 use Rattle.sb_core.proofs.Bags.{HasViews, SameBuffers}
 use Rattle.sb_core.proofs.Ready.{ready_set, ready_left}
 use Rattle.sb_core.proofs.Releases.{OutAlone}
@@ -37,15 +37,15 @@ without store app account loans descs = record store {
   descs = descs;
 }
 
-module _ (a : Inside) (acts : Vec Activity Global) (next : Store) (pools : Pools) (old : Plain) (app : ℕ)
+module _ (a : Inside) (acts : Vec Activity Global) (next : Store) (pools : Pools) (app : ℕ)
     (ends : acts.items ≡ set a.activities.items (app - 1) activities.Ended) (is : next ≡ without a.store app next.account next.loans next.descs) (out : OutAlone a.store.account next.account) where
   left : next ≡ without a.store app (record a.store.account { out = next.account.out }) next.loans next.descs
   left = is ∙ ap (λ (c : Account). without a.store app c next.loans next.descs) out
 
-  pub ended_keeps : Keeps a → IsRising 0 a.store.pipes → 1 ≤ app → app ≤ length a.activities.items → Keeps (record a { activities = acts; store = next; pools = pools })
+  pub ended_keeps : AreInOrder a → IsRising 0 a.store.pipes → 1 ≤ app → app ≤ length a.activities.items → AreInOrder (record a { activities = acts; store = next; pools = pools })
   ended_keeps keeps rises first within =
       let pipes = filter (λ (pipe : Pipe). not (eqb pipe.owner app)) a.store.pipes in
-      subst (λ s. Keeps (record a { activities = acts; store = s; pools = pools })) (sym left)
+      subst (λ s. AreInOrder (record a { activities = acts; store = s; pools = pools })) (sym left)
       (record {
         room = keeps.room;
         pool = record { bytes = keeps.pool.bytes; sizes = keeps.pool.sizes; errors = keeps.pool.errors };
@@ -59,15 +59,14 @@ module _ (a : Inside) (acts : Vec Activity Global) (next : Store) (pools : Pools
             ∙ sym (ap length ends ∙ length-set a.activities.items (app - 1) activities.Ended);
       })
 
-  pub ended_acts : plain_of a ≡ old → pools ≡ all_after_end app a.pools → Acts old (plain_of (record a { activities = acts; store = next; pools = pools })) app End Done
-  ended_acts viewed back =
+  pub ended_made : pools ≡ all_after_end app a.pools → bare (limits_of a.config) (means a) app End ≡ (Done, means (record a { activities = acts; store = next; pools = pools }))
+  ended_made back =
       let s = (means a).bus in
-      acts_from a (record a { activities = acts; store = next; pools = pools }) old app End Done viewed refl
-      (sym
+      sym
       (ap (λ n. (Done, means (record a { activities = acts; store = n; pools = pools }))) left
       ∙ ap (λ (q : Pools). (Done, record (means a) { bus = record (ended s app) { standings = map standing_in acts.items; pools = q } })) back
       ∙ ap (λ (st : List Standing). (Done, record (means a) { bus = record (ended s app) { standings = st } }))
-      (ap (map standing_in) ends ∙ map-set standing_in a.activities.items (app - 1) activities.Ended)))
+      (ap (map standing_in) ends ∙ map-set standing_in a.activities.items (app - 1) activities.Ended))
 
 -- Its bag has no view then. --
 

@@ -6,10 +6,14 @@ pub mod Bags
 pub mod Buffers
 pub mod Changes
 pub mod Ends
+pub mod Events
+pub mod Figures
 pub mod Looks
 pub mod Opened
 pub mod Owners
+pub mod Pools
 pub mod Ready
+pub mod Receives
 pub mod Refusals
 pub mod Releases
 pub mod Subscribes

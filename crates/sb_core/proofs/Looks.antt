@@ -6,11 +6,15 @@ use Rattle.std.proofs.lemmas.List.{map-set, length-set}
 use Rattle.std.proofs.lemmas.List.Sums.{sum_by-set, sum_by-cons}
 use Rattle.std.proofs.lemmas.List.Folds.{list_all-map}
 use Rattle.fsw_base.specs.Limits.{limits_of}
+use Rattle.fsw_base.specs.declared.statuses.SbStatus.{SbStatus}
+use Rattle.fsw_base.specs.declared.statuses.SbStatus.TheVariants.{BadArgument}
+use Rattle.housekeeping.specs.declared.names.CounterName.TheVariants as counters
 use Rattle.bus_words.specs.declared.calls.BusAnswer.{BusAnswer}
-use Rattle.bus_words.specs.declared.calls.BusAnswer.TheVariants.{Got, TimeOut, Pending}
+use Rattle.bus_words.specs.declared.calls.BusAnswer.TheVariants.{Got, TimeOut, Pending, Sb}
 use Rattle.bus_words.specs.declared.history.Call.TheVariants.{Pend, Look}
+use Rattle.bus_words.specs.Counters.{refusal_counter}
 use Rattle.bus_words.specs.Bus.{State, Standing, Active, Waiting, owns, with_pipe, after_receive, is_empty, is_idle, others_idle, with_standing}
-use Rattle.bus_words.specs.Machine.{unowned_cause, received, oldest_number, pended_answer, pended, looked}
+use Rattle.bus_words.specs.Machine.{refused_if, unowned_cause, received, oldest_number, pended_answer, pended, looked}
 use Rattle.bus_store.specs.Store.{Store}
 use Rattle.bus_store.specs.Words.{IsRising, with_held}
 use Rattle.sb_core.specs.declared.plain.SbCore.TheInside.{Inside}
@@ -19,10 +23,9 @@ use Rattle.sb_core.specs.declared.pending.Pended.TheVariants as waits
 use Rattle.sb_core.specs.declared.activities.Activity.{Activity}
 use Rattle.sb_core.specs.declared.activities.Activity.TheVariants as activities
 use Rattle.sb_core.specs.Answers.{waited, is_pending}
-use Rattle.sb_core.specs.Core.{Plain, Acts}
-use Rattle.sb_core.specs.Inside.{plain_of, means, Keeps, IsReady, AreReady}
+use Rattle.sb_core.specs.Inside.{means, AreInOrder, IsReady, AreReady}
 use Rattle.sb_core.specs.Rows.{standing_in, activity_at, idle_in}
-use Rattle.sb_core.proofs.After.{accepted_by, acts_by_store}
+use Rattle.sb_core.proofs.After.{bare, accepted_by}
 use Rattle.sb_core.proofs.Changes.{received_keeps}
 use Rattle.sb_core.proofs.Owners.{owns_changed, last_received}
 use Rattle.sb_core.proofs.Ready.{ready_set, ready_others, ready_received}
@@ -103,7 +106,18 @@ pending_empty s app pipe answer is waits = first (is_empty s.pipes pipe) (not (o
 
 -- Receives that may wait. --
 
-module _ (a : Inside) (next : Store) (acts : Vec Activity Global) (old : Plain) (app pipe : ℕ) (answer : Pended)
+-- a refused one is counted
+pub pend_refused : (pipe : ℕ) (test : Bool) (status : SbStatus) → refused_if test BadArgument None ≡ Some status → refusal_counter (Pend pipe) (Sb status) ≡ counters.Recv ∷ []
+pend_refused pipe true status is = let same : BadArgument ≡ status = cc (is) in ap (λ s. refusal_counter (Pend pipe) (Sb s)) (sym same)
+pend_refused pipe false status is = absurd (cc (is))
+
+-- one that isn't refused counts nothing
+pub pend_counts : (pipe : ℕ) (answer : Pended) → refusal_counter (Pend pipe) (waited answer) ≡ []
+pend_counts pipe (waits.Got number) = refl
+pend_counts pipe waits.TimeOut = refl
+pend_counts pipe waits.Pending = refl
+
+module _ (a : Inside) (next : Store) (acts : Vec Activity Global) (app pipe : ℕ) (answer : Pended)
     (is : next ≡ record a.store { pipes = with_pipe after_receive pipe a.store.pipes; account = with_held a.store.account next.pipes a.store.unsent a.store.numbers_given; loans = next.loans })
     (waits : acts.items ≡ (if is_pending answer then set a.activities.items (app - 1) (activities.Waiting pipe) else a.activities.items))
     (answers : waited answer ≡ pended_answer (means a).bus app pipe) where
@@ -128,15 +142,14 @@ module _ (a : Inside) (next : Store) (acts : Vec Activity Global) (old : Plain) 
       ∙ ap (λ b. record (means a) { bus = cond {A = State} b (with_standing (received (means a).bus pipe) app (Waiting pipe)) (received (means a).bus pipe) })
       (sym (pending-test (means a).bus app pipe answer answers))
 
-  pub pend_acts : plain_of a ≡ old → unowned_cause (means a).bus app pipe ≡ None → Acts old (plain_of (record a { store = next; activities = acts })) app (Pend pipe) (waited answer)
-  pend_acts viewed why =
-      acts_by_store a next acts old app (Pend pipe) (waited answer) viewed
-      (accepted_by (limits_of a.config) (means a) app (Pend pipe) (unowned_cause (means a).bus app pipe) refl why
+  pub pend_made : unowned_cause (means a).bus app pipe ≡ None → bare (limits_of a.config) (means a) app (Pend pipe) ≡ (waited answer, means (record a { store = next; activities = acts }))
+  pend_made why =
+      accepted_by (limits_of a.config) (means a) app (Pend pipe) (unowned_cause (means a).bus app pipe) refl why
       ∙ ap (λ x. (x, record (means a) { bus = pended (means a).bus app pipe })) (sym answers)
-      ∙ ap (λ w. (waited answer, w)) (sym pend_means))
+      ∙ ap (λ w. (waited answer, w)) (sym pend_means)
 
-  pub pend_keeps : Keeps a → IsRising 0 a.store.pipes → owns a.store.pipes app pipe ≡ true → activity_at a.activities.items app ≡ activities.Active →
-      1 ≤ app → app ≤ length a.activities.items → Keeps (record a { store = next; activities = acts })
+  pub pend_keeps : AreInOrder a → IsRising 0 a.store.pipes → owns a.store.pipes app pipe ≡ true → activity_at a.activities.items app ≡ activities.Active →
+      1 ≤ app → app ≤ length a.activities.items → AreInOrder (record a { store = next; activities = acts })
   pend_keeps keeps rises own active first within =
       received_keeps a next keeps pipe acts is (ap length waits ∙ many (is_pending answer))
       (subst (AreReady (with_pipe after_receive pipe a.store.pipes)) (sym waits) (by_answer (is_pending answer) refl))
@@ -164,25 +177,32 @@ module _ (a : Inside) (next : Store) (acts : Vec Activity Global) (old : Plain) 
 
 -- Looks. --
 
-module _ (a : Inside) (next : Store) (acts : Vec Activity Global) (old : Plain) (app pipe : ℕ)
+module _ (a : Inside) (next : Store) (acts : Vec Activity Global) (app pipe : ℕ)
     (is : next ≡ record a.store { pipes = with_pipe after_receive pipe a.store.pipes; account = with_held a.store.account next.pipes a.store.unsent a.store.numbers_given; loans = next.loans })
     (active : acts.items ≡ set a.activities.items (app - 1) activities.Active) where
-  pub look_acts : (answer : Pended) → plain_of a ≡ old → is_pending answer ≡ false → waited answer ≡ pended_answer (means a).bus app pipe →
-      Acts old (plain_of (record a { store = next; activities = acts })) app (Look pipe) (waited answer)
-  look_acts answer viewed found answers =
+  pub look_made : (answer : Pended) → is_pending answer ≡ false → waited answer ≡ pended_answer (means a).bus app pipe →
+      bare (limits_of a.config) (means a) app (Look pipe) ≡ (waited answer, means (record a { store = next; activities = acts }))
+  look_made answer found answers =
       let look_means : means (record a { store = next; activities = acts }) ≡ record (means a) { bus = looked (means a).bus app pipe } =
       ap (λ s. means (record a { store = s; activities = acts })) is
       ∙ ap (λ l. record (means a) { bus = record (received (means a).bus pipe) { standings = map standing_in l } }) active
       ∙ ap (λ (st : List Standing). record (means a) { bus = record (received (means a).bus pipe) { standings = st } }) (map-set standing_in a.activities.items (app - 1) activities.Active)
       ∙ ap (λ b. record (means a) { bus = cond {A = State} b (means a).bus (with_standing (received (means a).bus pipe) app Active) }) (sym (pending-test (means a).bus app pipe answer answers ∙ found)) in
-      acts_by_store a next acts old app (Look pipe) (waited answer) viewed
-      (ap (λ x. (x, record (means a) { bus = looked (means a).bus app pipe })) (sym answers)
-      ∙ ap (λ w. (waited answer, w)) (sym look_means))
+      ap (λ x. (x, record (means a) { bus = looked (means a).bus app pipe })) (sym answers)
+      ∙ ap (λ w. (waited answer, w)) (sym look_means)
 
-  pub look_keeps : Keeps a → IsRising 0 a.store.pipes → owns a.store.pipes app pipe ≡ true → 1 ≤ app → app ≤ length a.activities.items → Keeps (record a { store = next; activities = acts })
+  pub look_keeps : AreInOrder a → IsRising 0 a.store.pipes → owns a.store.pipes app pipe ≡ true → 1 ≤ app → app ≤ length a.activities.items → AreInOrder (record a { store = next; activities = acts })
   look_keeps keeps rises own first within =
       received_keeps a next keeps pipe acts is (ap length active ∙ length-set a.activities.items (app - 1) activities.Active)
       (subst (AreReady (with_pipe after_receive pipe a.store.pipes)) (sym active)
       (ready_set a.store.pipes (with_pipe after_receive pipe a.store.pipes) a.activities.items keeps.ready app activities.Active first within
       (λ number wrong. absurd (cc (wrong)))
       (λ other number apart ready. ready_received a.store.pipes other number ready app pipe rises own apart)))
+
+-- one that finds nothing
+pub look_still : (a : Inside) (app pipe : ℕ) (answer : Pended) → is_pending answer ≡ true → waited answer ≡ pended_answer (means a).bus app pipe →
+    bare (limits_of a.config) (means a) app (Look pipe) ≡ (waited answer, means a)
+look_still a app pipe answer pending answers =
+    let s = (means a).bus in
+    ap (λ x. (x, record (means a) { bus = looked s app pipe })) (sym answers)
+    ∙ ap (λ b. (waited answer, record (means a) { bus = cond {A = State} b s (with_standing (received s pipe) app Active) })) (pending-test s app pipe answer answers ∙ pending)

@@ -12,21 +12,25 @@ use Rattle.fsw_base.specs.declared.config.Scope.{Scope}
 use Rattle.fsw_base.specs.declared.statuses.SbStatus.TheVariants.{BadArgument, MaxMsgsMet, MaxDestsMet}
 use Rattle.ccsds_msg.specs.Message.{is_valid_id}
 use Rattle.bus_words.specs.declared.calls.BusAnswer.TheVariants.{Done}
-use Rattle.bus_words.specs.declared.history.Call.TheVariants.{Subscribe}
-use Rattle.bus_words.specs.Acts.{NextCount, act, has_next, first_next}
+use Rattle.bus_words.specs.declared.history.Call.TheVariants.{Subscribe, Unsubscribe}
+use Rattle.bus_words.specs.Acts.{NextCount, reads_in, has_next, first_next}
+use Rattle.bus_words.specs.Held.{in_use}
 use Rattle.bus_words.specs.Bus.{State, Subscription, owns, is_subscribed, has_route, route}
 use Rattle.bus_words.specs.Machine.{subscribe_cause, refused_if}
 use Rattle.bus_words.proofs.Finds.{any-map, any-push, same-sym}
 use Rattle.bus_words.proofs.Steps.{with_subscription}
+use Rattle.bus_records.specs.Records.{told_event, peaks_raised}
+use Rattle.bus_records.proofs.Leaves.{left, not_subscribed_left}
+use Rattle.bus_records.proofs.Leaves as leaves
+use Rattle.service_events.specs.declared.event.ServiceEvent.TheVariants.{NotSubscribed}
 use Rattle.bus_tables.specs.Rows.{RouteRow, ids_of, has_way, with_route}
 use Rattle.bus_tables.specs.Tables.{Room}
 use Rattle.sb_core.specs.declared.plain.SbCore.TheInside.{Inside}
-use Rattle.sb_core.specs.Core.{Plain, Acts}
-use Rattle.sb_core.specs.Inside.{plain_of, means, Keeps}
+use Rattle.sb_core.specs.Inside.{means, AreInOrder}
 use Rattle.bus_store.specs.Store.{Store}
 use Rattle.bus_store.specs.Words.{next_of, nexts_in}
 use Rattle.sb_core.specs.Rows.{AreOnce}
-use Rattle.sb_core.proofs.After.{accepted_by, acts_by_store, acts_still}
+use Rattle.sb_core.proofs.After.{bare, accepted_by}
 use Rattle.sb_core.proofs.Refusals.{has_route-rows}
 
 -- Routes. --
@@ -180,6 +184,15 @@ id_first id valid = grind (arith, nat_tests)
 pub id_last : (id : ℕ) → is_valid_id id ≡ true → id ≤ 8191
 id_last id valid = grind (arith, nat_tests)
 
+-- Ends of subscriptions. --
+
+-- whether the pair was subscribed is told where it wasn't
+pub unsubscribed_left : (a : Inside) (app id pipe : ℕ) (t : State) (there : Bool) → there ≡ is_subscribed a.store.subscriptions id pipe →
+    left (limits_of a.config) (reads_in (means a)) (means a).bus app (Unsubscribe id pipe) Done t
+    ≡ peaks_raised (cond there a.records (told_event a.records (NotSubscribed id pipe))) (in_use (limits_of a.config) t)
+unsubscribed_left a app id pipe t true is = leaves.unsubscribed_left (limits_of a.config) (reads_in (means a)) (means a).bus app id pipe t (sym is)
+unsubscribed_left a app id pipe t false is = not_subscribed_left (limits_of a.config) (reads_in (means a)) (means a).bus app id pipe t (sym is)
+
 -- The exits. --
 
 -- the store with one subscription more
@@ -194,11 +207,11 @@ with_sub t id pipe limit scope = record t {
 abbrev with_next : Limits → List NextCount → ℕ → List NextCount
 with_next limits nexts id = cond (has_next nexts id) nexts (nexts ++ first_next limits id ∷ [])
 
-module _ (a : Inside) (old : Plain) (app id pipe limit : ℕ) (scope : Scope) (viewed : plain_of a ≡ old)
-    (why : subscribe_cause (limits_of a.config) (means a).bus app id pipe ≡ None) (keeps : Keeps a) where
+module _ (a : Inside) (app id pipe limit : ℕ) (scope : Scope)
+    (why : subscribe_cause (limits_of a.config) (means a).bus app id pipe ≡ None) (keeps : AreInOrder a) where
   -- the answer and the state, by whether the pair is live
   made_by : (live : Bool) → is_subscribed a.store.subscriptions id pipe ≡ live →
-      act (limits_of a.config) (means a) app (Subscribe id pipe limit scope)
+      bare (limits_of a.config) (means a) app (Subscribe id pipe limit scope)
       ≡ (
         Done,
         record {
@@ -217,19 +230,18 @@ module _ (a : Inside) (old : Plain) (app id pipe limit : ℕ) (scope : Scope) (v
       )) is
 
   -- a live pair: nothing changes
-  pub live_acts : is_subscribed a.store.subscriptions id pipe ≡ true → Acts old old app (Subscribe id pipe limit scope) Done
-  live_acts live =
+  pub live_made : is_subscribed a.store.subscriptions id pipe ≡ true → bare (limits_of a.config) (means a) app (Subscribe id pipe limit scope) ≡ (Done, means a)
+  live_made live =
       let way = way_of_pair a.store.routes a.store.subscriptions id pipe keeps.ways live in
-      acts_still a old app (Subscribe id pipe limit scope) Done viewed
-      (made_by true live
+      made_by true live
       ∙ ap (λ b. (Done, record (means a) { nexts = cond {A = List NextCount} b (means a).nexts ((means a).nexts ++ first_next (limits_of a.config) id ∷ []) }))
-      (has_next-rows a.store.room.starts a.store.routes id ∙ way))
+      (has_next-rows a.store.room.starts a.store.routes id ∙ way)
 
   module _ (next : Store) (is : next ≡ with_sub a.store id pipe limit scope) where
-    pub subscribed_keeps : Keeps (record a { store = next })
+    pub subscribed_keeps : AreInOrder (record a { store = next })
     subscribed_keeps =
         let sub : Subscription = record { number = a.store.subscriptions_made + 1; id = id; pipe = pipe; limit = limit; scope = scope } in
-        subst (λ t. Keeps (record a { store = t })) (sym is)
+        subst (λ t. AreInOrder (record a { store = t })) (sym is)
         (record {
           room = keeps.room;
           pool = keeps.pool;
@@ -239,8 +251,8 @@ module _ (a : Inside) (old : Plain) (app id pipe limit : ℕ) (scope : Scope) (v
           places = keeps.places;
         })
 
-    pub subscribed_acts : is_subscribed a.store.subscriptions id pipe ≡ false → Acts old (plain_of (record a { store = next })) app (Subscribe id pipe limit scope) Done
-    subscribed_acts fresh =
+    pub subscribed_made : is_subscribed a.store.subscriptions id pipe ≡ false → bare (limits_of a.config) (means a) app (Subscribe id pipe limit scope) ≡ (Done, means (record a { store = next }))
+    subscribed_made fresh =
         let s = (means a).bus in
         let limits = limits_of a.config in
         let starts : a.store.room.starts ≡ limits.starts = ap (λ (r : Room). r.starts) keeps.room in
@@ -248,8 +260,7 @@ module _ (a : Inside) (old : Plain) (app id pipe limit : ℕ) (scope : Scope) (v
         ap (λ st. map (next_of st) (with_route a.store.routes id)) starts
         ∙ nexts-with_route limits a.store.routes id
         ∙ ap (λ st. with_next limits (map (next_of st) a.store.routes) id) (sym starts) in
-        acts_by_store a next a.activities old app (Subscribe id pipe limit scope) Done viewed
-        (made_by false fresh
+        made_by false fresh
         ∙ ap (λ (l : List ℕ). (Done, record { bus = record (with_subscription s id pipe limit scope) { routed = l }; nexts = with_next limits (means a).nexts id })) (sym (ids_of-with_route a.store.routes id))
         ∙ ap (λ (ns : List NextCount). (Done, record { bus = record (with_subscription s id pipe limit scope) { routed = ids_of (with_route a.store.routes id) }; nexts = ns })) (sym nexts)
-        ∙ ap (λ t. (Done, means (record a { store = t }))) (sym is))
+        ∙ ap (λ t. (Done, means (record a { store = t }))) (sym is)

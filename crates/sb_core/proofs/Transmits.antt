@@ -19,15 +19,16 @@ use Rattle.bus_words.specs.Bus.{State, Subscription, Sending, route, deliver, re
 use Rattle.bus_words.specs.Held.{account_of, account_drawn}
 use Rattle.bus_words.specs.Machine.{transmit_cause, sent_along, refused_if}
 use Rattle.bus_words.specs.Acts.{Whole, NextCount, nexts_after, moved_on, completed}
+use Rattle.bus_tables.specs.declared.misses.Miss.{Miss}
 use Rattle.bus_tables.specs.Rows.{RouteRow, ids_of, has_way, counted_on}
+use Rattle.bus_records.specs.Records.{Recordings, told_all, miss_events}
 use Rattle.bus_store.specs.Store.{Store}
 use Rattle.bus_store.specs.Words.{next_of, nexts_in, sending_of, missed, counted_up, with_held}
 use Rattle.sb_core.specs.declared.plain.SbCore.TheInside.{Inside}
-use Rattle.sb_core.specs.Core.{Plain, Acts}
-use Rattle.sb_core.specs.Inside.{plain_of, means, Keeps}
+use Rattle.sb_core.specs.Inside.{means, AreInOrder}
 use Rattle.sb_core.specs.Rows.{AreOnce}
-use Rattle.sb_core.proofs.Accounts.{account_is}
-use Rattle.sb_core.proofs.After.{accepted_by, acts_by_store}
+use Rattle.sb_core.proofs.Accounts.{IsHeld, account_is}
+use Rattle.sb_core.proofs.After.{bare, accepted_by}
 use Rattle.sb_core.proofs.Ready.{ready_all, ready_sent}
 use Rattle.sb_core.proofs.Refusals.{message_least}
 
@@ -164,6 +165,20 @@ some_of (sub ∷ subs) some = record { first = sub; more = subs; is = refl }
 
 -- The exits. --
 
+-- a send that nobody subscribes to
+pub nobody_made : (a : Inside) (app : ℕ) (bytes : List ℕ) (inc : Bool) → transmit_cause (limits_of a.config) (means a).bus bytes ≡ None → route a.store.subscriptions (message_id bytes) ≡ [] →
+    bare (limits_of a.config) (means a) app (Transmit bytes inc) ≡ (Sent 0 0, means a)
+nobody_made a app bytes inc why nobody =
+    let limits = limits_of a.config in
+    let w = means a in
+    accepted_by limits w app (Transmit bytes inc) (transmit_cause limits w.bus bytes) refl why
+    ∙ ap (λ subs. completed limits w (Transmit bytes inc) (sent_along limits subs (sending_of a.store app bytes inc) w.bus)) nobody
+    ∙ ap (λ (ns : List NextCount). (Sent 0 0, record w { nexts = ns })) (still inc)
+  where
+    still : (counts : Bool) → nexts_after (limits_of a.config) (nexts_in a.store) (Transmit bytes counts) (Sent 0 0) ≡ nexts_in a.store
+    still true = refl
+    still false = refl
+
 -- the store after a send
 abbrev pub with_send : Store → Store → ℕ → List ℕ → Bool → Store
 with_send store next app bytes inc = record store {
@@ -174,18 +189,18 @@ with_send store next app bytes inc = record store {
   account = with_held (after_request store.account (length bytes)) next.pipes store.unsent next.numbers_given;
 }
 
-module _ (a : Inside) (next : Store) (old : Plain) (app : ℕ) (bytes : List ℕ) (inc : Bool) (is : next ≡ with_send a.store next app bytes inc) (keeps : Keeps a) where
+module _ (a : Inside) (next : Store) (app : ℕ) (bytes : List ℕ) (inc : Bool) (is : next ≡ with_send a.store next app bytes inc) (keeps : AreInOrder a) where
   abbrev subs : List Subscription
   subs = route a.store.subscriptions (message_id bytes)
 
   abbrev sending : Sending
   sending = sending_of a.store app bytes inc
 
-  pub sent_keeps : Keeps (record a { store = next })
+  pub sent_keeps : AreInOrder (record a { store = next })
   sent_keeps =
       let id = message_id bytes in
       let stays = request_stays a.store.account (length bytes) in
-      subst (λ t. Keeps (record a { store = t })) (sym is)
+      subst (λ t. AreInOrder (record a { store = t })) (sym is)
       (record {
         room = keeps.room;
         pool = record {
@@ -201,10 +216,10 @@ module _ (a : Inside) (next : Store) (old : Plain) (app : ℕ) (bytes : List ℕ
         places = keeps.places;
       })
 
-  pub sent_acts : (first : Subscription) (more : List Subscription) (number arrived : ℕ) → subs ≡ first ∷ more → plain_of a ≡ old → transmit_cause (limits_of a.config) (means a).bus bytes ≡ None →
-      a.store.account ≡ with_held a.store.account a.store.pipes a.store.unsent a.store.numbers_given → number ≡ a.store.numbers_given + 1 → arrived ≡ reached sending subs a.store.pipes →
-      Acts old (plain_of (record a { store = next })) app (Transmit bytes inc) (Sent number arrived)
-  sent_acts first more number arrived someone viewed why held numbered arrives =
+  pub sent_made : (first : Subscription) (more : List Subscription) (number arrived : ℕ) → subs ≡ first ∷ more → transmit_cause (limits_of a.config) (means a).bus bytes ≡ None →
+      IsHeld a.store → number ≡ a.store.numbers_given + 1 → arrived ≡ reached sending subs a.store.pipes →
+      bare (limits_of a.config) (means a) app (Transmit bytes inc) ≡ (Sent number arrived, means (record a { store = next }))
+  sent_made first more number arrived someone why held numbered arrives =
       let limits = limits_of a.config in
       let w = means a in
       let s = w.bus in
@@ -215,16 +230,15 @@ module _ (a : Inside) (next : Store) (old : Plain) (app : ℕ) (bytes : List ℕ
         nexts = nexts;
       } in
       let counted = map (next_of a.store.room.starts) (counted_up a.store.routes (message_id bytes) inc) in
-      acts_by_store a next a.activities old app (Transmit bytes inc) (Sent number arrived) viewed
-      (accepted_by limits w app (Transmit bytes inc) (transmit_cause limits s bytes) refl why
+      accepted_by limits w app (Transmit bytes inc) (transmit_cause limits s bytes) refl why
       ∙ ap (completed limits w (Transmit bytes inc)) (along limits subs first more sending s someone)
       ∙ ap (λ (ns : List NextCount). (answer, to (account_drawn limits s (length bytes)) ns)) (moved inc)
-      ∙ ap (λ c. (answer, to (after_request c (length bytes)) counted)) (sym (account_is a keeps held))
+      ∙ ap (λ c. (answer, to (after_request c (length bytes)) counted)) (sym (account_is a keeps.pool held))
       ∙ sym
       (ap (λ n. (Sent n arrived, means (record a { store = next }))) numbered
       ∙ ap (λ n. (Sent given n, means (record a { store = next }))) arrives
       ∙ ap (λ t. (answer, means (record a { store = t }))) is
-      ∙ ap (λ (l : List ℕ). (answer, record { bus = record (to (after_request a.store.account (length bytes)) counted).bus { routed = l }; nexts = counted })) (ids_of-counted_up a.store.routes (message_id bytes) inc)))
+      ∙ ap (λ (l : List ℕ). (answer, record { bus = record (to (after_request a.store.account (length bytes)) counted).bus { routed = l }; nexts = counted })) (ids_of-counted_up a.store.routes (message_id bytes) inc))
     where
       some : leb 1 (a.store.numbers_given + 1) ≡ true
       some = grind (arith, nat_tests)
@@ -235,3 +249,11 @@ module _ (a : Inside) (next : Store) (old : Plain) (app : ℕ) (bytes : List ℕ
       moved true =
           ap (λ b. cond {A = List NextCount} b (map (moved_on (message_id bytes)) (nexts_in a.store)) (nexts_in a.store)) some
           ∙ moved_counted a.store.room.starts a.store.routes (message_id bytes) keeps.once
+
+  -- what is told of the pipes that the store tells of
+  pub sent_told : (told : Recordings) (id : ℕ) (misses : List Miss) → id ≡ message_id bytes → misses ≡ next.missed → told ≡ told_all a.records (miss_events id app misses) →
+      told ≡ told_all a.records (miss_events (message_id bytes) app (missed sending subs a.store.pipes))
+  sent_told told id misses same lists is_told =
+      is_told
+      ∙ ap (λ n. told_all a.records (miss_events n app misses)) same
+      ∙ ap (λ l. told_all a.records (miss_events (message_id bytes) app l)) (lists ∙ ap (λ (t : Store). t.missed) is)

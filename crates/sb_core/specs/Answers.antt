@@ -3,6 +3,7 @@ use Rattle.std.specs.Prelude.{ℕ, Bool, true, false, List, Result, Ok, Err}
 use Rattle.fsw_base.specs.declared.config.PoolStats.{PoolStats}
 use Rattle.fsw_base.specs.declared.statuses.SbStatus.{SbStatus}
 use Rattle.fsw_base.specs.declared.statuses.EsStatus.{EsStatus}
+use Rattle.fsw_base.specs.declared.statuses.EvsStatus.{EvsStatus}
 use Rattle.bus_words.specs.declared.calls.BusAnswer.{BusAnswer}
 use Rattle.bus_words.specs.declared.calls.BusAnswer.TheVariants as answers
 use Rattle.sb_core.specs.declared.calls.Sent.{Sent}
@@ -75,6 +76,11 @@ pool_told (Err status) = answers.Es status
 abbrev pub grant_back : Result (Unit {0}) EsStatus → BusAnswer
 grant_back (Ok nothing) = answers.Done
 grant_back (Err status) = answers.Es status
+
+-- done, or the refusal of the event services
+abbrev pub event_told : Result (Unit {0}) EvsStatus → BusAnswer
+event_told (Ok nothing) = answers.Done
+event_told (Err status) = answers.Evs status
 
 -- the figures of a memory pool, or the refusal
 abbrev pub figures_told : Result PoolStats EsStatus → BusAnswer

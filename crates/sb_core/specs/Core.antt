@@ -2,9 +2,11 @@
 use Rattle.std.specs.Prelude.{◌≡◌, ℕ, ◌+◌, ◌^◌, ◌<◌, ◌≤◌, nat_le, Bool, true, List, length, IsTrue}
 use Rattle.fsw_base.specs.Limits.{Limits}
 use Rattle.pool_words.specs.Grants.{Pools, has_numbers}
+use Rattle.housekeeping.specs.declared.names.CounterName.{CounterName}
+use Rattle.housekeeping.specs.Counters.{ticked}
 use Rattle.bus_words.specs.declared.calls.BusAnswer.{BusAnswer}
 use Rattle.bus_words.specs.declared.history.Call.{Call}
-use Rattle.bus_words.specs.declared.history.Call.TheVariants.{Create, Delete, SetOpts, GetOpts, Find, PipeName, Subscribe, Unsubscribe, Transmit, Receive, Pend, Look, Allocate, TransmitBuffer, Release, PoolCreate, PoolGet, PoolPut, PoolFigures, End}
+use Rattle.bus_words.specs.declared.history.Call.TheVariants.{Create, Delete, SetOpts, GetOpts, Find, PipeName, Subscribe, Unsubscribe, Transmit, Receive, Pend, Look, Allocate, TransmitBuffer, Release, PoolCreate, PoolGet, PoolPut, PoolFigures, Register, SendEvent, ResetFilter, LogMode, ClearLog, Housekeeping, Figures, End}
 use Rattle.bus_words.specs.Bus.{standing_of}
 use Rattle.bus_words.specs.Machine.{may_call}
 use Rattle.bus_words.specs.Acts.{Whole, act}
@@ -21,7 +23,18 @@ pub record Plain : Type 0 where
 abbrev pub apps_in : Plain → ℕ
 apps_in core = length core.whole.bus.standings
 
--- a name of at most 64 bytes, a message of at most 65542; what a buffer may have is bounded by its size
+-- the core with one more on this counter, and all else as it was
+abbrev pub with_tick : Plain → CounterName → Plain
+with_tick core which = record core {
+  whole = record core.whole {
+    bus = record core.whole.bus {
+      statistics = record core.whole.bus.statistics { counts = ticked core.whole.bus.statistics.counts which };
+    };
+  };
+}
+
+-- a name of at most 64 bytes, a message of at most 65542, an event's text of at most 200, a mode of 0 or 1; what a buffer may have
+-- is bounded by its size
 abbrev pub is_within : Call → Bool
 is_within (Create depth name) = nat_le (length name) 64
 is_within (Delete pipe) = true
@@ -42,6 +55,13 @@ is_within (PoolCreate bytes) = true
 is_within (PoolGet pool size) = true
 is_within (PoolPut pool grant) = true
 is_within (PoolFigures pool) = true
+is_within (Register filters) = true
+is_within (SendEvent id kind text) = nat_le (length text) 200
+is_within (ResetFilter id) = true
+is_within (LogMode mode) = nat_le mode 1
+is_within ClearLog = true
+is_within Housekeeping = true
+is_within Figures = true
 is_within End = true
 
 -- the pool that a grant is asked of, if there is one, has a number left for it

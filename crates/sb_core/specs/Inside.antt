@@ -2,10 +2,13 @@
 use Rattle.std.specs.Prelude.{◌≡◌, ℕ, true, length, map, None, List, All}
 use Rattle.fsw_base.specs.Limits.{Limits, limits_of}
 use Rattle.fsw_base.specs.PoolAccounts.{Account}
+use Rattle.housekeeping.specs.Peaks.{greater}
 use Rattle.bus_words.specs.Acts.{Whole}
 use Rattle.bus_words.specs.Bus.{Pipe, owns}
+use Rattle.bus_words.specs.Held.{in_use}
 use Rattle.bus_tables.specs.Rows.{ids_of, has_way}
 use Rattle.bus_tables.specs.Tables.{room_for}
+use Rattle.bus_store.specs.Store.{Store}
 use Rattle.bus_store.specs.Words.{last_of, nexts_in}
 use Rattle.sb_core.specs.declared.activities.Activity.{Activity}
 use Rattle.sb_core.specs.declared.activities.Activity.TheVariants as activities
@@ -28,6 +31,8 @@ means a = record {
     pools = a.pools;
     made = a.store.account.made;
     drawn = a.store.account.requests;
+    events = a.records.events;
+    statistics = a.records.statistics;
   };
   nexts = nexts_in a.store;
 }
@@ -51,14 +56,26 @@ pub record IsReady (pipes : List Pipe) (app pipe : ℕ) : Type 0 where
 abbrev pub AreReady : List Pipe → List Activity → Type 0
 AreReady pipes acts = (app pipe : ℕ) → activity_at acts app ≡ activities.Waiting pipe → IsReady pipes app pipe
 
-pub record Keeps (a : Inside) : Type 0 where
+-- the store and what the applications do belong together, and are within the limits
+pub record IsInOrder (limits : Limits) (store : Store) (acts : List Activity) : Type 0 where
   -- the store has the room that the limits ask for
-  pub room : a.store.room ≡ room_for (limits_of a.config)
-  pub pool : IsPoolOf (limits_of a.config) a.store.account
+  pub room : store.room ≡ room_for limits
+  pub pool : IsPoolOf limits store.account
   -- the id of each subscription has a route
-  pub ways : All (λ sub. has_way a.store.routes sub.id ≡ true) a.store.subscriptions
+  pub ways : All (λ sub. has_way store.routes sub.id ≡ true) store.subscriptions
   -- each id has one route at most
-  pub once : AreOnce a.store.routes
-  pub ready : AreReady a.store.pipes a.activities.items
+  pub once : AreOnce store.routes
+  pub ready : AreReady store.pipes acts
   -- each application has its unsent buffers
-  pub places : length a.store.unsent ≡ length a.activities.items
+  pub places : length store.unsent ≡ length acts
+
+abbrev pub AreInOrder : Inside → Type 0
+AreInOrder a = IsInOrder (limits_of a.config) a.store a.activities.items
+
+-- nothing in use is above its peak
+abbrev pub IsCovered : Plain → Type 0
+IsCovered core = greater core.whole.bus.statistics.peak (in_use core.limits core.whole.bus) ≡ core.whole.bus.statistics.peak
+
+pub record Keeps (a : Inside) : Type 0 where
+  pub order : AreInOrder a
+  pub covered : IsCovered (plain_of a)

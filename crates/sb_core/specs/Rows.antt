@@ -1,13 +1,16 @@
--- What the core keeps of applications and routes, and what bags tell, as the machine has it.
-use Rattle.std.specs.Prelude.{◌≡◌, ℕ, ◌-◌, ◌==◌, Bool, false, not, List, [], ◌∷◌, slice_index_or, Option, None, is_some, if◌then◌else◌}
+-- What the core keeps of applications and routes, what bags tell, and what is in use, as the machine has it.
+use Rattle.std.specs.Prelude.{◌≡◌, ℕ, ◌-◌, ◌==◌, Bool, false, not, List, [], ◌∷◌, length, slice_index_or, Option, None, is_some, if◌then◌else◌}
 use Rattle.fsw_base.specs.declared.statuses.SbStatus.{SbStatus}
 use Rattle.fsw_base.specs.declared.statuses.SbStatus.TheVariants.{BadArgument, BufferInvalid}
 use Rattle.ccsds_msg.specs.Message.{front_fault}
 use Rattle.lend_block.specs.Loan.{LentBytes}
 use Rattle.buf_desc.specs.Held.{Holding, buffer_at, bytes_at}
+use Rattle.housekeeping.specs.declared.in_use.InUse.{InUse}
+use Rattle.bus_words.specs.Held.{held, bytes_in_use}
 use Rattle.bus_words.specs.Machine.{refused_if}
 use Rattle.bus_words.specs.Bus.{Pipe, Standing, Active, Waiting, Ended, is_idle}
 use Rattle.bus_tables.specs.Rows.{RouteRow, has_way}
+use Rattle.bus_store.specs.Store.{Store}
 use Rattle.sb_core.specs.declared.activities.Activity.{Activity}
 use Rattle.sb_core.specs.declared.activities.Activity.TheVariants as activities
 
@@ -34,3 +37,14 @@ abbrev pub buffer_cause : Holding LentBytes → ℕ → Option SbStatus
 buffer_cause bag buf =
     refused_if (not (is_some (buffer_at bag buf))) BufferInvalid
     (refused_if (is_some (front_fault (bytes_at bag buf))) BadArgument None)
+
+-- what is in use at the store: the routes, the live pipes, the live subscriptions, the numbers that are held, and the sizes of the
+-- blocks that are out, added up
+abbrev pub in_use_at : Store → InUse
+in_use_at store = record {
+  msgids = length store.routes;
+  pipes = length store.pipes;
+  subs = length store.subscriptions;
+  buffers = length (held store.pipes store.unsent store.numbers_given);
+  bytes = bytes_in_use store.account;
+}

@@ -7,17 +7,20 @@ ghost use Rattle.bus_words.specs.declared.history.Call.TheVariants.{Allocate, Tr
 ghost use Rattle.bus_words.specs.Bus.{route};
 ghost use Rattle.bus_words.specs.Machine.{allocate_cause};
 ghost use Rattle.buf_desc.specs.Held.{buffer_at, bytes_at};
-ghost use Rattle.sb_core.specs.Core.{MayAct, Acts};
+ghost use Rattle.sb_core.specs.Core.{MayAct, Acts, with_tick};
 ghost use Rattle.sb_core.specs.Answers.{allocated, sent, done};
 ghost use Rattle.sb_core.specs.Bags.{HasBag, KeepsOtherBags, KeepsBuffers, KeepsAllLoans, KeepsDescs};
 ghost use Rattle.sb_core.specs.Rows.{buffer_cause};
 
 use crate::calls::Sent;
 use crate::plain::SbCore;
+use crate::uses::see;
 use bucket_list::{Ledger, Steps};
 use buf_desc::{Block, Held};
 use ccsds_msg::{Header, MsgFault, front};
 use fsw_base::{AppNo, SbStatus};
+use housekeeping::CounterName;
+use service_events::ServiceEvent;
 
 // What the header says of the message that the block's bytes begin with.
 fn header_in(block: &Block<'_>) -> Result<Header, MsgFault>
@@ -52,7 +55,8 @@ impl<'r> SbCore<'r> {
     ///
     /// # Errors
     /// `BadArgument` for fewer than 7 bytes; `MsgTooBig` for more bytes than the configuration
-    /// allows; `BufAlocErr` where the bus's pool has no block for so many. The first that applies.
+    /// allows; `BufAlocErr` where the bus's pool has no block for so many. The first that applies;
+    /// it is counted.
     pub fn allocate<L: Ledger>(
         &mut self,
         app: AppNo,
@@ -64,7 +68,7 @@ impl<'r> SbCore<'r> {
         requires bag { HasBag self.old app held.old }
         requires room { length held.old.buffers < held.old.buffer_room }
         ensures does { Acts self.old self.new app (Allocate size) (allocated result) }
-        ensures refused { OnErr result (self.new ≡ self.old) }
+        ensures refused { OnErr result (self.new ≡ with_tick self.old CounterName.Send) }
         ensures bag_refused { OnErr result (held.new ≡ held.old) }
         ensures zeros { IfOk result (λ number. bytes_at held.new number ≡ replicate size 0) }
         ensures buffers { IfOk result (KeepsBuffers held.old held.new) }
@@ -77,11 +81,14 @@ impl<'r> SbCore<'r> {
         ensures cost { steps.new ≤ steps.old + 32 }
     {
         if let Some(status) = self.allocate_cause(size) {
+            self.refuse(CounterName::Send);
             return Err(status);
         }
         // Does nothing; the proof learns of it which blocks are out.
         self.store.recall_held();
-        Ok(self.store.allocate(app, size, held, steps))
+        let number = self.store.allocate(app, size, held, steps);
+        see(&mut self.records, &self.store);
+        Ok(number)
     }
 
     /// Sends the message that the caller's buffer begins with, as many bytes as its header says,
@@ -94,7 +101,8 @@ impl<'r> SbCore<'r> {
     ///
     /// # Errors
     /// `BufferInvalid` where this is no unsent buffer of the caller's; `BadArgument` where its
-    /// bytes don't begin with a message. The first that applies; the buffer stays as it is.
+    /// bytes don't begin with a message. The first that applies; it is counted, and the buffer
+    /// stays as it is.
     pub fn transmit_buffer<L: Ledger>(
         &mut self,
         app: AppNo,
@@ -107,7 +115,7 @@ impl<'r> SbCore<'r> {
         requires bag { HasBag self.old app held.old }
         ensures does { Acts self.old self.new app (TransmitBuffer buf (bytes_at held.old buf) inc)
             (sent result) }
-        ensures refused { OnErr result (self.new ≡ self.old) }
+        ensures refused { OnErr result (self.new ≡ with_tick self.old CounterName.Send) }
         ensures bag_refused { OnErr result (held.new ≡ held.old) }
         ensures buffers { KeepsBuffers held.old held.new buf }
         ensures descs { KeepsDescs self.old self.new buf }
@@ -122,16 +130,23 @@ impl<'r> SbCore<'r> {
     {
         let id = match id_to_send(held, buf) {
             Ok(id) => id,
-            Err(status) => return Err(status),
+            Err(status) => {
+                self.refuse(CounterName::Send);
+                return Err(status);
+            }
         };
         if self.store.dests_of(id) == 0 {
             self.store.release(app, buf, held, steps);
+            self.records.tell(ServiceEvent::NoSubscribers { id });
+            see(&mut self.records, &self.store);
             return Ok(Sent {
                 number: 0,
                 reached: 0,
             });
         }
         let sent = self.store.transmit_buffer(app, buf, inc, held, steps);
+        self.records.tell_misses(self.store.misses(), id, app);
+        see(&mut self.records, &self.store);
         Ok(Sent {
             number: sent.number,
             reached: sent.reached,
@@ -142,7 +157,7 @@ impl<'r> SbCore<'r> {
     /// goes back to the pool. At most 32 steps.
     ///
     /// # Errors
-    /// `BufferInvalid` where this is no unsent buffer of the caller's.
+    /// `BufferInvalid` where this is no unsent buffer of the caller's; it is counted.
     pub fn release<L: Ledger>(
         &mut self,
         app: AppNo,
@@ -153,7 +168,7 @@ impl<'r> SbCore<'r> {
         requires may { MayAct self.old app (Release buf) }
         requires bag { HasBag self.old app held.old }
         ensures does { Acts self.old self.new app (Release buf) (done result) }
-        ensures refused { OnErr result (self.new ≡ self.old) }
+        ensures refused { OnErr result (self.new ≡ with_tick self.old CounterName.Send) }
         ensures bag_refused { OnErr result (held.new ≡ held.old) }
         ensures buffers { KeepsBuffers held.old held.new buf }
         ensures descs { KeepsDescs self.old self.new buf }
@@ -165,9 +180,11 @@ impl<'r> SbCore<'r> {
         ensures cost { steps.new ≤ steps.old + 32 }
     {
         if held.buffer(buf).is_none() {
+            self.refuse(CounterName::Send);
             return Err(SbStatus::BufferInvalid);
         }
         self.store.release(app, buf, held, steps);
+        see(&mut self.records, &self.store);
         Ok(())
     }
 }

@@ -5,18 +5,21 @@ ghost use Rattle.ccsds_msg.specs.Message.{message_id};
 ghost use Rattle.bus_words.specs.declared.calls.BusAnswer.TheVariants.{Done};
 ghost use Rattle.bus_words.specs.declared.history.Call.TheVariants.{Create, Subscribe, Unsubscribe, Transmit, Receive, End};
 ghost use Rattle.bus_words.specs.Bus.{owns, route};
-ghost use Rattle.sb_core.specs.Core.{MayAct, Acts};
+ghost use Rattle.sb_core.specs.Core.{MayAct, Acts, with_tick};
 ghost use Rattle.sb_core.specs.Answers.{created, done, sent, got};
 ghost use Rattle.sb_core.specs.Bags.{HasBag, KeepsBags, KeepsOtherBags, KeepsAllLoans, KeepsAllDescs, KeepsLoans, KeepsOtherLoans, KeepsOtherDescs};
 
 use crate::activities::Activity;
 use crate::pipe_ends::release;
 use crate::plain::SbCore;
+use crate::uses::{see, tell_unless};
 use bucket_list::{Ledger, Steps};
 use buf_desc::Held;
 use bus_words::PipeText;
 use ccsds_msg::id_of;
 use fsw_base::{AppNo, SbStatus, Scope};
+use housekeeping::CounterName;
+use service_events::ServiceEvent;
 
 /// What an accepted send was answered.
 #[derive(Clone, Copy, Debug, PartialEq, Eq)]
@@ -34,7 +37,7 @@ impl<'r> SbCore<'r> {
     /// # Errors
     /// `BadArgument` for a depth of 0 or past the configuration's, and for a name that hasn't 1 to
     /// 19 bytes; `MaxPipesMet` where as many pipes are live as the configuration allows;
-    /// `PipeCrErr` where a live pipe has the name. The first that applies.
+    /// `PipeCrErr` where a live pipe has the name. The first that applies; it is counted.
     pub fn create_pipe(&mut self, app: AppNo, depth: u32, name: &[u8]) -> Result<u32, SbStatus>
         requires may { MayAct self.old app (Create depth name.now) }
         ensures does { Acts self.old self.new app (Create depth name.now) (created result) }
@@ -43,21 +46,24 @@ impl<'r> SbCore<'r> {
         ensures descs { KeepsAllDescs self.old self.new }
     {
         if let Some(status) = self.create_cause(depth, name) {
+            self.refuse(CounterName::Create);
             return Err(status);
         }
         let text = PipeText::try_new(name).unwrap();
-        Ok(self.store.create_pipe(&text, app, depth))
+        let number = self.store.create_pipe(&text, app, depth);
+        see(&mut self.records, &self.store);
+        Ok(number)
     }
 
     /// Has messages of this id queued on the caller's pipe, up to `limit` of them at once. Where
-    /// the pipe is subscribed to the id already, this changes nothing. At most 2 steps for each
-    /// subscription of the id, and 10 more.
+    /// the pipe is subscribed to the id already, the bus tells and counts that, and nothing else
+    /// changes. At most 2 steps for each subscription of the id, and 10 more.
     ///
     /// # Errors
     /// `BadArgument` for an id that isn't 1 to 0x1FFF, and for a pipe that isn't live or isn't the
     /// caller's; `MaxMsgsMet` where the id has no route and as many ids have one as the
     /// configuration allows; `MaxDestsMet` where the id has as many subscriptions as the
-    /// configuration allows. The first that applies.
+    /// configuration allows. The first that applies; it is counted.
     pub fn subscribe<L: Ledger>(
         &mut self,
         app: AppNo,
@@ -77,22 +83,26 @@ impl<'r> SbCore<'r> {
     {
         let there = self.store.is_subscribed(id, pipe, steps);
         if let Some(status) = self.subscribe_cause(app, id, pipe, there) {
+            self.refuse(CounterName::Sub);
             return Err(status);
         }
         if there {
+            self.records
+                .tell(ServiceEvent::DuplicateSubscription { id, pipe });
             return Ok(());
         }
         self.store.subscribe(id, pipe, limit, scope, steps);
+        see(&mut self.records, &self.store);
         Ok(())
     }
 
     /// Has no more messages of this id queued on the caller's pipe. Those that wait
-    /// stay. Where the pipe isn't subscribed to the id, this changes nothing. At most 3 steps for
-    /// each subscription of the id, and 10 more.
+    /// stay. Where the pipe isn't subscribed to the id, the bus tells that, and nothing else
+    /// changes. At most 3 steps for each subscription of the id, and 10 more.
     ///
     /// # Errors
     /// `BadArgument` for an id that isn't 1 to 0x1FFF, and for a pipe that isn't live or isn't the
-    /// caller's.
+    /// caller's; it is counted.
     pub fn unsubscribe<L: Ledger>(
         &mut self,
         app: AppNo,
@@ -109,23 +119,28 @@ impl<'r> SbCore<'r> {
         ensures descs { KeepsAllDescs self.old self.new }
     {
         if let Some(status) = self.unsubscribe_cause(app, id, pipe) {
+            self.refuse(CounterName::Sub);
             return Err(status);
         }
-        self.store.unsubscribe(id, pipe, steps);
+        let there = self.store.unsubscribe(id, pipe, steps);
+        let event = ServiceEvent::NotSubscribed { id, pipe };
+        tell_unless(&mut self.records, there, event);
+        see(&mut self.records, &self.store);
         Ok(())
     }
 
     /// Sends a message to every pipe that is subscribed to its id, in order of subscription. A pipe
     /// that is full, that ignores what its owner sends where that is the sender, or where as many
-    /// messages of the subscription wait as its limit says, misses it. With `inc` the message gets
+    /// messages of the subscription wait as its limit says, misses it; of those that are full or
+    /// over the limit the bus tells, in that order, and counts them. With `inc` the message gets
     /// the id's next sequence count (CCSDS 133.0-B, 4.1.3.4.3). Where nobody subscribes to the id,
-    /// it takes neither a number nor a block. At most 4 steps for each subscription of the id, and
-    /// 32 more, whatever else there is.
+    /// it takes neither a number nor a block, and the bus tells and counts that. At most 4 steps
+    /// for each subscription of the id, and 32 more, whatever else there is.
     ///
     /// # Errors
     /// `BadArgument` for bytes that are no message; `MsgTooBig` for more bytes than the
     /// configuration allows; `BufAlocErr` where somebody subscribes to the id, and the bus's pool
-    /// has no block for so many bytes. The first that applies.
+    /// has no block for so many bytes. The first that applies; it is counted.
     pub fn transmit<L: Ledger>(
         &mut self,
         app: AppNo,
@@ -143,9 +158,12 @@ impl<'r> SbCore<'r> {
         ensures descs { KeepsAllDescs self.old self.new }
     {
         if let Some(status) = self.transmit_cause(bytes) {
+            self.refuse(CounterName::Send);
             return Err(status);
         }
-        if self.store.dests_of(id_of(bytes)) == 0 {
+        let id = id_of(bytes);
+        if self.store.dests_of(id) == 0 {
+            self.records.tell(ServiceEvent::NoSubscribers { id });
             return Ok(Sent {
                 number: 0,
                 reached: 0,
@@ -154,6 +172,8 @@ impl<'r> SbCore<'r> {
         // Does nothing; the proof learns of it which blocks are out.
         self.store.recall_held();
         let sent = self.store.send(app, bytes, inc, steps);
+        self.records.tell_misses(self.store.misses(), id, app);
+        see(&mut self.records, &self.store);
         Ok(Sent {
             number: sent.number,
             reached: sent.reached,
@@ -166,8 +186,8 @@ impl<'r> SbCore<'r> {
     /// goes back to the pool. At most 32 steps.
     ///
     /// # Errors
-    /// `BadArgument` for a pipe that isn't live or isn't the caller's; `NoMessage` where none
-    /// waits. The first that applies.
+    /// `BadArgument` for a pipe that isn't live or isn't the caller's, which is counted;
+    /// `NoMessage` where none waits. The first that applies.
     pub fn receive<L: Ledger>(
         &mut self,
         app: AppNo,
@@ -178,7 +198,8 @@ impl<'r> SbCore<'r> {
         requires may { MayAct self.old app (Receive pipe) }
         requires bag { HasBag self.old app held.old }
         ensures does { Acts self.old self.new app (Receive pipe) (got result) }
-        ensures unowned { owns self.old.whole.bus.pipes app pipe ≡ false → self.new ≡ self.old }
+        ensures unowned { owns self.old.whole.bus.pipes app pipe ≡ false →
+            self.new ≡ with_tick self.old CounterName.Recv }
         ensures loans { KeepsLoans self.old self.new pipe }
         ensures descs { KeepsAllDescs self.old self.new }
         ensures bag { HasBag self.new app held.new }
@@ -187,11 +208,14 @@ impl<'r> SbCore<'r> {
         ensures cost { steps.new ≤ steps.old + 32 }
     {
         if !self.store.owns(app, pipe) {
+            self.refuse(CounterName::Recv);
             return Err(SbStatus::BadArgument);
         }
         // Does nothing; the proof learns of it that no two applications have one pipe.
         self.store.recall_order();
-        let Some(number) = self.store.receive(app, pipe, held, steps) else {
+        let received = self.store.receive(app, pipe, held, steps);
+        see(&mut self.records, &self.store);
+        let Some(number) = received else {
             return Err(SbStatus::NoMessage);
         };
         Ok(number)
@@ -199,7 +223,8 @@ impl<'r> SbCore<'r> {
 
     /// The caller's last call: its pipes leave with their subscriptions and messages, whose views
     /// are taken out of its bag; its unsent buffers are taken out of the bag, and their blocks go
-    /// back to the pool; and its grants of memory pools are given back. The bag is empty then.
+    /// back to the pool; its grants of memory pools are given back; and it isn't registered for
+    /// events any more. The bag is empty then.
     pub fn end<L: Ledger>(&mut self, app: AppNo, held: &mut Held<'r>, steps: &mut Steps<L>)
         requires may { MayAct self.old app End }
         requires bag { HasBag self.old app held.old }
@@ -216,5 +241,7 @@ impl<'r> SbCore<'r> {
         release(&mut self.store, app, held, steps);
         self.store.release_all(app, held, steps);
         self.pools.end(app, steps);
+        self.records.unregister(app);
+        see(&mut self.records, &self.store);
     }
 }

@@ -1,5 +1,6 @@
 //! The software bus without a journal (cFE Software Bus): pipes, subscriptions, and messages that
-//! reach every pipe subscribed to their id; and the memory pools that applications create.
+//! reach every pipe subscribed to their id; the memory pools that applications create; and the
+//! events and counters, of applications and of the bus itself.
 //!
 //! It promises that each call answers and changes what the bus of the definitions does by its state
 //! alone, whatever came before; and that a send's steps grow with the subscriptions of its id
@@ -15,6 +16,11 @@
 //! it without a copy: the block is then the message's. An unsent buffer goes back to the pool at
 //! [`SbCore::release`], or with its application's last call.
 //!
+//! The bus counts each call that it refuses, and tells the event desk what went wrong with one that
+//! it doesn't: a subscription that stood already or wasn't there, a message that nobody subscribes
+//! to, and each pipe that misses one. After each call it looks at what is in use, and keeps the
+//! peaks.
+//!
 //! ```text
 //! let mut core = SbCore::new(alloc, &Config::usual(), 2, &mut region)?;
 //! let pipe = core.create_pipe(app, 4, b"TLM");             // Ok(1): pipes are numbered from 1
@@ -29,6 +35,8 @@ mod activities;
 mod buffer_calls;
 mod calls;
 mod causes;
+mod counter_calls;
+mod event_calls;
 mod pending;
 mod permits;
 mod pipe_calls;
@@ -36,6 +44,8 @@ mod pipe_ends;
 mod plain;
 mod pool_calls;
 mod readers;
+mod refused;
+mod uses;
 
 pub use calls::Sent;
 pub use pending::Pended;

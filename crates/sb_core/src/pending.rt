@@ -6,17 +6,19 @@ ghost use Rattle.bus_words.specs.declared.history.Call.TheVariants.{Pend, Look};
 ghost use Rattle.bus_words.specs.Bus.{owns, standing_of, waited_on};
 ghost use Rattle.bus_words.specs.Machine.{pended_answer};
 ghost use Rattle.sb_core.specs.Answers.{pended, waited, is_pending};
-ghost use Rattle.sb_core.specs.Core.{MayAct, Acts, apps_in};
+ghost use Rattle.sb_core.specs.Core.{MayAct, Acts, apps_in, with_tick};
 ghost use Rattle.sb_core.specs.Rows.{idle_in, standing_in};
 ghost use Rattle.sb_core.specs.Bags.{HasBag, KeepsOtherBags, KeepsLoans, KeepsAllDescs};
 
 use crate::activities::Activity;
 use crate::plain::SbCore;
+use crate::uses::see;
 use bucket_list::{Ledger, Steps};
 use buf_desc::Held;
 use bus_store::BusStore;
 use bus_words::BusAnswer;
 use fsw_base::{AppNo, SbStatus};
+use housekeeping::CounterName;
 
 /// What a receive that may wait was answered.
 #[derive(Clone, Copy, Debug, PartialEq, Eq)]
@@ -58,7 +60,7 @@ impl<'r> SbCore<'r> {
     /// back to the pool. At most 32 steps.
     ///
     /// # Errors
-    /// `BadArgument` for a pipe that isn't live or isn't the caller's.
+    /// `BadArgument` for a pipe that isn't live or isn't the caller's; it is counted.
     pub fn pend<L: Ledger>(
         &mut self,
         app: AppNo,
@@ -69,7 +71,8 @@ impl<'r> SbCore<'r> {
         requires may { MayAct self.old app (Pend pipe) }
         requires bag { HasBag self.old app held.old }
         ensures does { Acts self.old self.new app (Pend pipe) (pended result) }
-        ensures unowned { owns self.old.whole.bus.pipes app pipe ≡ false → self.new ≡ self.old }
+        ensures unowned { owns self.old.whole.bus.pipes app pipe ≡ false →
+            self.new ≡ with_tick self.old CounterName.Recv }
         ensures loans { KeepsLoans self.old self.new pipe }
         ensures descs { KeepsAllDescs self.old self.new }
         ensures bag { HasBag self.new app held.new }
@@ -78,6 +81,7 @@ impl<'r> SbCore<'r> {
         ensures cost { steps.new ≤ steps.old + 32 }
     {
         if let Some(status) = self.unowned_cause(app, pipe) {
+            self.refuse(CounterName::Recv);
             return Err(status);
         }
         // Does nothing; the proof learns of it that no two applications have one pipe.
@@ -85,6 +89,7 @@ impl<'r> SbCore<'r> {
         let answer = self.pended(app, pipe);
         self.store.receive(app, pipe, held, steps);
         set_waiting(&mut self.activities, app, pipe, &answer);
+        see(&mut self.records, &self.store);
         Ok(answer)
     }
 
@@ -120,6 +125,7 @@ impl<'r> SbCore<'r> {
         self.store.recall_order();
         self.store.receive_first(app, pipe, held);
         self.activities[(app.get() - 1) as usize] = Activity::Active;
+        see(&mut self.records, &self.store);
         answer
     }
 

@@ -2,15 +2,17 @@
 ghost use Rattle.std.specs.Prelude.{◌≡◌, ℕ, false};
 ghost use Rattle.bus_words.specs.declared.history.Call.TheVariants.{Delete, SetOpts, GetOpts, Find, PipeName};
 ghost use Rattle.bus_words.specs.Bus.{owns};
-ghost use Rattle.sb_core.specs.Core.{MayAct, Acts};
+ghost use Rattle.sb_core.specs.Core.{MayAct, Acts, with_tick};
 ghost use Rattle.sb_core.specs.Answers.{done, found, bits_told, named};
 ghost use Rattle.sb_core.specs.Bags.{HasBag, KeepsBags, KeepsOtherBags, KeepsAllLoans, KeepsAllDescs, KeepsLoans};
 
 use crate::plain::SbCore;
+use crate::uses::see;
 use bucket_list::{Ledger, Steps};
 use buf_desc::Held;
 use bus_words::PipeText;
 use fsw_base::{AppNo, SbStatus};
+use housekeeping::CounterName;
 
 impl<'r> SbCore<'r> {
     /// Ends the caller's pipe: it leaves with its subscriptions and messages. The view of its last
@@ -18,7 +20,7 @@ impl<'r> SbCore<'r> {
     /// goes back to the pool. No other pipe gets its number.
     ///
     /// # Errors
-    /// `BadArgument` for a pipe that isn't live or isn't the caller's.
+    /// `BadArgument` for a pipe that isn't live or isn't the caller's; it is counted.
     pub fn delete_pipe<L: Ledger>(
         &mut self,
         app: AppNo,
@@ -29,7 +31,8 @@ impl<'r> SbCore<'r> {
         requires may { MayAct self.old app (Delete pipe) }
         requires bag { HasBag self.old app held.old }
         ensures does { Acts self.old self.new app (Delete pipe) (done result) }
-        ensures unowned { owns self.old.whole.bus.pipes app pipe ≡ false → self.new ≡ self.old }
+        ensures unowned { owns self.old.whole.bus.pipes app pipe ≡ false →
+            self.new ≡ with_tick self.old CounterName.Create }
         ensures loans { KeepsLoans self.old self.new pipe }
         ensures descs { KeepsAllDescs self.old self.new }
         ensures bag { HasBag self.new app held.new }
@@ -37,11 +40,13 @@ impl<'r> SbCore<'r> {
         ensures buffers { held.new ≡ record held.old { views = held.new.views } }
     {
         if let Some(status) = self.unowned_cause(app, pipe) {
+            self.refuse(CounterName::Create);
             return Err(status);
         }
         // Does nothing; the proof learns of it that no two applications have one pipe.
         self.store.recall_order();
         self.store.delete_pipe(app, pipe, held, steps);
+        see(&mut self.records, &self.store);
         Ok(())
     }
 
@@ -50,7 +55,7 @@ impl<'r> SbCore<'r> {
     ///
     /// # Errors
     /// `BadArgument` for a pipe that isn't live or isn't the caller's, and for any other bit than
-    /// 0x01.
+    /// 0x01; it is counted.
     pub fn set_opts(&mut self, app: AppNo, pipe: u32, bits: u8) -> Result<(), SbStatus>
         requires may { MayAct self.old app (SetOpts pipe bits) }
         ensures does { Acts self.old self.new app (SetOpts pipe bits) (done result) }
@@ -59,9 +64,11 @@ impl<'r> SbCore<'r> {
         ensures descs { KeepsAllDescs self.old self.new }
     {
         if let Some(status) = self.set_opts_cause(app, pipe, bits) {
+            self.refuse(CounterName::Opts);
             return Err(status);
         }
         self.store.set_bits(pipe, bits);
+        see(&mut self.records, &self.store);
         Ok(())
     }
 
@@ -69,30 +76,51 @@ impl<'r> SbCore<'r> {
     /// owner sends are not for it.
     ///
     /// # Errors
-    /// `BadArgument` for a pipe that isn't live.
-    pub fn get_opts(&self, pipe: u32) -> Result<u8, SbStatus>
-        ensures { (app : ℕ) → Acts self.now self.now app (GetOpts pipe) (bits_told result) }
+    /// `BadArgument` for a pipe that isn't live; it is counted.
+    pub fn get_opts(&mut self, pipe: u32) -> Result<u8, SbStatus>
+        ensures does { (app : ℕ) → Acts self.old self.new app (GetOpts pipe) (bits_told result) }
+        ensures bags { KeepsBags self.old self.new }
+        ensures loans { KeepsAllLoans self.old self.new }
+        ensures descs { KeepsAllDescs self.old self.new }
     {
-        self.store.bits(pipe).ok_or(SbStatus::BadArgument)
+        let Some(bits) = self.store.bits(pipe) else {
+            self.refuse(CounterName::Opts);
+            return Err(SbStatus::BadArgument);
+        };
+        Ok(bits)
     }
 
     /// Answers the number of the live pipe of this name, whoever's it is.
     ///
     /// # Errors
-    /// `BadArgument` where no live pipe has the name.
-    pub fn find_pipe(&self, name: &[u8]) -> Result<u32, SbStatus>
-        ensures { (app : ℕ) → Acts self.now self.now app (Find name.now) (found result) }
+    /// `BadArgument` where no live pipe has the name; it is counted.
+    pub fn find_pipe(&mut self, name: &[u8]) -> Result<u32, SbStatus>
+        ensures does { (app : ℕ) → Acts self.old self.new app (Find name.now) (found result) }
+        ensures bags { KeepsBags self.old self.new }
+        ensures loans { KeepsAllLoans self.old self.new }
+        ensures descs { KeepsAllDescs self.old self.new }
     {
-        self.store.find(name).ok_or(SbStatus::BadArgument)
+        let Some(number) = self.store.find(name) else {
+            self.refuse(CounterName::Find);
+            return Err(SbStatus::BadArgument);
+        };
+        Ok(number)
     }
 
     /// Answers the name of a pipe, 1 to 19 bytes, whoever's it is.
     ///
     /// # Errors
-    /// `BadArgument` for a pipe that isn't live.
-    pub fn pipe_name(&self, pipe: u32) -> Result<PipeText, SbStatus>
-        ensures { (app : ℕ) → Acts self.now self.now app (PipeName pipe) (named result) }
+    /// `BadArgument` for a pipe that isn't live; it is counted.
+    pub fn pipe_name(&mut self, pipe: u32) -> Result<PipeText, SbStatus>
+        ensures does { (app : ℕ) → Acts self.old self.new app (PipeName pipe) (named result) }
+        ensures bags { KeepsBags self.old self.new }
+        ensures loans { KeepsAllLoans self.old self.new }
+        ensures descs { KeepsAllDescs self.old self.new }
     {
-        self.store.name(pipe).ok_or(SbStatus::BadArgument)
+        let Some(name) = self.store.name(pipe) else {
+            self.refuse(CounterName::Find);
+            return Err(SbStatus::BadArgument);
+        };
+        Ok(name)
     }
 }

@@ -5,6 +5,7 @@ ghost use Rattle.bus_words.specs.Acts.{opening_whole};
 
 use crate::activities::{Activity, all_active};
 use app_pools::AppPools;
+use bus_records::Records;
 use bus_store::BusStore;
 use fsw_base::Config;
 use std::alloc::{AllocError, Global};
@@ -23,6 +24,8 @@ pub struct SbCore<'r> {
     pub(crate) store: BusStore<'r>,
     // The memory pools that applications created; room for all that may be.
     pub(crate) pools: AppPools,
+    // The event desk and the counters.
+    pub(crate) records: Records,
 }
 
 impl<'r> Model for SbCore<'r> {
@@ -65,6 +68,7 @@ impl<'r> SbCore<'r> {
             activities: all_active(alloc, apps)?,
             store: BusStore::new(alloc, cfg, apps as u32, region)?,
             pools: AppPools::new(alloc, cfg)?,
+            records: Records::new(alloc)?,
         })
     }
 }

@@ -9,6 +9,7 @@ ghost use Rattle.sb_core.specs.Answers.{pool_told, grant_back, figures_told};
 ghost use Rattle.sb_core.specs.Bags.{KeepsBags, KeepsAllLoans, KeepsAllDescs};
 
 use crate::plain::SbCore;
+use app_pools::AppPools;
 use bucket_list::{Ledger, Steps};
 use es_pool::Pool;
 use fsw_base::{AppNo, EsStatus, PoolStats};
@@ -87,6 +88,13 @@ impl<'r> SbCore<'r> {
         ensures { (app : ℕ) → Acts self.now self.now app (PoolFigures pool) (figures_told result) }
     {
         self.pools.stats(pool)
+    }
+
+    /// The memory pools that were created, to be read.
+    pub fn pools(&self) -> &AppPools
+        ensures { result.now ≡ self.now.whole.bus.pools }
+    {
+        &self.pools
     }
 
     /// How many memory pools were created.

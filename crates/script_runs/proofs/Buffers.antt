@@ -16,8 +16,8 @@ use Rattle.bus_words.specs.declared.history.Call.TheVariants as calls
 use Rattle.bus_words.specs.declared.history.Entry.{Entry}
 use Rattle.bus_words.specs.Bus.{Buffer, State, Active, Waiting, Sending, Subscription, opening, standing_of, with_standing, is_empty, others_idle, is_subscribed, unsent_of, unsent_at, unsent_size, with_unsent, without_unsent, route}
 use Rattle.bus_words.specs.Held.{buffers_in}
-use Rattle.bus_words.specs.Refusals.{Refusal, OfBus, OfPools, refusal_answer}
-use Rattle.bus_words.specs.Machine.{step, state_after, may_call, brings, cause, accept, decided, received, refused_state, allocate_cause, buffer_gone, sent_along, passed_along}
+use Rattle.bus_words.specs.Refusals.{Refusal, OfBus, OfPools, OfEvents, refusal_answer}
+use Rattle.bus_words.specs.Machine.{step, state_after, may_call, brings, cause, accept, decided, received, refused_state, allocate_cause, buffer_gone, sent_along, passed_along, packet_in}
 use Rattle.bus_words.proofs.Buffers.{Each-unsent_of, Each-with_unsent, Each-without_unsent, Each-without_all}
 use Rattle.bus_words.proofs.Finds.{Each, find-filter, find-filter_none, same-sym}
 use Rattle.bus_words.proofs.LegalSteps.{legal-step, caller-first}
@@ -74,6 +74,7 @@ have-sizes-step limits history s app call have =
         sizes = Each-with_unsent (IsSize limits) s.unsent app (record { number = s.numbers_given + 1; size = size }) have.sizes (allocated-size limits s size (s.numbers_given + 1) none);
       };
       leaves = λ buf has. record { all = length-set s.unsent (app - 1) _ ∙ have.all; sizes = Each-without_unsent (IsSize limits) s.unsent app buf have.sizes };
+      records = λ t desk statistics is. record { all = is.all; sizes = is.sizes };
       passes = λ sending id who has asked. record { all = length-set s.unsent (app - 1) _ ∙ have.all; sizes = Each-without_unsent (IsSize limits) s.unsent app sending.number have.sizes };
     })
 
@@ -205,12 +206,16 @@ brings-line unsent app registers written line call agree is = ap (brings_option 
 written-refused : (written : Written) (call : Call) (why : Refusal) → written_after written call (refusal_answer why) ≡ written
 written-refused written (calls.Allocate size) (OfBus status) = refl
 written-refused written (calls.Allocate size) (OfPools status) = refl
+written-refused written (calls.Allocate size) (OfEvents status) = refl
 written-refused written (calls.TransmitBuffer buf bytes inc) (OfBus status) = refl
 written-refused written (calls.TransmitBuffer buf bytes inc) (OfPools status) = refl
+written-refused written (calls.TransmitBuffer buf bytes inc) (OfEvents status) = refl
 written-refused written (calls.Release buf) (OfBus status) = refl
 written-refused written (calls.Release buf) (OfPools status) = refl
+written-refused written (calls.Release buf) (OfEvents status) = refl
 written-refused written calls.End (OfBus status) = refl
 written-refused written calls.End (OfPools status) = refl
+written-refused written calls.End (OfEvents status) = refl
 written-refused written call why = refl
 
 -- a buffer more
@@ -243,6 +248,12 @@ agree-none : (unsent : List (List Buffer)) (app : ℕ) → app - 1 < length unse
 agree-none unsent app there other =
     ap (λ bs. option_map (λ (x : Buffer). x.size) (find (λ (b : Buffer). b.number == other) bs)) (sym (get_or-set_same unsent (app - 1) [] [] there))
 
+-- what a send leaves
+agree-sent : (limits : Limits) (app : ℕ) (written : Written) (subs : List Subscription) (sending : Sending) (s : State) → AreWritten s.unsent app written →
+    AreWritten ((sent_along limits subs sending s).1).unsent app written
+agree-sent limits app written [] sending s agree = agree
+agree-sent limits app written (sub ∷ subs) sending s agree = agree
+
 -- what a send of a buffer leaves
 agree-passed : (unsent : List (List Buffer)) (app : ℕ) (written : Written) (buf : ℕ) (bytes : List ℕ) (inc : Bool) (subs : List Subscription) (sending : Sending) (s : State) →
     AreWritten s.unsent app (with_buffer written buf None) →
@@ -269,11 +280,7 @@ agrees-accepted limits history s app (calls.PipeName pipe) written there agree =
 agrees-accepted limits history s app (calls.Subscribe id pipe limit scope) written there agree =
     either (λ t. AreWritten t.unsent app written) (is_subscribed s.subscriptions id pipe) s _ agree agree
 agrees-accepted limits history s app (calls.Unsubscribe id pipe) written there agree = agree
-agrees-accepted limits history s app (calls.Transmit bytes inc) written there agree = sent_agrees (route s.subscriptions (message_id bytes)) _
-  where
-    sent_agrees : (subs : List Subscription) (sending : Sending) → AreWritten ((sent_along limits subs sending s).1).unsent app written
-    sent_agrees [] sending = agree
-    sent_agrees (sub ∷ subs) sending = agree
+agrees-accepted limits history s app (calls.Transmit bytes inc) written there agree = agree-sent limits app written (route s.subscriptions (message_id bytes)) _ s agree
 agrees-accepted limits history s app (calls.Receive pipe) written there agree = agree
 agrees-accepted limits history s app (calls.Pend pipe) written there agree =
     either (λ t. AreWritten t.unsent app written) (is_empty s.pipes pipe && not (others_idle s app)) (with_standing (received s pipe) app (Waiting pipe)) (received s pipe) agree agree
@@ -287,6 +294,13 @@ agrees-accepted limits history s app (calls.PoolCreate bytes) written there agre
 agrees-accepted limits history s app (calls.PoolGet pool size) written there agree = agree
 agrees-accepted limits history s app (calls.PoolPut pool grant) written there agree = agree
 agrees-accepted limits history s app (calls.PoolFigures pool) written there agree = agree
+agrees-accepted limits history s app (calls.Register filters) written there agree = agree
+agrees-accepted limits history s app (calls.SendEvent id kind text) written there agree = agree
+agrees-accepted limits history s app (calls.ResetFilter id) written there agree = agree
+agrees-accepted limits history s app (calls.LogMode mode) written there agree = agree
+agrees-accepted limits history s app calls.ClearLog written there agree = agree
+agrees-accepted limits history s app calls.Housekeeping written there agree = agree-sent limits app written (route s.subscriptions (message_id (packet_in limits s))) _ s agree
+agrees-accepted limits history s app calls.Figures written there agree = agree
 agrees-accepted limits history s app calls.End written there agree = agree-none s.unsent app there
 
 agrees-decided : (limits : Limits) (history : List Entry) (s : State) (app : ℕ) (call : Call) (written : Written) (why : Option Refusal) → app - 1 < length s.unsent →
@@ -327,6 +341,7 @@ unsent-other limits history s who app call may differ first =
       pools = λ pools. refl;
       allocates = λ size. other _;
       leaves = λ buf. other _;
+      records = λ t desk statistics is. is;
       passes = λ sending id. other _;
     })
 

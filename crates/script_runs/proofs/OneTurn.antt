@@ -6,13 +6,13 @@ use Rattle.fsw_base.specs.declared.statuses.SbStatus.TheVariants.{BadArgument, M
 use Rattle.fsw_base.specs.Limits.{Limits}
 use Rattle.ccsds_msg.specs.Message.{message_id}
 use Rattle.bus_words.specs.declared.calls.BusAnswer.{BusAnswer}
-use Rattle.bus_words.specs.declared.calls.BusAnswer.TheVariants.{Done, Number, Name, Sent, Got, TimeOut, Pending, Pool, Sb, Es}
+use Rattle.bus_words.specs.declared.calls.BusAnswer.TheVariants.{Done, Number, Name, Sent, Got, TimeOut, Pending, Pool, Bus, Sb, Es, Evs}
 use Rattle.bus_words.specs.declared.history.Call.{Call}
 use Rattle.bus_words.specs.declared.history.Call.TheVariants as calls
 use Rattle.bus_words.specs.declared.history.Entry.{Entry}
 use Rattle.bus_words.specs.Bus.{State, Standing, Active, Waiting, Ended, Sending, Subscription, standing_of, with_standing, is_empty, others_idle, route, is_subscribed, unsent_of}
-use Rattle.bus_words.specs.Refusals.{Refusal, OfBus, OfPools, refusal_answer}
-use Rattle.bus_words.specs.Machine.{step, state_after, may_call, makes_entry, IsLegal, cause, accept, decided, refused_state, received, looked, pended, pended_answer, sent_along, passed_along, buffer_gone, brings, oldest_number}
+use Rattle.bus_words.specs.Refusals.{Refusal, OfBus, OfPools, OfEvents, refusal_answer}
+use Rattle.bus_words.specs.Machine.{step, state_after, may_call, makes_entry, IsLegal, cause, accept, decided, refused_state, received, looked, pended, pended_answer, sent_along, passed_along, buffer_gone, packet_in, brings, oldest_number}
 use Rattle.bus_words.proofs.Finds.{Each}
 use Rattle.bus_words.proofs.Replay.{goes_on}
 use Rattle.bus_words.proofs.Steps.{with_subscription}
@@ -61,6 +61,13 @@ line_may (calls.PoolCreate bytes) is = refl
 line_may (calls.PoolGet pool size) is = refl
 line_may (calls.PoolPut pool grant) is = refl
 line_may (calls.PoolFigures pool) is = refl
+line_may (calls.Register filters) is = refl
+line_may (calls.SendEvent id kind text) is = refl
+line_may (calls.ResetFilter id) is = refl
+line_may (calls.LogMode mode) is = refl
+line_may calls.ClearLog is = refl
+line_may calls.Housekeeping is = refl
+line_may calls.Figures is = refl
 line_may calls.End is = refl
 
 line_enters : (call : Call) (answer : BusAnswer) → is_line_call call ≡ true → IsTrue (makes_entry call answer)
@@ -83,6 +90,13 @@ line_enters (calls.PoolCreate bytes) answer is = refl
 line_enters (calls.PoolGet pool size) answer is = refl
 line_enters (calls.PoolPut pool grant) answer is = refl
 line_enters (calls.PoolFigures pool) answer is = refl
+line_enters (calls.Register filters) answer is = refl
+line_enters (calls.SendEvent id kind text) answer is = refl
+line_enters (calls.ResetFilter id) answer is = refl
+line_enters (calls.LogMode mode) answer is = refl
+line_enters calls.ClearLog answer is = refl
+line_enters calls.Housekeeping answer is = refl
+line_enters calls.Figures answer is = refl
 line_enters calls.End answer is = refl
 
 -- Standings after a call of one's own. --
@@ -101,8 +115,10 @@ is_pending (Got number) = false
 is_pending TimeOut = false
 is_pending Pending = true
 is_pending (Pool figures) = false
+is_pending (Bus figures) = false
 is_pending (Sb status) = false
 is_pending (Es status) = false
+is_pending (Evs status) = false
 
 -- one that hasn't ended stands as it is set
 standing-here : (s : State) (app : ℕ) (standing : Standing) → is_ended (standing_of s app) ≡ false → standing_of (with_standing s app standing) app ≡ standing
@@ -131,6 +147,7 @@ refused_receive-standings s pipe (OfBus BufAlocErr) = refl
 refused_receive-standings s pipe (OfBus NoMessage) = refl
 refused_receive-standings s pipe (OfBus BufferInvalid) = refl
 refused_receive-standings s pipe (OfPools status) = refl
+refused_receive-standings s pipe (OfEvents status) = refl
 
 -- the standing of an active application after this call, so answered
 abbrev pub now_after : Call → BusAnswer → Standing
@@ -191,6 +208,13 @@ accepted_stands limits history s app (calls.PoolCreate bytes) line is = is
 accepted_stands limits history s app (calls.PoolGet pool size) line is = is
 accepted_stands limits history s app (calls.PoolPut pool grant) line is = is
 accepted_stands limits history s app (calls.PoolFigures pool) line is = is
+accepted_stands limits history s app (calls.Register filters) line is = is
+accepted_stands limits history s app (calls.SendEvent id kind text) line is = is
+accepted_stands limits history s app (calls.ResetFilter id) line is = is
+accepted_stands limits history s app (calls.LogMode mode) line is = is
+accepted_stands limits history s app calls.ClearLog line is = is
+accepted_stands limits history s app calls.Housekeeping line is = sent_stands limits app (packet_in limits s) true (route s.subscriptions (message_id (packet_in limits s))) _ s is
+accepted_stands limits history s app calls.Figures line is = is
 accepted_stands limits history s app calls.End line is = absurd (true≢false (sym line))
 
 refused_stands : (s : State) (app : ℕ) (call : Call) (why : Refusal) → is_line_call call ≡ true → standing_of s app ≡ Active →
@@ -208,6 +232,7 @@ refused_stands s app (calls.Receive pipe) why line is =
     ap (λ (ss : List Standing). cond {A = Standing} (app == 0) Ended (slice_index_or ss (app - 1) Ended)) (refused_receive-standings s pipe why) ∙ is
 refused_stands s app (calls.Pend pipe) (OfBus status) line is = is
 refused_stands s app (calls.Pend pipe) (OfPools status) line is = is
+refused_stands s app (calls.Pend pipe) (OfEvents status) line is = is
 refused_stands s app (calls.Look pipe) why line is = absurd (true≢false (sym line))
 refused_stands s app (calls.Allocate size) why line is = is
 refused_stands s app (calls.TransmitBuffer buf bytes inc) why line is = is
@@ -216,6 +241,13 @@ refused_stands s app (calls.PoolCreate bytes) why line is = is
 refused_stands s app (calls.PoolGet pool size) why line is = is
 refused_stands s app (calls.PoolPut pool grant) why line is = is
 refused_stands s app (calls.PoolFigures pool) why line is = is
+refused_stands s app (calls.Register filters) why line is = is
+refused_stands s app (calls.SendEvent id kind text) why line is = is
+refused_stands s app (calls.ResetFilter id) why line is = is
+refused_stands s app (calls.LogMode mode) why line is = is
+refused_stands s app calls.ClearLog why line is = is
+refused_stands s app calls.Housekeeping why line is = is
+refused_stands s app calls.Figures why line is = is
 refused_stands s app calls.End why line is = absurd (true≢false (sym line))
 
 decided_stands : (limits : Limits) (history : List Entry) (s : State) (app : ℕ) (call : Call) (why : Option Refusal) → is_line_call call ≡ true → standing_of s app ≡ Active →
@@ -411,8 +443,10 @@ answer-owed (calls.Pend pipe) TimeOut r es owed = owed
 answer-owed (calls.Pend pipe) Pending r [] owed = owed
 answer-owed (calls.Pend pipe) Pending r (e ∷ es) owed = owed
 answer-owed (calls.Pend pipe) (Pool figures) r es owed = owed
+answer-owed (calls.Pend pipe) (Bus figures) r es owed = owed
 answer-owed (calls.Pend pipe) (Sb status) r es owed = owed
 answer-owed (calls.Pend pipe) (Es status) r es owed = owed
+answer-owed (calls.Pend pipe) (Evs status) r es owed = owed
 answer-owed (calls.Look pipe) answer r es owed = owed
 answer-owed (calls.Allocate size) answer r es owed = owed
 answer-owed (calls.TransmitBuffer buf bytes inc) answer r es owed = owed
@@ -421,6 +455,13 @@ answer-owed (calls.PoolCreate bytes) answer r es owed = owed
 answer-owed (calls.PoolGet pool size) answer r es owed = owed
 answer-owed (calls.PoolPut pool grant) answer r es owed = owed
 answer-owed (calls.PoolFigures pool) answer r es owed = owed
+answer-owed (calls.Register filters) answer r es owed = owed
+answer-owed (calls.SendEvent id kind text) answer r es owed = owed
+answer-owed (calls.ResetFilter id) answer r es owed = owed
+answer-owed (calls.LogMode mode) answer r es owed = owed
+answer-owed calls.ClearLog answer r es owed = owed
+answer-owed calls.Housekeeping answer r es owed = owed
+answer-owed calls.Figures answer r es owed = owed
 answer-owed calls.End answer r es owed = owed
 
 now-facts : (call : Call) (answer : BusAnswer) → (is_ended (now_after call answer) ≡ false) × (waits (now_after call answer) ≤ 1)
@@ -442,8 +483,10 @@ now-facts (calls.Pend pipe) (Got number) = (refl, omega arith)
 now-facts (calls.Pend pipe) TimeOut = (refl, omega arith)
 now-facts (calls.Pend pipe) Pending = (refl, omega arith)
 now-facts (calls.Pend pipe) (Pool figures) = (refl, omega arith)
+now-facts (calls.Pend pipe) (Bus figures) = (refl, omega arith)
 now-facts (calls.Pend pipe) (Sb status) = (refl, omega arith)
 now-facts (calls.Pend pipe) (Es status) = (refl, omega arith)
+now-facts (calls.Pend pipe) (Evs status) = (refl, omega arith)
 now-facts (calls.Look pipe) answer = (refl, omega arith)
 now-facts (calls.Allocate size) answer = (refl, omega arith)
 now-facts (calls.TransmitBuffer buf bytes inc) answer = (refl, omega arith)
@@ -452,6 +495,13 @@ now-facts (calls.PoolCreate bytes) answer = (refl, omega arith)
 now-facts (calls.PoolGet pool size) answer = (refl, omega arith)
 now-facts (calls.PoolPut pool grant) answer = (refl, omega arith)
 now-facts (calls.PoolFigures pool) answer = (refl, omega arith)
+now-facts (calls.Register filters) answer = (refl, omega arith)
+now-facts (calls.SendEvent id kind text) answer = (refl, omega arith)
+now-facts (calls.ResetFilter id) answer = (refl, omega arith)
+now-facts (calls.LogMode mode) answer = (refl, omega arith)
+now-facts calls.ClearLog answer = (refl, omega arith)
+now-facts calls.Housekeeping answer = (refl, omega arith)
+now-facts calls.Figures answer = (refl, omega arith)
 now-facts calls.End answer = (refl, omega arith)
 
 -- a line that makes a call
@@ -553,8 +603,10 @@ turn-waiting limits apps sofar running pipe (Sent number reached) sound agree is
 turn-waiting limits apps sofar running pipe (Got number) sound agree is answers = turn-look limits apps sofar running pipe sound agree is (ap is_pending answers) (ap (makes_entry (calls.Look pipe)) answers)
 turn-waiting limits apps sofar running pipe TimeOut sound agree is answers = turn-look limits apps sofar running pipe sound agree is (ap is_pending answers) (ap (makes_entry (calls.Look pipe)) answers)
 turn-waiting limits apps sofar running pipe (Pool figures) sound agree is answers = turn-look limits apps sofar running pipe sound agree is (ap is_pending answers) (ap (makes_entry (calls.Look pipe)) answers)
+turn-waiting limits apps sofar running pipe (Bus figures) sound agree is answers = turn-look limits apps sofar running pipe sound agree is (ap is_pending answers) (ap (makes_entry (calls.Look pipe)) answers)
 turn-waiting limits apps sofar running pipe (Sb status) sound agree is answers = turn-look limits apps sofar running pipe sound agree is (ap is_pending answers) (ap (makes_entry (calls.Look pipe)) answers)
 turn-waiting limits apps sofar running pipe (Es status) sound agree is answers = turn-look limits apps sofar running pipe sound agree is (ap is_pending answers) (ap (makes_entry (calls.Look pipe)) answers)
+turn-waiting limits apps sofar running pipe (Evs status) sound agree is answers = turn-look limits apps sofar running pipe sound agree is (ap is_pending answers) (ap (makes_entry (calls.Look pipe)) answers)
 
 turn-line : (limits : Limits) (apps : ℕ) (sofar : SoFar) (running : Running) (line : Line) (others : List Line) (made : Option Call) → IsSound limits apps sofar →
     AreWritten sofar.state.unsent running.app running.written →

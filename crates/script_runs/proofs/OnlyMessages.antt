@@ -11,7 +11,7 @@ use Rattle.bus_words.specs.declared.history.Call.TheVariants as calls
 use Rattle.bus_words.specs.declared.history.Entry.{Entry}
 use Rattle.bus_words.specs.Bus.{Item, Pipe, Subscription, State, Active, Waiting, Sending, opening, owns, pipe_at, with_pipe, with_bits, with_standing, is_empty, others_idle, is_subscribed, route, has_unsent, verdict, is_in, item_for, offered, deliver, oldest, after_receive}
 use Rattle.bus_words.specs.Refusals.{Refusal}
-use Rattle.bus_words.specs.Machine.{cause, decided, transmit_cause, transmit_buffer_cause, front_of, buffer_gone, sent_along, passed_along, received, next_count, delivered, state_after}
+use Rattle.bus_words.specs.Machine.{cause, decided, transmit_cause, transmit_buffer_cause, front_of, buffer_gone, sent_along, passed_along, received, packet_in, next_count, delivered, state_after}
 use Rattle.bus_words.proofs.Finds.{Each, Each-push, Each-filter}
 use Rattle.bus_words.proofs.Steps.{by_bus-none, refused_if-none, after_refusal, state_from-keeps}
 use Rattle.script_runs.specs.Told.{own_last}
@@ -132,6 +132,15 @@ only-decided limits history s app (calls.PoolCreate bytes) None is only = only
 only-decided limits history s app (calls.PoolGet pool size) None is only = only
 only-decided limits history s app (calls.PoolPut pool grant) None is only = only
 only-decided limits history s app (calls.PoolFigures pool) None is only = only
+only-decided limits history s app (calls.Register filters) None is only = only
+only-decided limits history s app (calls.SendEvent id kind text) None is only = only
+only-decided limits history s app (calls.ResetFilter id) None is only = only
+only-decided limits history s app (calls.LogMode mode) None is only = only
+only-decided limits history s app calls.ClearLog None is only = only
+only-decided limits history s app calls.Housekeeping None is only =
+    sends limits (route s.subscriptions (message_id (packet_in limits s))) _ s
+    (delivers limits history s (packet_in limits s) true (by_bus-none (transmit_cause limits s (packet_in limits s)) is)) only
+only-decided limits history s app calls.Figures None is only = only
 only-decided limits history s app calls.End None is only = Each-filter HoldsMessages _ s.pipes only
 
 -- after every history

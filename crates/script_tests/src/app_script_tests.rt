@@ -34,3 +34,12 @@ fn first_fault_is_told(rt: HostRuntime) -> Result<(), Fail> {
     );
     Ok(())
 }
+
+#[test]
+fn lines_of_events_and_figures_are_run_already(rt: HostRuntime) -> Result<(), Fail> {
+    let script =
+        b"app A\nevreg 1:0xffff\nevent 1 2 pump on\nevreset 1\nlogmode 1\nlogclear\nhk\nstats\n";
+    assert_eq!(rt; apps_of(rt.alloc(), script), Some(1));
+    assert_eq!(rt; fault_line_of(rt.alloc(), b"app A\nhk\ntval t0\n"), Some(3));
+    Ok(())
+}

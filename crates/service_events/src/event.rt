@@ -1,8 +1,8 @@
 //! The events, and what each is told by.
-ghost use Rattle.std.specs.Prelude.{◌≡◌};
+ghost use Rattle.std.specs.Prelude.{◌≡◌, ◌≤◌, length};
 ghost use Rattle.service_events.specs.Events.{event_number, event_kind, event_text};
 
-use crate::text::{EventText, id_text, missed_text, pair_text};
+use crate::text::{EventText, TEXT_BYTES, id_text, missed_text, pair_text, recall_digits};
 use fsw_base::{AppNo, EventKind};
 
 /// An event that the software bus tells of a call. Beside each stands the event of cFE's Software
@@ -73,6 +73,26 @@ impl ServiceEvent {
             ServiceEvent::NoSubscribers { .. } => EventKind::Information,
             ServiceEvent::MessageLimit { .. } => EventKind::Error,
             ServiceEvent::PipeOverflow { .. } => EventKind::Error,
+        }
+    }
+
+    /// Does nothing; a proof learns of it that the text is short, also where it isn't made.
+    #[tactic(auto, unfolding(crate::specs::Events::event_text))]
+    pub fn recall_text(&self)
+        ensures { length (event_text self.now) ≤ TEXT_BYTES }
+    {
+        match *self {
+            ServiceEvent::DuplicateSubscription { pipe, .. } => recall_digits(pipe),
+            ServiceEvent::NotSubscribed { pipe, .. } => recall_digits(pipe),
+            ServiceEvent::NoSubscribers { .. } => {}
+            ServiceEvent::MessageLimit { pipe, sender, .. } => {
+                recall_digits(pipe);
+                recall_digits(sender.get());
+            }
+            ServiceEvent::PipeOverflow { pipe, sender, .. } => {
+                recall_digits(pipe);
+                recall_digits(sender.get());
+            }
         }
     }
 

@@ -64,6 +64,11 @@ impl EventText {
     }
 }
 
+/// Does nothing; a proof learns of it that a number has at most 10 digits.
+pub(crate) fn recall_digits(number: u32)
+    ensures { length (decimal number) ≤ 10 }
+{}
+
 /// An id behind what is told of it, which has at most 18 bytes.
 pub(crate) fn id_text(front: &[u8], id: u16) -> EventText
     requires { length front.now ≤ 18 }

@@ -12,4 +12,4 @@ returns-then-get-apps c =
     let left = left_of c.args.journal.now in
     let beyond : length left < app = omega (arith, length-left_of c.args.journal.now, c.if-get-apps.true, c.apps.ensures, c.get.ensures.value) in
     let unknown : nat_le app (length left) ≡ false = grind (arith, nat_tests) in
-    sym (ap (λ b. b && nat_le 1 (allowance_of left app).entries && nat_le (call_bytes (call_of c.args.call)) (allowance_of left app).bytes) unknown)
+    sym (ap (λ b. b && nat_le 1 (allowance_of left app).entries && nat_le (call_bytes (call_of c.args.call.now)) (allowance_of left app).bytes) unknown)

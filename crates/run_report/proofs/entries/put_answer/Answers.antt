@@ -18,3 +18,6 @@ returns-in-Sent g c =
 
 pub returns-in-Pool : goal.returns-in-Pool
 returns-in-Pool g c = puts_as (answer_text c.args.answer.now) (ap answer_text (sym c.in-Pool.is)) (c.put-in-Pool.ensures ▸ c.put_figures.ensures)
+
+pub returns-in-Bus : goal.returns-in-Bus
+returns-in-Bus g c = puts_as (answer_text c.args.answer.now) (ap answer_text (sym c.in-Bus.is)) (c.put-in-Bus.ensures ▸ c.put_stats.ensures)

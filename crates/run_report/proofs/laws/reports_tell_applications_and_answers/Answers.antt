@@ -1,5 +1,7 @@
 use Rattle.std.proofs.Common.{◌++◌, ◌∷◌, [], ap, arith, drop}
+use Rattle.run_report.specs.EventText.{log_text}
 use Rattle.run_report.specs.ReceiptText.{receipts_text}
+use Rattle.run_report.specs.Report.{ending_text}
 use Rattle.bus_words.specs.Bus.{opening}
 use Rattle.run_report.proofs.Legal.{legal_answers}
 use Rattle.run_report.proofs.Telling.{lines_tell, reports_tell}
@@ -9,8 +11,9 @@ pub returns-clause-lines : goal.returns-clause-lines
 returns-clause-lines c = λ one other plain clear same. lines_tell 1 114 one other [] [] (omega arith) plain clear (ap (λ text. text ++ 114 ∷ []) same)
 
 pub returns-clause-reports : goal.returns-clause-reports
-returns-clause-reports c = λ one other receipts others plain clear same.
-    reports_tell one other (receipts_text receipts) (receipts_text others) plain clear (ap (drop 10) same)
+returns-clause-reports c = λ one other receipts others figures shown plain clear same.
+    reports_tell one other (receipts_text receipts) (receipts_text others) (log_text figures.events.log) (log_text shown.events.log)
+    (ending_text figures) (ending_text shown) plain clear (ap (drop 10) same)
 
 pub returns-clause-legal : goal.returns-clause-legal
 returns-clause-legal c = λ limits apps history legal. legal_answers limits [] (opening limits apps) history legal

@@ -8,7 +8,7 @@ use Rattle.app_script.specs.Script.{app_at}
 use Rattle.script_runs.specs.Trace.{call_of}
 use Rattle.script_runs.specs.Written.{written_by}
 use Rattle.sb_calls.specs.Core.{state_of}
-use Rattle.app_run.specs.Callers.{written_in}
+use Rattle.core_calls.specs.Callers.{written_in}
 use Rattle.app_run.specs.Lines.{AreAsked}
 use Rattle.app_run.specs.Inside.{progress_in}
 use Rattle.app_run.proofs.TurnLaws.{allowed-line, may-run, drop-next, get_at, ran-line, ran-local, run-same, run-bag, run-write, run-remember, wrote-same, waits-or-got}

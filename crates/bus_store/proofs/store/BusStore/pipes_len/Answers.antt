@@ -4,7 +4,7 @@ use Rattle.bus_store.specs.Store.{Store}
 use Rattle.bus_store.specs.Inside.{item_in, pipe_by}
 use Rattle.bus_store.proofs.store.BusStore.pipes_len.Goals as goal
 
-pub returns : goal.returns
-returns c =
+pub returns-clause-len : goal.returns-clause-len
+returns-clause-len c =
     let a = c.self.inside in
     c.pipes_len.ensures ∙ sym (length-map a.tables.pipes (pipe_by (item_in a.desk.slots))) ∙ ap (λ (o : Store). length o.pipes) c.self.view_is

@@ -1,4 +1,4 @@
-use Rattle.std.proofs.Common.{◌≡◌, sym, subst}
+use Rattle.std.proofs.Common.{sym, subst}
 use Rattle.fsw_base.specs.Limits.{limits_of}
 use Rattle.core_rows.specs.Inside.{HaveBags}
 use Rattle.core_rows.proofs.Bags.{have-empty, no-more}

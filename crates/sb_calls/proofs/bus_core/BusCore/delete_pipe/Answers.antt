@@ -1,4 +1,6 @@
+use Rattle.std.proofs.Common.{ap}
 use Rattle.bus_words.specs.declared.history.Call.TheVariants.{Delete}
+use Rattle.sb_core.specs.Core.{Plain}
 use Rattle.sb_calls.proofs.CoreBags.{bag_in, bag_out}
 use Rattle.sb_calls.proofs.Made.{made_delete}
 use Rattle.sb_calls.proofs.OthersBags.{others_keep}
@@ -20,7 +22,7 @@ invariant_of-self g c =
       as_told = c.of_done.ensures;
       loans = c.delete_pipe-result.ensures.loans;
       descs = c.delete_pipe-result.ensures.descs;
-      unowned = c.delete_pipe-result.ensures.unowned;
+      unowned = λ none. ap (λ (p : Plain). p.loans) (c.delete_pipe-result.ensures.unowned none);
       pushed = c.push.ensures;
     }))
 
@@ -33,7 +35,7 @@ returns-clause-does g c =
       as_told = c.of_done.ensures;
       loans = c.delete_pipe-result.ensures.loans;
       descs = c.delete_pipe-result.ensures.descs;
-      unowned = c.delete_pipe-result.ensures.unowned;
+      unowned = λ none. ap (λ (p : Plain). p.loans) (c.delete_pipe-result.ensures.unowned none);
       pushed = c.push.ensures;
     }))
 

@@ -7,16 +7,16 @@ use Rattle.sb_calls.proofs.bus_core.BusCore.find_pipe.Goals as goal
 
 pub invariant_of-self : goal.invariant_of-self
 invariant_of-self c =
-    stands_over c.self.inside c.self.inside.core c.push.new.self c.args.self.now c.args.app (Find c.args.name.now) _ c.self.view_is c.self.invariant c.requires.may
-    (made_plain c.self.inside c.self.inside.core c.push.new.self c.args.app (Find c.args.name.now) _ c.of_found.result (c.find_pipe-result.ensures c.args.app) refl refl c.of_found.ensures
-    c.push.ensures (found-nothing c.find_pipe-result.result c.args.name.now 0) (λ pipe. refl) (λ number. refl) (λ pipe. refl) (λ number. refl))
+    stands_over c.self.inside c.find_pipe-result.new.self c.push.new.self c.args.self.now c.args.app (Find c.args.name.now) _ c.self.view_is c.self.invariant c.requires.may
+    (made_plain c.self.inside c.find_pipe-result.new.self c.push.new.self c.args.app (Find c.args.name.now) _ c.of_found.result (c.find_pipe-result.ensures.does c.args.app) refl refl c.of_found.ensures
+    c.push.ensures (found-nothing c.find_pipe-result.result c.args.name.now 0) (λ pipe. refl) (λ number. refl) c.find_pipe-result.ensures.loans c.find_pipe-result.ensures.descs)
 
 pub returns-clause-does : goal.returns-clause-does
 returns-clause-does c =
-    does_over c.self.inside c.self.inside.core c.push.new.self c.args.self.now c.args.app (Find c.args.name.now) _ c.self.view_is c.self.invariant c.requires.may
-    (made_plain c.self.inside c.self.inside.core c.push.new.self c.args.app (Find c.args.name.now) _ c.of_found.result (c.find_pipe-result.ensures c.args.app) refl refl c.of_found.ensures
-    c.push.ensures (found-nothing c.find_pipe-result.result c.args.name.now 0) (λ pipe. refl) (λ number. refl) (λ pipe. refl) (λ number. refl))
+    does_over c.self.inside c.find_pipe-result.new.self c.push.new.self c.args.self.now c.args.app (Find c.args.name.now) _ c.self.view_is c.self.invariant c.requires.may
+    (made_plain c.self.inside c.find_pipe-result.new.self c.push.new.self c.args.app (Find c.args.name.now) _ c.of_found.result (c.find_pipe-result.ensures.does c.args.app) refl refl c.of_found.ensures
+    c.push.ensures (found-nothing c.find_pipe-result.result c.args.name.now 0) (λ pipe. refl) (λ number. refl) c.find_pipe-result.ensures.loans c.find_pipe-result.ensures.descs)
 
 pub returns-clause-bags : goal.returns-clause-bags
 returns-clause-bags c =
-    bags_over c.self.inside (record { core = c.self.inside.core; noted = c.push.new.self }) c.args.self.now c.self.view_is c.self.invariant (invariant_of-self c) (λ app bag has. has)
+    bags_over c.self.inside (record { core = c.find_pipe-result.new.self; noted = c.push.new.self }) c.args.self.now c.self.view_is c.self.invariant (invariant_of-self c) c.find_pipe-result.ensures.bags

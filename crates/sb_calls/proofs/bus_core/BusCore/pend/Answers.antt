@@ -1,5 +1,7 @@
+use Rattle.std.proofs.Common.{ap}
 use Rattle.bus_words.specs.declared.history.Call.TheVariants.{Pend}
 use Rattle.sb_calls.proofs.Alone.{pended_alone}
+use Rattle.sb_core.specs.Core.{Plain}
 use Rattle.sb_calls.proofs.CoreBags.{bag_in, bag_out}
 use Rattle.sb_calls.proofs.Made.{made_pend}
 use Rattle.sb_calls.proofs.OthersBags.{others_keep}
@@ -21,7 +23,7 @@ invariant_of-self g c =
       as_told = c.of_pended-answer.ensures;
       loans = c.pend-result.ensures.loans;
       descs = c.pend-result.ensures.descs;
-      unowned = c.pend-result.ensures.unowned;
+      unowned = λ none. ap (λ (p : Plain). p.loans) (c.pend-result.ensures.unowned none);
       pushed = c.push.ensures;
     }) c.note_of-note.ensures)
 
@@ -34,7 +36,7 @@ returns-clause-does g c =
       as_told = c.of_pended-answer.ensures;
       loans = c.pend-result.ensures.loans;
       descs = c.pend-result.ensures.descs;
-      unowned = c.pend-result.ensures.unowned;
+      unowned = λ none. ap (λ (p : Plain). p.loans) (c.pend-result.ensures.unowned none);
       pushed = c.push.ensures;
     }) c.note_of-note.ensures)
 

@@ -7,16 +7,16 @@ use Rattle.sb_calls.proofs.bus_core.BusCore.pipe_name.Goals as goal
 
 pub invariant_of-self : goal.invariant_of-self
 invariant_of-self c =
-    stands_over c.self.inside c.self.inside.core c.push.new.self c.args.self.now c.args.app (PipeName c.args.pipe) _ c.self.view_is c.self.invariant c.requires.may
-    (made_plain c.self.inside c.self.inside.core c.push.new.self c.args.app (PipeName c.args.pipe) _ c.of_named.result (c.pipe_name-result.ensures c.args.app) refl refl c.of_named.ensures
-    c.push.ensures (named-nothing c.pipe_name-result.result (PipeName c.args.pipe) 0) (λ pipe. refl) (λ number. refl) (λ pipe. refl) (λ number. refl))
+    stands_over c.self.inside c.pipe_name-result.new.self c.push.new.self c.args.self.now c.args.app (PipeName c.args.pipe) _ c.self.view_is c.self.invariant c.requires.may
+    (made_plain c.self.inside c.pipe_name-result.new.self c.push.new.self c.args.app (PipeName c.args.pipe) _ c.of_named.result (c.pipe_name-result.ensures.does c.args.app) refl refl c.of_named.ensures
+    c.push.ensures (named-nothing c.pipe_name-result.result (PipeName c.args.pipe) 0) (λ pipe. refl) (λ number. refl) c.pipe_name-result.ensures.loans c.pipe_name-result.ensures.descs)
 
 pub returns-clause-does : goal.returns-clause-does
 returns-clause-does c =
-    does_over c.self.inside c.self.inside.core c.push.new.self c.args.self.now c.args.app (PipeName c.args.pipe) _ c.self.view_is c.self.invariant c.requires.may
-    (made_plain c.self.inside c.self.inside.core c.push.new.self c.args.app (PipeName c.args.pipe) _ c.of_named.result (c.pipe_name-result.ensures c.args.app) refl refl c.of_named.ensures
-    c.push.ensures (named-nothing c.pipe_name-result.result (PipeName c.args.pipe) 0) (λ pipe. refl) (λ number. refl) (λ pipe. refl) (λ number. refl))
+    does_over c.self.inside c.pipe_name-result.new.self c.push.new.self c.args.self.now c.args.app (PipeName c.args.pipe) _ c.self.view_is c.self.invariant c.requires.may
+    (made_plain c.self.inside c.pipe_name-result.new.self c.push.new.self c.args.app (PipeName c.args.pipe) _ c.of_named.result (c.pipe_name-result.ensures.does c.args.app) refl refl c.of_named.ensures
+    c.push.ensures (named-nothing c.pipe_name-result.result (PipeName c.args.pipe) 0) (λ pipe. refl) (λ number. refl) c.pipe_name-result.ensures.loans c.pipe_name-result.ensures.descs)
 
 pub returns-clause-bags : goal.returns-clause-bags
 returns-clause-bags c =
-    bags_over c.self.inside (record { core = c.self.inside.core; noted = c.push.new.self }) c.args.self.now c.self.view_is c.self.invariant (invariant_of-self c) (λ app bag has. has)
+    bags_over c.self.inside (record { core = c.pipe_name-result.new.self; noted = c.push.new.self }) c.args.self.now c.self.view_is c.self.invariant (invariant_of-self c) c.pipe_name-result.ensures.bags

@@ -12,7 +12,7 @@ pub returns-then-is_some : goal.returns-then-is_some
 returns-then-is_some c =
     let a = c.self.inside in
     let name = c.args.name.now in
-    let free : length a.store.pipes < a.config.pipes = omega (arith, c.pipes_len.ensures, c.if-pipes_len-self.false) in
+    let free : length a.store.pipes < a.config.pipes = omega (arith, c.pipes_len.ensures.len, c.if-pipes_len-self.false) in
     let taken = name_told a.store.pipes name ∙ ap is_some (sym c.find.ensures) ∙ sym c.is_some.ensures ∙ c.if-is_some.true in
     at_core a c.args.self.now c.self.view_is (λ limits s. create_cause limits s c.args.depth name) (Some PipeCrErr)
     (create_checked (limits_of a.config) (means a).bus c.args.depth name false false true
@@ -22,7 +22,7 @@ pub returns : goal.returns
 returns c =
     let a = c.self.inside in
     let name = c.args.name.now in
-    let free : length a.store.pipes < a.config.pipes = omega (arith, c.pipes_len.ensures, c.if-pipes_len-self.false) in
+    let free : length a.store.pipes < a.config.pipes = omega (arith, c.pipes_len.ensures.len, c.if-pipes_len-self.false) in
     let taken = name_told a.store.pipes name ∙ ap is_some (sym c.find.ensures) ∙ sym c.is_some.ensures ∙ c.if-is_some.false in
     at_core a c.args.self.now c.self.view_is (λ limits s. create_cause limits s c.args.depth name) None
     (create_checked (limits_of a.config) (means a).bus c.args.depth name false false false

@@ -1,0 +1,58 @@
+-- What a software bus tells of its calls, and counts: its event desk and its statistics, and what one event, count or look does
+-- to them.
+use Rattle.std.specs.Prelude.{ℕ, List, map, fold}
+use Rattle.fsw_base.specs.EventDesk.{Desk, new_desk}
+use Rattle.housekeeping.specs.declared.in_use.InUse.{InUse}
+use Rattle.housekeeping.specs.declared.names.CounterName.{CounterName}
+use Rattle.housekeeping.specs.Counters.{ticked}
+use Rattle.housekeeping.specs.Peaks.{greater}
+use Rattle.housekeeping.specs.Statistics.{Statistics, no_statistics}
+use Rattle.service_events.specs.declared.event.ServiceEvent.{ServiceEvent}
+use Rattle.service_events.specs.declared.event.ServiceEvent.TheVariants.{MessageLimit, PipeOverflow}
+use Rattle.service_events.specs.Events.{served_event}
+use Rattle.bus_words.specs.Counters.{event_counter}
+use Rattle.bus_tables.specs.declared.misses.Miss.{Miss}
+use Rattle.bus_tables.specs.declared.misses.MissCause.{MissCause}
+use Rattle.bus_tables.specs.declared.misses.MissCause.TheVariants.{OverLimit, Full}
+
+-- The event desk; and the counters, with the peaks of what was in use.
+pub record Recordings : Type 0 where
+  pub events : Desk
+  pub statistics : Statistics
+
+-- nothing was told, counted or seen yet
+abbrev pub no_recordings : Recordings
+no_recordings = record { events = new_desk; statistics = no_statistics }
+
+-- one more on the counter of a name
+abbrev pub counter_ticked : Recordings → CounterName → Recordings
+counter_ticked records name =
+    record records { statistics = record records.statistics { counts = ticked records.statistics.counts name } }
+
+-- each peak rises to what is in use, where that is more
+abbrev pub peaks_raised : Recordings → InUse → Recordings
+peaks_raised records now = record records { statistics = record records.statistics { peak = greater records.statistics.peak now } }
+
+-- an event of the bus is told: the desk is served it, and the counter that it raises goes up, where it raises one
+abbrev pub told_event : Recordings → ServiceEvent → Recordings
+told_event records event = record {
+  events = served_event records.events event;
+  statistics = record records.statistics { counts = fold ticked records.statistics.counts (event_counter event) };
+}
+
+-- these events are told, in order
+abbrev pub told_all : Recordings → List ServiceEvent → Recordings
+told_all records events = fold told_event records events
+
+-- what is told of a pipe that misses a message of this id and sender for this cause
+abbrev pub missed_by_cause : MissCause → ℕ → ℕ → ℕ → ServiceEvent
+missed_by_cause OverLimit id pipe sender = MessageLimit id pipe sender
+missed_by_cause Full id pipe sender = PipeOverflow id pipe sender
+
+-- what is told of a pipe that misses a message of this id and sender
+abbrev pub miss_event : ℕ → ℕ → Miss → ServiceEvent
+miss_event id sender miss = missed_by_cause miss.cause id miss.pipe sender
+
+-- what is told of the pipes that miss it, in order
+abbrev pub miss_events : ℕ → ℕ → List Miss → List ServiceEvent
+miss_events id sender misses = map (miss_event id sender) misses

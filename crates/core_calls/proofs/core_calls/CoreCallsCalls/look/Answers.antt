@@ -1,0 +1,13 @@
+use Rattle.std.proofs.Common.{refl, inl}
+use Rattle.core_calls.proofs.BufferCalls.{leaves-views}
+use Rattle.core_calls.proofs.core_calls.CoreCallsCalls.look.Goals as goal
+
+pub returns : goal.returns
+returns g c = record {
+  now = c.args.self.now.core.now;
+  meets = inl refl;
+  does = c.look.ensures.looks;
+  bag = c.look.ensures.bag;
+  buffers = leaves-views c.args.self.now.held.now c.look.new.held _ _ c.look.ensures.buffers (λ number. refl);
+  same = record { app = refl; bus = refl; bag = refl; alone = refl };
+}

@@ -1,0 +1,13 @@
+use Rattle.std.proofs.Common.{refl, inl}
+use Rattle.core_calls.proofs.BufferCalls.{leaves-views}
+use Rattle.core_calls.proofs.core_calls.CoreCallsCalls.pend.Goals as goal
+
+pub returns : goal.returns
+returns g c = record {
+  now = c.args.self.now.core.now;
+  meets = inl refl;
+  does = c.pend.ensures.does;
+  bag = c.pend.ensures.bag;
+  buffers = leaves-views c.args.self.now.held.now c.pend.new.held _ _ c.pend.ensures.buffers (λ number. refl);
+  same = record { app = refl; bus = refl; bag = refl; alone = refl };
+}

@@ -1,0 +1,13 @@
+use Rattle.std.proofs.Common.{refl, inl}
+use Rattle.core_calls.proofs.BufferCalls.{leaves-views}
+use Rattle.core_calls.proofs.core_calls.CoreCallsCalls.receive.Goals as goal
+
+pub returns : goal.returns
+returns g c = record {
+  now = c.args.self.now.core.now;
+  meets = inl refl;
+  does = c.receive.ensures.does;
+  bag = c.receive.ensures.bag;
+  buffers = leaves-views c.args.self.now.held.now c.receive.new.held _ _ c.receive.ensures.buffers (λ number. refl);
+  same = record { app = refl; bus = refl; bag = refl; alone = refl };
+}

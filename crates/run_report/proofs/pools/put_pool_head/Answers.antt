@@ -1,0 +1,8 @@
+use Rattle.std.proofs.Common.{ap, sym}
+use Rattle.run_report.specs.CounterText.{pool_head}
+use Rattle.text_page.proofs.Putting.{◌▸◌, puts_as}
+use Rattle.run_report.proofs.pools.put_pool_head.Goals as goal
+
+pub returns-in-Applications : goal.returns-in-Applications
+returns-in-Applications g c =
+    puts_as (pool_head c.args.name) (ap pool_head (sym c.in-Applications.is)) (c.put-in-Applications.ensures ▸ c.put_number.ensures)

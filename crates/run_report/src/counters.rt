@@ -1,0 +1,80 @@
+//! The lines on what was counted: by the bus, and at its event desk.
+ghost use Rattle.std.specs.Prelude.{◌≡◌, ◌++◌, ℕ};
+ghost use Rattle.text_page.specs.Pieces.{Puts};
+ghost use Rattle.run_report.specs.CounterText.{field_text, use_text, counts_text, uses_text, desk_text};
+
+use evs_events::EventDesk;
+use fsw_base::{Sink, SinkGuard};
+use housekeeping::{CounterName, Counters, InUse};
+use text_page::{Page, put, put_number};
+
+/// Puts a number with its name before it.
+pub(crate) fn put_field<K: Sink>(
+    sink: &mut SinkGuard<'_, K>,
+    page: &mut Page,
+    name: &[u8],
+    number: u32,
+)
+    ensures { Puts sink.old sink.new page.old page.new (field_text name.now number) }
+{
+    put(sink, page, b" ");
+    put(sink, page, name);
+    put(sink, page, b"=");
+    put_number(sink, page, number);
+}
+
+/// Puts the line of the ten counters.
+pub fn put_counts<K: Sink>(sink: &mut SinkGuard<'_, K>, page: &mut Page, counters: &Counters)
+    ensures { Puts sink.old sink.new page.old page.new (counts_text counters.now.counts) }
+{
+    put(sink, page, b"bus");
+    put_field(sink, page, b"nosub", counters.at(CounterName::Nosub));
+    put_field(sink, page, b"send", counters.at(CounterName::Send));
+    put_field(sink, page, b"recv", counters.at(CounterName::Recv));
+    put_field(sink, page, b"create", counters.at(CounterName::Create));
+    put_field(sink, page, b"sub", counters.at(CounterName::Sub));
+    put_field(sink, page, b"opts", counters.at(CounterName::Opts));
+    put_field(sink, page, b"find", counters.at(CounterName::Find));
+    put_field(sink, page, b"dup", counters.at(CounterName::Dup));
+    put_field(sink, page, b"limit", counters.at(CounterName::Limit));
+    put_field(sink, page, b"overflow", counters.at(CounterName::Overflow));
+    put(sink, page, b"\n");
+}
+
+/// Puts the line of the numbers in use, each with its peak.
+pub fn put_uses<K: Sink>(sink: &mut SinkGuard<'_, K>, page: &mut Page, now: InUse, peak: InUse)
+    ensures { Puts sink.old sink.new page.old page.new (uses_text now peak) }
+{
+    put(sink, page, b"use");
+    put_use(sink, page, b"msgids", now.msgids, peak.msgids);
+    put_use(sink, page, b"pipes", now.pipes, peak.pipes);
+    put_use(sink, page, b"subs", now.subs, peak.subs);
+    put_use(sink, page, b"buffers", now.buffers, peak.buffers);
+    put_use(sink, page, b"bytes", now.bytes, peak.bytes);
+    put(sink, page, b"\n");
+}
+
+// Puts a number in use, and the greatest that it ever was.
+fn put_use<K: Sink>(sink: &mut SinkGuard<'_, K>, page: &mut Page, name: &[u8], now: u32, peak: u32)
+    ensures { Puts sink.old sink.new page.old page.new (use_text name.now now peak) }
+{
+    put_field(sink, page, name, now);
+    put(sink, page, b"/");
+    put_number(sink, page, peak);
+}
+
+/// Puts the line of the event desk: what became of events, and the log's length and mode.
+pub fn put_desk<K: Sink>(sink: &mut SinkGuard<'_, K>, page: &mut Page, desk: &EventDesk)
+    ensures { Puts sink.old sink.new page.old page.new (desk_text desk.now) }
+{
+    let counts = desk.counts();
+    put(sink, page, b"evs");
+    put_field(sink, page, b"sent", counts.sent);
+    put_field(sink, page, b"filtered", counts.filtered);
+    put_field(sink, page, b"cut", counts.cut);
+    put_field(sink, page, b"refused", counts.refused);
+    put_field(sink, page, b"logged", desk.log_len());
+    put_field(sink, page, b"lost", counts.lost);
+    put_field(sink, page, b"mode", u32::from(counts.mode));
+    put(sink, page, b"\n");
+}

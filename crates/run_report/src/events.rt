@@ -1,0 +1,42 @@
+//! The lines on the event log.
+ghost use Rattle.std.specs.Prelude.{◌≡◌};
+ghost use Rattle.evs_events.specs.Views.{line_shown};
+ghost use Rattle.text_page.specs.Pieces.{Puts};
+ghost use Rattle.run_report.specs.EventText.{behind_blank, log_line_text, log_text};
+
+use evs_events::{EventDesk, LogLine};
+use fsw_base::{Sink, SinkGuard};
+use text_page::{Page, put, put_number};
+
+/// Puts the lines of the event log, the oldest first.
+pub fn put_log<K: Sink>(sink: &mut SinkGuard<'_, K>, page: &mut Page, desk: &EventDesk)
+    ensures { Puts sink.old sink.new page.old page.new (log_text desk.now.log) }
+{
+    for i in 0..desk.log_len() {
+        put_log_line(sink, page, &desk.log_at(i));
+    }
+}
+
+// Puts the line of one event.
+fn put_log_line<K: Sink>(sink: &mut SinkGuard<'_, K>, page: &mut Page, line: &LogLine<'_>)
+    ensures { Puts sink.old sink.new page.old page.new (log_line_text (line_shown line.now)) }
+{
+    put(sink, page, b"a");
+    put_number(sink, page, line.app);
+    put(sink, page, b" ");
+    put_number(sink, page, line.id);
+    put(sink, page, b" ");
+    put_number(sink, page, line.kind.number());
+    put_behind_blank(sink, page, line.text);
+    put(sink, page, b"\n");
+}
+
+// Puts a text with a blank before it; nothing where the text is empty.
+fn put_behind_blank<K: Sink>(sink: &mut SinkGuard<'_, K>, page: &mut Page, text: &[u8])
+    ensures { Puts sink.old sink.new page.old page.new (behind_blank text.now) }
+{
+    if !text.is_empty() {
+        put(sink, page, b" ");
+        put(sink, page, text);
+    }
+}

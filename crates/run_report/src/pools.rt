@@ -1,0 +1,122 @@
+//! The lines on memory pools: the bus's own, and those that applications created.
+ghost use Rattle.std.specs.Prelude.{◌≡◌, ◌<◌, ℕ, length, map};
+ghost use Rattle.std.specs.List.{flat_map, range_with_len};
+ghost use Rattle.text_page.specs.Pieces.{Puts};
+ghost use Rattle.run_report.specs.CounterText.{account_read, pool_head, class_head, pool_text, class_text, account_text, accounts_text};
+
+use crate::counters::put_field;
+use app_pools::AppPools;
+use es_pool::Pool;
+use fsw_base::{Sink, SinkGuard};
+use text_page::{Page, put, put_number};
+
+/// Which pool a line is about.
+#[derive(Clone, Copy, Debug)]
+pub(crate) enum PoolName {
+    /// The bus's own.
+    Bus,
+    /// The applications' pool of this number, from 1.
+    Applications(u32),
+}
+
+/// Puts the lines of the pools that applications created, number 1 first.
+pub fn put_app_pools<K: Sink>(sink: &mut SinkGuard<'_, K>, page: &mut Page, pools: &AppPools)
+    ensures { Puts sink.old sink.new page.old page.new
+        (accounts_text (map (λ pool. pool.account) pools.now.pools)) }
+{
+    for i in 0..pools.app_pools() {
+        put_account(
+            sink,
+            page,
+            PoolName::Applications(i + 1),
+            pools.app_pool(i + 1),
+        );
+    }
+}
+
+/// Puts the lines of a pool: its own, and one for each block size of which blocks were cut.
+pub(crate) fn put_account<K: Sink>(
+    sink: &mut SinkGuard<'_, K>,
+    page: &mut Page,
+    name: PoolName,
+    pool: &Pool,
+)
+    ensures { Puts sink.old sink.new page.old page.new (account_text name (account_read pool.now)) }
+{
+    put_pool(sink, page, name, pool);
+    put_classes(sink, page, name, pool);
+}
+
+// Puts the line of a pool itself.
+fn put_pool<K: Sink>(sink: &mut SinkGuard<'_, K>, page: &mut Page, name: PoolName, pool: &Pool)
+    ensures { Puts sink.old sink.new page.old page.new (pool_text name (account_read pool.now)) }
+{
+    pool.recall_whole();
+    let figures = pool.stats();
+    put_pool_head(sink, page, name);
+    put_field(sink, page, b"size", figures.size);
+    put_field(sink, page, b"free", figures.free);
+    put_field(sink, page, b"requests", figures.requests);
+    put_field(sink, page, b"errors", figures.errors);
+    put(sink, page, b"\n");
+}
+
+// Puts the lines of a pool's block sizes, the smallest first.
+fn put_classes<K: Sink>(sink: &mut SinkGuard<'_, K>, page: &mut Page, name: PoolName, pool: &Pool)
+    ensures { Puts sink.old sink.new page.old page.new
+        (flat_map (class_text name (account_read pool.now))
+        (range_with_len 0 (length pool.now.sizes))) }
+{
+    for class in 0..pool.classes() {
+        put_class(sink, page, name, pool, class);
+    }
+}
+
+// Puts the line of a block size, by its place; nothing where no block of it was cut.
+fn put_class<K: Sink>(
+    sink: &mut SinkGuard<'_, K>,
+    page: &mut Page,
+    name: PoolName,
+    pool: &Pool,
+    class: u32,
+)
+    requires { class < length pool.now.sizes }
+    ensures { Puts sink.old sink.new page.old page.new
+        (class_text name (account_read pool.now) class) }
+{
+    let figures = pool.class(class);
+    if figures.made != 0 {
+        put_class_head(sink, page, name);
+        put(sink, page, b" ");
+        put_number(sink, page, figures.size);
+        put_field(sink, page, b"made", figures.made);
+        put_field(sink, page, b"free", figures.free);
+        put(sink, page, b"\n");
+    }
+}
+
+// Puts how the line of a pool begins.
+fn put_pool_head<K: Sink>(sink: &mut SinkGuard<'_, K>, page: &mut Page, name: PoolName)
+    ensures { Puts sink.old sink.new page.old page.new (pool_head name) }
+{
+    match name {
+        PoolName::Bus => put(sink, page, b"pool"),
+        PoolName::Applications(number) => {
+            put(sink, page, b"apool ");
+            put_number(sink, page, number);
+        }
+    }
+}
+
+// Puts how the line of a block size begins.
+fn put_class_head<K: Sink>(sink: &mut SinkGuard<'_, K>, page: &mut Page, name: PoolName)
+    ensures { Puts sink.old sink.new page.old page.new (class_head name) }
+{
+    match name {
+        PoolName::Bus => put(sink, page, b"class"),
+        PoolName::Applications(number) => {
+            put(sink, page, b"aclass ");
+            put_number(sink, page, number);
+        }
+    }
+}
