@@ -1,5 +1,5 @@
 //! The records of a bus.
-ghost use Rattle.std.specs.Prelude.{◌≡◌, ◌≤◌, fold, IfOk};
+ghost use Rattle.std.specs.Prelude.{◌≡◌, ◌≤◌, fold, IfOk, if◌then◌else◌};
 ghost use Rattle.std.specs.Result.{result_err};
 ghost use Rattle.fsw_base.specs.EventDesk.{registered, unregistered, sent, reset, send_refusal, reset_refusal, with_mode, cleared};
 ghost use Rattle.housekeeping.specs.Counters.{ticked};
@@ -62,8 +62,19 @@ impl Records {
         ensures { self.new ≡ told_all self.old (miss_events id sender misses.now) }
     {
         for miss in misses {
-            self.tell(event_of(miss, id, sender));
+            self.tell_miss(miss, id, sender);
         }
+    }
+
+    // Tells of a pipe that missed a message of this id and sender.
+    fn tell_miss(&mut self, miss: &Miss, id: u16, sender: AppNo)
+        ensures { self.new ≡ told_event self.old (miss_event id sender miss.now) }
+    {
+        let event = event_of(miss, id, sender);
+        if !drop_event(&mut self.events, &event) {
+            log_miss(&mut self.events, miss, id, sender);
+        }
+        raise(&mut self.counters, &event);
     }
 
     /// Counts one more, of a call that was refused. A counter stops at 4294967295.
@@ -169,14 +180,42 @@ impl Records {
 fn serve(events: &mut EventDesk, event: &ServiceEvent)
     ensures { events.new ≡ served_event events.old event.now }
 {
-    if events.drops_next() {
-        // Does nothing; the proof learns of it that the text would be short.
-        event.recall_text();
-        events.service_dropped();
-    } else {
-        let text = event.text();
-        events.service(event.number(), event.kind(), text.as_slice());
+    if !drop_event(events, event) {
+        log_event(events, event);
     }
+}
+
+// Serves the desk an event where the log drops its line, and answers whether it does.
+fn drop_event(events: &mut EventDesk, event: &ServiceEvent) -> bool
+    ensures { events.new ≡
+        (if result then served_event events.old event.now else events.old) }
+{
+    if !events.drops_next() {
+        return false;
+    }
+    // Does nothing; the proof learns of it that the text would be short.
+    event.recall_text();
+    events.service_dropped();
+    true
+}
+
+// Serves the desk an event with its text. The room for the text is made in this function alone: a
+// send to a full pipe, whose event a full log drops, would take some 40 instructions more for it.
+#[inline(never)]
+fn log_event(events: &mut EventDesk, event: &ServiceEvent)
+    ensures { events.new ≡ served_event events.old event.now }
+{
+    let text = event.text();
+    events.service(event.number(), event.kind(), text.as_slice());
+}
+
+// Serves the desk with its text that a pipe missed a message of this id and sender. It stands apart
+// so that where the log drops the line no event is made in memory.
+#[inline(never)]
+fn log_miss(events: &mut EventDesk, miss: &Miss, id: u16, sender: AppNo)
+    ensures { events.new ≡ served_event events.old (miss_event id sender miss.now) }
+{
+    log_event(events, &event_of(miss, id, sender));
 }
 
 // Counts an event of the bus on its counter; that a pair wasn't subscribed has none.
