@@ -1,10 +1,11 @@
-"""Plays the worked examples of the program core_rows on the executable model's bus, and prints what the program must print;
-with a second word compares that with the file of this name.
+"""Plays the worked examples of the program core_rows on the executable model's bus, beside its tables, and prints what the
+program must print; with a second word compares that with the file of this name.
 
     core_rows.py MODEL [ANSWERS]
 
 A step is spelled as the report spells a call, with pipes by their numbers: its words are the application, the call and what
-the call is given; `put` writes bytes over the first ones of a buffer, and `show` is a receipt of the pipe's last message.
+the call is given; `put` writes bytes over the first ones of a buffer, and `show` is a receipt of the pipe's last message. An
+application's `end` is one at the tables and one at the bus; no other call is made at the tables.
 """
 import sys
 from types import SimpleNamespace
@@ -408,12 +409,12 @@ APPLICATIONS = 16
 
 
 def opened(model, limits, starts, applications):
-    """The model's bus before the first call."""
+    """The model's bus and its tables before the first call."""
     config = model.Config()
     for limit, value in limits.items():
         setattr(config, limit, value)
     config.starts.update(starts)
-    return model.Bus(config, applications, model.stage_number(STAGE))
+    return model.Bus(config, applications, model.stage_number(STAGE)), model.Tables(config, applications)
 
 
 def call_of(model, word, given):
@@ -441,7 +442,7 @@ def call_of(model, word, given):
 def report(model, example):
     """The report of an example's calls, each made on the model's bus."""
     _, limits, starts, applications, steps = example
-    bus = opened(model, limits, starts, applications)
+    bus, tables = opened(model, limits, starts, applications)
     receipts = {application: [] for application in range(1, applications + 1)}
     unsent = {}  # the bytes of each application's unsent buffers
     for application, word, *given in (line.split() for line in steps.strip().splitlines()):
@@ -450,6 +451,8 @@ def report(model, example):
             written = bytes.fromhex(given[1])
             unsent[application, int(given[0])][: len(written)] = written
             continue
+        if word == "end":
+            tables.call(application, ("end",), "end")
         if word == "look":
             answer = bus.look(application)
         elif word == "xmit":
@@ -468,14 +471,14 @@ def report(model, example):
             receipts[application].append(model.receipt_text(application, item and ("msg", pipe, item)))
     script = SimpleNamespace(config=bus.cfg)
     apps = [SimpleNamespace(receipt_lines=lambda lines=lines: lines) for lines in receipts.values()]
-    world = SimpleNamespace(bus=bus, stage=bus.stage, script=script, apps=apps)
+    world = SimpleNamespace(bus=bus, tables=tables, stage=bus.stage, script=script, apps=apps)
     world.counter_lines = lambda: model.World.counter_lines(world)
-    return ["fsw 1", "bus", *bus.lines, *model.World.tail(world)]
+    return ["fsw 1", "bus", *bus.lines, "tables", *tables.lines, *model.World.tail(world)]
 
 
 def largest(model):
     """How many calls were accepted as the largest configuration filled, and whom two sends reached."""
-    bus = opened(model, LARGEST, {}, APPLICATIONS)
+    bus, _ = opened(model, LARGEST, {}, APPLICATIONS)
     owner = [1 + pipe * APPLICATIONS // LARGEST["pipes"] for pipe in range(LARGEST["pipes"])]
 
     def accepted(calls):

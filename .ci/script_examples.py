@@ -1,5 +1,5 @@
-"""Runs every example of docs/SCRIPT.md: lines that are built must run, lines that aren't built yet must be told as such, and
-each example of a fault must be answered with that fault at that line.
+"""Runs every example of docs/SCRIPT.md: each line must run, and each example of a fault must be answered with that fault at that
+line.
 
     script_examples.py docs/SCRIPT.md
 """
@@ -38,12 +38,10 @@ def rows(text):
 
 
 def call_lines(page):
-    """Each example line with what it must be answered with; None where it must run."""
-    for title in "the software bus", "memory pools", "events", "housekeeping":
+    """The example line of each row."""
+    for title in "the software bus", "memory pools", "events", "housekeeping", "tables":
         for row in rows(section(page, f"Call lines of {title}")):
-            yield row[-1].strip("`"), None
-    for row in rows(section(page, "Call lines that aren't built yet")):
-        yield row[-1].strip("`"), "script:4:NotYet\n"
+            yield row[-1].strip("`")
 
 
 def faults(page):
@@ -63,9 +61,9 @@ def main():
     if run(whole.encode())[0] != 0:
         print("the page's first script doesn't run")
         wrong += 1
-    for line, refused in call_lines(page):
+    for line in call_lines(page):
         status, text = run((BEFORE + line + "\n").encode())
-        if (refused is None and (status != 0 or not text.startswith("fsw 1\n"))) or (refused is not None and text != refused):
+        if status != 0 or not text.startswith("fsw 1\n"):
             print(f"{line}: status {status}, {text.splitlines()[:1]}")
             wrong += 1
     for text, told in faults(page):

@@ -3,9 +3,10 @@ calls of the bus over four applications, and `longest` has as many bytes as a sc
 same sends, the one with four pipes and ids, the other with 256 pipes and 1024 ids; `cycles` makes, subscribes and deletes a
 pipe again and again; `copied` and `written` send the same messages, the one from their bytes, the other in buffers. `queued`,
 `missed` and `logged` make the same sends to one pipe, which takes each, or is full; then the event log drops each event, or
-has its oldest line overwritten.
+has its oldest line overwritten. `everything` has 20,000 lines of every kind that there is, over four applications; `greatest`
+has every limit at its greatest and sixteen applications, and fills what it can.
 
-    scripts.py largest|mixed|longest|narrow|wide|cycles|copied|written|queued|missed|logged
+    scripts.py largest|mixed|longest|narrow|wide|cycles|copied|written|queued|missed|logged|everything|greatest
 """
 import sys
 
@@ -140,8 +141,55 @@ def logged():
     yield from turns(0, 1)
 
 
+def lines_of_each_kind(app, turn):
+    """Each kind of line once: the bus, its buffers and pools, events, and a table of the application's own and a shared one."""
+    own, other = 0x0801 + app, 0x0801 + (app + 1) % 4
+    yield from (f"send 0x{other:04x} {20 + turn % 100} {turn % 256}", "recv p0", "show p0", f"sendraw {own:04x}c000000100{turn % 256:02x} keep")
+    yield from ("recv p0", f"opts p1 {turn % 2}", "getopts p1", f"find p2 P{(app + turn) % 4}", "pname p1")
+    yield from (f"unsub 0x{other:04x} p1", f"sub 0x{other:04x} p1 2 local", "create p3 4 EXTRA", "delete p3", "pend p1")
+    yield from ("alloc b0 64", f"form b0 0x{own:04x} 1", "put b0 10 0102", "xmit b0", "alloc b1 16", "release b1")
+    yield from ("pget m0 q0 100", "pput q0 m0", "pstats q0", f"event {turn % 4} 2 a text of some length", "evreset 1")
+    yield from ("logmode 0", "logclear", "hk", "stats")
+    yield from ("tstage t0 0 fill:64:3", "tval t0", "tupd t0", "tload t0 8 00112233", "tget t0", "show t0", "trel t0", "tstat t0")
+    yield from ("tstage t1 4 fill:32:1", "tabort t1", f"tshare t2 TABLE{(app + 1) % 4}", "tget t2", "tunreg t2")
+
+
+def everything():
+    """Four applications of 5,000 lines each."""
+    for app in range(4):
+        yield f"app A{app}"
+        lines = ["evreg 1:65535 2:0", f"create p0 8 P{app}", f"create p1 8 Q{app}", f"sub 0x{0x0801 + app:04x} p0 4"]
+        lines += ["pool q0 4096", f"treg t0 TABLE{app} 64 0 0:0:9", f"treg t1 OWN{app} 128 1"]
+        for turn in range(5000):
+            lines += lines_of_each_kind(app, turn)
+            if len(lines) >= 5000:
+                break
+        yield from lines[:5000]
+
+
+def greatest():
+    """Every limit at its greatest: 256 pipes, 1,024 ids, 256 tables, and messages and tables as large as they may be."""
+    limits = {"msgids": 1024, "pipes": 256, "dests": 64, "depth": 1024, "msgmax": 65542, "pool": 16777216}
+    limits |= {"apppool": 1048576, "tables": 256, "handles": 1024, "tablemax": 65536, "tablepool": 16777216}
+    for name, value in limits.items():
+        yield f"set {name} {value}"
+    for app in range(16):
+        yield f"app A{app}"
+        lines = [f"create p{pipe} 1024 N{app}_{pipe}" for pipe in range(16)]
+        lines += [f"sub 0x{1 + 64 * app + place:04x} p{place % 16}" for place in range(64)]
+        lines += [f"treg t{table} T{app}_{table} 65536 1" for table in range(8)]
+        lines += [f"treg t{8 + table} S{app}_{table} 4096 0" for table in range(8)]
+        lines += [f"send 0x{1 + 64 * app + place:04x} 65542 {place}" for place in range(10)]
+        lines += [f"tload t{table} 0 fill:65536:{table}" for table in range(5)]
+        lines += [f"tget t{table}" for table in range(5)]
+        lines += [f"recv p{pipe}" for pipe in range(10)]
+        while len(lines) < 1250:
+            lines += [f"send 0x{1 + 64 * app:04x} 8 1", "recv p0"]
+        yield from lines[:1250]
+
+
 def main():
-    lines = {"queued": queued, "missed": missed, "logged": logged, "copied": copied, "written": written, "cycles": cycles, "narrow": narrow, "wide": wide, "largest": largest, "mixed": mixed, "longest": longest}[sys.argv[1]]()
+    lines = {"everything": everything, "greatest": greatest, "queued": queued, "missed": missed, "logged": logged, "copied": copied, "written": written, "cycles": cycles, "narrow": narrow, "wide": wide, "largest": largest, "mixed": mixed, "longest": longest}[sys.argv[1]]()
     sys.stdout.write("\n".join(lines) + "\n")
 
 

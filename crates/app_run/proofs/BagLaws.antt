@@ -13,10 +13,15 @@ use Rattle.bus_store.specs.Bag.{Shape}
 use Rattle.bus_store.specs.Words.{desc_of, size_for}
 use Rattle.script_settings.specs.Accounts.{budget_of}
 use Rattle.app_script.specs.Script.{Application, ScriptText}
-use Rattle.app_run.specs.Openings.{opened, empty_bag}
-use Rattle.app_run.specs.Rounds.{AllHold, StepsIf}
-use Rattle.app_run.specs.Runners.{Equipped}
-use Rattle.app_run.specs.Turns.{Moved}
+use Rattle.app_run.specs.Openings.{opened, opened_tables, empty_bag}
+use Rattle.app_run.specs.Rounds.{AllHold, AllHoldTables, StepsIf}
+use Rattle.app_run.specs.Runners.{Equipped, Services}
+use Rattle.app_run.specs.Turns.{Moved, TablesMoved}
+use Rattle.tbl_words.specs.declared.calls.TblAnswer.{TblAnswer}
+use Rattle.tbl_words.specs.declared.history.Call.{Call as TableCall}
+use Rattle.tbl_blocks.specs.Held.{HeldViews}
+use Rattle.tbl_load.specs.Bags.{HasBag as HasTableBag, KeepsOtherBags as KeepsOtherTables}
+use Rattle.tbl_load.specs.Core.{Core as TableCore, Does as TablesDo}
 
 -- One application's turn. --
 
@@ -29,9 +34,9 @@ module _ (law : (old new : Core) (app : ℕ) (call : Call) (answer : BusAnswer) 
   moved-bags before after who (inr step) = law before after who step.0 step.1 step.2
 
   -- others' bags stay theirs
-  pub steps-bags : (ended : Bool) (old new : Equipped) (before after : Core) → StepsIf ended old new before after → KeepsOtherBags before after old.progress.running.app
-  steps-bags true old new before after step = same-bags before after old.progress.running.app step.1
-  steps-bags false old new before after step = moved-bags before after old.progress.running.app step.moved
+  pub steps-bags : (ended : Bool) (old new : Equipped) (before after : Services) → StepsIf ended old new before after → KeepsOtherBags before.bus after.bus old.progress.running.app
+  steps-bags true old new before after step = same-bags before.bus after.bus old.progress.running.app (ap (λ (s : Services). s.bus) step.1)
+  steps-bags false old new before after step = moved-bags before.bus after.bus old.progress.running.app step.moved
 
 hold-others : (before after : Core) (who : ℕ) → KeepsOtherBags before after who → (n : ℕ) (bags : List (Holding LentBytes)) → who < n → AllHold before n bags → AllHold after n bags
 hold-others before after who keeps n [] above holds = tt
@@ -81,3 +86,52 @@ pub hold-empty : (script : ScriptText) (n : ℕ) (apps : List Application) → 1
     AllHold (opened script) n (map (λ a. empty_bag script.limits.pipes (budget_of a.lines).buffers) apps)
 hold-empty script n [] first = tt
 hold-empty script n (a ∷ apps) first = (has-empty script n (budget_of a.lines).buffers first, hold-empty script (n + 1) apps (omega arith))
+
+-- The same at the tables. --
+
+module _ (law : (old new : TableCore) (app : ℕ) (call : TableCall) (answer : TblAnswer) → TablesDo old new app call answer → KeepsOtherTables old new app) where
+  same-helds : (before after : TableCore) (who : ℕ) → after ≡ before → KeepsOtherTables before after who
+  same-helds before after who same = λ other held differ holds. subst (λ core. HasTableBag core other held) (sym same) holds
+
+  moved-helds : (before after : TableCore) (who : ℕ) → TablesMoved before after who → KeepsOtherTables before after who
+  moved-helds before after who (inl same) = same-helds before after who same
+  moved-helds before after who (inr step) = law before after who step.0 step.1 step.2
+
+  -- others' bags stay theirs
+  pub steps-helds : (ended : Bool) (old new : Equipped) (before after : Services) → StepsIf ended old new before after →
+      KeepsOtherTables before.tables after.tables old.progress.running.app
+  steps-helds true old new before after step = same-helds before.tables after.tables old.progress.running.app (ap (λ (s : Services). s.tables) step.1)
+  steps-helds false old new before after step = moved-helds before.tables after.tables old.progress.running.app step.tables_moved
+
+held-others : (before after : TableCore) (who : ℕ) → KeepsOtherTables before after who → (n : ℕ) (helds : List HeldViews) → who < n → AllHoldTables before n helds → AllHoldTables after n helds
+held-others before after who keeps n [] above holds = tt
+held-others before after who keeps n (held ∷ helds) above holds =
+    (keeps n held (λ is. omega (arith, is, above)) holds.0, held-others before after who keeps (n + 1) helds (omega (arith, above)) holds.1)
+
+-- all bags but one stay, and that one is the application's again
+pub held-set : (before after : TableCore) (who : ℕ) → KeepsOtherTables before after who → (n i : ℕ) (helds : List HeldViews) (new : HeldViews) → who ≡ n + i →
+    AllHoldTables before n helds → HasTableBag after who new → AllHoldTables after n (slice_set helds i new)
+held-set before after who keeps n i [] new at holds own = tt
+held-set before after who keeps n zero (held ∷ helds) new at holds own =
+    let here : who ≡ n = omega (arith, at) in
+    (subst (λ k. HasTableBag after k new) here own, held-others before after who keeps (n + 1) helds (omega (arith, here)) holds.1)
+held-set before after who keeps n (suc i) (held ∷ helds) new at holds own =
+    (keeps n held (λ is. omega (arith, is, at)) holds.0, held-set before after who keeps (n + 1) i helds new (omega (arith, at)) holds.1 own)
+
+pub held-at : (core : TableCore) (n i : ℕ) (helds : List HeldViews) (d : HeldViews) → AllHoldTables core n helds → i < length helds → HasTableBag core (n + i) (get_or helds i d)
+held-at core n i [] d holds within = absurd (omega (arith, within))
+held-at core n zero (held ∷ helds) d holds within =
+    let here : n ≡ n + 0 = omega arith in
+    subst (λ k. HasTableBag core k held) here holds.0
+held-at core n (suc i) (held ∷ helds) d holds within =
+    let there : n + 1 + i ≡ n + suc i = omega arith in
+    subst (λ k. HasTableBag core k (get_or helds i d)) there (held-at core (n + 1) i helds d holds.1 (omega (arith, within)))
+
+-- before the first call nothing is held
+has-nothing : (script : ScriptText) (app : ℕ) → HasTableBag (opened_tables script) app (record { views = []; room = script.limits.handles })
+has-nothing script app = record { seen = λ number. refl; counted = refl; room = omega arith }
+
+pub held-nothing : (script : ScriptText) (n : ℕ) (apps : List Application) →
+    AllHoldTables (opened_tables script) n (map (λ a. record { views = []; room = script.limits.handles }) apps)
+held-nothing script n [] = tt
+held-nothing script n (a ∷ apps) = (has-nothing script n, held-nothing script (n + 1) apps)

@@ -1,9 +1,14 @@
 pub mod Settling
-pub mod Newest
-pub mod Taken
 pub mod AskedLaws
+pub mod OwnHolds
+pub mod SmallHolds
+pub mod Newest
+pub mod NewestHeld
+pub mod Taken
+pub mod TakenHeld
 pub mod OthersLaws
 pub mod TurnLaws
+pub mod TableTurns
 pub mod ToldLaws
 pub mod RoundLaws
 pub mod BagLaws

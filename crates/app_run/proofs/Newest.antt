@@ -16,20 +16,26 @@ use Rattle.bus_words.specs.Machine.{step, may_call}
 use Rattle.bus_words.specs.Receipts.{message_receipt, receipt_in}
 use Rattle.bus_words.proofs.Finds.{same-self, same-sym}
 use Rattle.bus_words.proofs.LegalSteps.{AreWaiters}
+use Rattle.tbl_words.specs.declared.calls.TblAnswer.{TblAnswer}
+use Rattle.tbl_words.specs.declared.calls.TblAnswer.TheVariants.{Address}
+use Rattle.tbl_words.specs.declared.history.Call.{Call as TableCall}
+use Rattle.tbl_words.specs.declared.history.Call.TheVariants as table_calls
+use Rattle.tbl_words.specs.Tables.{Hold, State as Tables}
 use Rattle.script_lines.specs.declared.line.Line.{Line}
-use Rattle.script_lines.specs.declared.line.Line.TheVariants.{ShowPipe}
-use Rattle.script_runs.specs.Told.{own_last, got_in, shown}
+use Rattle.script_lines.specs.declared.line.Line.TheVariants.{ShowPipe, ShowTable}
+use Rattle.script_runs.specs.Told.{addressed_in, got_in, own_hold, own_last, shown}
 use Rattle.script_runs.specs.Trace.{Registers}
+use Rattle.script_runs.proofs.HeldReceipts.{held-own}
 use Rattle.script_runs.proofs.OwnLasts.{receipt_in-own, own-from}
-use Rattle.app_run.specs.Received.{number_from, newest_number, Remember}
+use Rattle.app_run.specs.Received.{held_receipt, number_from, newest_number, Remember}
 
 -- More receipts. --
 
-or-none : {X : Type 0} (o : Option X) → option_or o None ≡ o
+pub or-none : {X : Type 0} (o : Option X) → option_or o None ≡ o
 or-none None = refl
 or-none (Some x) = refl
 
-or-assoc : {X : Type 0} (a b c : Option X) → option_or (option_or a b) c ≡ option_or a (option_or b c)
+pub or-assoc : {X : Type 0} (a b c : Option X) → option_or (option_or a b) c ≡ option_or a (option_or b c)
 or-assoc None b c = refl
 or-assoc (Some x) b c = refl
 
@@ -164,10 +170,39 @@ remember-shows s app from receipts remembers = λ pipe.
           (shows-other receipts from pipe (own_last s.pipes app from) differ) (remembers pipe)
     ] refl
 
-pub remember-shown : (s : State) (app : ℕ) (registers : Registers) (line : Line) (receipts : List Receipt) → Remember receipts s app →
-    Remember (receipts ++ shown app s registers line) s app
+-- what is told of tables says nothing of pipes
+newest-held : (receipts : List Receipt) (handle pipe : ℕ) (found : Option Hold) →
+    newest_number (receipts ++ option_to_list (option_map (λ hold. held_receipt handle hold.version hold.value) found)) pipe ≡ newest_number receipts pipe
+newest-held receipts handle pipe None = ap (λ rs. newest_number rs pipe) (append-nil receipts)
+newest-held receipts handle pipe (Some hold) = newest-append receipts (held_receipt handle hold.version hold.value ∷ []) pipe
+
+shows-held : (receipts : List Receipt) (handle pipe : ℕ) (found : Option Hold) →
+    newest_number (receipts ++ unwrap_or (option_map (λ hold. held_receipt handle hold.version hold.value) found) Nothing ∷ []) pipe ≡ newest_number receipts pipe
+shows-held receipts handle pipe None = newest-nothing receipts pipe
+shows-held receipts handle pipe (Some hold) = newest-held receipts handle pipe (Some hold)
+
+-- more receipts that are from no pipe
+remember-more : (s : State) (app : ℕ) (receipts more : List Receipt) → ((pipe : ℕ) → newest_number (receipts ++ more) pipe ≡ newest_number receipts pipe) →
+    Remember receipts s app → Remember (receipts ++ more) s app
+remember-more s app receipts more same remembers = λ pipe. remember-kept s s app pipe receipts (receipts ++ more) (λ item is. is) (same pipe) (remembers pipe)
+
+pub remember-addressed : (s : State) (t : Tables) (app : ℕ) (call : TableCall) (answer : TblAnswer) (receipts : List Receipt) → Remember receipts s app →
+    Remember (receipts ++ addressed_in app t call answer) s app
+remember-addressed s t app (table_calls.GetAddress handle) (Address told version) receipts remembers =
+    remember-more s app receipts _
+    (λ pipe. ap (λ o. newest_number (receipts ++ option_to_list o) pipe) (held-own t app handle) ∙ newest-held receipts handle pipe (own_hold t app handle))
+    remembers
+remember-addressed s t app call answer receipts remembers = subst (λ rs. Remember rs s app) (sym (append-nil receipts)) remembers
+
+pub remember-shown : (s : State) (t : Tables) (app : ℕ) (registers : Registers) (handles : List ℕ) (line : Line) (receipts : List Receipt) → Remember receipts s app →
+    Remember (receipts ++ shown app s t registers handles line) s app
 unfolding shown
-remember-shown s app registers (ShowPipe pipe) receipts remembers =
+remember-shown s t app registers handles (ShowPipe pipe) receipts remembers =
     let from = slice_index registers.pipes pipe in
     subst (λ o. Remember (receipts ++ unwrap_or o Nothing ∷ []) s app) (sym (receipt_in-own s app from)) (remember-shows s app from receipts remembers)
-remember-shown s app registers line receipts remembers = subst (λ rs. Remember rs s app) (sym (append-nil receipts)) remembers
+remember-shown s t app registers handles (ShowTable handle) receipts remembers =
+    let from = slice_index handles handle in
+    remember-more s app receipts _
+    (λ pipe. ap (λ o. newest_number (receipts ++ unwrap_or o Nothing ∷ []) pipe) (held-own t app from) ∙ shows-held receipts from pipe (own_hold t app from))
+    remembers
+remember-shown s t app registers handles line receipts remembers = subst (λ rs. Remember rs s app) (sym (append-nil receipts)) remembers

@@ -7,57 +7,61 @@ use Rattle.std.proofs.lemmas.List.FromFn.{length-range_with_len}
 use Rattle.std.proofs.lemmas.List.Sums.{sum_by-cons}
 use Rattle.fsw_base.specs.declared.config.Budget.{Budget}
 use Rattle.fsw_base.specs.Limits.{Limits}
-use Rattle.bus_words.specs.declared.history.Entry.{Entry}
 use Rattle.journal_store.specs.declared.allowance.Allowance.{Allowance}
 use Rattle.bus_words.specs.declared.receipts.Receipt.{Receipt}
-use Rattle.bus_words.specs.Bus.{State, Standing, Active, Ended, opening, standing_of}
+use Rattle.bus_words.specs.Bus.{Standing, Active, Ended, opening, standing_of}
 use Rattle.journal_store.specs.Budgets.{AreBudgets, allowance_of}
 use Rattle.bus_words.specs.Log.{left_of}
 use Rattle.sb_calls.specs.Core.{Core, apps_of, state_of}
+use Rattle.tbl_words.specs.Tables.{has_ended, opening as no_tables}
+use Rattle.tbl_blocks.specs.Held.{HeldViews}
+use Rattle.tbl_load.specs.Core.{Core as TableCore, apps_of as table_apps_of}
 use Rattle.script_lines.specs.declared.line.Line.{Line}
-use Rattle.script_lines.specs.declared.line.Line.TheVariants.{Create, Find, Send, SendRaw, Pend, Allocate, TransmitBuffer}
+use Rattle.script_lines.specs.declared.line.Line.TheVariants.{Create, Find, Send, SendRaw, Pend, Allocate, TransmitBuffer, TableRegister, TableShare, Stage, Load}
 use Rattle.script_settings.specs.declared.account.Account.{Account}
 use Rattle.script_settings.specs.Accounts.{no_calls, charge_of, waits_of, buffers_of, counted, account_of, budget_of}
 use Rattle.app_script.specs.Ranges.{IsInRange}
 use Rattle.script_runs.specs.Rotation.{Running, SoFar, rotated, rotations, starting, enough, before_all, rotation}
 use Rattle.app_script.specs.Script.{Application, ScriptText, app_at}
-use Rattle.script_runs.specs.Told.{receipts_told, seen_from, told}
+use Rattle.script_runs.specs.Histories.{Histories}
+use Rattle.script_runs.specs.TableTrace.{first_handles}
+use Rattle.script_runs.specs.Told.{Telling, receipts_told, seen_from, table_seen_from, told}
 use Rattle.script_runs.specs.Trace.{first_registers}
 use Rattle.script_runs.specs.Written.{first_written}
 use Rattle.script_runs.proofs.Merged.{rotation-ends}
 use Rattle.app_run.specs.Lines.{line_bytes, entries_due, bytes_due}
 use Rattle.lend_block.specs.Loan.{LentBytes}
 use Rattle.buf_desc.specs.Held.{Holding}
-use Rattle.core_calls.specs.Callers.{written_in}
-use Rattle.app_run.specs.Openings.{budgets_for, empty_bag, empty_bags, opened}
-use Rattle.app_run.specs.Rounds.{all_beginning, all_going, equipped, AreNumbered, AllStand, AllTold, HasTold, Rotates, RotatesTimes, told_on}
-use Rattle.app_run.specs.Runners.{Progress, Equipped, beginning, running_of, standing_for}
-use Rattle.app_run.specs.Turns.{so_far, Stands}
-use Rattle.app_run.proofs.RoundLaws.{length-equipped}
+use Rattle.app_run.specs.Openings.{budgets_for, empty_bag, empty_bags, empty_held, opened, opened_tables}
+use Rattle.app_run.specs.Rounds.{all_beginning, all_going, equipped, telling_now, AreNumbered, AllStand, AllTold, HasTold, Rotates, RotatesTimes, told_on}
+use Rattle.app_run.specs.Runners.{Progress, Equipped, Services, beginning, running_of, standing_for}
+use Rattle.app_run.specs.TableLines.{table_bytes_due, table_line_bytes}
+use Rattle.app_run.specs.Turns.{so_far, Stands, StandsAtBus, StandsAtTables}
+use Rattle.app_run.proofs.RoundLaws.{length-equipped, same-more, same-none, the_histories}
+use Rattle.app_run.proofs.TurnLaws.{both, so}
 
 -- Rotations one after another. --
 
-pub times-none : (before : Core) (first : List Equipped) → AllStand before first → RotatesTimes 0 before first before first
-times-none before first stand = record { stand = stand; turns = refl; told = λ script told. told; count = refl; limits = refl; apps = refl }
+pub times-none : (before : Services) (first : List Equipped) → AllStand before first → RotatesTimes 0 before first before first
+times-none before first stand = record { stand = stand; turns = refl; told = λ script told. told; count = refl; same = same-none before }
 
 rotations-more : (n : ℕ) (limits : Limits) (now : SoFar × List Running) →
     rotations (suc n) limits now ≡ rotated limits (rotations n limits now).0 (rotations n limits now).1
 rotations-more zero limits now = refl
 rotations-more (suc n) limits now = rotations-more n limits (rotated limits now.0 now.1)
 
-pub times-more : (n : ℕ) (before : Core) (first : List Equipped) (mid : Core) (some : List Equipped) (after : Core) (all : List Equipped) →
+pub times-more : (n : ℕ) (before : Services) (first : List Equipped) (mid : Services) (some : List Equipped) (after : Services) (all : List Equipped) →
     RotatesTimes n before first mid some → Rotates mid some after all → RotatesTimes (n + 1) before first after all
 times-more n before first mid some after all t r = record {
   stand = r.stand;
   turns = r.turns
-      ∙ ap (λ l. rotated l (so_far mid) (all_going some)) t.limits
-      ∙ ap (λ (x : SoFar × List Running). rotated before.limits x.0 x.1) t.turns
-      ∙ sym (rotations-more n before.limits (so_far before, all_going first))
-      ∙ ap (λ k. rotations k before.limits (so_far before, all_going first)) (sym (add-one n));
+      ∙ ap (λ l. rotated l (so_far mid) (all_going some)) t.same.limits
+      ∙ ap (λ (x : SoFar × List Running). rotated before.bus.limits x.0 x.1) t.turns
+      ∙ sym (rotations-more n before.bus.limits (so_far before, all_going first))
+      ∙ ap (λ k. rotations k before.bus.limits (so_far before, all_going first)) (sym (add-one n));
   told = λ script told. r.told script (t.told script told);
   count = r.count ∙ t.count;
-  limits = r.limits ∙ t.limits;
-  apps = r.apps ∙ t.apps;
+  same = same-more before mid after t.same r.same;
 }
 
 -- Budgets. --
@@ -72,6 +76,15 @@ charged-enough account (SendRaw bytes inc) = omega arith
 charged-enough account (TransmitBuffer buf inc) = omega arith
 charged-enough account line = omega arith
 
+-- at the tables too
+charged-table_enough : (account : Account) (line : Line) → table_line_bytes line ≤ charge_of account line
+unfolding table_line_bytes charge_of
+charged-table_enough account (TableRegister handle name size option rules) = omega arith
+charged-table_enough account (TableShare handle name) = omega arith
+charged-table_enough account (Stage handle offset content) = omega arith
+charged-table_enough account (Load handle offset content) = omega arith
+charged-table_enough account line = omega arith
+
 calls-in : (account : Account) (lines : List Line) → (fold counted account lines).calls ≡ account.calls + length lines
 calls-in account [] = omega arith
 calls-in account (line ∷ lines) = omega (arith, calls-in (counted account line) lines)
@@ -83,6 +96,10 @@ waits-in account (line ∷ lines) = omega (arith, waits-in (counted account line
 bytes-in : (account : Account) (lines : List Line) → account.bytes + bytes_due account.sizes lines ≤ (fold counted account lines).bytes
 bytes-in account [] = omega arith
 bytes-in account (line ∷ lines) = omega (arith, bytes-in (counted account line) lines, charged-enough account line)
+
+table_bytes-in : (account : Account) (lines : List Line) → account.bytes + table_bytes_due lines ≤ (fold counted account lines).bytes
+table_bytes-in account [] = omega arith
+table_bytes-in account (line ∷ lines) = omega (arith, table_bytes-in (counted account line) lines, charged-table_enough account line, sum_by-cons table_line_bytes line lines)
 
 buffers-in : (account : Account) (lines : List Line) → (fold counted account lines).buffers ≡ account.buffers + sum_by buffers_of lines
 buffers-in account [] = omega arith
@@ -96,11 +113,18 @@ pub budget-bytes : (lines : List Line) → bytes_due (replicate 64 0) lines ≤ 
 unfolding budget_of account_of
 budget-bytes lines = omega (arith, bytes-in no_calls lines)
 
+table_budget-bytes : (lines : List Line) → table_bytes_due lines ≤ (budget_of lines).bytes
+unfolding budget_of account_of
+table_budget-bytes lines = omega (arith, table_bytes-in no_calls lines)
+
 budget-asked : (lines : List Line) → (budget_of lines).buffers ≡ sum_by buffers_of lines
 unfolding budget_of account_of
 budget-asked lines = omega (arith, buffers-in no_calls lines)
 
--- The bus as it opens. --
+-- Both services as they open. --
+
+abbrev pub opened_both : ScriptText → Services
+opened_both script = both (opened script) (opened_tables script)
 
 pub apps-opened : (script : ScriptText) → apps_of (opened script) ≡ length script.apps
 apps-opened script = length-map script.apps (λ (a : Application). budget_of a.lines)
@@ -114,6 +138,17 @@ active-opening : (limits : Limits) (n k : ℕ) → 1 ≤ k → k ≤ n → stand
 active-opening limits n k first last =
     ap (λ b. cond {A = Standing} b Ended (slice_index_or (replicate n Active) (k - 1) Ended)) (ne_eqb k 0 (λ is. omega (arith, is, first)))
     ∙ active-at n (k - 1) (omega (arith, first, last))
+
+-- nobody has ended
+none-at : (n i : ℕ) → i < n → slice_index_or (replicate n false) i true ≡ false
+none-at zero i below = absurd (omega (arith, below))
+none-at (suc n) zero below = refl
+none-at (suc n) (suc i) below = none-at n i (omega (arith, below))
+
+none-opening : (limits : Limits) (n k : ℕ) → 1 ≤ k → k ≤ n → has_ended (no_tables limits n) k ≡ false
+none-opening limits n k first last =
+    ap (λ b. cond {A = Bool} b true (slice_index_or (replicate n false) (k - 1) true)) (ne_eqb k 0 (λ is. omega (arith, is, first)))
+    ∙ none-at n (k - 1) (omega (arith, first, last))
 
 map-at : {X Y : Type 0} (f : X → Y) (xs : List X) (i : ℕ) (d : X) (e : Y) → i < length xs → slice_index_or (map f xs) i e ≡ f (slice_index_or xs i d)
 map-at f [] i d e within = absurd (omega (arith, within))
@@ -140,11 +175,15 @@ zeros (suc n) (suc i) = zeros n i
 abbrev pub first_bag : ScriptText → ℕ → Holding LentBytes
 first_bag script k = empty_bag script.limits.pipes (budget_of (app_at script k).lines).buffers
 
-abbrev pub first_equipped : ScriptText → ℕ → Equipped
-first_equipped script k = record { progress = beginning script k; bag = first_bag script k }
+-- and its bag of tables
+abbrev pub first_held : ScriptText → HeldViews
+first_held script = record { views = []; room = script.limits.handles }
 
-stands-opened : (script : ScriptText) (k : ℕ) → script.limits.msgmax ≤ 65542 → 1 ≤ k → k ≤ length script.apps → Stands (first_equipped script k) (opened script)
-stands-opened script k small first last =
+abbrev pub first_equipped : ScriptText → ℕ → Equipped
+first_equipped script k = record { progress = beginning script k; bag = first_bag script k; held = first_held script }
+
+stands-opened_bus : (script : ScriptText) (k : ℕ) → script.limits.msgmax ≤ 65542 → 1 ≤ k → k ≤ length script.apps → StandsAtBus (first_equipped script k) (opened script)
+stands-opened_bus script k small first last =
     let allowed = allowance-opened script k first last in
     let lines = (app_at script k).lines in
     record {
@@ -159,14 +198,43 @@ stands-opened script k small first last =
       small = small;
     }
 
-told-opened : (script : ScriptText) (k : ℕ) → 1 ≤ k → k ≤ length script.apps → HasTold script (opened script) (first_equipped script k)
+stands-opened_tables : (script : ScriptText) (k : ℕ) → script.limits.tablemax ≤ 65536 → 1 ≤ k → k ≤ length script.apps → StandsAtTables (first_equipped script k) (opened_tables script)
+stands-opened_tables script k small first last =
+    let allowed = allowance-opened script k first last in
+    let lines = (app_at script k).lines in
+    record {
+      known = omega (arith, last, apps-opened script);
+      ended = none-opening script.limits (table_apps_of (opened_tables script)) k first (omega (arith, last, apps-opened script));
+      entries = subst (λ (a : Allowance). entries_due lines + 0 ≤ a.entries) (sym allowed) (omega (arith, budget-entries lines));
+      bytes = subst (λ (a : Allowance). table_bytes_due lines ≤ a.bytes) (sym allowed) (table_budget-bytes lines);
+      remember = λ handle. tt;
+      small = small;
+    }
+
+stands-opened : (script : ScriptText) (k : ℕ) → script.limits.msgmax ≤ 65542 → script.limits.tablemax ≤ 65536 → 1 ≤ k → k ≤ length script.apps →
+    Stands (first_equipped script k) (opened_both script)
+stands-opened script k small small_tables first last =
+    record { bus = stands-opened_bus script k small first last; tables = stands-opened_tables script k small_tables first last; limits = refl }
+
+-- before the first line, with so many applications
+abbrev telling_first : ScriptText → ℕ → ℕ → Histories → Telling
+telling_first script k m entries = record {
+  registers = first_registers;
+  handles = first_handles;
+  written = first_written;
+  state = opening script.limits m;
+  tables = no_tables script.limits m;
+  seen = seen_from script.limits [] (opening script.limits m) k entries.bus;
+  table_seen = table_seen_from script.limits (no_tables script.limits m) k entries.tables;
+}
+
+told-opened : (script : ScriptText) (k : ℕ) → 1 ≤ k → k ≤ length script.apps → HasTold script (opened_both script) (first_equipped script k)
 told-opened script k first last = λ entries.
     let lines = (app_at script k).lines in
     let n = apps_of (opened script) in
     let apps : length script.apps ≡ n = sym (apps-opened script) in
-    ap (λ m. told k first_registers first_written (opening script.limits m) lines (seen_from script.limits [] (opening script.limits m) k entries)) apps
-    ∙ ap (λ st. told_on st k first_registers first_written (opening script.limits n) lines (seen_from script.limits [] (opening script.limits n) k entries))
-    (sym (active-opening script.limits n k first (omega (arith, last, apps-opened script))))
+    ap (λ m. told k lines (telling_first script k m entries)) apps
+    ∙ ap (λ st. told_on st k lines (telling_first script k n entries)) (sym (active-opening script.limits n k first (omega (arith, last, apps-opened script))))
 
 -- the bag of an application with these lines
 abbrev bag_for : ScriptText → Application → Holding LentBytes
@@ -187,6 +255,13 @@ bags-next script i within =
     ∙ take-next (bag_for script) script.apps i (record { name = []; lines = [] }) within
     ∙ ap (λ k. map (bag_for script) (take k script.apps)) (sym (add-one i))
 
+-- and one of tables
+pub helds-next : (script : ScriptText) (i : ℕ) → i < length script.apps →
+    map (λ a. first_held script) (take i script.apps) ++ first_held script ∷ [] ≡ map (λ a. first_held script) (take (i + 1) script.apps)
+helds-next script i within =
+    take-next (λ (a : Application). first_held script) script.apps i (record { name = []; lines = [] }) within
+    ∙ ap (λ k. map (λ (a : Application). first_held script) (take k script.apps)) (sym (add-one i))
+
 -- these are the script's applications from a number on
 abbrev AreFrom : ScriptText → ℕ → List Application → Type 0
 AreFrom script a apps = (i : ℕ) → i < length apps → app_at script (a + i) ≡ slice_index_or apps i (record { name = []; lines = [] })
@@ -198,55 +273,53 @@ from-here : (script : ScriptText) (a : ℕ) (x : Application) (apps : List Appli
 from-here script a x apps same = ap (λ k. app_at script k) (omega arith) ∙ same 0 (omega arith)
 
 abbrev equipped_from : ScriptText → ℕ → List Application → List Equipped
-equipped_from script a apps = equipped (map (beginning script) (range_with_len a (length apps))) (map (bag_for script) apps)
+equipped_from script a apps = equipped (map (beginning script) (range_with_len a (length apps))) (map (bag_for script) apps) (map (λ x. first_held script) apps)
 
 -- what holds of each number holds of each application
 each-beginning : (P : Equipped → Type 0) (script : ScriptText) (a : ℕ) (apps : List Application) → AreFrom script a apps →
     ((k : ℕ) → a ≤ k → k < a + length apps → P (first_equipped script k)) → All P (equipped_from script a apps)
 each-beginning P script a [] same each = All-nil P
 each-beginning P script a (x ∷ apps) same each =
-    All-cons P (record { progress = beginning script a; bag = bag_for script x }) (equipped_from script (a + 1) apps)
-    (subst (λ y. P (record { progress = beginning script a; bag = bag_for script y })) (from-here script a x apps same) (each a (omega arith) (omega arith)))
+    All-cons P (record { progress = beginning script a; bag = bag_for script x; held = first_held script }) (equipped_from script (a + 1) apps)
+    (subst (λ y. P (record { progress = beginning script a; bag = bag_for script y; held = first_held script })) (from-here script a x apps same) (each a (omega arith) (omega arith)))
     (each-beginning P script (a + 1) apps (from-next script a x apps same) (λ k from to. each k (omega (arith, from)) (omega (arith, to))))
 
 numbered-beginning : (script : ScriptText) (a : ℕ) (apps : List Application) → AreNumbered a (equipped_from script a apps)
 numbered-beginning script a [] = tt
 numbered-beginning script a (x ∷ apps) = (refl, numbered-beginning script (a + 1) apps)
 
--- the applications before the first rotation, each with its bag
+-- the applications before the first rotation, each with its bags
 abbrev pub all_equipped : ScriptText → List Equipped
-all_equipped script = equipped (all_beginning script) (empty_bags script)
+all_equipped script = equipped (all_beginning script) (empty_bags script) (empty_held script)
 
 all-from : (script : ScriptText) → AreFrom script 1 script.apps
 all-from script = λ i below. ap (λ k. slice_index_or script.apps k (record { name = []; lines = [] })) (omega arith)
 
-pub all-stand : (script : ScriptText) → script.limits.msgmax ≤ 65542 → AllStand (opened script) (all_equipped script)
-all-stand script small = record {
+pub all-stand : (script : ScriptText) → script.limits.msgmax ≤ 65542 → script.limits.tablemax ≤ 65536 → AllStand (opened_both script) (all_equipped script)
+all-stand script small small_tables = record {
   numbered = numbered-beginning script 1 script.apps;
-  each = each-beginning (λ p. Stands p (opened script)) script 1 script.apps (all-from script) (λ k from to. stands-opened script k small from (omega (arith, to)));
+  each = each-beginning (λ p. Stands p (opened_both script)) script 1 script.apps (all-from script) (λ k from to. stands-opened script k small small_tables from (omega (arith, to)));
 }
 
-pub all-told : (script : ScriptText) → AllTold script (opened script) (all_equipped script)
+pub all-told : (script : ScriptText) → AllTold script (opened_both script) (all_equipped script)
 all-told script = record {
   limits = refl;
   apps = apps-opened script;
-  each = each-beginning (λ p. HasTold script (opened script) p) script 1 script.apps (all-from script) (λ k from to. told-opened script k from (omega (arith, to)));
+  table_apps = apps-opened script;
+  each = each-beginning (λ p. HasTold script (opened_both script) p) script 1 script.apps (all-from script) (λ k from to. told-opened script k from (omega (arith, to)));
 }
 
 -- the applications before the first rotation, as the definitions have them
 starting-from : (script : ScriptText) (a : ℕ) (apps : List Application) → AreFrom script a apps → all_going (equipped_from script a apps) ≡ starting a apps
 starting-from script a [] same = refl
 starting-from script a (x ∷ apps) same =
-    ap (λ (y : Application). record { app = a; lines = y.lines; registers = first_registers; written = first_written } ∷ all_going (equipped_from script (a + 1) apps)) (from-here script a x apps same)
-    ∙ ap (λ rest. record { app = a; lines = x.lines; registers = first_registers; written = first_written } ∷ rest) (starting-from script (a + 1) apps (from-next script a x apps same))
+    ap (λ (y : Application). record { app = a; lines = y.lines; registers = first_registers; handles = first_handles; written = first_written } ∷ all_going (equipped_from script (a + 1) apps)) (from-here script a x apps same)
+    ∙ ap (λ rest. record { app = a; lines = x.lines; registers = first_registers; handles = first_handles; written = first_written } ∷ rest) (starting-from script (a + 1) apps (from-next script a x apps same))
 
-abbrev the_so_far : List Entry → State → SoFar
-the_so_far history s = record { history = history; state = s }
-
-pub all-starting : (script : ScriptText) → (so_far (opened script), all_going (all_equipped script)) ≡ before_all script
+pub all-starting : (script : ScriptText) → (so_far (opened_both script), all_going (all_equipped script)) ≡ before_all script
 all-starting script =
-    ap (λ rs. (so_far (opened script), rs)) (starting-from script 1 script.apps (all-from script))
-    ∙ ap (λ n. (the_so_far [] (opening script.limits n), starting 1 script.apps)) (apps-opened script)
+    ap (λ rs. (so_far (opened_both script), rs)) (starting-from script 1 script.apps (all-from script))
+    ∙ ap (λ n. (so [] (opening script.limits n) [] (no_tables script.limits n), starting 1 script.apps)) (apps-opened script)
 
 -- After the last rotation. --
 
@@ -260,17 +333,23 @@ all-ended (p ∷ ps) none =
     let parts = ended-none p.progress.ended (running_of p) (all_going ps) none in
     All-cons (λ (one : Equipped). one.progress.ended ≡ true) p ps parts.0 (all-ended ps parts.1)
 
-told-ended : (script : ScriptText) (core : Core) (p : Equipped) → Stands p core → HasTold script core p → p.progress.ended ≡ true →
-    p.progress.receipts ≡ receipts_told script core.log.entries p.progress.running.app
-told-ended script core p stands told ended =
+-- both histories
+abbrev histories_of : Services → Histories
+histories_of services = the_histories services.bus.log.entries services.tables.log.entries
+
+told-ended : (script : ScriptText) (services : Services) (p : Equipped) → Stands p services → HasTold script services p → p.progress.ended ≡ true →
+    p.progress.receipts ≡ receipts_told script (histories_of services) p.progress.running.app
+told-ended script services p stands told ended =
     let place = p.progress.running in
-    let standing : standing_of (state_of core) place.app ≡ Ended =
-    stands.standing ∙ ap (λ b. cond {A = Standing} b Ended (standing_for p.progress.waits_on)) ended in
+    let its = services.bus.log.entries in
+    let theirs = services.tables.log.entries in
+    let standing : standing_of (state_of services.bus) place.app ≡ Ended =
+    stands.bus.standing ∙ ap (λ b. cond {A = Standing} b Ended (standing_for p.progress.waits_on)) ended in
     sym (append-nil p.progress.receipts)
-    ∙ ap (λ st. p.progress.receipts ++ told_on st place.app place.registers (written_in p.bag) (state_of core) place.lines
-    (seen_from core.limits core.log.entries (state_of core) place.app [])) (sym standing)
-    ∙ sym (told [])
-    ∙ ap (λ h. receipts_told script h place.app) (append-nil core.log.entries)
+    ∙ ap (λ st. p.progress.receipts ++ told_on st place.app place.lines (telling_now services.bus.limits (so_far services) (running_of p) (the_histories [] []))) (sym standing)
+    ∙ sym (told (the_histories [] []))
+    ∙ ap (λ h. receipts_told script (the_histories h (theirs ++ [])) place.app) (append-nil its)
+    ∙ ap (λ h. receipts_told script (the_histories its h) place.app) (append-nil theirs)
 
 -- the receipts of an application that are told of it
 abbrev IsToldAs : (ℕ → List Receipt) → Equipped → Type 0
@@ -283,61 +362,79 @@ all-receipts f a (p ∷ ps) numbered each =
     ap (λ r. r ∷ map (λ (one : Equipped). one.progress.receipts) ps) (All-head (IsToldAs f) p ps each ∙ ap f numbered.0)
     ∙ ap (λ rest. f a ∷ rest) (all-receipts f (a + 1) ps numbered.1 (All-tail (IsToldAs f) p ps each))
 
-each-ended : (script : ScriptText) (core : Core) (all : List Equipped) → All (λ p. Stands p core) all → All (λ p. HasTold script core p) all → All (λ one. one.progress.ended ≡ true) all →
-    All (IsToldAs (receipts_told script core.log.entries)) all
-each-ended script core [] stands told ended = All-nil (IsToldAs (receipts_told script core.log.entries))
-each-ended script core (p ∷ ps) stands told ended =
-    All-cons (IsToldAs (receipts_told script core.log.entries)) p ps
-    (told-ended script core p (All-head (λ p. Stands p core) p ps stands) (All-head (λ p. HasTold script core p) p ps told) (All-head (λ (one : Equipped). one.progress.ended ≡ true) p ps ended))
-    (each-ended script core ps (All-tail (λ p. Stands p core) p ps stands) (All-tail (λ p. HasTold script core p) p ps told) (All-tail (λ (one : Equipped). one.progress.ended ≡ true) p ps ended))
+each-ended : (script : ScriptText) (services : Services) (all : List Equipped) → All (λ p. Stands p services) all → All (λ p. HasTold script services p) all →
+    All (λ one. one.progress.ended ≡ true) all → All (IsToldAs (receipts_told script (histories_of services))) all
+each-ended script services [] stands told ended = All-nil (IsToldAs (receipts_told script (histories_of services)))
+each-ended script services (p ∷ ps) stands told ended =
+    All-cons (IsToldAs (receipts_told script (histories_of services))) p ps
+    (told-ended script services p (All-head (λ p. Stands p services) p ps stands) (All-head (λ p. HasTold script services p) p ps told)
+    (All-head (λ (one : Equipped). one.progress.ended ≡ true) p ps ended))
+    (each-ended script services ps (All-tail (λ p. Stands p services) p ps stands) (All-tail (λ p. HasTold script services p) p ps told)
+    (All-tail (λ (one : Equipped). one.progress.ended ≡ true) p ps ended))
 
 -- Applications without their bags. --
 
-ended-bare : (all : List Progress) (bags : List (Holding LentBytes)) → length bags ≡ length all → All (λ one. one.progress.ended ≡ true) (equipped all bags) → All (λ p. p.ended ≡ true) all
-ended-bare [] bags as_many each = All-nil (λ (p : Progress). p.ended ≡ true)
-ended-bare (p ∷ ps) [] as_many each = absurd (omega (arith, as_many))
-ended-bare (p ∷ ps) (bag ∷ bags) as_many each =
-    All-cons (λ (p : Progress). p.ended ≡ true) p ps (All-head (λ (one : Equipped). one.progress.ended ≡ true) (record { progress = p; bag = bag }) (equipped ps bags) each)
-    (ended-bare ps bags (omega (arith, as_many)) (All-tail (λ (one : Equipped). one.progress.ended ≡ true) (record { progress = p; bag = bag }) (equipped ps bags) each))
+ended-bare : (all : List Progress) (bags : List (Holding LentBytes)) (helds : List HeldViews) → length bags ≡ length all → length helds ≡ length all →
+    All (λ one. one.progress.ended ≡ true) (equipped all bags helds) → All (λ p. p.ended ≡ true) all
+ended-bare [] bags helds as_many as_many_held each = All-nil (λ (p : Progress). p.ended ≡ true)
+ended-bare (p ∷ ps) [] helds as_many as_many_held each = absurd (omega (arith, as_many))
+ended-bare (p ∷ ps) (bag ∷ bags) [] as_many as_many_held each = absurd (omega (arith, as_many_held))
+ended-bare (p ∷ ps) (bag ∷ bags) (held ∷ helds) as_many as_many_held each =
+    let one : Equipped = record { progress = p; bag = bag; held = held } in
+    All-cons (λ (p : Progress). p.ended ≡ true) p ps (All-head (λ (one : Equipped). one.progress.ended ≡ true) one (equipped ps bags helds) each)
+    (ended-bare ps bags helds (omega (arith, as_many)) (omega (arith, as_many_held)) (All-tail (λ (one : Equipped). one.progress.ended ≡ true) one (equipped ps bags helds) each))
 
-receipts-bare : (all : List Progress) (bags : List (Holding LentBytes)) → length bags ≡ length all →
-    map (λ (p : Progress). p.receipts) all ≡ map (λ (one : Equipped). one.progress.receipts) (equipped all bags)
-receipts-bare [] bags as_many = refl
-receipts-bare (p ∷ ps) [] as_many = absurd (omega (arith, as_many))
-receipts-bare (p ∷ ps) (bag ∷ bags) as_many = ap (λ rest. p.receipts ∷ rest) (receipts-bare ps bags (omega (arith, as_many)))
+receipts-bare : (all : List Progress) (bags : List (Holding LentBytes)) (helds : List HeldViews) → length bags ≡ length all → length helds ≡ length all →
+    map (λ (p : Progress). p.receipts) all ≡ map (λ (one : Equipped). one.progress.receipts) (equipped all bags helds)
+receipts-bare [] bags helds as_many as_many_held = refl
+receipts-bare (p ∷ ps) [] helds as_many as_many_held = absurd (omega (arith, as_many))
+receipts-bare (p ∷ ps) (bag ∷ bags) [] as_many as_many_held = absurd (omega (arith, as_many_held))
+receipts-bare (p ∷ ps) (bag ∷ bags) (held ∷ helds) as_many as_many_held =
+    ap (λ rest. p.receipts ∷ rest) (receipts-bare ps bags helds (omega (arith, as_many)) (omega (arith, as_many_held)))
 
 -- what a whole run leaves
-pub record Finishes (script : ScriptText) (core : Core) (all : List Progress) : Type 0 where
+pub record Finishes (script : ScriptText) (services : Services) (all : List Progress) : Type 0 where
   pub ended : All (λ p. p.ended ≡ true) all
-  pub history : core.log.entries ≡ rotation script
-  pub limits : core.limits ≡ script.limits
-  pub apps : apps_of core ≡ length script.apps
+  pub history : services.bus.log.entries ≡ (rotation script).bus
+  pub table_history : services.tables.log.entries ≡ (rotation script).tables
+  pub limits : services.bus.limits ≡ script.limits
+  pub table_limits : services.tables.limits ≡ script.limits
+  pub apps : apps_of services.bus ≡ length script.apps
+  pub table_apps : table_apps_of services.tables ≡ length script.apps
   pub receipts : map (λ (p : Progress). p.receipts) all ≡ map (receipts_told script (rotation script)) (range_with_len 1 (length script.apps))
+
+length-beginning : (script : ScriptText) → length (all_beginning script) ≡ length script.apps
+length-beginning script = length-map (range_with_len 1 (length script.apps)) (beginning script) ∙ length-range_with_len 1 (length script.apps)
 
 length-first : (script : ScriptText) → length (all_equipped script) ≡ length script.apps
 length-first script =
-    let many = length-map (range_with_len 1 (length script.apps)) (beginning script) ∙ length-range_with_len 1 (length script.apps) in
-    length-equipped (all_beginning script) (empty_bags script) (length-map script.apps (bag_for script) ∙ sym many) ∙ many
+    length-equipped (all_beginning script) (empty_bags script) (empty_held script) (length-map script.apps (bag_for script) ∙ sym (length-beginning script))
+    (length-map script.apps (λ (a : Application). first_held script) ∙ sym (length-beginning script))
+    ∙ length-beginning script
 
-pub finishes : (script : ScriptText) (n : ℕ) (core : Core) (all : List Progress) (bags : List (Holding LentBytes)) → n ≡ enough script → length bags ≡ length all →
-    RotatesTimes n (opened script) (all_equipped script) core (equipped all bags) → Finishes script core all
-finishes script n core all bags is as_many t =
-    let both = equipped all bags in
-    let turns : (so_far core, all_going both) ≡ rotations (enough script) script.limits (before_all script) =
-    t.turns ∙ ap (λ k. rotations k script.limits (so_far (opened script), all_going (all_equipped script))) is
+pub finishes : (script : ScriptText) (n : ℕ) (services : Services) (all : List Progress) (bags : List (Holding LentBytes)) (helds : List HeldViews) → n ≡ enough script →
+    length bags ≡ length all → length helds ≡ length all →
+    RotatesTimes n (opened_both script) (all_equipped script) services (equipped all bags helds) → Finishes script services all
+finishes script n services all bags helds is as_many as_many_held t =
+    let whole = equipped all bags helds in
+    let turns : (so_far services, all_going whole) ≡ rotations (enough script) script.limits (before_all script) =
+    t.turns ∙ ap (λ k. rotations k script.limits (so_far (opened_both script), all_going (all_equipped script))) is
     ∙ ap (λ x. rotations (enough script) script.limits x) (all-starting script) in
-    let ended = all-ended both (ap (λ (x : SoFar × List Running). x.1) turns ∙ rotation-ends script) in
-    let history : core.log.entries ≡ rotation script = ap (λ (x : SoFar × List Running). x.0.history) turns in
+    let ended = all-ended whole (ap (λ (x : SoFar × List Running). x.1) turns ∙ rotation-ends script) in
+    let histories : histories_of services ≡ rotation script = ap (λ (x : SoFar × List Running). the_histories x.0.history x.0.table_history) turns in
     let told = t.told script (all-told script) in
-    let count : length both ≡ length script.apps = t.count ∙ length-first script in
+    let count : length whole ≡ length script.apps = t.count ∙ length-first script in
     record {
-      ended = ended-bare all bags as_many ended;
-      history = history;
+      ended = ended-bare all bags helds as_many as_many_held ended;
+      history = ap (λ (h : Histories). h.bus) histories;
+      table_history = ap (λ (h : Histories). h.tables) histories;
       limits = told.limits;
+      table_limits = t.same.table_limits;
       apps = told.apps;
-      receipts = receipts-bare all bags as_many
-          ∙ all-receipts (receipts_told script core.log.entries) 1 both t.stand.numbered (each-ended script core both t.stand.each told.each ended)
-          ∙ ap (λ h. map (receipts_told script h) (range_with_len 1 (length both))) history
+      table_apps = told.table_apps;
+      receipts = receipts-bare all bags helds as_many as_many_held
+          ∙ all-receipts (receipts_told script (histories_of services)) 1 whole t.stand.numbered (each-ended script services whole t.stand.each told.each ended)
+          ∙ ap (λ h. map (receipts_told script h) (range_with_len 1 (length whole))) histories
           ∙ ap (λ m. map (receipts_told script (rotation script)) (range_with_len 1 m)) count;
     }
 
@@ -416,26 +513,54 @@ opened-is script bus limits budgets given is same deref found =
     ∙ ap (λ l. core_with l given) same
     ∙ ap (λ bs. core_with script.limits bs) (deref ∙ found)
 
--- of a run that was begun so
-pub finishes-from : (script : ScriptText) (n : ℕ) (bus core : Core) (first all : List Progress) (before after : List (Holding LentBytes)) → bus ≡ opened script → first ≡ all_beginning script →
-    before ≡ empty_bags script → n ≡ enough script → length after ≡ length all → RotatesTimes n bus (equipped first before) core (equipped all after) → Finishes script core all
-finishes-from script n bus core first all before after is begun empty times as_many t =
-    finishes script n core all after times as_many
-    (subst (λ f. RotatesTimes n (opened script) (equipped f (empty_bags script)) core (equipped all after)) begun
-    (subst (λ bags. RotatesTimes n (opened script) (equipped first bags) core (equipped all after)) empty
-    (subst (λ b. RotatesTimes n b (equipped first before) core (equipped all after)) is t)))
+abbrev table_core_with : Limits → List Budget → TableCore
+table_core_with limits budgets = record { limits = limits; log = record { budgets = budgets; entries = [] }; notes = [] }
 
-pub stands-from : (script : ScriptText) (bus : Core) (first : List Progress) (bags : List (Holding LentBytes)) → script.limits.msgmax ≤ 65542 → bus ≡ opened script → first ≡ all_beginning script →
-    bags ≡ empty_bags script → AllStand bus (equipped first bags)
-stands-from script bus first bags small is begun empty =
-    subst (λ b. AllStand bus (equipped first b)) (sym empty)
-    (subst (λ f. AllStand bus (equipped f (empty_bags script))) (sym begun) (subst (λ b. AllStand b (all_equipped script)) (sym is) (all-stand script small)))
+-- and the tables
+pub tables_opened-is : (script : ScriptText) (tables : TableCore) (limits : Limits) (budgets given : List Budget) →
+    tables ≡ record { limits = limits; log = record { budgets = given; entries = [] }; notes = [] } → limits ≡ script.limits → given ≡ budgets → budgets ≡ budgets_for script →
+    tables ≡ opened_tables script
+tables_opened-is script tables limits budgets given is same deref found =
+    is
+    ∙ ap (λ l. table_core_with l given) same
+    ∙ ap (λ bs. table_core_with script.limits bs) (deref ∙ found)
+
+-- A run that was begun so. --
+
+pub record IsBegun (script : ScriptText) (services : Services) (first : List Progress) (bags : List (Holding LentBytes)) (helds : List HeldViews) : Type 0 where
+  pub bus : services.bus ≡ opened script
+  pub tables : services.tables ≡ opened_tables script
+  pub runners : first ≡ all_beginning script
+  pub its_bags : bags ≡ empty_bags script
+  pub its_helds : helds ≡ empty_held script
+
+-- what holds of one that begins holds of it
+pub from-begun : (P : Services → List Progress → List (Holding LentBytes) → List HeldViews → Type 0) (script : ScriptText) (bus : Core) (tables : TableCore) (first : List Progress)
+    (bags : List (Holding LentBytes)) (helds : List HeldViews) → IsBegun script (both bus tables) first bags helds →
+    P (opened_both script) (all_beginning script) (empty_bags script) (empty_held script) → P (both bus tables) first bags helds
+from-begun P script bus tables first bags helds begun holds =
+    subst (λ b. P (both b tables) first bags helds) (sym begun.bus)
+    (subst (λ t. P (both (opened script) t) first bags helds) (sym begun.tables)
+    (subst (λ f. P (opened_both script) f bags helds) (sym begun.runners)
+    (subst (λ b. P (opened_both script) (all_beginning script) b helds) (sym begun.its_bags)
+    (subst (λ h. P (opened_both script) (all_beginning script) (empty_bags script) h) (sym begun.its_helds) holds))))
+
+pub finishes-from : (script : ScriptText) (n : ℕ) (bus : Core) (tables : TableCore) (services : Services) (first all : List Progress) (before after : List (Holding LentBytes))
+    (before_held after_held : List HeldViews) → IsBegun script (both bus tables) first before before_held → n ≡ enough script → length after ≡ length all → length after_held ≡ length all →
+    RotatesTimes n (both bus tables) (equipped first before before_held) services (equipped all after after_held) → Finishes script services all
+finishes-from script n bus tables services first all before after before_held after_held begun times as_many as_many_held t =
+    from-begun (λ s f b h. RotatesTimes n s (equipped f b h) services (equipped all after after_held) → Finishes script services all) script bus tables first before before_held begun
+    (finishes script n services all after after_held times as_many as_many_held) t
+
+pub stands-from : (script : ScriptText) (bus : Core) (tables : TableCore) (first : List Progress) (bags : List (Holding LentBytes)) (helds : List HeldViews) →
+    script.limits.msgmax ≤ 65542 → script.limits.tablemax ≤ 65536 → IsBegun script (both bus tables) first bags helds → AllStand (both bus tables) (equipped first bags helds)
+stands-from script bus tables first bags helds small small_tables begun =
+    from-begun (λ s f b h. AllStand s (equipped f b h)) script bus tables first bags helds begun (all-stand script small small_tables)
 
 -- as many bags as applications
 pub as-many-from : (script : ScriptText) (first : List Progress) (bags : List (Holding LentBytes)) → first ≡ all_beginning script → bags ≡ empty_bags script → length bags ≡ length first
-as-many-from script first bags begun empty =
-    ap length empty
-    ∙ length-map script.apps (bag_for script)
-    ∙ sym (length-range_with_len 1 (length script.apps))
-    ∙ sym (length-map (range_with_len 1 (length script.apps)) (beginning script))
-    ∙ sym (ap length begun)
+as-many-from script first bags begun empty = ap length empty ∙ length-map script.apps (bag_for script) ∙ sym (length-beginning script) ∙ sym (ap length begun)
+
+pub as-many_held-from : (script : ScriptText) (first : List Progress) (helds : List HeldViews) → first ≡ all_beginning script → helds ≡ empty_held script → length helds ≡ length first
+as-many_held-from script first helds begun empty =
+    ap length empty ∙ length-map script.apps (λ (a : Application). first_held script) ∙ sym (length-beginning script) ∙ sym (ap length begun)

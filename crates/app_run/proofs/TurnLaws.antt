@@ -1,7 +1,8 @@
 -- What one turn leaves.
 use Rattle.std.proofs.Common.{◌≡◌, ℕ, zero, suc, ◌+◌, ◌-◌, ◌≤◌, Bool, true, false, cond, List, [], ◌∷◌, ◌++◌, length, sum_by, drop, Option, Some, None, refl, ap, sym, ◌∙◌, subst, inl, inr, arith, append-nil}
-use Rattle.std.specs.Option.{is_some, option_map_or}
+use Rattle.std.specs.Option.{is_some}
 use Rattle.sb_calls.specs.Bags.{HasBag}
+use Rattle.tbl_load.specs.Bags.{HasBag as HasTableBag}
 use Rattle.std.proofs.lemmas.List.{get_or-set_same}
 use Rattle.std.proofs.lemmas.List.Sums.{sum_by-cons}
 use Rattle.std.specs.List.{slice_get, All}
@@ -11,19 +12,22 @@ use Rattle.bus_words.specs.Bus.{waited_on}
 use Rattle.sb_core.specs.declared.pending.Pended.TheVariants as waits
 use Rattle.lend_block.specs.Loan.{LentBytes}
 use Rattle.buf_desc.specs.Held.{Holding}
-use Rattle.core_calls.specs.Callers.{Answers, AnswersLook, HasOwnBag, LeavesBuffers, FindsRoom, Meets, MayWrite, SameBus, Writes, buffers_asked, pipe_waited_on, written_in}
+use Rattle.core_calls.specs.Callers.{AnswersLook, HasOwnBag, KeepsTables, LeavesBuffers, FindsRoom, Meets, MayWrite, SameServices, Writes, buffers_asked, pipe_waited_on, written_in}
+use Rattle.core_calls.specs.TableCallers.{HasOwnTables, KeepsBus}
 use Rattle.app_run.specs.Lines.{IsRun, most_receipts}
-use Rattle.app_run.specs.Received.{Remember, taken_from, taken_by}
-use Rattle.app_run.specs.Turns.{MayTurn, TakesTurnBy, with_bag}
+use Rattle.app_run.specs.Received.{Remember, RememberHeld, taken_from, taken_by}
+use Rattle.app_run.specs.Turns.{MayTurn, TakesTurnBy, services_of, with_bags}
+use Rattle.app_run.specs.TableLines.{IsRunAtTables, table_line_bytes, table_bytes_due}
 use Rattle.app_run.proofs.AskedLaws.{AskedLine, asked-fewer, asked-line, asked-more, given-step}
 use Rattle.core_calls.proofs.Wrote.{alike-long, alike-none}
 use Rattle.app_run.proofs.Newest.{remember-step, remember-shown}
-use Rattle.app_run.proofs.OthersLaws.{stands-met}
+use Rattle.app_run.proofs.NewestHeld.{remember_held-got, remember_held-shown}
+use Rattle.app_run.proofs.OthersLaws.{stands-met, met-limits}
 use Rattle.app_run.proofs.Taken.{taken-told}
 use Rattle.std.proofs.lemmas.Bool.{le-leb}
 use Rattle.fsw_base.specs.Limits.{Limits}
 use Rattle.bus_words.specs.declared.calls.BusAnswer.{BusAnswer}
-use Rattle.bus_words.specs.declared.calls.BusAnswer.TheVariants.{Done, Pending, Got, TimeOut}
+use Rattle.bus_words.specs.declared.calls.BusAnswer.TheVariants.{Pending, Got, TimeOut}
 use Rattle.bus_words.specs.declared.history.Call.{Call}
 use Rattle.bus_words.specs.declared.history.Call.TheVariants as calls
 use Rattle.bus_words.specs.declared.history.Entry.{Entry}
@@ -42,42 +46,54 @@ use Rattle.script_lines.specs.declared.line.Line.TheVariants.{Create, Delete, Se
 use Rattle.script_settings.specs.Accounts.{waits_of, buffers_of, sizes_after}
 use Rattle.script_runs.specs.Messages.{sent_message}
 use Rattle.app_script.specs.Ranges.{IsLineInRange}
-use Rattle.script_runs.specs.Rotation.{Running, SoFar, after_call, after_look, answer_to, turn, turn_in, active_turn, line_turn}
+use Rattle.script_runs.specs.Rotation.{Running, SoFar, after_call, after_look, answer_to, turn, turn_in, active_turn, line_turn, other_turn}
 use Rattle.script_runs.specs.Told.{got_in, shown}
+use Rattle.script_runs.specs.TableTrace.{table_call_of}
 use Rattle.script_runs.specs.Trace.{Registers, call_of, registers_after}
-use Rattle.script_runs.specs.Written.{Written, bytes_in, written_after, written_by}
+use Rattle.script_runs.specs.Written.{Written, written_after, written_by}
 use Rattle.script_runs.proofs.Buffers.{length-sent_message}
 use Rattle.std.proofs.Math.Path.{fun_ext}
 use Rattle.core_calls.specs.Callers.{Caller}
 use Rattle.app_run.specs.Lines.{MayRun, pipe_waited_for, line_bytes, entries_due, bytes_due, AreAsked}
-use Rattle.app_run.specs.Runners.{Place, Progress, Equipped, running_of, standing_for}
-use Rattle.app_run.specs.Turns.{so_far, Stands, TakesTurn, tells, tells_in, line_tells, active_tells}
-use Rattle.app_run.proofs.Settling.{SettlesLine, is_pending, settles-line, settles-look, standing-set}
+use Rattle.app_run.specs.Runners.{Place, Progress, Equipped, Services, running_of, standing_for}
+use Rattle.app_run.specs.Turns.{so_far, Stands, StandsAtBus, StandsAtTables, TakesTurn, tells, tells_in, line_tells, other_tells, active_tells}
+use Rattle.tbl_words.specs.declared.history.Call.{Call as TableCall}
+use Rattle.tbl_words.specs.declared.history.Entry.{Entry as TableEntry}
+use Rattle.tbl_words.specs.Log.{left_of as tables_left_of}
+use Rattle.tbl_words.specs.Tables.{State as Tables}
+use Rattle.tbl_blocks.specs.Held.{HeldViews}
+use Rattle.tbl_load.specs.Core.{Core as TableCore, state_of as tables_of}
+use Rattle.app_run.proofs.Settling.{SettlesLine, is_pending, settles-line, settles-look}
 
--- The bus after a call. --
+-- Services after a call. --
 
-abbrev so : List Entry → State → SoFar
-so history s = record { history = history; state = s }
+abbrev pub both : Core → TableCore → Services
+both core tables = record { bus = core; tables = tables }
+
+-- all of what was so far
+abbrev pub so : List Entry → State → List TableEntry → Tables → SoFar
+so history s entries t = record { history = history; state = s; table_history = entries; tables = t }
 
 -- the call's answer, spelled as the machine's
-pub does-exact : (before after : Core) (app : ℕ) (call : Call) (answer : BusAnswer) → Does before after app call answer →
-    Does before after app call (answer_to before.limits (so_far before) app call)
-does-exact before after app call answer does = subst (λ a. Does before after app call a) does.as_machine does
+pub does-exact : (before after : Core) (tables : TableCore) (app : ℕ) (call : Call) (answer : BusAnswer) → Does before after app call answer →
+    Does before after app call (answer_to before.limits (so_far (both before tables)) app call)
+does-exact before after tables app call answer does = subst (λ a. Does before after app call a) does.as_machine does
 
-pub so_far-does : (before after : Core) (app : ℕ) (call : Call) → Does before after app call (answer_to before.limits (so_far before) app call) →
-    so_far after ≡ after_call before.limits (so_far before) app call
-so_far-does before after app call does =
-    ap (λ (core : Core). so core.log.entries (state_of after)) does.entry
-    ∙ ap (λ s. so (before.log.entries ++ record { app = app; call = call; answer = answer_to before.limits (so_far before) app call } ∷ []) s) does.state
+pub so_far-does : (before after : Core) (tables : TableCore) (app : ℕ) (call : Call) → Does before after app call (answer_to before.limits (so_far (both before tables)) app call) →
+    so_far (both after tables) ≡ after_call before.limits (so_far (both before tables)) app call
+so_far-does before after tables app call does =
+    ap (λ (core : Core). so core.log.entries (state_of after) tables.log.entries (tables_of tables)) does.entry
+    ∙ ap (λ s. so (before.log.entries ++ record { app = app; call = call; answer = answer_to before.limits (so_far (both before tables)) app call } ∷ []) s tables.log.entries (tables_of tables)) does.state
 
 -- the receipts of a call are remembered
-remember-does : (before after : Core) (app : ℕ) (call : Call) (receipts : List Receipt) → Does before after app call (answer_to before.limits (so_far before) app call) →
-    Remember receipts (state_of before) app → Remember (receipts ++ got_in app (state_of after) call (answer_to before.limits (so_far before) app call)) (state_of after) app
-remember-does before after app call receipts does remembers =
+pub remember-does : (before after : Core) (tables : TableCore) (app : ℕ) (call : Call) (receipts : List Receipt) →
+    Does before after app call (answer_to before.limits (so_far (both before tables)) app call) → Remember receipts (state_of before) app →
+    Remember (receipts ++ got_in app (state_of after) call (answer_to before.limits (so_far (both before tables)) app call)) (state_of after) app
+remember-does before after tables app call receipts does remembers =
     let limits = before.limits in
     let apps = apps_of before in
     let history = before.log.entries in
-    let answer = answer_to limits (so_far before) app call in
+    let answer = answer_to limits (so_far (both before tables)) app call in
     let e : Entry = record { app = app; call = call; answer = answer } in
     let legal : IsLegal limits apps (history ++ e ∷ []) = subst (λ (core : Core). IsLegalCore core) does.entry does.legal in
     let parts = legal-last limits [] (opening limits apps) history e legal in
@@ -89,7 +105,7 @@ pub first-known : (s : State) (app : ℕ) (standing : Standing) → standing_of 
 first-known s zero standing is live = absurd (live (sym is))
 first-known s (suc app) standing is live = omega arith
 
-left-own : (left : List Allowance) (app bytes : ℕ) → 1 ≤ app → app ≤ length left →
+pub left-own : (left : List Allowance) (app bytes : ℕ) → 1 ≤ app → app ≤ length left →
     allowance_of (charged left app bytes) app ≡ record { entries = (allowance_of left app).entries - 1; bytes = (allowance_of left app).bytes - bytes }
 left-own left app bytes first known = get_or-set_same left (app - 1) _ _ (omega arith)
 
@@ -111,50 +127,71 @@ own-left before after app call answer first known does =
 pub apps-does : (before after : Core) (app : ℕ) (call : Call) (answer : BusAnswer) → Does before after app call answer → apps_of after ≡ apps_of before
 apps-does before after app call answer does = ap apps_of does.entry
 
+pub limits-does : (before after : Core) (app : ℕ) (call : Call) (answer : BusAnswer) → Does before after app call answer → after.limits ≡ before.limits
+limits-does before after app call answer does = ap (λ (core : Core). core.limits) does.entry
+
 -- numbers that were given stay so
-given-does : (before after : Core) (app : ℕ) (call : Call) (answer : BusAnswer) → Does before after app call answer → (state_of before).numbers_given ≤ (state_of after).numbers_given
+pub given-does : (before after : Core) (app : ℕ) (call : Call) (answer : BusAnswer) → Does before after app call answer → (state_of before).numbers_given ≤ (state_of after).numbers_given
 given-does before after app call answer does =
     subst (λ (s : State). (state_of before).numbers_given ≤ s.numbers_given) (sym does.state) (given-step before.limits before.log.entries (state_of before) app call)
 
--- a line that makes no call asks for no buffer
-local-sizes : (registers : Registers) (written : Written) (asked : List ℕ) (line : Line) → call_of registers written line ≡ None → sizes_after asked line ≡ asked
+-- a line that makes no call of the bus asks for no buffer
+pub local-sizes : (registers : Registers) (written : Written) (asked : List ℕ) (line : Line) → call_of registers written line ≡ None → sizes_after asked line ≡ asked
 unfolding call_of sizes_after
 local-sizes registers written asked (Allocate buf size) none = absurd (cc none)
 local-sizes registers written asked line none = refl
 
-active_lives : Active ≡ Ended → ⊥
+pub active_lives : Active ≡ Ended → ⊥
 active_lives h = cc h
 
 waiting_lives : (pipe : ℕ) → Waiting pipe ≡ Ended → ⊥
 waiting_lives pipe h = cc h
 
-going_lives : (waits_on : Option ℕ) → standing_for waits_on ≡ Ended → ⊥
+pub going_lives : (waits_on : Option ℕ) → standing_for waits_on ≡ Ended → ⊥
 going_lives None h = cc h
 going_lives (Some pipe) h = cc h
 
 -- Standings as progress has them. --
 
--- an application with this bag
-abbrev pub equip : Progress → Holding LentBytes → Equipped
-equip progress bag = record { progress = progress; bag = bag }
+-- an application with these bags
+abbrev pub equip : Progress → Holding LentBytes → HeldViews → Equipped
+equip progress bag held = record { progress = progress; bag = bag; held = held }
 
-pub standing-going : (one : Equipped) (core : Core) → Stands one core → one.progress.ended ≡ false →
+pub standing-going : (one : Equipped) (core : Core) → StandsAtBus one core → one.progress.ended ≡ false →
     standing_of (state_of core) one.progress.running.app ≡ standing_for one.progress.waits_on
 standing-going one core stands goes =
     stands.standing ∙ ap (λ b. cond {A = Standing} b Ended (standing_for one.progress.waits_on)) goes
 
-entries-going : (one : Equipped) (core : Core) → Stands one core → one.progress.ended ≡ false →
+pub entries-going : (one : Equipped) (core : Core) → StandsAtBus one core → one.progress.ended ≡ false →
     entries_due one.progress.running.lines + cond (is_some one.progress.waits_on) 1 0 ≤ (allowance_of (left_of core.log) one.progress.running.app).entries
 entries-going one core stands goes =
     subst (λ b. cond b 0 (entries_due one.progress.running.lines + cond (is_some one.progress.waits_on) 1 0) ≤ (allowance_of (left_of core.log) one.progress.running.app).entries)
     goes stands.entries
 
+pub table_entries-going : (one : Equipped) (core : TableCore) → StandsAtTables one core → one.progress.ended ≡ false →
+    entries_due one.progress.running.lines + cond (is_some one.progress.waits_on) 1 0 ≤ (allowance_of (tables_left_of core.log) one.progress.running.app).entries
+table_entries-going one core stands goes =
+    subst (λ b. cond b 0 (entries_due one.progress.running.lines + cond (is_some one.progress.waits_on) 1 0) ≤ (allowance_of (tables_left_of core.log) one.progress.running.app).entries)
+    goes stands.entries
+
+-- before a line: what it and those behind it may still add at the tables
+pub table_entries-line : (one : Equipped) (core : TableCore) (line : Line) (lines : List Line) → StandsAtTables one core → one.progress.ended ≡ false → one.progress.running.lines ≡ line ∷ lines →
+    entries_due (line ∷ lines) ≤ (allowance_of (tables_left_of core.log) one.progress.running.app).entries
+table_entries-line one core line lines stands goes next =
+    subst (λ ls. entries_due ls ≤ (allowance_of (tables_left_of core.log) one.progress.running.app).entries) next (omega (arith, table_entries-going one core stands goes))
+
+pub table_bytes-line : (one : Equipped) (core : TableCore) (line : Line) (lines : List Line) → StandsAtTables one core → one.progress.running.lines ≡ line ∷ lines →
+    table_line_bytes line + table_bytes_due lines ≤ (allowance_of (tables_left_of core.log) one.progress.running.app).bytes
+table_bytes-line one core line lines stands next =
+    let due = subst (λ ls. table_bytes_due ls ≤ (allowance_of (tables_left_of core.log) one.progress.running.app).bytes) next stands.bytes in
+    omega (arith, due, sum_by-cons table_line_bytes line lines)
+
 -- the limits stay
 small-does : (before after : Core) (app : ℕ) (call : Call) (answer : BusAnswer) → Does before after app call answer → before.limits.msgmax ≤ 65542 → after.limits.msgmax ≤ 65542
 small-does before after app call answer does small = subst (λ (core : Core). core.limits.msgmax ≤ 65542) (sym does.entry) small
 
-abbrev the_running : ℕ → List Line → Registers → Written → Running
-the_running app lines registers written = record { app = app; lines = lines; registers = registers; written = written }
+abbrev pub the_running : ℕ → List Line → Registers → List ℕ → Written → Running
+the_running app lines registers handles written = record { app = app; lines = lines; registers = registers; handles = handles; written = written }
 
 -- what a call leaves in the bag
 wrote : (old new : Holding LentBytes) (call : Call) (answer : BusAnswer) → LeavesBuffers old new call answer → written_in new ≡ written_after (written_in old) call answer
@@ -176,58 +213,76 @@ looked-after : (limits : Limits) (sofar : SoFar) (app pipe : ℕ) (answer : BusA
 looked-after limits sofar app pipe Pending told = absurd cc
 looked-after limits sofar app pipe answer told = refl
 
-look-exact : (old : Equipped) (bag : Holding LentBytes) (before after : Core) (pipe : ℕ) → Stands old before → old.progress.ended ≡ false → old.progress.waits_on ≡ Some pipe →
-    Does before after old.progress.running.app (calls.Look pipe) (answer_to before.limits (so_far before) old.progress.running.app (calls.Look pipe)) →
-    LeavesBuffers old.bag bag (calls.Look pipe) (answer_to before.limits (so_far before) old.progress.running.app (calls.Look pipe)) →
-    is_pending (answer_to before.limits (so_far before) old.progress.running.app (calls.Look pipe)) ≡ false →
+look-exact : (old : Equipped) (bag : Holding LentBytes) (before after : Core) (tables : TableCore) (pipe : ℕ) → Stands old (both before tables) → old.progress.ended ≡ false →
+    old.progress.waits_on ≡ Some pipe →
+    Does before after old.progress.running.app (calls.Look pipe) (answer_to before.limits (so_far (both before tables)) old.progress.running.app (calls.Look pipe)) →
+    LeavesBuffers old.bag bag (calls.Look pipe) (answer_to before.limits (so_far (both before tables)) old.progress.running.app (calls.Look pipe)) →
+    is_pending (answer_to before.limits (so_far (both before tables)) old.progress.running.app (calls.Look pipe)) ≡ false →
     TakesTurn old
     (equip (looked_on old.progress (old.progress.receipts
-    ++ got_in old.progress.running.app (state_of after) (calls.Look pipe) (answer_to before.limits (so_far before) old.progress.running.app (calls.Look pipe)))) bag)
-    before after
-look-exact old bag before after pipe stands goes waits does leaves told =
+    ++ got_in old.progress.running.app (state_of after) (calls.Look pipe) (answer_to before.limits (so_far (both before tables)) old.progress.running.app (calls.Look pipe)))) bag old.held)
+    (both before tables) (both after tables)
+look-exact old bag before after tables pipe stands goes waits does leaves told =
     let place = old.progress.running in
     let app = place.app in
     let limits = before.limits in
-    let answer = answer_to limits (so_far before) app (calls.Look pipe) in
-    let standing : standing_of (state_of before) app ≡ Waiting pipe = standing-going old before stands goes ∙ ap standing_for waits in
+    let sofar = so_far (both before tables) in
+    let answer = answer_to limits sofar app (calls.Look pipe) in
+    let at = stands.bus in
+    let standing : standing_of (state_of before) app ≡ Waiting pipe = standing-going old before at goes ∙ ap standing_for waits in
     let first = first-known (state_of before) app (Waiting pipe) standing (waiting_lives pipe) in
-    let left = own-left before after app (calls.Look pipe) answer first stands.known does in
-    let turned = turn-look limits (so_far before) (running_of old) pipe standing in
+    let left = own-left before after app (calls.Look pipe) answer first at.known does in
+    let turned = turn-look limits sofar (running_of old) pipe standing in
     let same = wrote old.bag bag (calls.Look pipe) answer leaves in
     let due : entries_due place.lines + 1 ≤ (allowance_of (left_of before.log) app).entries =
-    subst (λ w. entries_due place.lines + cond (is_some w) 1 0 ≤ (allowance_of (left_of before.log) app).entries) waits (entries-going old before stands goes) in
+    subst (λ w. entries_due place.lines + cond (is_some w) 1 0 ≤ (allowance_of (left_of before.log) app).entries) waits (entries-going old before at goes) in
+    let due_at_tables = table_entries-going old tables stands.tables goes in
     record {
-      bus = so_far-does before after app (calls.Look pipe) does
-          ∙ sym (looked-after limits (so_far before) app pipe answer told)
+      services = so_far-does before after tables app (calls.Look pipe) does
+          ∙ sym (looked-after limits sofar app pipe answer told)
           ∙ sym (ap (λ (t : SoFar × List Running). t.0) turned);
-      goes_on = ap (λ w. the_running app place.lines place.registers w ∷ []) same ∙ sym (ap (λ (t : SoFar × List Running). t.1) turned);
+      goes_on = ap (λ w. the_running app place.lines place.registers place.handles w ∷ []) same ∙ sym (ap (λ (t : SoFar × List Running). t.1) turned);
       receipts = ap (λ s. old.progress.receipts ++ got_in app s (calls.Look pipe) answer)
-          (does.state ∙ sym (ap (λ (b : SoFar). b.state) (looked-after limits (so_far before) app pipe answer told)))
-          ∙ sym (ap (λ s. old.progress.receipts ++ tells_in limits (so_far before) (running_of old) s) standing);
+          (does.state ∙ sym (ap (λ (b : SoFar). b.state) (looked-after limits sofar app pipe answer told)))
+          ∙ sym (ap (λ s. old.progress.receipts ++ tells_in limits sofar (running_of old) s) standing);
       same_app = refl;
       stands = record {
-        known = subst (λ n. app ≤ n) (sym (apps-does before after app (calls.Look pipe) answer does)) stands.known;
-        standing = ap (λ s. standing_of s app) does.state ∙ settles-look limits before.log.entries (state_of before) app pipe standing told;
-        entries = subst (λ (a : Allowance). entries_due place.lines + 0 ≤ a.entries) (sym left) (omega (arith, due));
-        asked = stands.asked;
-        buffers = subst (λ w. AreAsked place.registers.buffers w (state_of after).numbers_given stands.asked) (sym same)
-            (asked-more place.registers.buffers stands.asked (written_in old.bag) (state_of before).numbers_given (state_of after).numbers_given stands.buffers
-            (given-does before after app (calls.Look pipe) answer does));
-        bytes = subst (λ (a : Allowance). bytes_due stands.asked place.lines ≤ a.bytes) (sym left) (omega (arith, stands.bytes));
-        room = omega (arith, stands.room, leaves.count, leaves.room);
-        remember = remember-does before after app (calls.Look pipe) old.progress.receipts does stands.remember;
-        small = small-does before after app (calls.Look pipe) answer does stands.small;
+        bus = record {
+          known = subst (λ n. app ≤ n) (sym (apps-does before after app (calls.Look pipe) answer does)) at.known;
+          standing = ap (λ s. standing_of s app) does.state ∙ settles-look limits before.log.entries (state_of before) app pipe standing told;
+          entries = subst (λ (a : Allowance). entries_due place.lines + 0 ≤ a.entries) (sym left) (omega (arith, due));
+          asked = at.asked;
+          buffers = subst (λ w. AreAsked place.registers.buffers w (state_of after).numbers_given at.asked) (sym same)
+              (asked-more place.registers.buffers at.asked (written_in old.bag) (state_of before).numbers_given (state_of after).numbers_given at.buffers
+              (given-does before after app (calls.Look pipe) answer does));
+          bytes = subst (λ (a : Allowance). bytes_due at.asked place.lines ≤ a.bytes) (sym left) (omega (arith, at.bytes));
+          room = omega (arith, at.room, leaves.count, leaves.room);
+          remember = remember-does before after tables app (calls.Look pipe) old.progress.receipts does at.remember;
+          small = small-does before after app (calls.Look pipe) answer does at.small;
+        };
+        tables = record {
+          known = stands.tables.known;
+          ended = stands.tables.ended ∙ goes;
+          entries = omega (arith, due_at_tables);
+          bytes = stands.tables.bytes;
+          remember = remember_held-got (tables_of tables) (state_of after) app (calls.Look pipe) answer old.progress.receipts stands.tables.remember;
+          small = stands.tables.small;
+        };
+        limits = stands.limits ∙ sym (limits-does before after app (calls.Look pipe) answer does);
       };
       moved = inr (calls.Look pipe, answer, does);
+      tables_moved = inl refl;
     }
 
-pub takes-look : (old : Equipped) (new : Progress) (bag : Holding LentBytes) (before after : Core) (pipe : ℕ) (answer : BusAnswer) → Stands old before → old.progress.ended ≡ false →
-    old.progress.waits_on ≡ Some pipe → Does before after old.progress.running.app (calls.Look pipe) answer → LeavesBuffers old.bag bag (calls.Look pipe) answer → is_pending answer ≡ false →
-    new ≡ looked_on old.progress (old.progress.receipts ++ got_in old.progress.running.app (state_of after) (calls.Look pipe) answer) → TakesTurn old (equip new bag) before after
-takes-look old new bag before after pipe answer stands goes waits does leaves told is =
-    subst (λ n. TakesTurn old (equip n bag) before after)
+pub takes-look : (old : Equipped) (new : Progress) (bag : Holding LentBytes) (before after : Core) (tables : TableCore) (pipe : ℕ) (answer : BusAnswer) → Stands old (both before tables) →
+    old.progress.ended ≡ false → old.progress.waits_on ≡ Some pipe → Does before after old.progress.running.app (calls.Look pipe) answer → LeavesBuffers old.bag bag (calls.Look pipe) answer →
+    is_pending answer ≡ false →
+    new ≡ looked_on old.progress (old.progress.receipts ++ got_in old.progress.running.app (state_of after) (calls.Look pipe) answer) →
+    TakesTurn old (equip new bag old.held) (both before tables) (both after tables)
+takes-look old new bag before after tables pipe answer stands goes waits does leaves told is =
+    subst (λ n. TakesTurn old (equip n bag old.held) (both before tables) (both after tables))
     (sym (is ∙ ap (λ a. looked_on old.progress (old.progress.receipts ++ got_in old.progress.running.app (state_of after) (calls.Look pipe) a)) does.as_machine))
-    (look-exact old bag before after pipe stands goes waits (does-exact before after old.progress.running.app (calls.Look pipe) answer does)
+    (look-exact old bag before after tables pipe stands goes waits (does-exact before after tables old.progress.running.app (calls.Look pipe) answer does)
     (subst (λ a. LeavesBuffers old.bag bag (calls.Look pipe) a) does.as_machine leaves)
     (subst (λ a. is_pending a ≡ false) does.as_machine told))
 
@@ -289,20 +344,20 @@ finds-room bag call more asks room = tt
 
 -- the application may run its next line
 pub may-run : (progress : Progress) (caller : Caller) (line : Line) (lines : List Line) (o : Option Call) (may : MayTurn progress caller) →
-    progress.waits_on ≡ None → progress.running.lines ≡ line ∷ lines → AllowedLine may.stands.asked line o → MayRun caller o
+    progress.waits_on ≡ None → progress.running.lines ≡ line ∷ lines → AllowedLine may.stands.bus.asked line o → MayRun caller o
 may-run progress caller line lines None may active next allowed = tt
 may-run progress caller line lines (Some call) may active next allowed =
-    let stands = may.stands in
+    let stands = may.stands.bus in
     let goes = may.goes_on in
     let app = progress.running.app in
     let core = caller.core in
-    let due = subst (λ ls. entries_due ls + cond (is_some progress.waits_on) 1 0 ≤ (allowance_of (left_of core.log) app).entries) next (entries-going (with_bag progress caller) core stands goes) in
+    let due = subst (λ ls. entries_due ls + cond (is_some progress.waits_on) 1 0 ≤ (allowance_of (left_of core.log) app).entries) next (entries-going (with_bags progress caller) core stands goes) in
     let bytes = subst (λ ls. bytes_due stands.asked ls ≤ (allowance_of (left_of core.log) app).bytes) next stands.bytes in
     let room = subst (λ ls. length caller.bag.buffers + sum_by buffers_of ls ≤ caller.bag.buffer_room) next stands.room in
     record {
       may = subst (λ a. MayCall core a call) (sym may.own) (record {
         known = stands.known;
-        standing = ap (λ s. may_call s call) (standing-going (with_bag progress caller) core stands goes ∙ ap standing_for active) ∙ allowed.active;
+        standing = ap (λ s. may_call s call) (standing-going (with_bags progress caller) core stands goes ∙ ap standing_for active) ∙ allowed.active;
         room = record {
           known = omega (arith, stands.known, length-left_of core.log);
           one_entry = omega (arith, due);
@@ -315,38 +370,46 @@ may-run progress caller line lines (Some call) may active next allowed =
     }
 
 -- a progress of these parts
-abbrev the_progress : Place → Option ℕ → Bool → List Receipt → Progress
+abbrev pub the_progress : Place → Option ℕ → Bool → List Receipt → Progress
 the_progress running waits_on ended receipts = record { running = running; waits_on = waits_on; ended = ended; receipts = receipts }
 
--- the progress behind a line that was so answered
+abbrev pub the_place : ℕ → List Line → Registers → List ℕ → Place
+the_place app lines registers handles = record { app = app; lines = lines; registers = registers; handles = handles }
+
+-- the progress behind a line that the bus so answered
 abbrev pub behind_line : Progress → Line → List Line → BusAnswer → List Receipt → Progress
-behind_line old line lines answer receipts = record {
-  running = record { app = old.running.app; lines = lines; registers = registers_after old.running.registers line answer };
-  waits_on = pipe_waited_for old.running.registers line answer;
-  ended = false;
-  receipts = receipts;
-}
+behind_line old line lines answer receipts =
+    the_progress (the_place old.running.app lines (registers_after old.running.registers line answer) old.running.handles)
+    (pipe_waited_for old.running.registers line answer) false receipts
 
--- the progress behind a line that no service sees
-abbrev pub behind_local : Progress → List Line → List Receipt → Progress
-behind_local old lines receipts = record {
-  running = record { app = old.running.app; lines = lines; registers = old.running.registers };
-  waits_on = None;
-  ended = false;
-  receipts = receipts;
-}
+-- the progress behind a line that the bus doesn't see, with these registers of handles
+abbrev pub behind_other : Progress → List Line → List ℕ → List Receipt → Progress
+behind_other old lines handles receipts = the_progress (the_place old.running.app lines old.running.registers handles) None false receipts
 
-turn-line : (limits : Limits) (sofar : SoFar) (running : Running) (line : Line) (lines : List Line) (o : Option Call) →
+pub turn-line : (limits : Limits) (sofar : SoFar) (running : Running) (line : Line) (lines : List Line) (o : Option Call) →
     standing_of sofar.state running.app ≡ Active → running.lines ≡ line ∷ lines → call_of running.registers running.written line ≡ o →
     turn limits sofar running ≡ line_turn limits sofar running line lines o
 turn-line limits sofar running line lines o active next call =
     ap (λ s. turn_in limits sofar running s) active ∙ ap (λ ls. active_turn limits sofar running ls) next ∙ ap (λ c. line_turn limits sofar running line lines c) call
 
-tells-line : (limits : Limits) (sofar : SoFar) (running : Running) (line : Line) (lines : List Line) (o : Option Call) →
+pub tells-line : (limits : Limits) (sofar : SoFar) (running : Running) (line : Line) (lines : List Line) (o : Option Call) →
     standing_of sofar.state running.app ≡ Active → running.lines ≡ line ∷ lines → call_of running.registers running.written line ≡ o →
     tells limits sofar running ≡ line_tells limits sofar running line o
 tells-line limits sofar running line lines o active next call =
     ap (λ s. tells_in limits sofar running s) active ∙ ap (λ ls. active_tells limits sofar running ls) next ∙ ap (λ c. line_tells limits sofar running line c) call
+
+-- the same of a line that the bus doesn't see
+pub turn-other : (limits : Limits) (sofar : SoFar) (running : Running) (line : Line) (lines : List Line) (t : Option TableCall) →
+    standing_of sofar.state running.app ≡ Active → running.lines ≡ line ∷ lines → call_of running.registers running.written line ≡ None → table_call_of running.handles line ≡ t →
+    turn limits sofar running ≡ other_turn limits sofar running line lines t
+turn-other limits sofar running line lines t active next none call =
+    turn-line limits sofar running line lines None active next none ∙ ap (λ c. other_turn limits sofar running line lines c) call
+
+pub tells-other : (limits : Limits) (sofar : SoFar) (running : Running) (line : Line) (lines : List Line) (t : Option TableCall) →
+    standing_of sofar.state running.app ≡ Active → running.lines ≡ line ∷ lines → call_of running.registers running.written line ≡ None → table_call_of running.handles line ≡ t →
+    tells limits sofar running ≡ other_tells limits sofar running line t
+tells-other limits sofar running line lines t active next none call =
+    tells-line limits sofar running line lines None active next none ∙ ap (λ c. other_tells limits sofar running line c) call
 
 -- a line can wait for one answer more where it waits
 waits-few : (registers : Registers) (line : Line) (answer : BusAnswer) → cond (is_some (pipe_waited_for registers line answer)) 1 0 ≤ waits_of line
@@ -355,72 +418,89 @@ waits-few registers (Pend pipe) Pending = omega arith
 waits-few registers (Pend pipe) answer = omega arith
 waits-few registers line answer = omega arith
 
-line-exact : (old : Equipped) (bag : Holding LentBytes) (before after : Core) (line : Line) (lines : List Line) (call : Call) (stands : Stands old before) →
+line-exact : (old : Equipped) (bag : Holding LentBytes) (before after : Core) (tables : TableCore) (line : Line) (lines : List Line) (call : Call) (stands : Stands old (both before tables)) →
     old.progress.ended ≡ false → old.progress.waits_on ≡ None → old.progress.running.lines ≡ line ∷ lines →
-    call_of old.progress.running.registers (written_in old.bag) line ≡ Some call → Allowed stands.asked line call →
-    Does before after old.progress.running.app call (answer_to before.limits (so_far before) old.progress.running.app call) →
-    LeavesBuffers old.bag bag call (answer_to before.limits (so_far before) old.progress.running.app call) →
+    call_of old.progress.running.registers (written_in old.bag) line ≡ Some call → Allowed stands.bus.asked line call →
+    Does before after old.progress.running.app call (answer_to before.limits (so_far (both before tables)) old.progress.running.app call) →
+    LeavesBuffers old.bag bag call (answer_to before.limits (so_far (both before tables)) old.progress.running.app call) →
     TakesTurn old
-    (equip (behind_line old.progress line lines (answer_to before.limits (so_far before) old.progress.running.app call)
-    (old.progress.receipts ++ got_in old.progress.running.app (state_of after) call (answer_to before.limits (so_far before) old.progress.running.app call))) bag)
-    before after
-line-exact old bag before after line lines call stands goes active next calls allowed does leaves =
+    (equip (behind_line old.progress line lines (answer_to before.limits (so_far (both before tables)) old.progress.running.app call)
+    (old.progress.receipts ++ got_in old.progress.running.app (state_of after) call (answer_to before.limits (so_far (both before tables)) old.progress.running.app call))) bag old.held)
+    (both before tables) (both after tables)
+line-exact old bag before after tables line lines call stands goes active next calls allowed does leaves =
     let place = old.progress.running in
     let app = place.app in
     let limits = before.limits in
-    let answer = answer_to limits (so_far before) app call in
+    let sofar = so_far (both before tables) in
+    let answer = answer_to limits sofar app call in
+    let at = stands.bus in
     let waits_on = pipe_waited_for place.registers line answer in
-    let standing : standing_of (state_of before) app ≡ Active = standing-going old before stands goes ∙ ap standing_for active in
+    let standing : standing_of (state_of before) app ≡ Active = standing-going old before at goes ∙ ap standing_for active in
     let first = first-known (state_of before) app Active standing active_lives in
-    let left = own-left before after app call answer first stands.known does in
-    let turned = turn-line limits (so_far before) (running_of old) line lines (Some call) standing next calls in
-    let due = subst (λ ls. entries_due ls + cond (is_some old.progress.waits_on) 1 0 ≤ (allowance_of (left_of before.log) app).entries) next (entries-going old before stands goes) in
-    let bytes = subst (λ ls. bytes_due stands.asked ls ≤ (allowance_of (left_of before.log) app).bytes) next stands.bytes in
-    let room = subst (λ ls. length old.bag.buffers + sum_by buffers_of ls ≤ old.bag.buffer_room) next stands.room in
+    let left = own-left before after app call answer first at.known does in
+    let turned = turn-line limits sofar (running_of old) line lines (Some call) standing next calls in
+    let due = subst (λ ls. entries_due ls + cond (is_some old.progress.waits_on) 1 0 ≤ (allowance_of (left_of before.log) app).entries) next (entries-going old before at goes) in
+    let bytes = subst (λ ls. bytes_due at.asked ls ≤ (allowance_of (left_of before.log) app).bytes) next at.bytes in
+    let room = subst (λ ls. length old.bag.buffers + sum_by buffers_of ls ≤ old.bag.buffer_room) next at.room in
     let few = waits-few place.registers line answer in
     let same = wrote old.bag bag call answer leaves in
     let settled : SettlesLine limits before.log.entries (state_of before) app place.registers line (Some call) =
     subst (λ o. SettlesLine limits before.log.entries (state_of before) app place.registers line o) calls
     (settles-line limits before.log.entries (state_of before) app place.registers (written_in old.bag) line standing) in
-    let asks : AskedLine limits before.log.entries (state_of before) app place.registers (written_in old.bag) stands.asked line (Some call) =
-    subst (λ o. AskedLine limits before.log.entries (state_of before) app place.registers (written_in old.bag) stands.asked line o) calls
-    (asked-line limits before.log.entries (state_of before) app place.registers (written_in old.bag) stands.asked line stands.buffers) in
+    let asks : AskedLine limits before.log.entries (state_of before) app place.registers (written_in old.bag) at.asked line (Some call) =
+    subst (λ o. AskedLine limits before.log.entries (state_of before) app place.registers (written_in old.bag) at.asked line o) calls
+    (asked-line limits before.log.entries (state_of before) app place.registers (written_in old.bag) at.asked line at.buffers) in
+    let due_at_tables = table_entries-line old tables line lines stands.tables goes next in
+    let bytes_at_tables = table_bytes-line old tables line lines stands.tables next in
     record {
-      bus = so_far-does before after app call does ∙ sym (ap (λ (t : SoFar × List Running). t.0) turned);
-      goes_on = ap (λ w. the_running app lines (registers_after place.registers line answer) w ∷ []) same ∙ sym (ap (λ (t : SoFar × List Running). t.1) turned);
+      services = so_far-does before after tables app call does ∙ sym (ap (λ (t : SoFar × List Running). t.0) turned);
+      goes_on = ap (λ w. the_running app lines (registers_after place.registers line answer) place.handles w ∷ []) same ∙ sym (ap (λ (t : SoFar × List Running). t.1) turned);
       receipts = ap (λ s. old.progress.receipts ++ got_in app s call answer) does.state
-          ∙ sym (ap (λ t. old.progress.receipts ++ t) (tells-line limits (so_far before) (running_of old) line lines (Some call) standing next calls));
+          ∙ sym (ap (λ t. old.progress.receipts ++ t) (tells-line limits sofar (running_of old) line lines (Some call) standing next calls));
       same_app = refl;
       stands = record {
-        known = subst (λ n. app ≤ n) (sym (apps-does before after app call answer does)) stands.known;
-        standing = ap (λ s. standing_of s app) does.state ∙ settled.standing;
-        entries = subst (λ (a : Allowance). entries_due lines + cond (is_some waits_on) 1 0 ≤ a.entries) (sym left)
-            (omega (arith, due, few, sum_by-cons waits_of line lines));
-        asked = sizes_after stands.asked line;
-        buffers = subst (λ w. AreAsked (registers_after place.registers line answer).buffers w (state_of after).numbers_given (sizes_after stands.asked line)) (sym same)
-            (subst (λ (s : State). AreAsked (registers_after place.registers line answer).buffers (written_after (written_in old.bag) call answer) s.numbers_given (sizes_after stands.asked line))
-            (sym does.state) asks);
-        bytes = subst (λ (a : Allowance). bytes_due (sizes_after stands.asked line) lines ≤ a.bytes) (sym left) (omega (arith, bytes, allowed.bytes));
-        room = omega (arith, room, leaves.count, leaves.room, allowed.asks, sum_by-cons buffers_of line lines);
-        remember = remember-does before after app call old.progress.receipts does stands.remember;
-        small = small-does before after app call answer does stands.small;
+        bus = record {
+          known = subst (λ n. app ≤ n) (sym (apps-does before after app call answer does)) at.known;
+          standing = ap (λ s. standing_of s app) does.state ∙ settled.standing;
+          entries = subst (λ (a : Allowance). entries_due lines + cond (is_some waits_on) 1 0 ≤ a.entries) (sym left)
+              (omega (arith, due, few, sum_by-cons waits_of line lines));
+          asked = sizes_after at.asked line;
+          buffers = subst (λ w. AreAsked (registers_after place.registers line answer).buffers w (state_of after).numbers_given (sizes_after at.asked line)) (sym same)
+              (subst (λ (s : State). AreAsked (registers_after place.registers line answer).buffers (written_after (written_in old.bag) call answer) s.numbers_given (sizes_after at.asked line))
+              (sym does.state) asks);
+          bytes = subst (λ (a : Allowance). bytes_due (sizes_after at.asked line) lines ≤ a.bytes) (sym left) (omega (arith, bytes, allowed.bytes));
+          room = omega (arith, room, leaves.count, leaves.room, allowed.asks, sum_by-cons buffers_of line lines);
+          remember = remember-does before after tables app call old.progress.receipts does at.remember;
+          small = small-does before after app call answer does at.small;
+        };
+        tables = record {
+          known = stands.tables.known;
+          ended = stands.tables.ended ∙ goes;
+          entries = omega (arith, due_at_tables, few, sum_by-cons waits_of line lines);
+          bytes = omega (arith, bytes_at_tables);
+          remember = remember_held-got (tables_of tables) (state_of after) app call answer old.progress.receipts stands.tables.remember;
+          small = stands.tables.small;
+        };
+        limits = stands.limits ∙ sym (limits-does before after app call answer does);
       };
       moved = inr (call, answer, does);
+      tables_moved = inl refl;
     }
 
--- a line whose call was answered
-pub takes-line : (old : Equipped) (new : Progress) (bag : Holding LentBytes) (before after : Core) (line : Line) (lines : List Line) (call : Call) (answer : BusAnswer) (stands : Stands old before) →
-    old.progress.ended ≡ false → old.progress.waits_on ≡ None → old.progress.running.lines ≡ line ∷ lines →
-    call_of old.progress.running.registers (written_in old.bag) line ≡ Some call → Allowed stands.asked line call →
+-- a line whose call the bus answered
+pub takes-line : (old : Equipped) (new : Progress) (bag : Holding LentBytes) (before after : Core) (tables : TableCore) (line : Line) (lines : List Line) (call : Call) (answer : BusAnswer)
+    (stands : Stands old (both before tables)) → old.progress.ended ≡ false → old.progress.waits_on ≡ None → old.progress.running.lines ≡ line ∷ lines →
+    call_of old.progress.running.registers (written_in old.bag) line ≡ Some call → Allowed stands.bus.asked line call →
     Does before after old.progress.running.app call answer → LeavesBuffers old.bag bag call answer →
-    new ≡ behind_line old.progress line lines answer (old.progress.receipts ++ got_in old.progress.running.app (state_of after) call answer) → TakesTurn old (equip new bag) before after
-takes-line old new bag before after line lines call answer stands goes active next calls allowed does leaves is =
-    subst (λ n. TakesTurn old (equip n bag) before after)
+    new ≡ behind_line old.progress line lines answer (old.progress.receipts ++ got_in old.progress.running.app (state_of after) call answer) →
+    TakesTurn old (equip new bag old.held) (both before tables) (both after tables)
+takes-line old new bag before after tables line lines call answer stands goes active next calls allowed does leaves is =
+    subst (λ n. TakesTurn old (equip n bag old.held) (both before tables) (both after tables))
     (sym (is ∙ ap (λ a. behind_line old.progress line lines a (old.progress.receipts ++ got_in old.progress.running.app (state_of after) call a)) does.as_machine))
-    (line-exact old bag before after line lines call stands goes active next calls allowed (does-exact before after old.progress.running.app call answer does)
+    (line-exact old bag before after tables line lines call stands goes active next calls allowed (does-exact before after tables old.progress.running.app call answer does)
     (subst (λ a. LeavesBuffers old.bag bag call a) does.as_machine leaves))
 
--- what a line that no service sees leaves in the bag
+-- what a line that the bus doesn't see leaves in the bag
 pub record WroteLocal (old : Equipped) (bag : Holding LentBytes) (core : Core) (line : Line) : Type 0 where
   pub written : (number : ℕ) → written_in bag number ≡ written_by (written_in old.bag) old.progress.running.registers.buffers line number
   pub count : length bag.buffers ≡ length old.bag.buffers
@@ -428,39 +508,71 @@ pub record WroteLocal (old : Equipped) (bag : Holding LentBytes) (core : Core) (
   pub was : HasBag core old.progress.running.app old.bag
   pub is : HasBag core old.progress.running.app bag
 
+-- the bus knows the application behind such a line, where its buffers are no longer than they were
+pub stands-other : (old : Equipped) (bag : Holding LentBytes) (held : HeldViews) (core : Core) (line : Line) (lines : List Line) (handles : List ℕ) (receipts : List Receipt) (at : StandsAtBus old core) →
+    old.progress.ended ≡ false → old.progress.waits_on ≡ None → old.progress.running.lines ≡ line ∷ lines → call_of old.progress.running.registers (written_in old.bag) line ≡ None →
+    AreAsked old.progress.running.registers.buffers (written_in bag) (state_of core).numbers_given at.asked → length bag.buffers ≡ length old.bag.buffers → bag.buffer_room ≡ old.bag.buffer_room →
+    Remember receipts (state_of core) old.progress.running.app →
+    StandsAtBus (equip (behind_other old.progress lines handles receipts) bag held) core
+stands-other old bag held core line lines handles receipts at goes active next none buffers count wide remember =
+    let place = old.progress.running in
+    let app = place.app in
+    let due = subst (λ ls. entries_due ls + cond (is_some old.progress.waits_on) 1 0 ≤ (allowance_of (left_of core.log) app).entries) next (entries-going old core at goes) in
+    let bytes = subst (λ ls. bytes_due at.asked ls ≤ (allowance_of (left_of core.log) app).bytes) next at.bytes in
+    let room = subst (λ ls. length old.bag.buffers + sum_by buffers_of ls ≤ old.bag.buffer_room) next at.room in
+    record {
+      known = at.known;
+      standing = standing-going old core at goes ∙ ap standing_for active;
+      entries = omega (arith, due, sum_by-cons waits_of line lines);
+      asked = sizes_after at.asked line;
+      buffers = subst (λ asked. AreAsked place.registers.buffers (written_in bag) (state_of core).numbers_given asked) (sym (local-sizes place.registers (written_in old.bag) at.asked line none)) buffers;
+      bytes = omega (arith, bytes);
+      room = omega (arith, room, count, wide, sum_by-cons buffers_of line lines);
+      remember = remember;
+      small = at.small;
+    }
+
 -- a line that no service sees
-pub takes-local : (old : Equipped) (new : Progress) (bag : Holding LentBytes) (core : Core) (line : Line) (lines : List Line) → Stands old core → old.progress.ended ≡ false →
-    old.progress.waits_on ≡ None → old.progress.running.lines ≡ line ∷ lines → call_of old.progress.running.registers (written_in old.bag) line ≡ None → WroteLocal old bag core line →
-    new ≡ behind_local old.progress lines (old.progress.receipts ++ shown old.progress.running.app (state_of core) old.progress.running.registers line) → TakesTurn old (equip new bag) core core
-takes-local old new bag core line lines stands goes active next none left is =
+pub takes-local : (old : Equipped) (new : Progress) (bag : Holding LentBytes) (core : Core) (tables : TableCore) (line : Line) (lines : List Line) → Stands old (both core tables) →
+    old.progress.ended ≡ false → old.progress.waits_on ≡ None → old.progress.running.lines ≡ line ∷ lines → call_of old.progress.running.registers (written_in old.bag) line ≡ None →
+    table_call_of old.progress.running.handles line ≡ None → WroteLocal old bag core line →
+    new ≡ behind_other old.progress lines old.progress.running.handles (old.progress.receipts
+    ++ shown old.progress.running.app (state_of core) (tables_of tables) old.progress.running.registers old.progress.running.handles line) →
+    TakesTurn old (equip new bag old.held) (both core tables) (both core tables)
+takes-local old new bag core tables line lines stands goes active next none no_table left is =
     let place = old.progress.running in
     let app = place.app in
     let limits = core.limits in
-    let standing : standing_of (state_of core) app ≡ Active = standing-going old core stands goes ∙ ap standing_for active in
-    let turned = turn-line limits (so_far core) (running_of old) line lines None standing next none in
-    let due = subst (λ ls. entries_due ls + cond (is_some old.progress.waits_on) 1 0 ≤ (allowance_of (left_of core.log) app).entries) next (entries-going old core stands goes) in
-    let bytes = subst (λ ls. bytes_due stands.asked ls ≤ (allowance_of (left_of core.log) app).bytes) next stands.bytes in
-    let room = subst (λ ls. length old.bag.buffers + sum_by buffers_of ls ≤ old.bag.buffer_room) next stands.room in
+    let sofar = so_far (both core tables) in
+    let at = stands.bus in
+    let standing : standing_of (state_of core) app ≡ Active = standing-going old core at goes ∙ ap standing_for active in
+    let turned = turn-other limits sofar (running_of old) line lines None standing next none no_table in
     let same : written_in bag ≡ written_by (written_in old.bag) place.registers.buffers line = fun_ext (λ number. left.written number) in
-    subst (λ n. TakesTurn old (equip n bag) core core) (sym is) (record {
-      bus = sym (ap (λ (t : SoFar × List Running). t.0) turned);
-      goes_on = ap (λ w. the_running app lines place.registers w ∷ []) same ∙ sym (ap (λ (t : SoFar × List Running). t.1) turned);
-      receipts = sym (ap (λ t. old.progress.receipts ++ t) (tells-line limits (so_far core) (running_of old) line lines None standing next none));
+    let due_at_tables = table_entries-line old tables line lines stands.tables goes next in
+    let bytes_at_tables = table_bytes-line old tables line lines stands.tables next in
+    subst (λ n. TakesTurn old (equip n bag old.held) (both core tables) (both core tables)) (sym is) (record {
+      services = sym (ap (λ (t : SoFar × List Running). t.0) turned);
+      goes_on = ap (λ w. the_running app lines place.registers place.handles w ∷ []) same ∙ sym (ap (λ (t : SoFar × List Running). t.1) turned);
+      receipts = sym (ap (λ t. old.progress.receipts ++ t) (tells-other limits sofar (running_of old) line lines None standing next none no_table));
       same_app = refl;
       stands = record {
-        known = stands.known;
-        standing = standing;
-        entries = omega (arith, due, sum_by-cons waits_of line lines);
-        asked = sizes_after stands.asked line;
-        buffers = subst (λ asked. AreAsked place.registers.buffers (written_in bag) (state_of core).numbers_given asked) (sym (local-sizes place.registers (written_in old.bag) stands.asked line none))
-            (asked-fewer place.registers.buffers stands.asked (written_in old.bag) (written_in bag) (state_of core).numbers_given (state_of core).numbers_given stands.buffers (omega arith)
-            (λ number. alike-long core app number old.bag bag left.was left.is) (alike-none core app 0 old.bag bag left.was left.is stands.buffers.none));
-        bytes = omega (arith, bytes);
-        room = omega (arith, room, left.count, left.room, sum_by-cons buffers_of line lines);
-        remember = remember-shown (state_of core) app place.registers line old.progress.receipts stands.remember;
-        small = stands.small;
+        bus = stands-other old bag old.held core line lines place.handles (old.progress.receipts ++ shown app (state_of core) (tables_of tables) place.registers place.handles line) at goes active next none
+            (asked-fewer place.registers.buffers at.asked (written_in old.bag) (written_in bag) (state_of core).numbers_given (state_of core).numbers_given at.buffers (omega arith)
+            (λ number. alike-long core app number old.bag bag left.was left.is) (alike-none core app 0 old.bag bag left.was left.is at.buffers.none))
+            left.count left.room
+            (remember-shown (state_of core) (tables_of tables) app place.registers place.handles line old.progress.receipts at.remember);
+        tables = record {
+          known = stands.tables.known;
+          ended = stands.tables.ended ∙ goes;
+          entries = omega (arith, due_at_tables, sum_by-cons waits_of line lines);
+          bytes = omega (arith, bytes_at_tables);
+          remember = remember_held-shown (state_of core) (tables_of tables) app place.registers place.handles line old.progress.receipts stands.tables.remember;
+          small = stands.tables.small;
+        };
+        limits = stands.limits;
       };
       moved = inl refl;
+      tables_moved = inl refl;
     })
 
 -- What the code did, as the progress has it. --
@@ -469,7 +581,7 @@ takes-local old new bag core line lines stands goes active next none left is =
 pipe-own : (old : Progress) (before : Caller) (pipe : ℕ) → MayTurn old before → old.waits_on ≡ Some pipe → pipe_waited_on before ≡ pipe
 pipe-own old before pipe may waits =
     ap (λ app. waited_on (standing_of (state_of before.core) app)) may.own
-    ∙ ap waited_on (standing-going (with_bag old before) before.core may.stands may.goes_on ∙ ap standing_for waits)
+    ∙ ap waited_on (standing-going (with_bags old before) before.core may.stands.bus may.goes_on ∙ ap standing_for waits)
 
 -- the look's call is the application's, on the pipe that it waits on
 looks-own : (old : Progress) (before : Caller) (now after : Core) (pipe : ℕ) (answer : BusAnswer) → MayTurn old before → old.waits_on ≡ Some pipe →
@@ -493,29 +605,60 @@ progress-looked p old r told is goes same =
 
 progress-behind : (p old : Progress) (line : Line) (lines : List Line) (answer : BusAnswer) (registers : Registers) (waits_on : Option ℕ) (r told : List Receipt) → p ≡ old → old.ended ≡ false →
     registers ≡ registers_after p.running.registers line answer → waits_on ≡ pipe_waited_for p.running.registers line answer → r ≡ told →
-    the_progress (record { app = p.running.app; lines = lines; registers = registers }) waits_on p.ended r ≡ behind_line old line lines answer told
+    the_progress (the_place p.running.app lines registers p.running.handles) waits_on p.ended r ≡ behind_line old line lines answer told
 progress-behind p old line lines answer registers waits_on r told is goes noted waiting same =
-    ap (λ x. the_progress (record { app = p.running.app; lines = lines; registers = x }) waits_on p.ended r) noted
-    ∙ ap (λ x. the_progress (record { app = p.running.app; lines = lines; registers = registers_after p.running.registers line answer }) x p.ended r) waiting
-    ∙ ap (λ (q : Progress). the_progress (record { app = q.running.app; lines = lines; registers = registers_after q.running.registers line answer })
+    ap (λ x. the_progress (the_place p.running.app lines x p.running.handles) waits_on p.ended r) noted
+    ∙ ap (λ x. the_progress (the_place p.running.app lines (registers_after p.running.registers line answer) p.running.handles) x p.ended r) waiting
+    ∙ ap (λ (q : Progress). the_progress (the_place q.running.app lines (registers_after q.running.registers line answer) q.running.handles)
     (pipe_waited_for q.running.registers line answer) q.ended r) is
-    ∙ ap (λ e. the_progress (record { app = old.running.app; lines = lines; registers = registers_after old.running.registers line answer })
+    ∙ ap (λ e. the_progress (the_place old.running.app lines (registers_after old.running.registers line answer) old.running.handles)
     (pipe_waited_for old.running.registers line answer) e r) goes
     ∙ ap (λ x. behind_line old line lines answer x) same
 
-progress-local : (p old : Progress) (lines : List Line) (r told : List Receipt) → p ≡ old → old.ended ≡ false → old.waits_on ≡ None → r ≡ told →
-    the_progress (record { app = p.running.app; lines = lines; registers = p.running.registers }) p.waits_on p.ended r ≡ behind_local old lines told
-progress-local p old lines r told is goes active same =
-    ap (λ (q : Progress). the_progress (record { app = q.running.app; lines = lines; registers = q.running.registers }) q.waits_on q.ended r) is
-    ∙ ap (λ e. the_progress (record { app = old.running.app; lines = lines; registers = old.running.registers }) old.waits_on e r) goes
-    ∙ ap (λ w. the_progress (record { app = old.running.app; lines = lines; registers = old.running.registers }) w false r) active
-    ∙ ap (λ x. behind_local old lines x) same
+pub progress-other : (p old : Progress) (lines : List Line) (handles now : List ℕ) (r told : List Receipt) → p ≡ old → old.ended ≡ false → old.waits_on ≡ None → handles ≡ now → r ≡ told →
+    the_progress (the_place p.running.app lines p.running.registers handles) p.waits_on p.ended r ≡ behind_other old lines now told
+progress-other p old lines handles now r told is goes active noted same =
+    ap (λ (q : Progress). the_progress (the_place q.running.app lines q.running.registers handles) q.waits_on q.ended r) is
+    ∙ ap (λ e. the_progress (the_place old.running.app lines old.running.registers handles) old.waits_on e r) goes
+    ∙ ap (λ w. the_progress (the_place old.running.app lines old.running.registers handles) w false r) active
+    ∙ ap (λ h. behind_other old lines h r) noted
+    ∙ ap (λ x. behind_other old lines now x) same
+
+-- What is kept. --
+
+-- what holds of the tables and of their bag still does behind a call of the bus
+pub tables-kept : (P : TableCore → HeldViews → Type 0) (before after : Caller) → KeepsTables before after → P before.tables before.held → P after.tables after.held
+tables-kept P before after keeps holds =
+    subst (λ held. P after.tables held) (sym keeps.held) (subst (λ tables. P tables before.held) (sym keeps.tables) holds)
+
+-- and of the bus and its bag behind a call of the tables
+pub bus-kept : (P : Core → Holding LentBytes → Type 0) (before after : Caller) → KeepsBus before after → P before.core before.bag → P after.core after.bag
+bus-kept P before after keeps holds =
+    subst (λ bag. P after.core bag) (sym keeps.bag) (subst (λ core. P core before.bag) (sym keeps.core) holds)
+
+-- the bag of the tables is still the application's
+pub held-kept : (before after : Caller) → KeepsTables before after → after.app ≡ before.app → HasOwnTables before → HasOwnTables after
+held-kept before after keeps same has =
+    subst (λ app. HasTableBag after.tables app after.held) (sym same) (tables-kept (λ tables held. HasTableBag tables before.app held) before after keeps has)
+
+pub bag-kept : (before after : Caller) → KeepsBus before after → after.app ≡ before.app → HasOwnBag before → HasOwnBag after
+bag-kept before after keeps same has =
+    subst (λ app. HasBag after.core app after.bag) (sym same) (bus-kept (λ core bag. HasBag core before.app bag) before after keeps has)
+
+-- the application has a number
+pub number-known : (old : Progress) (before : Caller) → MayTurn old before → 1 ≤ old.running.app
+number-known old before may =
+    first-known (state_of before.core) old.running.app (standing_for old.waits_on) (standing-going (with_bags old before) before.core may.stands.bus may.goes_on) (going_lives old.waits_on)
 
 -- the bus that the calls meet knows the application as the one last seen did
-met : (old : Progress) (before : Caller) (now : Core) → MayTurn old before → Meets before now → Stands (with_bag old before) now
-met old before now may meets =
-    stands-met old before now meets may.own
-    (first-known (state_of before.core) old.running.app (standing_for old.waits_on) (standing-going (with_bag old before) before.core may.stands may.goes_on) (going_lives old.waits_on)) may.stands
+met : (old : Progress) (before : Caller) (now : Core) → MayTurn old before → Meets before now → Stands (with_bags old before) (both now before.tables)
+met old before now may meets = record {
+  bus = stands-met old before now meets may.own (number-known old before may) may.stands.bus;
+  tables = may.stands.tables;
+  limits = may.stands.limits ∙ sym (met-limits before now meets);
+}
+
+-- Looks that were answered. --
 
 -- a look that found a message
 pub looked-got : (p old : Progress) (before after : Caller) (pipe n : ℕ) (r : List Receipt) → p ≡ old → MayTurn old before → old.waits_on ≡ Some pipe →
@@ -526,16 +669,19 @@ looked-got p old before after pipe n r is may waits answered got =
     let does : Does answered.now after.core old.running.app (calls.Look pipe) (Got n) = looks-own old before answered.now after.core pipe (Got n) may waits answered.does in
     let own : after.app ≡ old.running.app = answered.same.app ∙ may.own in
     record {
-      now = answered.now;
+      now = both answered.now before.tables;
       meets = answered.meets;
-      turn = takes-look (with_bag old before) new after.bag answered.now after.core pipe (Got n) (met old before answered.now may answered.meets) may.goes_on waits does
+      meets_tables = inl refl;
+      turn = tables-kept (λ tables held. TakesTurn (with_bags old before) (equip new after.bag held) (both answered.now before.tables) (both after.core tables)) before after answered.others
+          (takes-look (with_bags old before) new after.bag answered.now after.core before.tables pipe (Got n) (met old before answered.now may answered.meets) may.goes_on waits does
           (leaves-own old before after.bag pipe (Got n) may waits answered.buffers) refl
           (progress-looked p old r _ is may.goes_on
           (got
           ∙ ap (λ (q : Progress). q.receipts ++ taken_from after pipe n) is
           ∙ ap (λ t. old.receipts ++ t) (taken-told answered.now after (calls.Look pipe) (Got n) (subst (λ app. Does answered.now after.core app (calls.Look pipe) (Got n)) (sym own) does))
-          ∙ ap (λ app. old.receipts ++ got_in app (state_of after.core) (calls.Look pipe) (Got n)) own));
+          ∙ ap (λ app. old.receipts ++ got_in app (state_of after.core) (calls.Look pipe) (Got n)) own)));
       bag = answered.bag;
+      held = held-kept before after answered.others answered.same.app may.held;
     }
 
 -- a look to which no message can come any more
@@ -545,46 +691,63 @@ pub looked-time_out : (p old : Progress) (before after : Caller) (pipe : ℕ) �
 looked-time_out p old before after pipe is may waits answered =
     let new : Progress = record { running = p.running; waits_on = None; ended = p.ended; receipts = p.receipts } in
     record {
-      now = answered.now;
+      now = both answered.now before.tables;
       meets = answered.meets;
-      turn = takes-look (with_bag old before) new after.bag answered.now after.core pipe TimeOut (met old before answered.now may answered.meets) may.goes_on waits
+      meets_tables = inl refl;
+      turn = tables-kept (λ tables held. TakesTurn (with_bags old before) (equip new after.bag held) (both answered.now before.tables) (both after.core tables)) before after answered.others
+          (takes-look (with_bags old before) new after.bag answered.now after.core before.tables pipe TimeOut (met old before answered.now may answered.meets) may.goes_on waits
           (looks-own old before answered.now after.core pipe TimeOut may waits answered.does) (leaves-own old before after.bag pipe TimeOut may waits answered.buffers) refl
-          (progress-looked p old p.receipts _ is may.goes_on (ap (λ (q : Progress). q.receipts) is ∙ sym (append-nil old.receipts)));
+          (progress-looked p old p.receipts _ is may.goes_on (ap (λ (q : Progress). q.receipts) is ∙ sym (append-nil old.receipts))));
       bag = answered.bag;
+      held = held-kept before after answered.others answered.same.app may.held;
     }
 
 -- a look that finds the application still waiting
-takes-pending : (old : Equipped) (bag : Holding LentBytes) (now : Core) (pipe : ℕ) → Stands old now → old.progress.ended ≡ false → old.progress.waits_on ≡ Some pipe →
+takes-pending : (old : Equipped) (bag : Holding LentBytes) (now : Core) (tables : TableCore) (pipe : ℕ) → Stands old (both now tables) → old.progress.ended ≡ false → old.progress.waits_on ≡ Some pipe →
     LeavesBuffers old.bag bag (calls.Look pipe) Pending →
-    answer_to now.limits (so_far now) old.progress.running.app (calls.Look pipe) ≡ Pending → TakesTurn old (equip old.progress bag) now now
-takes-pending old bag now pipe stands goes waits leaves pending =
+    answer_to now.limits (so_far (both now tables)) old.progress.running.app (calls.Look pipe) ≡ Pending → TakesTurn old (equip old.progress bag old.held) (both now tables) (both now tables)
+takes-pending old bag now tables pipe stands goes waits leaves pending =
     let place = old.progress.running in
     let app = place.app in
     let limits = now.limits in
-    let standing : standing_of (state_of now) app ≡ Waiting pipe = standing-going old now stands goes ∙ ap standing_for waits in
-    let turned = turn-look limits (so_far now) (running_of old) pipe standing in
+    let sofar = so_far (both now tables) in
+    let at = stands.bus in
+    let standing : standing_of (state_of now) app ≡ Waiting pipe = standing-going old now at goes ∙ ap standing_for waits in
+    let turned = turn-look limits sofar (running_of old) pipe standing in
     let same = wrote old.bag bag (calls.Look pipe) Pending leaves in
     record {
-      bus = sym (ap (λ a. after_look limits (so_far now) app pipe a) pending) ∙ sym (ap (λ (t : SoFar × List Running). t.0) turned);
-      goes_on = ap (λ b. cond {A = List Running} b [] (the_running app place.lines place.registers (written_in bag) ∷ [])) goes
-          ∙ ap (λ w. the_running app place.lines place.registers w ∷ []) same
+      services = sym (ap (λ a. after_look limits sofar app pipe a) pending) ∙ sym (ap (λ (t : SoFar × List Running). t.0) turned);
+      goes_on = ap (λ b. cond {A = List Running} b [] (the_running app place.lines place.registers place.handles (written_in bag) ∷ [])) goes
+          ∙ ap (λ w. the_running app place.lines place.registers place.handles w ∷ []) same
           ∙ sym (ap (λ (t : SoFar × List Running). t.1) turned);
       receipts = sym (append-nil old.progress.receipts)
-          ∙ sym (ap (λ a. old.progress.receipts ++ got_in app (after_look limits (so_far now) app pipe a).state (calls.Look pipe) a) pending)
-          ∙ sym (ap (λ s. old.progress.receipts ++ tells_in limits (so_far now) (running_of old) s) standing);
+          ∙ sym (ap (λ a. old.progress.receipts ++ got_in app (after_look limits sofar app pipe a).state (calls.Look pipe) a) pending)
+          ∙ sym (ap (λ s. old.progress.receipts ++ tells_in limits sofar (running_of old) s) standing);
       same_app = refl;
       stands = record {
-        known = stands.known;
-        standing = stands.standing;
-        entries = stands.entries;
-        asked = stands.asked;
-        buffers = subst (λ w. AreAsked place.registers.buffers w (state_of now).numbers_given stands.asked) (sym same) stands.buffers;
-        bytes = stands.bytes;
-        room = omega (arith, stands.room, leaves.count, leaves.room);
-        remember = stands.remember;
-        small = stands.small;
+        bus = record {
+          known = at.known;
+          standing = at.standing;
+          entries = at.entries;
+          asked = at.asked;
+          buffers = subst (λ w. AreAsked place.registers.buffers w (state_of now).numbers_given at.asked) (sym same) at.buffers;
+          bytes = at.bytes;
+          room = omega (arith, at.room, leaves.count, leaves.room);
+          remember = at.remember;
+          small = at.small;
+        };
+        tables = record {
+          known = stands.tables.known;
+          ended = stands.tables.ended;
+          entries = stands.tables.entries;
+          bytes = stands.tables.bytes;
+          remember = stands.tables.remember;
+          small = stands.tables.small;
+        };
+        limits = stands.limits;
       };
       moved = inl refl;
+      tables_moved = inl refl;
     }
 
 pub looked-pending : (old : Progress) (before after : Caller) (pipe : ℕ) → MayTurn old before → old.waits_on ≡ Some pipe →
@@ -592,72 +755,21 @@ pub looked-pending : (old : Progress) (before after : Caller) (pipe : ℕ) → M
 looked-pending old before after pipe may waits answered =
     let now = answered.now in
     record {
-      now = now;
+      now = both now before.tables;
       meets = answered.meets;
-      turn = subst (λ core. TakesTurn (with_bag old before) (with_bag old after) now core) (sym answered.does.0)
-          (takes-pending (with_bag old before) after.bag now pipe (met old before now may answered.meets) may.goes_on waits
+      meets_tables = inl refl;
+      turn = tables-kept (λ tables held. TakesTurn (with_bags old before) (equip old after.bag held) (both now before.tables) (both after.core tables)) before after answered.others
+          (subst (λ core. TakesTurn (with_bags old before) (equip old after.bag before.held) (both now before.tables) (both core before.tables)) (sym answered.does.0)
+          (takes-pending (with_bags old before) after.bag now before.tables pipe (met old before now may answered.meets) may.goes_on waits
           (leaves-own old before after.bag pipe Pending may waits answered.buffers)
-          (sym (ap (λ app. answer_to now.limits (so_far now) app (calls.Look pipe)) may.own)
-          ∙ sym (ap (λ w. answer_to now.limits (so_far now) before.app (calls.Look w)) (pipe-own old before pipe may waits))
-          ∙ answered.does.1));
+          (sym (ap (λ app. answer_to now.limits (so_far (both now before.tables)) app (calls.Look pipe)) may.own)
+          ∙ sym (ap (λ w. answer_to now.limits (so_far (both now before.tables)) before.app (calls.Look w)) (pipe-own old before pipe may waits))
+          ∙ answered.does.1)));
       bag = answered.bag;
+      held = held-kept before after answered.others answered.same.app may.held;
     }
 
--- The end. --
-
--- the progress once the application has ended
-abbrev ended_on : Progress → Progress
-ended_on old = record { running = old.running; waits_on = old.waits_on; ended = true; receipts = old.receipts }
-
-end-exact : (old : Equipped) (bag : Holding LentBytes) (before after : Core) → Stands old before → old.progress.ended ≡ false → old.progress.waits_on ≡ None → old.progress.running.lines ≡ [] →
-    Does before after old.progress.running.app calls.End (answer_to before.limits (so_far before) old.progress.running.app calls.End) →
-    LeavesBuffers old.bag bag calls.End Done → TakesTurn old (equip (ended_on old.progress) bag) before after
-end-exact old bag before after stands goes active through does leaves =
-    let place = old.progress.running in
-    let app = place.app in
-    let limits = before.limits in
-    let answer = answer_to limits (so_far before) app calls.End in
-    let standing : standing_of (state_of before) app ≡ Active = standing-going old before stands goes ∙ ap standing_for active in
-    let turned : turn limits (so_far before) (running_of old) ≡ active_turn limits (so_far before) (running_of old) [] =
-    ap (λ s. turn_in limits (so_far before) (running_of old) s) standing ∙ ap (λ ls. active_turn limits (so_far before) (running_of old) ls) through in
-    record {
-      bus = so_far-does before after app calls.End does ∙ sym (ap (λ (t : SoFar × List Running). t.0) turned);
-      goes_on = sym (ap (λ (t : SoFar × List Running). t.1) turned);
-      receipts = sym (append-nil old.progress.receipts)
-          ∙ sym (ap (λ t. old.progress.receipts ++ t) (ap (λ s. tells_in limits (so_far before) (running_of old) s) standing
-          ∙ ap (λ ls. active_tells limits (so_far before) (running_of old) ls) through));
-      same_app = refl;
-      stands = record {
-        known = subst (λ n. app ≤ n) (sym (apps-does before after app calls.End answer does)) stands.known;
-        standing = ap (λ s. standing_of s app) does.state
-            ∙ standing-set (state_of before) (state_of before) app Active Ended refl standing active_lives;
-        entries = omega arith;
-        asked = stands.asked;
-        buffers = asked-fewer place.registers.buffers stands.asked (written_in old.bag) (written_in bag) (state_of before).numbers_given (state_of after).numbers_given stands.buffers
-            (given-does before after app calls.End answer does)
-            (λ number. subst (λ found. length (option_map_or (λ bytes. bytes) found []) ≤ length (bytes_in (written_in old.bag) number)) (sym (leaves.written number)) (omega arith))
-            (leaves.written 0);
-        bytes = subst (λ ls. bytes_due stands.asked ls ≤ (allowance_of (left_of after.log) app).bytes) (sym through) (omega arith);
-        room = omega (arith, stands.room, leaves.count, leaves.room);
-        remember = subst (λ rs. Remember rs (state_of after) app) (append-nil old.progress.receipts) (remember-does before after app calls.End old.progress.receipts does stands.remember);
-        small = small-does before after app calls.End answer does stands.small;
-      };
-      moved = inr (calls.End, answer, does);
-    }
-
--- the application's last call
-pub ran-end : (p old : Progress) (before after : Caller) → p ≡ old → MayTurn old before → old.waits_on ≡ None → old.running.lines ≡ [] →
-    Answers before after calls.End Done → TakesTurnBy old (record { running = p.running; waits_on = p.waits_on; ended = true; receipts = p.receipts }) before after
-ran-end p old before after is may active through answered =
-    let now = answered.now in
-    record {
-      now = now;
-      meets = answered.meets;
-      turn = subst (λ q. TakesTurn (with_bag old before) (with_bag (ended_on q) after) now after.core) (sym is)
-          (end-exact (with_bag old before) after.bag now after.core (met old before now may answered.meets) may.goes_on active through
-          (subst (λ app. Does now after.core app calls.End Done) may.own answered.does) answered.buffers);
-      bag = answered.bag;
-    }
+-- Lines that were run. --
 
 -- the next line
 pub drop-next : {X : Type 0} (xs : List X) (i : ℕ) (x : X) → slice_get xs i ≡ Some x → drop i xs ≡ x ∷ drop (suc i) xs
@@ -669,39 +781,60 @@ drop-next (y ∷ xs) (suc i) x there = drop-next xs i x there
 pub get_at : {X : Type 0} (P : X → Type 0) (xs : List X) (i : ℕ) (x : X) → slice_get xs i ≡ Some x → All P xs → P x
 get_at P xs i x there all = subst P (get_or_from_slice_get xs i x x there) (All-get_or P xs i x (slice_get_within xs i x there) all)
 
--- a line that was run
+-- a line that the bus answered
 pub ran-line : (p old : Progress) (before after : Caller) (line : Line) (lines : List Line) (answer : BusAnswer) (registers : Registers) (waits_on : Option ℕ) (r : List Receipt) (o : Option Call) →
     p ≡ old → MayTurn old before → old.waits_on ≡ None → p.running.lines ≡ line ∷ lines → IsLineInRange line →
     call_of p.running.registers (written_in before.bag) line ≡ o → IsRun before after o (Some answer) →
     r ≡ p.receipts ++ taken_by after o answer → registers ≡ registers_after p.running.registers line answer →
     waits_on ≡ pipe_waited_for p.running.registers line answer →
-    TakesTurnBy old (record { running = record { app = p.running.app; lines = lines; registers = registers }; waits_on = waits_on; ended = p.ended; receipts = r }) before after
+    TakesTurnBy old (the_progress (the_place p.running.app lines registers p.running.handles) waits_on p.ended r) before after
 ran-line p old before after line lines answer registers waits_on r None is may active next range calls run got noted waiting = absurd run
 ran-line p old before after line lines answer registers waits_on r (Some call) is may active next range calls run got noted waiting =
-    let new : Progress = record { running = record { app = p.running.app; lines = lines; registers = registers }; waits_on = waits_on; ended = p.ended; receipts = r } in
+    let new : Progress = the_progress (the_place p.running.app lines registers p.running.handles) waits_on p.ended r in
     let written = written_in before.bag in
     let calls-old : call_of old.running.registers written line ≡ Some call = subst (λ (q : Progress). call_of q.running.registers written line ≡ Some call) is calls in
     let next-old : old.running.lines ≡ line ∷ lines = subst (λ (q : Progress). q.running.lines ≡ line ∷ lines) is next in
     let does : Does run.now after.core old.running.app call answer = subst (λ app. Does run.now after.core app call answer) may.own run.does in
     let stands = met old before run.now may run.meets in
-    let allowed : Allowed stands.asked line call =
-    subst (λ o. AllowedLine stands.asked line o) calls-old (allowed-line old.running.registers written (state_of run.now).numbers_given stands.asked line stands.buffers range) in
+    let allowed : Allowed stands.bus.asked line call =
+    subst (λ o. AllowedLine stands.bus.asked line o) calls-old (allowed-line old.running.registers written (state_of run.now).numbers_given stands.bus.asked line stands.bus.buffers range) in
     let own : after.app ≡ old.running.app = run.same.app ∙ may.own in
     record {
-      now = run.now;
+      now = both run.now before.tables;
       meets = run.meets;
-      turn = takes-line (with_bag old before) new after.bag run.now after.core line lines call answer stands may.goes_on active next-old calls-old allowed does run.buffers
+      meets_tables = inl refl;
+      turn = tables-kept (λ tables held. TakesTurn (with_bags old before) (equip new after.bag held) (both run.now before.tables) (both after.core tables)) before after run.others
+          (takes-line (with_bags old before) new after.bag run.now after.core before.tables line lines call answer stands may.goes_on active next-old calls-old allowed does run.buffers
           (progress-behind p old line lines answer registers waits_on r (old.receipts ++ got_in old.running.app (state_of after.core) call answer) is may.goes_on noted waiting
           (got
           ∙ ap (λ (q : Progress). q.receipts ++ taken_by after (Some call) answer) is
           ∙ ap (λ t. old.receipts ++ t) (taken-told run.now after call answer (subst (λ app. Does run.now after.core app call answer) (sym own) does))
-          ∙ ap (λ app. old.receipts ++ got_in app (state_of after.core) call answer) own));
+          ∙ ap (λ app. old.receipts ++ got_in app (state_of after.core) call answer) own)));
       bag = run.bag;
+      held = held-kept before after run.others run.same.app may.held;
     }
+
+-- a line that made no call left the calls as they were
+pub run-none : (before after : Caller) (o : Option Call) → IsRun before after o None → after ≡ before
+run-none before after None run = run
+run-none before after (Some call) run = absurd run
+
+pub table_run-none : (before after : Caller) (t : Option TableCall) → IsRunAtTables before after t None → after ≡ before
+table_run-none before after None run = run
+table_run-none before after (Some call) run = absurd run
+
+-- and is one that makes none
+pub called-none : (before after : Caller) (o : Option Call) → IsRun before after o None → o ≡ None
+called-none before after None run = refl
+called-none before after (Some call) run = absurd run
+
+pub table_called-none : (before after : Caller) (t : Option TableCall) → IsRunAtTables before after t None → t ≡ None
+table_called-none before after None run = refl
+table_called-none before after (Some call) run = absurd run
 
 -- what a line that no service sees left in the bag of the calls
 wrote-local : (old : Progress) (before after : Caller) (line : Line) → MayTurn old before → Writes before after (written_by (written_in before.bag) old.running.registers.buffers line) →
-    WroteLocal (with_bag old before) after.bag before.core line
+    WroteLocal (with_bags old before) after.bag before.core line
 wrote-local old before after line may writes = record {
   written = writes.written;
   count = writes.count;
@@ -710,38 +843,56 @@ wrote-local old before after line may writes = record {
   is = subst (λ core. HasBag core old.running.app after.bag) writes.core (subst (λ app. HasBag after.core app after.bag) (writes.same.app ∙ may.own) writes.bag);
 }
 
--- a line that no service sees
-pub ran-local : (p old : Progress) (before mid after : Caller) (line : Line) (lines : List Line) (r : List Receipt) (o : Option Call) →
+-- the application's turn, where its line makes no call, and wrote so
+local-exact : (p old : Progress) (before after : Caller) (line : Line) (lines : List Line) (r : List Receipt) →
     p ≡ old → MayTurn old before → old.waits_on ≡ None → p.running.lines ≡ line ∷ lines →
-    call_of p.running.registers (written_in before.bag) line ≡ o → IsRun before mid o None →
-    Writes mid after (written_by (written_in mid.bag) p.running.registers.buffers line) →
-    r ≡ p.receipts ++ shown after.app (state_of after.core) p.running.registers line →
-    TakesTurnBy old (record { running = record { app = p.running.app; lines = lines; registers = p.running.registers }; waits_on = p.waits_on; ended = p.ended; receipts = r }) before after
-ran-local p old before mid after line lines r (Some call) is may active next calls run writes told = absurd run
-ran-local p old before mid after line lines r None is may active next calls run writes told =
-    let new : Progress = record { running = record { app = p.running.app; lines = lines; registers = p.running.registers }; waits_on = p.waits_on; ended = p.ended; receipts = r } in
+    call_of p.running.registers (written_in before.bag) line ≡ None → table_call_of p.running.handles line ≡ None →
+    Writes before after (written_by (written_in before.bag) p.running.registers.buffers line) →
+    r ≡ p.receipts ++ shown after.app (state_of after.core) (tables_of after.tables) p.running.registers p.running.handles line →
+    TakesTurnBy old (the_progress (the_place p.running.app lines p.running.registers p.running.handles) p.waits_on p.ended r) before after
+local-exact p old before after line lines r is may active next calls no_table writes told =
+    let new : Progress = the_progress (the_place p.running.app lines p.running.registers p.running.handles) p.waits_on p.ended r in
     let written = written_in before.bag in
     let calls-old : call_of old.running.registers written line ≡ None = subst (λ (q : Progress). call_of q.running.registers written line ≡ None) is calls in
+    let tables-old : table_call_of old.running.handles line ≡ None = subst (λ (q : Progress). table_call_of q.running.handles line ≡ None) is no_table in
     let next-old : old.running.lines ≡ line ∷ lines = subst (λ (q : Progress). q.running.lines ≡ line ∷ lines) is next in
     let wrote-old : Writes before after (written_by written old.running.registers.buffers line) =
-    subst (λ (q : Progress). Writes before after (written_by written q.running.registers.buffers line)) is
-    (subst (λ (caller : Caller). Writes caller after (written_by (written_in caller.bag) p.running.registers.buffers line)) run writes) in
+    subst (λ (q : Progress). Writes before after (written_by written q.running.registers.buffers line)) is writes in
     record {
-      now = before.core;
+      now = services_of before;
       meets = inl refl;
-      turn = subst (λ core. TakesTurn (with_bag old before) (with_bag new after) before.core core) (sym wrote-old.core)
-          (takes-local (with_bag old before) new after.bag before.core line lines may.stands may.goes_on active next-old calls-old (wrote-local old before after line may wrote-old)
-          (progress-local p old lines r (old.receipts ++ shown old.running.app (state_of before.core) old.running.registers line) is may.goes_on active
+      meets_tables = inl refl;
+      turn = tables-kept (λ tables held. TakesTurn (with_bags old before) (equip new after.bag held) (services_of before) (both after.core tables)) before after wrote-old.others
+          (subst (λ core. TakesTurn (with_bags old before) (equip new after.bag before.held) (services_of before) (both core before.tables)) (sym wrote-old.core)
+          (takes-local (with_bags old before) new after.bag before.core before.tables line lines may.stands may.goes_on active next-old calls-old tables-old (wrote-local old before after line may wrote-old)
+          (progress-other p old lines p.running.handles old.running.handles r
+          (old.receipts ++ shown old.running.app (state_of before.core) (tables_of before.tables) old.running.registers old.running.handles line) is may.goes_on active
+          (ap (λ (q : Progress). q.running.handles) is)
           (told
-          ∙ ap (λ core. p.receipts ++ shown after.app (state_of core) p.running.registers line) wrote-old.core
-          ∙ ap (λ app. p.receipts ++ shown app (state_of before.core) p.running.registers line) (wrote-old.same.app ∙ may.own)
-          ∙ ap (λ (q : Progress). q.receipts ++ shown old.running.app (state_of before.core) q.running.registers line) is)));
+          ∙ ap (λ core. p.receipts ++ shown after.app (state_of core) (tables_of after.tables) p.running.registers p.running.handles line) wrote-old.core
+          ∙ ap (λ tables. p.receipts ++ shown after.app (state_of before.core) (tables_of tables) p.running.registers p.running.handles line) wrote-old.others.tables
+          ∙ ap (λ app. p.receipts ++ shown app (state_of before.core) (tables_of before.tables) p.running.registers p.running.handles line) (wrote-old.same.app ∙ may.own)
+          ∙ ap (λ (q : Progress). q.receipts ++ shown old.running.app (state_of before.core) (tables_of before.tables) q.running.registers q.running.handles line) is))));
       bag = wrote-old.bag;
+      held = held-kept before after wrote-old.others wrote-old.same.app may.held;
     }
 
--- a line's call leaves the application and its bus the same, and the bag its own
-pub run-same : (before after : Caller) (o : Option Call) (answer : Option BusAnswer) → IsRun before after o answer → SameBus before after
-run-same before after None None run = subst (λ caller. SameBus before caller) (sym run) (record { app = refl; bus = refl; bag = refl; alone = refl })
+-- a line that no service sees
+pub ran-local : (p old : Progress) (before mid late after : Caller) (line : Line) (lines : List Line) (r : List Receipt) (o : Option Call) (t : Option TableCall) →
+    p ≡ old → MayTurn old before → old.waits_on ≡ None → p.running.lines ≡ line ∷ lines →
+    call_of p.running.registers (written_in before.bag) line ≡ o → IsRun before mid o None →
+    table_call_of p.running.handles line ≡ t → IsRunAtTables mid late t None →
+    Writes late after (written_by (written_in late.bag) p.running.registers.buffers line) →
+    r ≡ p.receipts ++ shown after.app (state_of after.core) (tables_of after.tables) p.running.registers p.running.handles line →
+    TakesTurnBy old (the_progress (the_place p.running.app lines p.running.registers p.running.handles) p.waits_on p.ended r) before after
+ran-local p old before mid late after line lines r o t is may active next calls run table_calls table_run writes told =
+    let same : late ≡ before = table_run-none mid late t table_run ∙ run-none before mid o run in
+    local-exact p old before after line lines r is may active next (calls ∙ called-none before mid o run) (table_calls ∙ table_called-none mid late t table_run)
+    (subst (λ (caller : Caller). Writes caller after (written_by (written_in caller.bag) p.running.registers.buffers line)) same writes) told
+
+-- a line's call leaves the application and its services the same, and the bags its own
+pub run-same : (before after : Caller) (o : Option Call) (answer : Option BusAnswer) → IsRun before after o answer → SameServices before after
+run-same before after None None run = subst (λ caller. SameServices before caller) (sym run) (record { app = refl; names = refl; alone = refl })
 run-same before after None (Some answer) run = absurd run
 run-same before after (Some call) None run = absurd run
 run-same before after (Some call) (Some answer) run = run.same
@@ -752,24 +903,48 @@ run-bag before after None (Some answer) run bag = absurd run
 run-bag before after (Some call) None run bag = absurd run
 run-bag before after (Some call) (Some answer) run bag = run.bag
 
--- what was written leaves them so too
-pub wrote-same : (before mid after : Caller) (o : Option Call) (written : Written) → IsRun before mid o None → Writes mid after written → SameBus before after
-wrote-same before mid after None written run writes = subst (λ caller. SameBus caller after) run writes.same
-wrote-same before mid after (Some call) written run writes = absurd run
-
 -- behind a line that no service sees the application may write into its buffers
-pub run-write : (old : Progress) (before mid : Caller) (o : Option Call) → MayTurn old before → IsRun before mid o None → MayWrite mid
-run-write old before mid None may run = subst (λ caller. MayWrite caller) (sym run) (record { bag = may.bag; small = may.stands.small })
-run-write old before mid (Some call) may run = absurd run
+pub run-write : (old : Progress) (before mid late : Caller) (o : Option Call) (t : Option TableCall) → MayTurn old before → IsRun before mid o None → IsRunAtTables mid late t None → MayWrite late
+run-write old before mid late o t may run table_run =
+    subst (λ caller. MayWrite caller) (sym (table_run-none mid late t table_run ∙ run-none before mid o run)) (record { bag = may.bag; small = may.stands.bus.small })
+
+-- what was written leaves them so too
+pub wrote-same : (before mid late after : Caller) (o : Option Call) (t : Option TableCall) (written : Written) → IsRun before mid o None → IsRunAtTables mid late t None → Writes late after written →
+    SameServices before after
+wrote-same before mid late after o t written run table_run writes =
+    subst (λ caller. SameServices caller after) (table_run-none mid late t table_run ∙ run-none before mid o run) writes.same
+
+-- the bag of the tables is still the application's
+pub wrote-held : (old : Progress) (before mid late after : Caller) (o : Option Call) (t : Option TableCall) (written : Written) → MayTurn old before → IsRun before mid o None →
+    IsRunAtTables mid late t None → Writes late after written → HasOwnTables after
+wrote-held old before mid late after o t written may run table_run writes =
+    let same : late ≡ before = table_run-none mid late t table_run ∙ run-none before mid o run in
+    held-kept late after writes.others writes.same.app (subst (λ caller. HasOwnTables caller) (sym same) may.held)
+
+-- and no table is larger than it was
+pub wrote-small : (old : Progress) (before mid late after : Caller) (o : Option Call) (t : Option TableCall) (written : Written) → MayTurn old before → IsRun before mid o None →
+    IsRunAtTables mid late t None → Writes late after written → after.tables.limits.tablemax ≤ 65536
+wrote-small old before mid late after o t written may run table_run writes =
+    let same : late ≡ before = table_run-none mid late t table_run ∙ run-none before mid o run in
+    subst (λ (core : TableCore). core.limits.tablemax ≤ 65536) (sym (writes.others.tables ∙ ap (λ (caller : Caller). caller.tables) same)) may.stands.tables.small
 
 -- and the receipts still tell what was received last
-pub run-remember : (p old : Progress) (before mid after : Caller) (o : Option Call) (written : Written) → p ≡ old → MayTurn old before → IsRun before mid o None → Writes mid after written →
-    Remember p.receipts (state_of after.core) after.app
-run-remember p old before mid after None written is may run writes =
-    subst (λ core. Remember p.receipts (state_of core) after.app) (sym (writes.core ∙ ap (λ (caller : Caller). caller.core) run))
-    (subst (λ app. Remember p.receipts (state_of before.core) app) (sym (writes.same.app ∙ ap (λ (caller : Caller). caller.app) run ∙ may.own))
-    (subst (λ (q : Progress). Remember q.receipts (state_of before.core) old.running.app) (sym is) may.stands.remember))
-run-remember p old before mid after (Some call) written is may run writes = absurd run
+pub run-remember : (p old : Progress) (before mid late after : Caller) (o : Option Call) (t : Option TableCall) (written : Written) → p ≡ old → MayTurn old before → IsRun before mid o None →
+    IsRunAtTables mid late t None → Writes late after written → Remember p.receipts (state_of after.core) after.app
+run-remember p old before mid late after o t written is may run table_run writes =
+    let same : late ≡ before = table_run-none mid late t table_run ∙ run-none before mid o run in
+    subst (λ core. Remember p.receipts (state_of core) after.app) (sym (writes.core ∙ ap (λ (caller : Caller). caller.core) same))
+    (subst (λ app. Remember p.receipts (state_of before.core) app) (sym (writes.same.app ∙ ap (λ (caller : Caller). caller.app) same ∙ may.own))
+    (subst (λ (q : Progress). Remember q.receipts (state_of before.core) old.running.app) (sym is) may.stands.bus.remember))
+
+-- and which versions are held
+pub run-remember_held : (p old : Progress) (before mid late after : Caller) (o : Option Call) (t : Option TableCall) (written : Written) → p ≡ old → MayTurn old before → IsRun before mid o None →
+    IsRunAtTables mid late t None → Writes late after written → RememberHeld p.receipts (tables_of after.tables) after.app
+run-remember_held p old before mid late after o t written is may run table_run writes =
+    let same : late ≡ before = table_run-none mid late t table_run ∙ run-none before mid o run in
+    subst (λ tables. RememberHeld p.receipts (tables_of tables) after.app) (sym (writes.others.tables ∙ ap (λ (caller : Caller). caller.tables) same))
+    (subst (λ app. RememberHeld p.receipts (tables_of before.tables) app) (sym (writes.same.app ∙ ap (λ (caller : Caller). caller.app) same ∙ may.own))
+    (subst (λ (q : Progress). RememberHeld q.receipts (tables_of before.tables) old.running.app) (sym is) may.stands.tables.remember))
 
 -- a line that waits got nothing yet
 pub waits-or-got : (registers : Registers) (line : Line) (answer : BusAnswer) → cond (is_some (pipe_waited_for registers line answer)) 1 0 + most_receipts answer ≤ 1

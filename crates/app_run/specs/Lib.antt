@@ -1,4 +1,5 @@
 pub mod Lines
+pub mod TableLines
 pub mod Openings
 pub mod Received
 pub mod Runners

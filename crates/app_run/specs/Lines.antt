@@ -4,7 +4,9 @@ use Rattle.bus_words.specs.declared.calls.BusAnswer.{BusAnswer}
 use Rattle.bus_words.specs.declared.calls.BusAnswer.TheVariants.{Pending, Got}
 use Rattle.bus_words.specs.declared.history.Call.{Call}
 use Rattle.script_lines.specs.declared.line.Line.{Line}
-use Rattle.script_lines.specs.declared.line.Line.TheVariants.{Create, Find, Send, SendRaw, Pend, TransmitBuffer, SendEvent}
+use Rattle.script_lines.specs.declared.line.Line.TheVariants.{Create, Find, Send, SendRaw, Pend, TransmitBuffer, SendEvent, Stage, Load}
+use Rattle.script_words.specs.declared.content.Content.{Content}
+use Rattle.script_words.specs.declared.content.Content.TheVariants.{Hex, Fill}
 use Rattle.script_settings.specs.Accounts.{waits_of, sizes_after}
 use Rattle.script_runs.specs.Trace.{Registers}
 use Rattle.script_runs.specs.Written.{Written, bytes_in}
@@ -22,10 +24,17 @@ IsRun old new None (Some answer) = ⊥
 IsRun old new (Some call) None = ⊥
 IsRun old new (Some call) (Some answer) = Answers old new call answer
 
--- the size of the message that a line makes; 0 for all but `send` lines
-unfoldable pub message_size : Line → ℕ
-message_size (Send id size fill inc) = size
-message_size line = 0
+-- how many bytes of a content have to be made: those of one that is told by its first byte
+abbrev pub filling_size : Content → ℕ
+filling_size (Hex bytes) = 0
+filling_size (Fill len byte) = len
+
+-- how many bytes a line has made: those of the message of a `send` line, and those of a load that is told by its first byte
+unfoldable pub made_size : Line → ℕ
+made_size (Send id size fill inc) = size
+made_size (Stage handle offset content) = filling_size content
+made_size (Load handle offset content) = filling_size content
+made_size line = 0
 
 -- the pipe that the application waits on after a line so answered
 unfoldable pub pipe_waited_for : Registers → Line → BusAnswer → Option ℕ

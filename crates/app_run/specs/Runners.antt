@@ -6,15 +6,25 @@ use Rattle.bus_words.specs.declared.receipts.Receipt.{Receipt}
 use Rattle.bus_words.specs.Bus.{Standing, Active, Waiting, Ended}
 use Rattle.app_script.specs.Script.{ScriptText, app_at}
 use Rattle.script_lines.specs.declared.line.Line.{Line}
+use Rattle.sb_calls.specs.Core.{Core}
+use Rattle.tbl_blocks.specs.Held.{HeldViews}
+use Rattle.tbl_load.specs.Core.{Core as TableCore}
+use Rattle.script_runs.specs.TableTrace.{first_handles}
 use Rattle.script_runs.specs.Trace.{Registers, first_registers}
 use Rattle.script_runs.specs.Rotation.{Running}
 use Rattle.core_calls.specs.Callers.{written_in}
 
--- Where an application is in its script: its number, the lines left and its registers.
+-- Both services: the bus and the tables.
+pub record Services : Type 0 where
+  pub bus : Core
+  pub tables : TableCore
+
+-- Where an application is in its script: its number, the lines left and its registers, those of table handles by themselves.
 pub record Place : Type 0 where
   pub app : ℕ
   pub lines : List Line
   pub registers : Registers
+  pub handles : List ℕ
 
 -- An application of a run: where it is in its script; the pipe that it waits on; whether it has ended; and its receipts so
 -- far.
@@ -27,7 +37,7 @@ pub record Progress : Type 0 where
 -- before the first line
 abbrev pub beginning : ScriptText → ℕ → Progress
 beginning script app = record {
-  running = record { app = app; lines = (app_at script app).lines; registers = first_registers };
+  running = record { app = app; lines = (app_at script app).lines; registers = first_registers; handles = first_handles };
   waits_on = None;
   ended = false;
   receipts = [];
@@ -42,10 +52,11 @@ standing_for (Some pipe) = Waiting pipe
 abbrev pub standing_in : Progress → Standing
 standing_in progress = if progress.ended then Ended else standing_for progress.waits_on
 
--- An application of a run with its bag, which has what it wrote.
+-- An application of a run with its bags: one of messages, and of buffers with what it wrote, and one of tables.
 pub record Equipped : Type 0 where
   pub progress : Progress
   pub bag : Holding LentBytes
+  pub held : HeldViews
 
 -- the application, with what its bag has of its buffers
 abbrev pub running_of : Equipped → Running
@@ -53,6 +64,7 @@ running_of one = record {
   app = one.progress.running.app;
   lines = one.progress.running.lines;
   registers = one.progress.running.registers;
+  handles = one.progress.running.handles;
   written = written_in one.bag;
 }
 

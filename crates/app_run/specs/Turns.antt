@@ -9,27 +9,46 @@ use Rattle.bus_words.specs.Bus.{Standing, Active, Waiting, Ended, standing_of}
 use Rattle.journal_store.specs.Budgets.{allowance_of}
 use Rattle.bus_words.specs.Log.{left_of}
 use Rattle.sb_calls.specs.Core.{Core, Does, apps_of, state_of}
+use Rattle.tbl_words.specs.declared.calls.TblAnswer.{TblAnswer}
+use Rattle.tbl_words.specs.declared.history.Call.{Call as TableCall}
+use Rattle.tbl_words.specs.Log.{left_of as tables_left_of}
+use Rattle.tbl_words.specs.Tables.{has_ended as has_ended_at_tables}
+use Rattle.tbl_load.specs.Core.{Core as TableCore, Does as TablesDo, apps_of as table_apps_of, state_of as tables_of}
 use Rattle.script_lines.specs.declared.line.Line.{Line}
+use Rattle.script_runs.specs.TableTrace.{table_call_of}
 use Rattle.script_runs.specs.Trace.{call_of}
-use Rattle.script_runs.specs.Rotation.{Running, SoFar, after_call, after_look, answer_to, turn}
-use Rattle.script_runs.specs.Told.{got_in, shown}
+use Rattle.script_runs.specs.Rotation.{Running, SoFar, after_call, after_look, after_table_call, answer_to, table_answer_to, turn}
+use Rattle.script_runs.specs.Told.{addressed_in, got_in, shown}
 use Rattle.app_run.specs.declared.runner.Turned.{Turned}
 use Rattle.app_run.specs.declared.runner.Turned.TheVariants as turned
 use Rattle.script_settings.specs.Accounts.{buffers_of}
-use Rattle.core_calls.specs.Callers.{Caller, Meets, SameBus, HasOwnBag, written_in}
+use Rattle.core_calls.specs.Callers.{Caller, Meets, SameServices, HasOwnBag, written_in}
+use Rattle.core_calls.specs.TableCallers.{MeetsTables, HasOwnTables}
 use Rattle.app_run.specs.Lines.{entries_due, bytes_due, AreAsked}
-use Rattle.app_run.specs.Received.{Remember}
-use Rattle.app_run.specs.Runners.{Progress, Equipped, standing_in, running_of, going}
+use Rattle.app_run.specs.Received.{Remember, RememberHeld}
+use Rattle.app_run.specs.Runners.{Services, Progress, Equipped, standing_in, running_of, going}
+use Rattle.app_run.specs.TableLines.{table_bytes_due}
 
--- the bus so far
-abbrev pub so_far : Core → SoFar
-so_far core = record { history = core.log.entries; state = state_of core }
+-- both services so far
+abbrev pub so_far : Services → SoFar
+so_far services = record {
+  history = services.bus.log.entries;
+  state = state_of services.bus;
+  table_history = services.tables.log.entries;
+  tables = tables_of services.tables;
+}
 
 -- What a turn tells. --
 
--- a line: what its call got, or what it shows
+-- a line that the bus doesn't see: what its call of the tables gave, or what it shows
+abbrev pub other_tells : Limits → SoFar → Running → Line → Option TableCall → List Receipt
+other_tells limits sofar running line None = shown running.app sofar.state sofar.tables running.registers running.handles line
+other_tells limits sofar running line (Some call) =
+    addressed_in running.app (after_table_call limits sofar running.app call).tables call (table_answer_to limits sofar running.app call)
+
+-- a line: what its call of the bus got, or what it tells otherwise
 abbrev pub line_tells : Limits → SoFar → Running → Line → Option Call → List Receipt
-line_tells limits sofar running line None = shown running.app sofar.state running.registers line
+line_tells limits sofar running line None = other_tells limits sofar running line (table_call_of running.handles line)
 line_tells limits sofar running line (Some call) =
     got_in running.app (after_call limits sofar running.app call).state call (answer_to limits sofar running.app call)
 
@@ -59,7 +78,7 @@ entries_to_come progress =
 
 -- The bus knows the application as it is, and has room for all that it may still do, as its bag has for the buffers; the
 -- application's receipts tell which messages it received last; and no message is longer than a packet can be.
-pub record Stands (one : Equipped) (core : Core) : Type 0 where
+pub record StandsAtBus (one : Equipped) (core : Core) : Type 0 where
   pub known : one.progress.running.app ≤ apps_of core
   pub standing : standing_of (state_of core) one.progress.running.app ≡ standing_in one.progress
   pub entries : entries_to_come one.progress ≤ (allowance_of (left_of core.log) one.progress.running.app).entries
@@ -70,43 +89,71 @@ pub record Stands (one : Equipped) (core : Core) : Type 0 where
   pub remember : Remember one.progress.receipts (state_of core) one.progress.running.app
   pub small : core.limits.msgmax ≤ 65542
 
--- the application with its calls' bag
-abbrev pub with_bag : Progress → Caller → Equipped
-with_bag progress caller = record { progress = progress; bag = caller.bag }
+-- The tables know the application as it is, and have room for all that it may still do; its receipts tell which versions it holds;
+-- and no table has more than 65536 bytes.
+pub record StandsAtTables (one : Equipped) (core : TableCore) : Type 0 where
+  pub known : one.progress.running.app ≤ table_apps_of core
+  pub ended : has_ended_at_tables (tables_of core) one.progress.running.app ≡ one.progress.ended
+  pub entries : entries_to_come one.progress ≤ (allowance_of (tables_left_of core.log) one.progress.running.app).entries
+  pub bytes : table_bytes_due one.progress.running.lines ≤ (allowance_of (tables_left_of core.log) one.progress.running.app).bytes
+  pub remember : RememberHeld one.progress.receipts (tables_of core) one.progress.running.app
+  pub small : core.limits.tablemax ≤ 65536
 
--- the application may take a turn by these calls: they are its own, with its own bag, and it has not ended
+-- Both services know the application as it is, under the same limits.
+pub record Stands (one : Equipped) (services : Services) : Type 0 where
+  pub bus : StandsAtBus one services.bus
+  pub tables : StandsAtTables one services.tables
+  pub limits : services.tables.limits ≡ services.bus.limits
+
+-- the services that a caller saw last
+abbrev pub services_of : Caller → Services
+services_of caller = record { bus = caller.core; tables = caller.tables }
+
+-- the application with its calls' bags
+abbrev pub with_bags : Progress → Caller → Equipped
+with_bags progress caller = record { progress = progress; bag = caller.bag; held = caller.held }
+
+-- the application may take a turn by these calls: they are its own, with its own bags, and it has not ended
 pub record MayTurn (progress : Progress) (caller : Caller) : Type 0 where
   pub own : caller.app ≡ progress.running.app
   pub goes_on : progress.ended ≡ false
-  pub stands : Stands (with_bag progress caller) caller.core
+  pub stands : Stands (with_bags progress caller) (services_of caller)
   pub bag : HasOwnBag caller
+  pub held : HasOwnTables caller
 
 -- the bus made one entry of the application, or none
 abbrev pub Moved : Core → Core → ℕ → Type 0
 Moved old new app = (new ≡ old) ⊎ ((call : Call) × (answer : BusAnswer) × Does old new app call answer)
 
+-- the tables made one entry of the application, or none
+abbrev pub TablesMoved : TableCore → TableCore → ℕ → Type 0
+TablesMoved old new app = (new ≡ old) ⊎ ((call : TableCall) × (answer : TblAnswer) × TablesDo old new app call answer)
+
 -- The application took one turn.
-pub record TakesTurn (old new : Equipped) (before after : Core) : Type 0 where
-  pub bus : so_far after ≡ (turn before.limits (so_far before) (running_of old)).0
-  pub goes_on : going new ≡ (turn before.limits (so_far before) (running_of old)).1
-  pub receipts : new.progress.receipts ≡ old.progress.receipts ++ tells before.limits (so_far before) (running_of old)
+pub record TakesTurn (old new : Equipped) (before after : Services) : Type 0 where
+  pub services : so_far after ≡ (turn before.bus.limits (so_far before) (running_of old)).0
+  pub goes_on : going new ≡ (turn before.bus.limits (so_far before) (running_of old)).1
+  pub receipts : new.progress.receipts ≡ old.progress.receipts ++ tells before.bus.limits (so_far before) (running_of old)
   pub same_app : new.progress.running.app ≡ old.progress.running.app
   pub stands : Stands new after
-  pub moved : Moved before after old.progress.running.app
+  pub moved : Moved before.bus after.bus old.progress.running.app
+  pub tables_moved : TablesMoved before.tables after.tables old.progress.running.app
 
 -- how an application stands after its turn
 abbrev pub turned_of : Progress → Turned
 turned_of progress = if progress.ended then turned.Ended else if is_some progress.waits_on then turned.Waits else turned.Went
 
--- The application took one turn by these calls, at the bus that they met. The bag is still its own.
+-- The application took one turn by these calls, at the services that they met. The bags are still its own.
 pub record TakesTurnBy (old new : Progress) (before after : Caller) : Type 0 where
-  pub now : Core
-  pub meets : Meets before now
-  pub turn : TakesTurn (with_bag old before) (with_bag new after) now after.core
+  pub now : Services
+  pub meets : Meets before now.bus
+  pub meets_tables : MeetsTables before now.tables
+  pub turn : TakesTurn (with_bags old before) (with_bags new after) now (services_of after)
   pub bag : HasOwnBag after
+  pub held : HasOwnTables after
 
 -- The application took one turn by these calls, and that is how it stands.
 pub record Turns (old new : Progress) (before after : Caller) (now : Turned) : Type 0 where
   pub turn : TakesTurnBy old new before after
   pub told : now ≡ turned_of new
-  pub same : SameBus before after
+  pub same : SameServices before after

@@ -1,8 +1,10 @@
-//! Runs what a script's applications do with the software bus: each application by a [`Runner`],
-//! and all of them by [`lockstep`] in strict rotation over one bus, on one thread.
+//! Runs what a script's applications do with the software bus and with Table Services: each
+//! application by a [`Runner`], and all of them by [`lockstep`] in strict rotation over one bus and
+//! its tables, on one thread.
 //!
-//! It promises that the bus's history is the one that rotation makes of the script, that each
-//! application's receipts are those that its lines tell in this history, and that it ends.
+//! It promises that the histories of both services are those that rotation makes of the script,
+//! that each application's receipts are those that its lines tell in these histories, and that it
+//! ends.
 //!
 //! ```text
 //! let text = b"app A\ncreate p0 4 A\nsub 0x0801 p0\nsend 0x0801 7 1\nrecv p0\n";
@@ -15,12 +17,14 @@
 #![tactic(auto)]
 
 mod answers;
+mod handles;
 mod line_calls;
 mod receipts;
 mod regions;
 mod registers;
 mod rotating;
 mod runner;
+mod table_calls;
 
 pub use core_calls::{Calls, CoreCalls};
 pub use regions::Regions;

@@ -1,4 +1,4 @@
-//! The call that a line makes.
+//! The call of the bus that a line makes, and what a line writes.
 ghost use Rattle.std.specs.Prelude.{◌≡◌, ◌≤◌, length};
 ghost use Rattle.script_runs.specs.Messages.{sent_message};
 ghost use Rattle.app_script.specs.Ranges.{IsLineInRange};
@@ -6,7 +6,7 @@ ghost use Rattle.script_runs.specs.Trace.{call_of};
 ghost use Rattle.buf_desc.specs.Held.{bytes_at};
 ghost use Rattle.script_runs.specs.Written.{written_by};
 ghost use Rattle.core_calls.specs.Callers.{MayCallBus, MayWrite, Answers, Writes, written_in};
-ghost use Rattle.app_run.specs.Lines.{MayRun, IsRun, message_size};
+ghost use Rattle.app_run.specs.Lines.{MayRun, IsRun, made_size};
 
 use crate::answers;
 use crate::registers::Registers;
@@ -15,9 +15,9 @@ use core_calls::{Calls, make_message};
 use fsw_base::{EventKind, FilterList, Scope};
 use script_lines::Line;
 
-/// Makes the call of a line, its registers filled in, and tells what it was answered; None for a
-/// line that makes no call.
-#[tactic(auto, unfolding(script_runs::specs::Trace::call_of, app_script::specs::Ranges::IsLineInRange, crate::specs::Lines::message_size))]
+/// Makes the call of the bus of a line, its registers filled in, and tells what it was answered;
+/// None for a line that makes no such call.
+#[tactic(auto, unfolding(script_runs::specs::Trace::call_of, app_script::specs::Ranges::IsLineInRange, crate::specs::Lines::made_size))]
 pub(crate) fn run_line<C: Calls>(
     calls: &mut C,
     registers: &Registers,
@@ -27,7 +27,7 @@ pub(crate) fn run_line<C: Calls>(
     requires may { MayRun (C.caller calls.old)
         (call_of registers.now (written_in (C.caller calls.old).bag) line.now) }
     requires range { IsLineInRange line.now }
-    requires message { message_size line.now ≤ length message.old.items }
+    requires message { made_size line.now ≤ length message.old.items }
     ensures call { IsRun (C.caller calls.old) (C.caller calls.new)
         (call_of registers.now (written_in (C.caller calls.old).bag) line.now) result }
     ensures message { length message.new.items ≡ length message.old.items }

@@ -1,16 +1,24 @@
-//! The memory that the messages of a run lie in.
-ghost use Rattle.std.specs.Prelude.{◌≡◌, length, IfOk};
+//! The memory that the messages and the tables of a run lie in.
+ghost use Rattle.std.specs.Prelude.{◌≡◌, ◌*◌, length, IfOk};
 
 use fsw_base::Config;
 use std::alloc::{AllocError, Global};
 use std::marker::Model;
 
-/// The memory that the messages of a run lie in. It outlives the run, and the next run may take it
-/// again.
+// How many working buffers the tables have.
+const WORK_BUFFERS: usize = 4;
+
+/// The memory that the messages and the tables of a run lie in: three blocks, for the bus's pool,
+/// for the tables' pool, and for the tables' working buffers. It outlives the run, and the next run
+/// may take it again.
 #[derive(Drop)]
 pub struct Regions {
     // For the bus's pool.
     pool: Vec<u8>,
+    // For the tables' pool.
+    tables: Vec<u8>,
+    // For the tables' working buffers.
+    work: Vec<u8>,
 }
 
 impl Model for Regions {
@@ -19,26 +27,55 @@ impl Model for Regions {
 
     ghost Value = { RegionSizes };
 
-    ghost view = { λ r. record { pool = length r.pool.items } };
+    ghost view = { λ r.
+        record {
+          pool = length r.pool.items;
+          tables = length r.tables.items;
+          work = length r.work.items;
+        } };
+}
+
+/// The three blocks of a run's regions.
+pub(crate) struct Blocks<'r> {
+    /// For the bus's pool.
+    pub(crate) pool: &'r mut [u8],
+    /// For the tables' pool.
+    pub(crate) tables: &'r mut [u8],
+    /// For the tables' working buffers.
+    pub(crate) work: &'r mut [u8],
 }
 
 impl Regions {
-    /// As large as the configuration's pool.
+    /// As large as the configuration's pools, and four working buffers of its largest table.
     ///
     /// # Errors
     /// Where memory runs out.
     pub fn new(alloc: Global, cfg: &Config) -> Result<Regions, AllocError>
-        ensures { IfOk result (λ regions. regions.pool ≡ cfg.now.pool) }
+        ensures { IfOk result
+            (λ regions. regions ≡
+            record {
+              pool = cfg.now.pool;
+              tables = cfg.now.tablepool;
+              work = 4 * cfg.now.tablemax;
+            }) }
     {
         Ok(Regions {
             pool: vec![in alloc; 0; cfg.pool as usize]?,
+            tables: vec![in alloc; 0; cfg.tablepool as usize]?,
+            work: vec![in alloc; 0; WORK_BUFFERS * cfg.tablemax as usize]?,
         })
     }
 
-    /// The region of the bus's pool.
-    pub(crate) fn pool_mut(&mut self) -> &mut [u8]
-        ensures { length result.now ≡ self.old.pool }
+    /// The three blocks.
+    pub(crate) fn blocks_mut(&mut self) -> Blocks<'_>
+        ensures pool { length result.pool.now ≡ self.old.pool }
+        ensures tables { length result.tables.now ≡ self.old.tables }
+        ensures work { length result.work.now ≡ self.old.work }
     {
-        &mut self.pool
+        Blocks {
+            pool: &mut self.pool,
+            tables: &mut self.tables,
+            work: &mut self.work,
+        }
     }
 }

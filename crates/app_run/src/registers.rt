@@ -1,4 +1,4 @@
-//! An application's registers.
+//! An application's registers of what the bus numbers.
 ghost use Rattle.std.specs.Prelude.{◌≡◌, slice_index, slice_set};
 ghost use Rattle.script_runs.specs.Trace.{number_of, first_registers, registers_after};
 
@@ -10,7 +10,7 @@ use std::marker::Model;
 // `REGISTERS` each.
 const POOL_REGISTERS: usize = 8;
 
-/// An application's registers, which hold the numbers that its calls answered.
+/// An application's registers of what the bus numbers, which hold what its calls answered.
 #[derive(Drop)]
 pub(crate) struct Registers {
     // Of pipes, `p0` to `p63`.
@@ -89,8 +89,8 @@ impl Registers {
     }
 }
 
-// The number at a place; 0 where there is no such place.
-fn value_in(numbers: &[u32], place: u32) -> u32
+/// The number at a place; 0 where there is no such place.
+pub(crate) fn value_in(numbers: &[u32], place: u32) -> u32
     ensures { result ≡ slice_index numbers.now place }
 {
     match numbers.get(place as usize) {
@@ -99,8 +99,8 @@ fn value_in(numbers: &[u32], place: u32) -> u32
     }
 }
 
-// Puts a number at a place, where there is that place.
-fn set(numbers: &mut [u32], place: u32, number: u32)
+/// Puts a number at a place, where there is that place.
+pub(crate) fn set(numbers: &mut [u32], place: u32, number: u32)
     ensures { numbers.new ≡ slice_set numbers.old place number }
 {
     if (place as usize) < numbers.len() {

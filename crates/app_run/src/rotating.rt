@@ -3,15 +3,17 @@ ghost use Rattle.std.specs.Prelude.{◌≡◌, ◌+◌, ◌*◌, ◌<◌, ◌≤
 ghost use Rattle.std.specs.List.{range_with_len};
 ghost use Rattle.sb_calls.specs.Bags.{HasBag};
 ghost use Rattle.sb_calls.specs.Core.{apps_of};
+ghost use Rattle.tbl_load.specs.Bags.{HasBag as HasTableBag};
+ghost use Rattle.tbl_load.specs.Core.{apps_of as table_apps_of};
 ghost use Rattle.script_settings.specs.Accounts.{budget_of};
 ghost use Rattle.script_runs.specs.Rotation.{rotation, rotations, enough};
 ghost use Rattle.script_runs.specs.Told.{receipts_told};
 ghost use Rattle.app_script.specs.Script.{ScriptText};
-ghost use Rattle.app_run.specs.Openings.{opened, empty_bags};
+ghost use Rattle.app_run.specs.Openings.{opened, opened_tables, empty_bags, empty_held, HaveRoom};
 ghost use Rattle.app_run.specs.Turns.{so_far, Stands};
-ghost use Rattle.app_run.specs.Rounds.{all_beginning, all_going, equipped, AllStand, AllTold, AllHold, MovesOn, Rotates, RotatesTimes};
+ghost use Rattle.app_run.specs.Rounds.{all_beginning, all_going, equipped, AllStand, AllTold, AllEquipped, MovesOn, Rotates, RotatesTimes};
 
-use crate::regions::Regions;
+use crate::regions::{Blocks, Regions};
 use crate::runner::Runner;
 use app_script::Script;
 use bucket_list::{Blank, Ledger, Steps};
@@ -22,21 +24,25 @@ use fsw_base::{AppNo, Budget};
 use sb_calls::{BusCore, bags_stay};
 use std::alloc::{AllocError, Global};
 use std::marker::Brand;
+use tbl_load::{HeldTables, TblCore, bags_stay as table_bags_stay};
 
-/// What a run leaves: the bus after all applications have ended, and the receipts of each, in order
-/// of number.
+/// What a run leaves: both services after all applications have ended, and the receipts of each, in
+/// order of number.
 #[derive(Drop)]
 pub struct Finished<'r> {
     /// The bus, with every call and answer in its journal.
     pub bus: BusCore<'r>,
+    /// The tables, with every call and answer in their journal.
+    pub tables: TblCore<'r>,
     /// The receipts of application 1, 2, 3 and so on.
     pub receipts: Vec<ReceiptList>,
 }
 
 /// Runs a script: each application that has not ended takes a turn, in order of number, again and
 /// again. A turn is its next line; or one look, while it waits; or its end, once its lines are
-/// through. The messages lie in the regions, which are at least as large as the script's
-/// configuration says. By the code, all memory is taken before the first call.
+/// through: at the tables first, then at the bus. Messages and tables lie in the regions, which are
+/// at least as large as the script's configuration says. By the code, all memory is taken before
+/// the first call.
 ///
 /// # Errors
 /// Where memory runs out; by the code, no application ran then.
@@ -45,89 +51,129 @@ pub fn lockstep<'r>(
     script: &Script,
     regions: &'r mut Regions,
 ) -> Result<Finished<'r>, AllocError>
-    requires { script.now.limits.pool ≤ regions.old.pool }
-    ensures history { IfOk result (λ finished. finished.bus.log.entries ≡ rotation script.now) }
+    requires { HaveRoom regions.old script.now.limits }
+    ensures history { IfOk result
+        (λ finished. finished.bus.log.entries ≡ (rotation script.now).bus) }
+    ensures table_history { IfOk result
+        (λ finished. finished.tables.log.entries ≡ (rotation script.now).tables) }
     ensures limits { IfOk result (λ finished. finished.bus.limits ≡ script.now.limits) }
+    ensures table_limits { IfOk result (λ finished. finished.tables.limits ≡ script.now.limits) }
     ensures apps { IfOk result (λ finished. apps_of finished.bus ≡ length script.now.apps) }
+    ensures table_apps { IfOk result
+        (λ finished. table_apps_of finished.tables ≡ length script.now.apps) }
     ensures receipts { IfOk result
         (λ finished. map (λ list. list.receipts) finished.receipts.items ≡
         map (receipts_told script.now (rotation script.now))
         (range_with_len 1 (length script.now.apps))) }
 {
-    Ok(run(open(alloc, script, regions)?))
+    recall_limits(script);
+    let apps = open_apps(alloc, script)?;
+    let services = open_services(alloc, script, regions)?;
+    Ok(run(script, services, apps))
 }
 
-// A run before its first call. It holds all memory that it takes.
-struct OpenedRun<'s, 'r> {
-    script: &'s Script,
-    // Nothing was asked of it yet.
+// Does nothing; the proof learns of it how large a script's messages and tables may be.
+fn recall_limits(script: &Script)
+    ensures small { script.now.limits.msgmax ≤ 65542 }
+    ensures small_tables { script.now.limits.tablemax ≤ 65536 }
+{
+    let _ = script.config();
+}
+
+// Both services before their first call.
+struct OpenedServices<'r> {
     bus: BusCore<'r>,
-    // Each before its first line.
+    tables: TblCore<'r>,
+}
+
+// Takes the memory of both services.
+fn open_services<'r>(
+    alloc: Global,
+    script: &Script,
+    regions: &'r mut Regions,
+) -> Result<OpenedServices<'r>, AllocError>
+    requires { HaveRoom regions.old script.now.limits }
+    ensures bus { IfOk result (λ services. services.bus ≡ opened script.now) }
+    ensures tables { IfOk result (λ services. services.tables ≡ opened_tables script.now) }
+{
+    script.recall_ranges();
+    let budgets = budgets_of(alloc, script)?;
+    let Blocks { pool, tables, work } = regions.blocks_mut();
+    let bus = BusCore::new(alloc, script.config(), &budgets, pool)?;
+    let tables = TblCore::new(alloc, script.config(), &budgets, tables, work)?;
+    Ok(OpenedServices { bus, tables })
+}
+
+// The applications before their first line, with their bags and the room for their receipts.
+#[derive(Drop)]
+struct OpenedApps<'s, 'r> {
     runners: Vec<Runner<'s>>,
-    // The bag of each application, empty.
     bags: Vec<Held<'r>>,
-    // Empty, with room for the receipts of each application.
+    held: Vec<HeldTables<'r>>,
     receipts: Vec<ReceiptList>,
 }
 
-// Takes all memory of a run.
-fn open<'s, 'r>(
-    alloc: Global,
-    script: &'s Script,
-    regions: &'r mut Regions,
-) -> Result<OpenedRun<'s, 'r>, AllocError>
-    requires { script.now.limits.pool ≤ regions.old.pool }
-    ensures script { IfOk result (λ run. run.script.now ≡ script.now) }
-    ensures bus { IfOk result (λ run. run.bus ≡ opened script.now) }
-    ensures runners { IfOk result (λ run. run.runners.items ≡ all_beginning script.now) }
-    ensures bags { IfOk result (λ run. run.bags.items ≡ empty_bags script.now) }
-    ensures receipts { IfOk result (λ run. run.receipts.items ≡ []) }
-    ensures room { IfOk result (λ run. length script.now.apps ≤ vec_capacity run.receipts) }
-    ensures small { IfOk result (λ run. run.script.now.limits.msgmax ≤ 65542) }
+// Takes the memory of the applications.
+fn open_apps<'s, 'r>(alloc: Global, script: &'s Script) -> Result<OpenedApps<'s, 'r>, AllocError>
+    ensures runners { IfOk result (λ apps. apps.runners.items ≡ all_beginning script.now) }
+    ensures bags { IfOk result (λ apps. apps.bags.items ≡ empty_bags script.now) }
+    ensures held { IfOk result (λ apps. apps.held.items ≡ empty_held script.now) }
+    ensures receipts { IfOk result (λ apps. apps.receipts.items ≡ []) }
+    ensures room { IfOk result (λ apps. length script.now.apps ≤ vec_capacity apps.receipts) }
 {
-    script.recall_ranges();
-    let apps = script.apps() as usize;
-    let budgets = budgets_of(alloc, script)?;
-    let bus = BusCore::new(alloc, script.config(), &budgets, regions.pool_mut())?;
-    let runners = runners_of(alloc, script)?;
-    let bags = bags_of(alloc, script)?;
-    let receipts = Vec::with_capacity(alloc, apps)?;
-    Ok(OpenedRun {
-        script,
-        bus,
-        runners,
-        bags,
-        receipts,
+    Ok(OpenedApps {
+        runners: runners_of(alloc, script)?,
+        bags: bags_of(alloc, script)?,
+        held: held_of(alloc, script)?,
+        receipts: Vec::with_capacity(alloc, script.apps() as usize)?,
     })
 }
 
 // Makes all calls of a run. It has no allocator among its parameters, and takes no memory by its
 // code.
-fn run<'r>(run: OpenedRun<'_, 'r>) -> Finished<'r>
-    requires bus { run.bus ≡ opened run.script.now }
-    requires runners { run.runners.items ≡ all_beginning run.script.now }
-    requires bags { run.bags.items ≡ empty_bags run.script.now }
-    requires receipts { run.receipts.items ≡ [] }
-    requires room { length run.script.now.apps ≤ vec_capacity run.receipts }
-    requires small { run.script.now.limits.msgmax ≤ 65542 }
-    ensures history { result.bus.log.entries ≡ rotation run.entry.script.now }
-    ensures limits { result.bus.limits ≡ run.entry.script.now.limits }
-    ensures apps { apps_of result.bus ≡ length run.entry.script.now.apps }
+fn run<'r>(script: &Script, services: OpenedServices<'r>, apps: OpenedApps<'_, 'r>) -> Finished<'r>
+    requires bus { services.bus ≡ opened script.now }
+    requires tables { services.tables ≡ opened_tables script.now }
+    requires runners { apps.runners.items ≡ all_beginning script.now }
+    requires bags { apps.bags.items ≡ empty_bags script.now }
+    requires held { apps.held.items ≡ empty_held script.now }
+    requires receipts { apps.receipts.items ≡ [] }
+    requires room { length script.now.apps ≤ vec_capacity apps.receipts }
+    requires small { script.now.limits.msgmax ≤ 65542 }
+    requires small_tables { script.now.limits.tablemax ≤ 65536 }
+    ensures history { result.bus.log.entries ≡ (rotation script.now).bus }
+    ensures table_history { result.tables.log.entries ≡ (rotation script.now).tables }
+    ensures limits { result.bus.limits ≡ script.now.limits }
+    ensures table_limits { result.tables.limits ≡ script.now.limits }
+    ensures apps { apps_of result.bus ≡ length script.now.apps }
+    ensures table_apps { table_apps_of result.tables ≡ length script.now.apps }
     ensures receipts { map (λ list. list.receipts) result.receipts.items ≡
-        map (receipts_told run.entry.script.now (rotation run.entry.script.now))
-        (range_with_len 1 (length run.entry.script.now.apps)) }
+        map (receipts_told script.now (rotation script.now))
+        (range_with_len 1 (length script.now.apps)) }
 {
-    let OpenedRun {
-        script,
+    let OpenedServices {
         mut bus,
+        mut tables,
+    } = services;
+    let OpenedApps {
         mut runners,
         mut bags,
+        mut held,
         receipts,
-    } = run;
+    } = apps;
     let turns = rotations_of(script);
-    run_counted::<Brand>(&mut bus, &mut runners, &mut bags, turns, Blank::new(1));
+    run_counted::<Brand>(
+        &mut bus,
+        &mut tables,
+        &mut runners,
+        &mut bags,
+        &mut held,
+        turns,
+        Blank::new(1),
+    );
     Finished {
         bus,
+        tables,
         receipts: receipts_of(runners, receipts),
     }
 }
@@ -169,6 +215,19 @@ fn bags_of<'r>(alloc: Global, script: &Script) -> Result<Vec<Held<'r>>, AllocErr
     Ok(bags)
 }
 
+// The bag of each application at the tables, empty, with room for a view of each handle that there
+// may be.
+fn held_of<'r>(alloc: Global, script: &Script) -> Result<Vec<HeldTables<'r>>, AllocError>
+    ensures { IfOk result (λ held. held.items ≡ empty_held script.now) }
+{
+    let mut held = Vec::with_capacity(alloc, script.apps() as usize)?;
+    for _app in 0..script.apps() {
+        let bag: HeldTables<'r> = HeldTables::new(alloc, script.config().handles)?;
+        held.push_reserved(bag);
+    }
+    Ok(held)
+}
+
 // How many rotations are enough: each application has a turn for each line, one more for each that
 // waits, and one for its end.
 fn rotations_of(script: &Script) -> u32
@@ -192,90 +251,133 @@ fn app_at(i: u32) -> AppNo
 // So many rotations, with a count of steps of their own.
 fn run_counted<'r, L: Ledger>(
     bus: &mut BusCore<'r>,
+    tables: &mut TblCore<'r>,
     runners: &mut Vec<Runner<'_>>,
     bags: &mut Vec<Held<'r>>,
+    held: &mut Vec<HeldTables<'r>>,
     turns: u32,
     blank: Blank,
 )
     requires name { blank.name ≡ L.name }
     requires parts { blank.parts ≡ L.parts }
     requires some_part { 0 < blank.parts }
-    requires stand { AllStand bus.old (equipped runners.old.items bags.old.items) }
-    requires bags { AllHold bus.old 1 bags.old.items }
+    requires stand { AllStand (record { bus = bus.old; tables = tables.old })
+        (equipped runners.old.items bags.old.items held.old.items) }
+    requires bags { AllEquipped (record { bus = bus.old; tables = tables.old }) bags.old.items
+        held.old.items }
     requires as_many { length bags.old.items ≡ length runners.old.items }
-    ensures rotates { RotatesTimes turns bus.old (equipped runners.old.items bags.old.items) bus.new
-        (equipped runners.new.items bags.new.items) }
+    requires as_many_held { length held.old.items ≡ length runners.old.items }
+    ensures rotates { RotatesTimes turns (record { bus = bus.old; tables = tables.old })
+        (equipped runners.old.items bags.old.items held.old.items)
+        (record { bus = bus.new; tables = tables.new })
+        (equipped runners.new.items bags.new.items held.new.items) }
     ensures as_many { length bags.new.items ≡ length runners.new.items }
+    ensures as_many_held { length held.new.items ≡ length runners.new.items }
     ensures runners { length runners.new.items ≡ length runners.old.items }
 {
     let mut steps = Steps::<L>::new(blank);
-    run_all(bus, runners, bags, turns, &mut steps);
+    run_all(bus, tables, runners, bags, held, turns, &mut steps);
 }
 
 // So many rotations.
 fn run_all<'r, L: Ledger>(
     bus: &mut BusCore<'r>,
+    tables: &mut TblCore<'r>,
     runners: &mut Vec<Runner<'_>>,
     bags: &mut Vec<Held<'r>>,
+    held: &mut Vec<HeldTables<'r>>,
     turns: u32,
     steps: &mut Steps<L>,
 )
-    requires stand { AllStand bus.old (equipped runners.old.items bags.old.items) }
-    requires bags { AllHold bus.old 1 bags.old.items }
+    requires stand { AllStand (record { bus = bus.old; tables = tables.old })
+        (equipped runners.old.items bags.old.items held.old.items) }
+    requires bags { AllEquipped (record { bus = bus.old; tables = tables.old }) bags.old.items
+        held.old.items }
     requires as_many { length bags.old.items ≡ length runners.old.items }
-    ensures rotates { RotatesTimes turns bus.old (equipped runners.old.items bags.old.items) bus.new
-        (equipped runners.new.items bags.new.items) }
+    requires as_many_held { length held.old.items ≡ length runners.old.items }
+    ensures rotates { RotatesTimes turns (record { bus = bus.old; tables = tables.old })
+        (equipped runners.old.items bags.old.items held.old.items)
+        (record { bus = bus.new; tables = tables.new })
+        (equipped runners.new.items bags.new.items held.new.items) }
     ensures as_many { length bags.new.items ≡ length runners.new.items }
+    ensures as_many_held { length held.new.items ≡ length runners.new.items }
     ensures runners { length runners.new.items ≡ length runners.old.items }
 {
     for _round in 0..turns {
-        rotate(bus, runners, bags, steps);
+        rotate(bus, tables, runners, bags, held, steps);
     }
 }
 
 // One rotation: a turn of each application that has not ended, in order of number.
 fn rotate<'r, L: Ledger>(
     bus: &mut BusCore<'r>,
+    tables: &mut TblCore<'r>,
     runners: &mut Vec<Runner<'_>>,
     bags: &mut Vec<Held<'r>>,
+    held: &mut Vec<HeldTables<'r>>,
     steps: &mut Steps<L>,
 )
-    requires stand { AllStand bus.old (equipped runners.old.items bags.old.items) }
-    requires bags { AllHold bus.old 1 bags.old.items }
+    requires stand { AllStand (record { bus = bus.old; tables = tables.old })
+        (equipped runners.old.items bags.old.items held.old.items) }
+    requires bags { AllEquipped (record { bus = bus.old; tables = tables.old }) bags.old.items
+        held.old.items }
     requires as_many { length bags.old.items ≡ length runners.old.items }
-    ensures rotates { Rotates bus.old (equipped runners.old.items bags.old.items) bus.new
-        (equipped runners.new.items bags.new.items) }
-    ensures bags { AllHold bus.new 1 bags.new.items }
+    requires as_many_held { length held.old.items ≡ length runners.old.items }
+    ensures rotates { Rotates (record { bus = bus.old; tables = tables.old })
+        (equipped runners.old.items bags.old.items held.old.items)
+        (record { bus = bus.new; tables = tables.new })
+        (equipped runners.new.items bags.new.items held.new.items) }
+    ensures bags { AllEquipped (record { bus = bus.new; tables = tables.new }) bags.new.items
+        held.new.items }
     ensures as_many { length bags.new.items ≡ length runners.new.items }
+    ensures as_many_held { length held.new.items ≡ length runners.new.items }
     ensures runners { length runners.new.items ≡ length runners.old.items }
 {
-    // Does nothing; the proof learns of it that the others' bags stay theirs.
+    // Do nothing; the proof learns of them that the others' bags stay theirs.
     bags_stay();
+    table_bags_stay();
     for i in 0..runners.len() {
-        take_turn(bus, &mut runners[i], &mut bags[i], steps);
+        take_turn(
+            bus,
+            tables,
+            &mut runners[i],
+            &mut bags[i],
+            &mut held[i],
+            steps,
+        );
     }
 }
 
 // A turn of the application, where it has not ended.
 fn take_turn<'r, L: Ledger>(
     bus: &mut BusCore<'r>,
+    tables: &mut TblCore<'r>,
     runner: &mut Runner<'_>,
-    held: &mut Held<'r>,
+    bag: &mut Held<'r>,
+    held: &mut HeldTables<'r>,
     steps: &mut Steps<L>,
 )
-    requires stands { Stands (record { progress = runner.old; bag = held.old }) bus.old }
-    requires bag { HasBag bus.old runner.old.running.app held.old }
-    ensures moves { MovesOn (record { progress = runner.old; bag = held.old })
-        (record { progress = runner.new; bag = held.new }) bus.old bus.new }
-    ensures bag { HasBag bus.new runner.old.running.app held.new }
+    requires stands { Stands (record { progress = runner.old; bag = bag.old; held = held.old })
+        (record { bus = bus.old; tables = tables.old }) }
+    requires bag { HasBag bus.old runner.old.running.app bag.old }
+    requires held { HasTableBag tables.old runner.old.running.app held.old }
+    ensures moves { MovesOn (record { progress = runner.old; bag = bag.old; held = held.old })
+        (record { progress = runner.new; bag = bag.new; held = held.new })
+        (record { bus = bus.old; tables = tables.old })
+        (record { bus = bus.new; tables = tables.new }) }
+    ensures bag { HasBag bus.new runner.old.running.app bag.new }
+    ensures held { HasTableBag tables.new runner.old.running.app held.new }
 {
     if !runner.has_ended() {
         let app = runner.app();
-        // Made in place and not by `new`: so the proof knows what the bus and the bag are after it.
+        // Made in place and not by `new`: so the proof knows what the services and the bags are
+        // after it.
         let mut calls = CoreCalls {
             core: bus,
+            tables,
             app,
-            held,
+            held: bag,
+            held_tables: held,
             steps,
         };
         let _ = runner.turn(&mut calls);

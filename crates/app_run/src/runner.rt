@@ -1,18 +1,20 @@
 //! One application of a script.
 ghost use Rattle.std.specs.Prelude.{◌≡◌, ◌<◌, ◌≤◌, ◌-◌, ◌+◌, length, true, false, [], Some, None, All, IfOk};
 ghost use Rattle.app_script.specs.Script.{app_at};
-ghost use Rattle.app_run.specs.Lines.{message_size, pipe_waited_for};
+ghost use Rattle.app_run.specs.Lines.{made_size, filling_size, pipe_waited_for};
 ghost use Rattle.app_run.specs.Runners.{beginning};
 
+use crate::handles::Handles;
 use crate::line_calls::{run_line, write_line};
-use crate::receipts::{show, take_got, take_receipt};
+use crate::receipts::{show, take_address, take_got, take_receipt};
 use crate::registers::Registers;
+use crate::table_calls::run_table_line;
 use app_script::Script;
 use bus_words::{BusAnswer, ReceiptList};
 use core_calls::Calls;
 use fsw_base::AppNo;
 use sb_calls::Pended;
-use script_lines::Line;
+use script_lines::{Content, Line};
 use std::alloc::{AllocError, Global};
 use std::marker::Model;
 
@@ -36,14 +38,17 @@ pub struct Runner<'s> {
     app: AppNo,
     // The place of its next line; how many lines there are once they are through.
     next: u32,
-    // Its registers.
+    // Its registers of what the bus numbers.
     registers: Registers,
+    // Its registers of table handles.
+    handles: Handles,
     // The pipe that it waits on.
     waits_on: Option<u32>,
     // Whether it made its end.
     ended: bool,
-    // Room for the largest message of its `send` lines.
-    message: Vec<u8>,
+    // Room for the largest message of its `send` lines, and for the longest load that is told by
+    // its first byte.
+    made: Vec<u8>,
     // Its receipts so far, with room for one of each line left.
     receipts: ReceiptList,
 }
@@ -62,7 +67,7 @@ impl<'s> Model for Runner<'s> {
 
 impl<'s> Runner<'s> {
     ghost use Rattle.app_run.specs.Turns.{MayTurn, TakesTurnBy, Turns, turned_of};
-    ghost use Rattle.core_calls.specs.Callers.{SameBus};
+    ghost use Rattle.core_calls.specs.Callers.{SameServices};
 
     /// The application before its first line: its registers are 0, and it has no receipt. By
     /// the code, all memory that its run takes is taken here.
@@ -74,21 +79,22 @@ impl<'s> Runner<'s> {
         ensures { IfOk result (λ runner. runner ≡ beginning script.now app) }
     {
         script.recall_ranges();
-        let size = largest_message(script, app);
+        let size = largest_made(script, app);
         Ok(Runner {
             script,
             app,
             next: 0,
             registers: Registers::new(),
+            handles: Handles::new(),
             waits_on: None,
             ended: false,
-            message: vec![in alloc; 0; size as usize]?,
+            made: vec![in alloc; 0; size as usize]?,
             receipts: ReceiptList::new(alloc, script.lines(app))?,
         })
     }
 
     /// One turn: the next line; or one look, while the application waits; or its end, once its
-    /// lines are through.
+    /// lines are through, at the tables first and then at the bus.
     pub fn turn<C: Calls>(&mut self, calls: &mut C) -> Turned
         requires { MayTurn self.old (C.caller calls.old) }
         ensures { Turns self.old self.new (C.caller calls.old) (C.caller calls.new) result }
@@ -130,7 +136,7 @@ impl<'s> Runner<'s> {
         requires may { MayTurn self.old (C.caller calls.old) }
         requires waits { self.old.waits_on ≡ Some pipe }
         ensures turn { TakesTurnBy self.old self.new (C.caller calls.old) (C.caller calls.new) }
-        ensures same { SameBus (C.caller calls.old) (C.caller calls.new) }
+        ensures same { SameServices (C.caller calls.old) (C.caller calls.new) }
     {
         match calls.look() {
             Pended::Got(number) => {
@@ -148,31 +154,44 @@ impl<'s> Runner<'s> {
         requires active { self.old.waits_on ≡ None }
         requires left { 1 ≤ length self.old.running.lines }
         ensures turn { TakesTurnBy self.old self.new (C.caller calls.old) (C.caller calls.new) }
-        ensures same { SameBus (C.caller calls.old) (C.caller calls.new) }
+        ensures same { SameServices (C.caller calls.old) (C.caller calls.new) }
     {
         let line = self.script.line(self.app, self.next);
         self.next += 1;
-        match run_line(calls, &self.registers, &mut self.message, line) {
+        match run_line(calls, &self.registers, &mut self.made, line) {
             Some(answer) => {
                 take_got(calls, &self.registers, line, &answer, &mut self.receipts);
                 self.waits_on = pipe_waited_for(&self.registers, line, &answer);
                 self.registers.note(line, &answer);
             }
-            None => {
-                write_line(calls, &self.registers, line);
-                show(calls, &self.registers, line, &mut self.receipts);
-            }
+            None => match run_table_line(calls, &self.handles, &mut self.made, line) {
+                Some(answer) => {
+                    take_address(calls, &self.handles, line, &answer, &mut self.receipts);
+                    self.handles.note(line, &answer);
+                }
+                None => {
+                    write_line(calls, &self.registers, line);
+                    show(
+                        calls,
+                        &self.registers,
+                        &self.handles,
+                        line,
+                        &mut self.receipts,
+                    );
+                }
+            },
         }
     }
 
-    // Makes the application's last call.
+    // Makes the application's last calls: at the tables first, then at the bus.
     fn end<C: Calls>(&mut self, calls: &mut C)
         requires may { MayTurn self.old (C.caller calls.old) }
         requires active { self.old.waits_on ≡ None }
         requires through { self.old.running.lines ≡ [] }
         ensures turn { TakesTurnBy self.old self.new (C.caller calls.old) (C.caller calls.new) }
-        ensures same { SameBus (C.caller calls.old) (C.caller calls.new) }
+        ensures same { SameServices (C.caller calls.old) (C.caller calls.new) }
     {
+        calls.table_end();
         calls.bus_end();
         self.ended = true;
     }
@@ -191,14 +210,14 @@ impl<'s> Runner<'s> {
     }
 }
 
-// The size of the largest message that the application's `send` lines make; 0 where it has none.
-fn largest_message(script: &Script, app: AppNo) -> u32
+// The most bytes that one of the application's lines has made; 0 where none has any.
+fn largest_made(script: &Script, app: AppNo) -> u32
     requires { app ≤ length script.now.apps }
-    ensures { All (λ line. message_size line ≤ result) (app_at script.now app).lines }
+    ensures { All (λ line. made_size line ≤ result) (app_at script.now app).lines }
 {
     let mut largest = 0;
     for i in 0..script.lines(app) {
-        let size = message_size(script.line(app, i));
+        let size = made_size(script.line(app, i));
         largest = larger(largest, size);
     }
     largest
@@ -212,14 +231,26 @@ fn larger(one: u32, other: u32) -> u32
     if one < other { other } else { one }
 }
 
-// The size of the message that a line makes; 0 for all but `send` lines.
-#[tactic(auto, unfolding(crate::specs::Lines::message_size))]
-fn message_size(line: &Line) -> u32
-    ensures { result ≡ message_size line.now }
+// How many bytes a line has made: a message, or a load that is told by its first byte.
+#[tactic(auto, unfolding(crate::specs::Lines::made_size))]
+fn made_size(line: &Line) -> u32
+    ensures { result ≡ made_size line.now }
 {
     match line {
         Line::Send { size, .. } => *size,
+        Line::Stage { content, .. } => filling_size(content),
+        Line::Load { content, .. } => filling_size(content),
         _ => 0,
+    }
+}
+
+// How many bytes of a content have to be made.
+fn filling_size(content: &Content) -> u32
+    ensures { result ≡ filling_size content.now }
+{
+    match content {
+        Content::Hex(_) => 0,
+        Content::Fill { len, .. } => *len,
     }
 }
 

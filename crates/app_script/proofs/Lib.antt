@@ -1,5 +1,4 @@
 pub mod ScriptLemmas
-pub mod LineLemmas
 pub mod PartLemmas
 pub mod ReadLemmas
 pub mod ReadWalk

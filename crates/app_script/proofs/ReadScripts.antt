@@ -30,10 +30,10 @@ use Rattle.script_settings.specs.Accounts.{account_of, charge_of}
 use Rattle.app_script.specs.Script.{Application, ScriptText}
 use Rattle.app_script.specs.ScriptRanges.{limit_of}
 use Rattle.app_script.specs.ScriptRanges.{are_limits, have_new_names, is_application, IsScript}
-use Rattle.app_script.specs.Grammar.{Progress, opening, apps_of, after_set, after_sizes, after_seq, after_app, after_call, after_form, after_known, after_words, after_line, progress_of, grammar, built_script, ◌>=>◌}
+use Rattle.app_script.specs.Grammar.{Progress, opening, apps_of, after_set, after_sizes, after_seq, after_app, after_call, after_form, after_known, after_words, after_line, progress_of, grammar, ◌>=>◌}
 use Rattle.app_script.proofs.ScriptLemmas.{list_all_push, starts_push}
 use Rattle.app_script.proofs.ReadWalk.{progress_keeps}
-use Rattle.app_script.proofs.RunRanges.{read_bounded, built_in}
+use Rattle.app_script.proofs.RunRanges.{read_bounded}
 use Rattle.app_script.proofs.InRange.{all_calls_sum, all_bytes_sum}
 
 -- ---- limits
@@ -308,6 +308,3 @@ scripts bytes script e = decide (progress_of bytes) refl e
         let same : record { limits = s.limits; apps = apps_of s } ≡ script = cc in
         subst IsScript same (read_script_is bytes s so)
     decide (Err fault) so h = absurd cc
-
-pub built : (bytes : List ℕ) (script : ScriptText) → built_script bytes ≡ Ok script → IsScript script
-built bytes script e = scripts bytes script (built_in bytes script e)

@@ -1,11 +1,10 @@
 -- A script that a text gives has not too many call lines and charges: what was read so far has not, line by line.
-use Rattle.std.proofs.Common.{◌≡◌, ℕ, ◌+◌, ◌≤◌, Bool, true, false, cond, nat_le, nat_lt, List, [], ◌∷◌, ◌++◌, length, sum_by, Option, Some, None, Result, Ok, Err, ap, arith, eqb, codes}
+use Rattle.std.proofs.Common.{◌≡◌, ℕ, ◌+◌, ◌≤◌, Bool, true, false, cond, nat_le, nat_lt, List, [], ◌∷◌, ◌++◌, length, sum_by, Option, Some, None, Ok, ap, arith, eqb, codes}
 use Rattle.std.specs.List.{list_any, list_all, starts_with}
 use Rattle.std.proofs.lemmas.Bool.{leb-false, ltb-false}
 use Rattle.std.proofs.lemmas.List.{length-append}
 use Rattle.std.proofs.lemmas.List.Sums.{sum_by_push}
-use Rattle.fsw_base.specs.declared.script_faults.FaultKind.TheVariants.{LineTooLong, Misplaced, OutOfRange, Repeated, TooManyApps, TooManyCalls, TooManyBytes, NotYet}
-use Rattle.fsw_base.specs.declared.script_faults.ScriptFault.{ScriptFault}
+use Rattle.fsw_base.specs.declared.script_faults.FaultKind.TheVariants.{LineTooLong, Misplaced, OutOfRange, Repeated, TooManyApps, TooManyCalls, TooManyBytes}
 use Rattle.script_words.specs.Text.{words_of, behind_word, is_text, is_same}
 use Rattle.script_words.specs.Counts.{Word}
 use Rattle.script_lines.specs.declared.line.Line.{Line}
@@ -17,8 +16,7 @@ use Rattle.app_script.specs.Forms.{form_of, is_misplaced}
 use Rattle.script_settings.specs.Settings.{is_among, set_of, sizes_of, seq_of, app_of, script_of}
 use Rattle.script_settings.specs.Accounts.{account_of, charge_of, budget_of}
 use Rattle.app_script.specs.Script.{Application, ScriptText}
-use Rattle.app_script.specs.Grammar.{Progress, opening, apps_of, after_set, after_sizes, after_seq, after_app, after_call, after_form, after_known, after_words, after_line, progress_of, grammar, built_script, ◌>=>◌}
-use Rattle.app_script.specs.Built.{unbuilt_line}
+use Rattle.app_script.specs.Grammar.{Progress, opening, apps_of, after_set, after_sizes, after_seq, after_app, after_call, after_form, after_known, after_words, after_line, progress_of}
 use Rattle.app_script.proofs.ScriptLemmas.{account_of_push}
 use Rattle.app_script.proofs.ReadWalk.{progress_keeps}
 
@@ -140,12 +138,3 @@ read_bounded bytes s so =
     let calls = whole.calls in
     let bytes = whole.bytes in
     record { calls = omega arith; bytes = omega arith }
-
-pub built_in : (bytes : List ℕ) (script : ScriptText) → built_script bytes ≡ Ok script → grammar bytes ≡ Ok script
-unfolding built_script
-built_in bytes script e = decide (grammar bytes) (unbuilt_line bytes) e
-  where
-    decide : (r : Result ScriptText ScriptFault) (o : Option ℕ) → (r >=> λ script. elim o as (λ u. Result ScriptText ScriptFault) [ None ↦ Ok script | Some number ↦ Err (record { line = number; kind = NotYet }) ]) ≡ Ok script → r ≡ Ok script
-    decide (Ok s) None h = h
-    decide (Ok s) (Some number) h = absurd cc
-    decide (Err fault) o h = absurd cc

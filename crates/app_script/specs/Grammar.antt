@@ -2,7 +2,7 @@
 use Rattle.std.specs.Prelude.{ℕ, ◌+◌, ◌==◌, nat_le, nat_lt, Bool, true, false, List, [], ◌∷◌, ◌++◌, length, Option, Some, None, Result, Ok, Err, codes, if◌then◌else◌}
 use Rattle.std.specs.List.{list_any, list_all, starts_with}
 use Rattle.fsw_base.specs.declared.script_faults.FaultKind.{FaultKind}
-use Rattle.fsw_base.specs.declared.script_faults.FaultKind.TheVariants.{LineTooLong, BadByte, UnknownWord, Misplaced, OutOfRange, Repeated, TooManyApps, TooManyCalls, TooManyBytes, TooLarge, NoApp, NotYet}
+use Rattle.fsw_base.specs.declared.script_faults.FaultKind.TheVariants.{LineTooLong, BadByte, UnknownWord, Misplaced, OutOfRange, Repeated, TooManyApps, TooManyCalls, TooManyBytes, TooLarge, NoApp}
 use Rattle.fsw_base.specs.declared.script_faults.ScriptFault.{ScriptFault}
 use Rattle.fsw_base.specs.Limits.{Limits, usual_limits}
 use Rattle.script_lines.specs.declared.line.Line.{Line}
@@ -13,7 +13,6 @@ use Rattle.script_words.specs.Readings.{◌>>=◌}
 use Rattle.script_words.specs.Text.{lines_of, words_of, behind_word, is_text, is_same}
 use Rattle.script_words.specs.Counts.{Word}
 use Rattle.app_script.specs.Forms.{form_of, is_misplaced}
-use Rattle.app_script.specs.Built.{unbuilt_line}
 use Rattle.script_lines.specs.CallLines.{call_line_of}
 use Rattle.script_settings.specs.Settings.{with_limit, is_among, set_of, sizes_of, seq_of, app_of, script_of}
 use Rattle.script_settings.specs.Accounts.{charge_of, account_of}
@@ -153,7 +152,3 @@ progress_of bytes =
 -- The script that the bytes are, or the first fault.
 unfoldable pub grammar : List ℕ → Result ScriptText ScriptFault
 grammar bytes = progress_of bytes >=> λ s. Ok (record { limits = s.limits; apps = apps_of s })
-
--- What this program reads: a script whose lines are all built.
-unfoldable pub built_script : List ℕ → Result ScriptText ScriptFault
-built_script bytes = grammar bytes >=> λ script. elim (unbuilt_line bytes) [ None ↦ Ok script | Some number ↦ Err (record { line = number; kind = NotYet }) ]

@@ -1,6 +1,5 @@
 pub mod Forms
 pub mod Items
-pub mod Built
 pub mod Script
 pub mod ScriptRanges
 pub mod Ranges

@@ -1,6 +1,6 @@
 //! What holds of every script, whatever reads it.
 ghost use Rattle.std.specs.Prelude.{◌≡◌, ℕ, List, Ok};
-ghost use Rattle.app_script.specs.Grammar.{grammar, built_script};
+ghost use Rattle.app_script.specs.Grammar.{grammar};
 ghost use Rattle.app_script.specs.Language.{IsText};
 ghost use Rattle.app_script.specs.Ranges.{IsInRange};
 ghost use Rattle.app_script.specs.Script.{ScriptText};
@@ -21,8 +21,6 @@ pub fn texts_are_scripts()
 /// bounds of a run: their names, their messages, their lines and their charges.
 pub fn read_scripts_are_in_range()
     ensures scripts { (bytes : List ℕ) (script : ScriptText) → grammar bytes ≡ Ok script →
-        IsScript script }
-    ensures built { (bytes : List ℕ) (script : ScriptText) → built_script bytes ≡ Ok script →
         IsScript script }
     ensures runs { (script : ScriptText) → IsScript script → IsInRange script }
 {}

@@ -2,9 +2,9 @@
 //! lines. A script is read whole before anything runs, and the first faulty line is told with what
 //! is wrong.
 //!
-//! It promises that a text is read exactly where it is a script whose lines are all built, and then
-//! as that script, else its first fault is told; and that a text is a script exactly where its
-//! lines, without the skipped ones, are a script's in their order, ranges and numbers.
+//! It promises that a text is read exactly where it is a script, and then as that script, else its
+//! first fault is told; and that a text is a script exactly where its lines, without the skipped
+//! ones, are a script's in their order, ranges and numbers.
 //!
 //! ```text
 //! let script = read_script(alloc, b"app A\ncreate p0 4 TLM\nrecv p0\n")?;

@@ -4,7 +4,6 @@ ghost use Rattle.std.specs.List.{list_any};
 ghost use Rattle.std.specs.Prelude.{◌==◌};
 ghost use Rattle.script_words.specs.Text.{is_same};
 ghost use Rattle.fsw_base.specs.Starts.{are_count_starts};
-ghost use Rattle.app_script.specs.Built.{is_built};
 ghost use Rattle.app_script.specs.Forms.{is_misplaced};
 ghost use Rattle.app_script.specs.ScriptRanges.{IsScript};
 
@@ -15,9 +14,7 @@ use arrayvec::ArrayVec;
 use fsw_base::{Config, CountStarts, FaultKind, MAX_APPS, MAX_STARTS};
 use script_lines::{Line, call_line};
 use script_settings::LimitName;
-use script_settings::settings::{
-    app, is_among, is_built_limit, put_limit, seq, set, sizes, version,
-};
+use script_settings::settings::{app, is_among, put_limit, seq, set, sizes, version};
 use script_words::text::{first_word, is_same, is_text};
 use script_words::{ByteText, LineFail};
 use std::alloc::{AllocError, Global};
@@ -70,45 +67,6 @@ impl Model for Reading {
     ghost invariant = { KeepsCounts };
 }
 
-// Whether the program runs a line already.
-#[tactic(auto, unfolding(crate::specs::Built::is_built))]
-fn is_built(line: &Line) -> bool
-    ensures { result ≡ is_built line.now }
-{
-    match line {
-        Line::Create { .. } => true,
-        Line::Delete { .. } => true,
-        Line::SetOpts { .. } => true,
-        Line::GetOpts { .. } => true,
-        Line::Find { .. } => true,
-        Line::PipeName { .. } => true,
-        Line::Subscribe { .. } => true,
-        Line::Unsubscribe { .. } => true,
-        Line::Send { .. } => true,
-        Line::SendRaw { .. } => true,
-        Line::Receive { .. } => true,
-        Line::Pend { .. } => true,
-        Line::Allocate { .. } => true,
-        Line::TransmitBuffer { .. } => true,
-        Line::Release { .. } => true,
-        Line::PoolCreate { .. } => true,
-        Line::PoolGet { .. } => true,
-        Line::PoolPut { .. } => true,
-        Line::PoolFigures { .. } => true,
-        Line::Register { .. } => true,
-        Line::SendEvent { .. } => true,
-        Line::ResetFilter { .. } => true,
-        Line::LogMode { .. } => true,
-        Line::ClearLog => true,
-        Line::Housekeeping => true,
-        Line::Figures => true,
-        Line::Form { .. } => true,
-        Line::Put { .. } => true,
-        Line::ShowPipe { .. } => true,
-        _ => false,
-    }
-}
-
 // Whether an id has a start already.
 fn has_start(starts: &[(u16, u16)], id: u16) -> bool
     ensures { result ≡ list_any (λ other. other.0 == id) starts.now }
@@ -137,9 +95,6 @@ fn are_named(apps: &[App], name: &[u8]) -> bool
 impl Reading {
     ghost use Rattle.app_script.specs.Moves.{Moves};
     ghost use Rattle.app_script.specs.Grammar.{opening, after_set, after_sizes, after_seq, apps_of, after_app, after_call, after_form, after_known, after_words, after_line};
-    ghost use Rattle.app_script.specs.Built.{is_built_reading, is_built_line};
-    ghost use Rattle.app_script.specs.Items.{item_of, item_known};
-    ghost use Rattle.app_script.specs.declared.forms.Form.TheVariants as form;
     ghost use Rattle.script_words.specs.Text.{words_of, behind_word};
 
     /// Nothing was read yet.
@@ -162,12 +117,10 @@ impl Reading {
         }
     }
 
-    // set NAME VALUE; and whether the limit is built
-    #[tactic(auto, unfolding(crate::specs::Grammar::after_set, crate::specs::Items::item_of))]
-    fn set(&mut self, rest: &[u8]) -> Result<bool, LineFail>
-        ensures read { Moves result self.new (after_set self.old (words_of rest.now)) }
-        ensures built { IfOk result
-            (λ built. built ≡ is_built_reading (item_of form.Set rest.now)) }
+    // set NAME VALUE
+    #[tactic(auto, unfolding(crate::specs::Grammar::after_set))]
+    fn set(&mut self, rest: &[u8]) -> Result<(), LineFail>
+        ensures { Moves result self.new (after_set self.old (words_of rest.now)) }
     {
         let (name, value) = set(rest)?;
         if is_among(name, self.named.as_slice()) {
@@ -175,7 +128,7 @@ impl Reading {
         }
         self.named.push(name)?;
         put_limit(&mut self.config, name, value);
-        Ok(is_built_limit(name))
+        Ok(())
     }
 
     // sizes S1 S2 ..
@@ -252,11 +205,10 @@ impl Reading {
         Ok(())
     }
 
-    // One call line more; and whether it is built.
+    // One call line more.
     #[tactic(auto, using(crate::proofs::ScriptLemmas::account_of_push), unfolding(crate::specs::Grammar::after_call))]
-    fn call(&mut self, line: Line) -> Result<bool, LineFail>
-        ensures read { Moves result self.new (after_call self.old line) }
-        ensures built { IfOk result (λ built. built ≡ is_built line) }
+    fn call(&mut self, line: Line) -> Result<(), LineFail>
+        ensures { Moves result self.new (after_call self.old line) }
     {
         if self.calls >= MAX_CALLS {
             return Err(LineFail::Fault(FaultKind::TooManyCalls));
@@ -265,37 +217,26 @@ impl Reading {
         if charge > MAX_CHARGE - self.charged as usize {
             return Err(LineFail::Fault(FaultKind::TooManyBytes));
         }
-        let built = is_built(&line);
         self.present.push(line, charge as u32)?;
         self.calls += 1;
         self.charged += charge as u32;
-        Ok(built)
+        Ok(())
     }
 
-    // A line of this form, from the line behind its first word; and whether it is built.
-    #[tactic(auto, unfolding(crate::specs::Grammar::after_form, crate::specs::Items::item_of))]
-    fn form(&mut self, alloc: Global, form: Form, rest: &[u8]) -> Result<bool, LineFail>
-        ensures read { Moves result self.new (after_form self.old form rest.now) }
-        ensures built { IfOk result (λ built. built ≡ is_built_reading (item_of form rest.now)) }
+    // A line of this form, from the line behind its first word.
+    #[tactic(auto, unfolding(crate::specs::Grammar::after_form))]
+    fn form(&mut self, alloc: Global, form: Form, rest: &[u8]) -> Result<(), LineFail>
+        ensures { Moves result self.new (after_form self.old form rest.now) }
     {
         match form {
             Form::Script => {
                 let _ = version(rest)?;
-                Ok(true)
+                Ok(())
             }
             Form::Set => self.set(rest),
-            Form::Sizes => {
-                self.sizes(rest)?;
-                Ok(true)
-            }
-            Form::Seq => {
-                self.seq(rest)?;
-                Ok(true)
-            }
-            Form::App => {
-                self.app(alloc, rest)?;
-                Ok(true)
-            }
+            Form::Sizes => self.sizes(rest),
+            Form::Seq => self.seq(rest),
+            Form::App => self.app(alloc, rest),
             Form::Call(first) => {
                 let line = call_line(alloc, first, rest)?;
                 self.call(line)
@@ -312,9 +253,8 @@ impl Reading {
 
     // A line with this first word, if it is one.
     #[tactic(auto, unfolding(crate::specs::Grammar::after_known))]
-    fn known(&mut self, alloc: Global, form: Option<Form>, rest: &[u8]) -> Result<bool, LineFail>
-        ensures read { Moves result self.new (after_known self.old form rest.now) }
-        ensures built { IfOk result (λ built. built ≡ is_built_reading (item_known form rest.now)) }
+    fn known(&mut self, alloc: Global, form: Option<Form>, rest: &[u8]) -> Result<(), LineFail>
+        ensures { Moves result self.new (after_known self.old form rest.now) }
     {
         match form {
             None => Err(LineFail::Fault(FaultKind::UnknownWord)),
@@ -329,30 +269,26 @@ impl Reading {
     }
 
     // A line's words; a line without one, or whose first begins with a hash sign, is skipped.
-    #[tactic(auto, unfolding(crate::specs::Grammar::after_words, crate::specs::Built::is_built_line, crate::specs::Items::is_skipped, crate::specs::Items::item_in))]
-    fn words(&mut self, alloc: Global, line: &[u8]) -> Result<bool, LineFail>
-        ensures read { Moves result self.new
+    #[tactic(auto, unfolding(crate::specs::Grammar::after_words))]
+    fn words(&mut self, alloc: Global, line: &[u8]) -> Result<(), LineFail>
+        ensures { Moves result self.new
             (after_words self.old (words_of line.now) (behind_word line.now)) }
-        ensures built { IfOk result
-            (λ built. built ≡ is_built_line (words_of line.now) (behind_word line.now)) }
     {
         match first_word(line) {
-            None => Ok(true),
+            None => Ok(()),
             Some((first, rest)) => {
                 if first.starts_with(b"#") {
-                    return Ok(true);
+                    return Ok(());
                 }
                 self.known(alloc, form_of(first), rest)
             }
         }
     }
 
-    /// The next line; and whether it is built.
+    /// The next line.
     #[tactic(auto, unfolding(crate::specs::Grammar::after_line))]
-    pub(crate) fn line(&mut self, alloc: Global, line: &[u8]) -> Result<bool, LineFail>
-        ensures read { Moves result self.new (after_line self.old line.now) }
-        ensures built { IfOk result
-            (λ built. built ≡ is_built_line (words_of line.now) (behind_word line.now)) }
+    pub(crate) fn line(&mut self, alloc: Global, line: &[u8]) -> Result<(), LineFail>
+        ensures { Moves result self.new (after_line self.old line.now) }
     {
         if line.len() > MAX_LINE {
             return Err(LineFail::Fault(FaultKind::LineTooLong));

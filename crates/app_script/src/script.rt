@@ -1,10 +1,9 @@
 //! A script, and how it is read.
-ghost use Rattle.std.specs.Prelude.{◌≡◌, ◌-◌, ◌<◌, ◌≤◌, length, slice_get, Some, IfOk, OnOk, IsTrue};
+ghost use Rattle.std.specs.Prelude.{◌≡◌, ◌-◌, ◌<◌, ◌≤◌, length, slice_get, Some, OnOk, IsTrue};
 ghost use Rattle.fsw_base.specs.Limits.{limits_of};
 ghost use Rattle.app_script.specs.Ranges.{IsInRange};
 ghost use Rattle.app_script.specs.ScriptRanges.{IsScript};
-ghost use Rattle.app_script.specs.Built.{unbuilt_line, noted};
-ghost use Rattle.app_script.specs.Grammar.{opening, after_lines, progress_of, grammar, built_script};
+ghost use Rattle.app_script.specs.Grammar.{opening, after_lines, progress_of, grammar};
 ghost use Rattle.script_words.specs.Text.{lines_of};
 ghost use Rattle.app_script.specs.Whole.{located, GivesScript, MovesScript};
 
@@ -134,45 +133,31 @@ fn located_failure(number: u32, failure: LineFail) -> ReadFail
     }
 }
 
-// The first line that isn't built yet, where this one may be it.
-fn first_unbuilt(built: bool, number: u32, unbuilt: Option<u32>) -> Option<u32>
-    ensures { result ≡ noted built number unbuilt }
-{
-    match unbuilt {
-        Some(first) => Some(first),
-        None => { if built { None } else { Some(number) } }
-    }
-}
-
-// Reads line by line; and tells the first line that isn't built yet.
-fn read_lines(alloc: Global, reading: &mut Reading, bytes: &[u8]) -> Result<Option<u32>, ReadFail>
+// Reads line by line.
+fn read_lines(alloc: Global, reading: &mut Reading, bytes: &[u8]) -> Result<(), ReadFail>
     requires { length bytes.now ≤ 1048576 }
-    ensures read { MovesScript result reading.new (after_lines 1 reading.old (lines_of bytes.now)) }
-    ensures unbuilt { IfOk result (λ unbuilt. unbuilt ≡ unbuilt_line bytes.now) }
+    ensures { MovesScript result reading.new (after_lines 1 reading.old (lines_of bytes.now)) }
 {
     let mut rest = bytes;
     let mut number = 1;
-    let mut unbuilt = None;
     while !rest.is_empty() {
         let (line, behind) = first_line(rest);
         match reading.line(alloc, line) {
-            Ok(built) => unbuilt = first_unbuilt(built, number, unbuilt),
+            Ok(()) => {}
             Err(failure) => return Err(located_failure(number, failure)),
         }
         number += 1;
         rest = behind;
     }
-    Ok(unbuilt)
+    Ok(())
 }
 
-// Reads all lines, into a reading that is as it was opened; and tells the first line that isn't
-// built yet.
+// Reads all lines, into a reading that is as it was opened.
 #[tactic(auto, unfolding(crate::specs::Grammar::progress_of))]
-fn read_all(alloc: Global, reading: &mut Reading, bytes: &[u8]) -> Result<Option<u32>, ReadFail>
+fn read_all(alloc: Global, reading: &mut Reading, bytes: &[u8]) -> Result<(), ReadFail>
     requires { reading.old ≡ opening }
     ensures script { MovesScript result reading.new (progress_of bytes.now) }
     ensures started { OnOk result (IsTrue reading.new.started) }
-    ensures unbuilt { IfOk result (λ unbuilt. unbuilt ≡ unbuilt_line bytes.now) }
 {
     if bytes.len() > MAX_SCRIPT_BYTES {
         return Err(ReadFail::Fault(ScriptFault {
@@ -180,9 +165,9 @@ fn read_all(alloc: Global, reading: &mut Reading, bytes: &[u8]) -> Result<Option
             kind: FaultKind::TooLarge,
         }));
     }
-    let unbuilt = read_lines(alloc, reading, bytes)?;
+    read_lines(alloc, reading, bytes)?;
     if reading.has_started() {
-        Ok(unbuilt)
+        Ok(())
     } else {
         Err(ReadFail::Fault(ScriptFault {
             line: 0,
@@ -196,19 +181,13 @@ fn read_all(alloc: Global, reading: &mut Reading, bytes: &[u8]) -> Result<Option
 /// # Errors
 /// `Fault` where they are no script: that of the first faulty line, with the line's number from 1;
 /// the first in the order of [`FaultKind`]. `TooLarge` and `NoApp` are faults of the whole, and
-/// have the number 0. `NotYet` comes only where the bytes are a script, at the first line that
-/// this program doesn't run yet. `Memory` where memory runs out.
-#[tactic(auto, unfolding(crate::specs::Grammar::grammar, crate::specs::Grammar::built_script))]
+/// have the number 0. `Memory` where memory runs out.
+#[tactic(auto, unfolding(crate::specs::Grammar::grammar))]
 pub fn read_script(alloc: Global, bytes: &[u8]) -> Result<Script, ReadFail>
-    ensures { GivesScript result (built_script bytes.now) }
+    ensures { GivesScript result (grammar bytes.now) }
 {
     let nobody = ByteText::new(alloc, &[])?;
     let mut reading = Reading::new(alloc, nobody);
-    match read_all(alloc, &mut reading, bytes)? {
-        Some(line) => Err(ReadFail::Fault(ScriptFault {
-            line,
-            kind: FaultKind::NotYet,
-        })),
-        None => Ok(reading.into_script()?),
-    }
+    read_all(alloc, &mut reading, bytes)?;
+    Ok(reading.into_script()?)
 }

@@ -59,10 +59,11 @@ fn first_counted<L: Ledger>(
 
 #[test]
 fn the_first_message_waits(rt: HostRuntime) -> Result<(), Fail> {
-    let mut tables = BusTables::new(rt.alloc(), &Config::usual())?;
     let app = AppNo::try_new(1).ok_or("an application's number")?;
     let name = PipeText::try_new(b"TLM").ok_or("a name")?;
     let mut misses = Misses::new(rt.alloc(), Config::usual().dests)?;
+    // Made last: every way out behind it lets the tables go, which is proved each time.
+    let mut tables = BusTables::new(rt.alloc(), &Config::usual())?;
     let first = first_counted::<Brand>(&mut tables, &name, app, &mut misses, Blank::new(1));
     let item = ItemRow {
         number: 1,
@@ -149,10 +150,10 @@ fn come_and_go<L: Ledger, R: Abort>(
 
 #[test]
 fn pipes_and_subscriptions_come_and_go(rt: HostRuntime) -> Result<(), Fail> {
-    let mut tables = BusTables::new(rt.alloc(), &Config::usual())?;
     let app = AppNo::try_new(1).ok_or("an application's number")?;
     let name = PipeText::try_new(b"TLM").ok_or("a name")?;
     let mut misses = Misses::new(rt.alloc(), Config::usual().dests)?;
+    let mut tables = BusTables::new(rt.alloc(), &Config::usual())?;
     come_and_go::<Brand, HostRuntime>(&rt, &mut tables, &name, app, &mut misses, Blank::new(1));
     assert!(rt; tables.has_route(0x0801));
     assert_eq!(rt; tables.routes_len(), 1);

@@ -74,13 +74,13 @@ fn a_full_log_keeps_its_first_lines_in_mode_1_and_its_last_in_mode_0(
 
 #[test]
 fn refusals_of_events_and_resets(rt: HostRuntime) -> Result<(), Fail> {
+    let open = FilterList::try_new(&[(1, 0)]).ok_or("a filter")?;
     let (mut desk, app) = desk_with(&rt, &[])?;
     desk.unregister(app);
     assert_eq!(rt;
         desk.send(app, 1, INFORMATION, b"x"),
         Err(EvsStatus::AppNotRegistered)
     );
-    let open = FilterList::try_new(&[(1, 0)]).ok_or("a filter")?;
     desk.register(app, &open);
     assert_eq!(rt; desk.send(app, 1, INFORMATION, b"x"), Ok(()));
     assert_eq!(rt; desk.send(app, 1, INFORMATION, b"y"), Ok(()));
@@ -101,10 +101,10 @@ fn refusals_of_events_and_resets(rt: HostRuntime) -> Result<(), Fail> {
 
 #[test]
 fn service_events_texts_of_200_bytes_and_an_emptied_log(rt: HostRuntime) -> Result<(), Fail> {
+    let filters = FilterList::try_new(&[]).ok_or("no filters")?;
     let (mut desk, app) = desk_with(&rt, &[(1, 1)])?;
     assert_eq!(rt; desk.send(app, 1, INFORMATION, &[b'a'; 200]), Ok(()));
     assert_eq!(rt; desk.reset_filter(app, 1), Ok(()));
-    let filters = FilterList::try_new(&[]).ok_or("no filters")?;
     start(&mut desk, app, &filters);
     assert_eq!(rt; desk.log_len(), 2);
     assert_eq!(rt; desk.log_at(0).text, [b'a'; 122].as_slice());

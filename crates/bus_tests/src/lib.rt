@@ -30,8 +30,6 @@ mod pipe_table_tests;
 #[cfg(test)]
 mod routing_tests;
 #[cfg(test)]
-mod run_report_tests;
-#[cfg(test)]
 mod service_events_tests;
 #[cfg(test)]
 mod subscriptions_tests;

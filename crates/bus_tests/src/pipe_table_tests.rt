@@ -21,9 +21,9 @@ fn last_received(pipes: &mut PipeTable, name: &PipeText, app: AppNo, item: Item)
 
 #[test]
 fn a_pipe_is_made_and_ended(rt: HostRuntime) -> Result<(), Fail> {
-    let mut pipes = PipeTable::new(rt.alloc(), 1, 4)?;
     let app = AppNo::try_new(1).ok_or("an application's number")?;
     let name = PipeText::try_new(b"TLM").ok_or("a name")?;
+    let mut pipes = PipeTable::new(rt.alloc(), 1, 4)?;
     let item = Item {
         desc: 0,
         number: 1,

@@ -6,10 +6,10 @@ use arrayvec::ArrayVec;
 use std::alloc::{AllocError, Global};
 use std::marker::Model;
 
-/// How many of a message's first bytes a receipt has at most.
+/// How many of the first bytes of a message or of a table a receipt has at most.
 pub const HEAD_BYTES: usize = 16;
 
-/// The first bytes of a message, at most [`HEAD_BYTES`].
+/// The first bytes of a message or of a table, at most [`HEAD_BYTES`].
 #[derive(Drop)]
 pub struct Head {
     bytes: ArrayVec<u8, HEAD_BYTES>,
@@ -77,6 +77,19 @@ pub enum Receipt {
         /// Its first bytes.
         head: Head,
     },
+    /// A version of a table.
+    Table {
+        /// The handle's number.
+        handle: u32,
+        /// The version held.
+        version: u32,
+        /// The table's size in bytes.
+        size: u32,
+        /// The sum of all its bytes.
+        sum: u32,
+        /// Its first bytes.
+        head: Head,
+    },
 }
 
 impl Receipt {
@@ -99,6 +112,19 @@ impl Receipt {
                 number: *number,
                 id: *id,
                 count: *count,
+                size: *size,
+                sum: *sum,
+                head: head.again(),
+            },
+            Receipt::Table {
+                handle,
+                version,
+                size,
+                sum,
+                head,
+            } => Receipt::Table {
+                handle: *handle,
+                version: *version,
                 size: *size,
                 sum: *sum,
                 head: head.again(),

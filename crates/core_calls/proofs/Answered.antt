@@ -24,5 +24,6 @@ answers-kept caller core call answer bag does keeps same = record {
   does = does;
   bag = keeps caller.app caller.bag bag;
   buffers = leaves-same caller.bag call answer same;
-  same = record { app = refl; bus = refl; bag = refl; alone = refl };
+  others = record { tables = refl; held = refl };
+  same = record { app = refl; names = refl; alone = refl };
 }

@@ -154,7 +154,8 @@ writes-own caller new left bag writes = record {
   written = writes.written;
   count = writes.count;
   room = rest-room caller.bag new writes.rest;
-  same = record { app = refl; bus = refl; bag = refl; alone = refl };
+  others = record { tables = refl; held = refl };
+  same = record { app = refl; names = refl; alone = refl };
 }
 
 -- a buffer that may be written into has room for a message, and no more than a packet can have

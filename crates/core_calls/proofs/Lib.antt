@@ -1,3 +1,4 @@
 pub mod Wrote
 pub mod Answered
 pub mod BufferCalls
+pub mod TablesAnswered

@@ -1,4 +1,4 @@
--- Who calls: an application with its bag, and the bus that it calls.
+-- Who calls: an application with its bags, and the services that it calls; and what its calls of the bus need and leave.
 use base.Fml.{GName}
 use Rattle.std.specs.Prelude.{◌≡◌, ℕ, ◌+◌, ◌<◌, ◌≤◌, ◌⊎◌, Bool, false, length}
 use Rattle.std.specs.Option.{option_map}
@@ -12,19 +12,29 @@ use Rattle.sb_core.specs.declared.pending.Pended.{Pended}
 use Rattle.sb_core.specs.Answers.{waited}
 use Rattle.sb_calls.specs.Bags.{HasBag, CalledByOthers}
 use Rattle.sb_calls.specs.Core.{Core, MayCall, Does, Looks, state_of}
+use Rattle.tbl_blocks.specs.Held.{HeldViews}
+use Rattle.tbl_load.specs.Core.{Core as TableCore}
 use Rattle.script_runs.specs.Written.{Written, written_after}
 
--- An application's calls: the application, the bus as they saw it last, the application's bag, which bus and which bag these
--- are, and whether nobody else calls the bus in between.
+-- Which services and which bags these are.
+pub record Names : Type 0 where
+  pub bus : GName
+  pub bag : GName
+  pub tables : GName
+  pub held : GName
+
+-- An application's calls: the application; the bus as they saw it last, and the application's bag there; the tables as they saw them
+-- last, and its bag there; which services and bags these are; and whether nobody else calls them in between.
 pub record Caller : Type 0 where
   pub app : ℕ
   pub core : Core
   pub bag : Holding LentBytes
-  pub bus_name : GName
-  pub bag_name : GName
+  pub tables : TableCore
+  pub held : HeldViews
+  pub names : Names
   pub alone : Bool
 
--- the bag is the application's
+-- the bag of the bus is the application's
 abbrev pub HasOwnBag : Caller → Type 0
 HasOwnBag caller = HasBag caller.core caller.app caller.bag
 
@@ -58,12 +68,16 @@ pub record MayWrite (caller : Caller) : Type 0 where
   pub bag : HasOwnBag caller
   pub small : caller.core.limits.msgmax ≤ 65542
 
--- the same application's calls with the same bag, on the same bus, as much alone as before
-pub record SameBus (old new : Caller) : Type 0 where
+-- the same application's calls with the same bags, on the same services, as much alone as before
+pub record SameServices (old new : Caller) : Type 0 where
   pub app : new.app ≡ old.app
-  pub bus : new.bus_name ≡ old.bus_name
-  pub bag : new.bag_name ≡ old.bag_name
+  pub names : new.names ≡ old.names
   pub alone : new.alone ≡ old.alone
+
+-- the tables are as they were, and so is the application's bag there
+pub record KeepsTables (old new : Caller) : Type 0 where
+  pub tables : new.tables ≡ old.tables
+  pub held : new.held ≡ old.held
 
 -- A call so answered left the bag with these buffers: a new one is zeros, one that was sent or given back is gone, and all
 -- others have the bytes that they had.
@@ -73,14 +87,15 @@ pub record LeavesBuffers (old new : Holding LentBytes) (call : Call) (answer : B
   pub room : new.buffer_room ≡ old.buffer_room
 
 -- The call was answered: as the bus that it met answers it; its entry stands at the history's end, and nothing behind it. The
--- bag is still the application's.
+-- bag is still the application's. The tables have nothing to do with it.
 pub record Answers (old new : Caller) (call : Call) (answer : BusAnswer) : Type 0 where
   pub now : Core
   pub meets : Meets old now
   pub does : Does now new.core old.app call answer
   pub bag : HasOwnBag new
   pub buffers : LeavesBuffers old.bag new.bag call answer
-  pub same : SameBus old new
+  pub others : KeepsTables old new
+  pub same : SameServices old new
 
 -- The same for a look, which makes no entry where the application still waits.
 pub record AnswersLook (old new : Caller) (pipe : ℕ) (answer : Pended) : Type 0 where
@@ -89,7 +104,8 @@ pub record AnswersLook (old new : Caller) (pipe : ℕ) (answer : Pended) : Type 
   pub does : Looks now new.core old.app pipe answer
   pub bag : HasOwnBag new
   pub buffers : LeavesBuffers old.bag new.bag (Look pipe) (waited answer)
-  pub same : SameBus old new
+  pub others : KeepsTables old new
+  pub same : SameServices old new
 
 -- the pipe that the application waits on
 abbrev pub pipe_waited_on : Caller → ℕ
@@ -102,4 +118,5 @@ pub record Writes (old new : Caller) (left : Written) : Type 0 where
   pub written : (number : ℕ) → written_in new.bag number ≡ left number
   pub count : length new.bag.buffers ≡ length old.bag.buffers
   pub room : new.bag.buffer_room ≡ old.bag.buffer_room
-  pub same : SameBus old new
+  pub others : KeepsTables old new
+  pub same : SameServices old new

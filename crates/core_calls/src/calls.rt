@@ -6,21 +6,26 @@ ghost use Rattle.sb_core.specs.Answers.{created, found, done, bits_told, named, 
 ghost use Rattle.sb_calls.specs.Views.{bytes_seen};
 ghost use Rattle.script_runs.specs.Messages.{sent_message};
 ghost use Rattle.script_runs.specs.Written.{with_bytes, put_in};
+ghost use Rattle.tbl_load.specs.Bags.{bytes_seen as held_bytes_seen};
+ghost use Rattle.tbl_words.specs.Entries.{call_of};
 ghost use Rattle.core_calls.specs.Callers.{Caller, MayCallBus, MayWrite, Answers, AnswersLook, Writes, written_in, pipe_waited_on};
+ghost use Rattle.core_calls.specs.TableCallers.{MayCallTables, HasEndedAtTables, TablesAnswer};
 
 use bus_words::{BusAnswer, Call, PipeText};
 use fsw_base::{BusStats, EsStatus, EventKind, EvsStatus, FilterList, PoolStats, SbStatus, Scope};
 use sb_calls::{Pended, Sent};
+use tbl_words::{Call as TableCall, TblAnswer, TblCall};
 
-/// The calls of the software bus that one application makes.
+/// The calls of the software bus and of Table Services that one application makes.
 ///
-/// Each call has the condition, the answer and the refusals of the core's call of the same name
-/// (`bus_end` those of its `end`), with the application's bag, on the bus as it is then: as the
-/// calls before left it or, where they aren't alone with it, with what other applications did
-/// meanwhile. By the code, no call takes memory.
+/// Each call has the condition, the answer and the refusals of its core's call of the same name
+/// (`bus_end` and `table_end` those of `end`), with the application's bag there, on the service as
+/// it is then: as the calls before left it or, where they aren't alone with it, with what other
+/// applications did meanwhile. A call of one service leaves the other as it was. By the code, no
+/// call takes memory.
 pub trait Calls {
-    /// The application with its bag, the bus as its calls saw it last, and whether they are alone
-    /// with it.
+    /// The application with its bags, both services as its calls saw them last, and whether they
+    /// are alone with them.
     ghost caller: { Self → Caller };
 
     /// Makes a pipe that holds up to `depth` messages, and answers its number.
@@ -236,10 +241,11 @@ pub trait Calls {
         requires { MayCallBus (caller self.old) Call.Figures }
         ensures { Answers (caller self.old) (caller self.new) Call.Figures (BusAnswer.Bus result) };
 
-    /// The application's last call: its pipes leave with their subscriptions and messages, and its
-    /// unsent buffers; its grants come back to their pools.
+    /// The application's last call, behind its end at the tables: its pipes leave with their
+    /// subscriptions and messages, and its unsent buffers; its grants come back to their pools.
     fn bus_end(&mut self)
-        requires { MayCallBus (caller self.old) Call.End }
+        requires may { MayCallBus (caller self.old) Call.End }
+        requires tables { HasEndedAtTables (caller self.old) }
         ensures { Answers (caller self.old) (caller self.new) Call.End BusAnswer.Done };
 
     /// The message that the application received last from its live pipe of this number, as its
@@ -263,4 +269,22 @@ pub trait Calls {
         ensures { Writes (caller self.old) (caller self.new)
             (with_bytes (written_in (caller self.old).bag) buf
             (λ old. put_in old offset bytes.now)) };
+
+    /// Makes a call of the tables, and tells what it was answered: each call has the condition and
+    /// the refusals of `TblCore`'s of the same name (`Abort` those of `abort_load`).
+    fn table_call(&mut self, call: TblCall<'_>) -> TblAnswer
+        requires { MayCallTables (caller self.old) (call_of call) }
+        ensures { TablesAnswer (caller self.old) (caller self.new) (call_of call.entry) result };
+
+    /// The application's last call of the tables: all its handles are given back, each with what it
+    /// holds.
+    fn table_end(&mut self)
+        requires { MayCallTables (caller self.old) TableCall.End }
+        ensures { TablesAnswer (caller self.old) (caller self.new) TableCall.End TblAnswer.Done };
+
+    /// The bytes that a handle of the application's holds, as its bag shows them; None exactly
+    /// where the bag has no view of that handle. It is no call of the tables.
+    fn held(&self, handle: u32) -> Option<&[u8]>
+        ensures { option_map (λ bytes. bytes.now) result ≡
+            held_bytes_seen (caller self.now).held handle };
 }

@@ -1,8 +1,9 @@
-//! The calls of one application straight on a core.
+//! The calls of one application straight on the two cores.
 ghost use Rattle.std.specs.Prelude.{◌≡◌, true};
 
 use crate::buffers::{form_in, put_bytes_in};
 use crate::calls::Calls;
+use crate::table_calls::make;
 use bucket_list::{Ledger, Steps};
 use buf_desc::Held;
 use bus_words::PipeText;
@@ -10,36 +11,48 @@ use fsw_base::{
     AppNo, BusStats, EsStatus, EventKind, EvsStatus, FilterList, PoolStats, SbStatus, Scope,
 };
 use sb_calls::{BusCore, Pended, Sent};
+use tbl_load::{HeldTables, TblCore};
+use tbl_words::{TblAnswer, TblCall};
 
-/// The calls of one application straight on the bus's core.
+/// The calls of one application straight on the core of the bus and on that of the tables.
 #[derive(Drop)]
 pub struct CoreCalls<'c, 'r, L: Ledger> {
-    /// The core that answers.
+    /// The core of the bus.
     pub core: &'c mut BusCore<'r>,
+    /// The core of the tables.
+    pub tables: &'c mut TblCore<'r>,
     /// Who calls.
     pub app: AppNo,
-    /// The caller's bag.
+    /// The caller's bag of messages and buffers.
     pub held: &'c mut Held<'r>,
+    /// The caller's bag of tables.
+    pub held_tables: &'c mut HeldTables<'r>,
     /// The steps that its calls take; told to nobody here.
     pub steps: &'c mut Steps<L>,
 }
 
 impl<'c, 'r, L: Ledger> CoreCalls<'c, 'r, L> {
-    /// The calls of this application, with this bag. Their steps are added to `steps`.
+    /// The calls of this application, with these bags. Their steps are added to `steps`.
     pub fn new(
         core: &'c mut BusCore<'r>,
+        tables: &'c mut TblCore<'r>,
         app: AppNo,
         held: &'c mut Held<'r>,
+        held_tables: &'c mut HeldTables<'r>,
         steps: &'c mut Steps<L>,
     ) -> CoreCalls<'c, 'r, L>
         ensures app { result.app ≡ app }
         ensures core { result.core ≡ core.entry }
+        ensures tables { result.tables ≡ tables.entry }
         ensures held { result.held ≡ held.entry }
+        ensures held_tables { result.held_tables ≡ held_tables.entry }
     {
         CoreCalls {
             core,
+            tables,
             app,
             held,
+            held_tables,
             steps,
         }
     }
@@ -51,8 +64,14 @@ impl<L: Ledger> Calls for CoreCalls<'_, '_, L> {
           app = s.app;
           core = s.core.now;
           bag = s.held.now;
-          bus_name = s.core.ghost_name;
-          bag_name = s.held.ghost_name;
+          tables = s.tables.now;
+          held = s.held_tables.now;
+          names = record {
+            bus = s.core.ghost_name;
+            bag = s.held.ghost_name;
+            tables = s.tables.ghost_name;
+            held = s.held_tables.ghost_name;
+          };
           alone = true;
         } };
 
@@ -179,5 +198,20 @@ impl<L: Ledger> Calls for CoreCalls<'_, '_, L> {
 
     fn put_bytes(&mut self, buf: u32, offset: u32, bytes: &[u8]) {
         put_bytes_in(self.held, buf, offset, bytes);
+    }
+
+    fn table_call(&mut self, call: TblCall<'_>) -> TblAnswer {
+        make(self.tables, self.app, self.held_tables, self.steps, call)
+    }
+
+    fn table_end(&mut self) {
+        self.tables.end(self.app, self.held_tables, self.steps)
+    }
+
+    fn held(&self, handle: u32) -> Option<&[u8]> {
+        match self.held_tables.view_of(handle) {
+            Some(view) => Some(view.bytes()),
+            None => None,
+        }
     }
 }

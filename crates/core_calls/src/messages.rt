@@ -1,7 +1,6 @@
 //! What lines write: messages, and bytes.
-ghost use Rattle.std.specs.Prelude.{◌≡◌, ◌≤◌, length, map};
-ghost use Rattle.std.specs.List.{range_with_len};
-ghost use Rattle.script_runs.specs.Messages.{fill_byte, sent_message};
+ghost use Rattle.std.specs.Prelude.{◌≡◌, ◌≤◌, length};
+ghost use Rattle.script_runs.specs.Messages.{filled, sent_message};
 ghost use Rattle.script_runs.specs.Written.{put_in};
 
 use ccsds_msg::write_header;
@@ -17,9 +16,9 @@ pub fn make_message(message: &mut [u8], id: u16, fill: u8)
     fill_payload(&mut message[6..], fill);
 }
 
-// Writes bytes that count up from `fill`.
-fn fill_payload(payload: &mut [u8], fill: u8)
-    ensures { payload.new ≡ map (fill_byte fill) (range_with_len 0 (length payload.old)) }
+/// Writes bytes that count up from `fill`, modulo 256.
+pub fn fill_payload(payload: &mut [u8], fill: u8)
+    ensures { payload.new ≡ filled fill (length payload.old) }
 {
     for i in 0..payload.len() {
         payload[i] = ((fill as usize + i % 256) % 256) as u8;

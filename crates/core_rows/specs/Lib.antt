@@ -1,2 +1,4 @@
 pub mod Bags
 pub mod Inside
+pub mod InsideUnused
+pub mod Unused

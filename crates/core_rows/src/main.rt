@@ -3,9 +3,10 @@
 //! it.
 //!
 //! An example is its title and a report: each call with its answer, then each receipt, the events
-//! in the log, and the counters. A call that its application may not make now is told on a line of
-//! its own, and isn't made. Behind the examples comes the largest configuration: how many calls
-//! were accepted as it filled, and how many pipes two sends reached.
+//! in the log, and the counters. Tables stand beside the bus, at which each application ends as it
+//! does at the bus, and nothing else is called. A call that its application may not make now is
+//! told on a line of its own, and isn't made. Behind the examples comes the largest configuration:
+//! how many calls were accepted as it filled, and how many pipes two sends reached.
 #![tactic(auto)]
 
 ghost use Rattle.std.specs.Prelude.{◌≡◌, false, OnOk};
@@ -19,6 +20,7 @@ mod opening;
 mod played;
 mod playing;
 mod printing;
+mod unused;
 
 use crate::event_examples::event_examples;
 use crate::example::Example;

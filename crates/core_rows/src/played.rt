@@ -54,8 +54,8 @@ impl<'r> PlayedBus<'r> {
     ) -> Result<PlayedBus<'r>, AllocError>
         requires { config.now.pool ≤ length region.old }
     {
+        let bags = empty_bags(alloc, apps.clamp(1, 16), config.pipes)?;
         let core = BusCore::new(alloc, config, budgets(apps), region)?;
-        let bags = empty_bags(alloc, core.apps(), config.pipes)?;
         Ok(PlayedBus { core, bags })
     }
 
@@ -119,14 +119,10 @@ impl<'r> PlayedBus<'r> {
             .map_or(0, |sent| sent.reached)
     }
 
-    /// Every call with its answer, in order.
-    pub fn journal(&self) -> &BusJournal {
-        self.core.journal()
-    }
-
-    /// What the bus tells beside its journal: the event desk, the counters, and what is in use.
+    /// What a report shows of the bus.
     pub fn readings(&self) -> BusReadings<'_> {
         BusReadings {
+            journal: self.core.journal(),
             events: self.core.events(),
             counters: self.core.counters(),
             in_use: self.core.in_use(),

@@ -6,6 +6,7 @@ ghost use Rattle.sb_calls.specs.Core.{MayCall};
 
 use crate::example::{Act, Step};
 use crate::played::PlayedBus;
+use crate::unused::UnusedTables;
 use bucket_list::{Ledger, Steps};
 use buf_desc::Held;
 use bus_words::{BusCall, Receipt};
@@ -27,9 +28,10 @@ pub enum Outcome {
     NotAllowed,
 }
 
-/// Plays one step. A message is made in the buffer.
+/// Plays one step; an end is one of the tables too. A message is made in the buffer.
 pub fn play<L: Ledger>(
     played: &mut PlayedBus<'_>,
+    tables: &mut UnusedTables<'_>,
     step: &Step,
     buffer: &mut [u8],
     steps: &mut Steps<L>,
@@ -43,6 +45,9 @@ pub fn play<L: Ledger>(
     };
     if !played.may_make(app, &call) {
         return Outcome::NotAllowed;
+    }
+    if let Act::End = act {
+        tables.end(app, steps);
     }
     played.make(app, call, steps);
     outcome_of_call(played, app, act)

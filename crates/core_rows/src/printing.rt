@@ -6,18 +6,19 @@ use crate::fail::Fail;
 use crate::opening::config_of;
 use crate::played::PlayedBus;
 use crate::playing::{MOST_BYTES, Outcome, play};
+use crate::unused::UnusedTables;
 use bucket_list::{Blank, Ledger, Steps};
 use bus_words::{Receipt, ReceiptList};
-use fsw_base::{AppNo, Sink, SinkGuard, WriteFault};
+use fsw_base::{AppNo, Config, Sink, SinkGuard, WriteFault};
 use run_report::write_report;
 use std::alloc::{AllocError, Global};
 use text_page::write_text;
 
-/// Plays an example and prints its title and its report. The bus's memory is taken before the first
-/// step.
+/// Plays an example and prints its title and its report. The memory of the bus and of the
+/// tables is taken before the first step.
 ///
 /// # Errors
-/// `Memory` where there is none for the bus or what is seen; `Write` where the sink fails.
+/// `Memory` where there is none for them or for what is seen; `Write` where the sink fails.
 pub fn print_example<L: Ledger, K: Sink>(
     alloc: Global,
     example: &Example,
@@ -34,14 +35,34 @@ pub fn print_example<L: Ledger, K: Sink>(
     let config = config_of(example.limits);
     let mut region = vec![in alloc; 0u8; config.pool as usize]?;
     let mut played = PlayedBus::new(alloc, &config, example.apps, &mut region)?;
-    print_played(alloc, example, &mut played, sink, &mut steps)
+    print_beside_tables(alloc, example, &config, &mut played, sink, &mut steps)
 }
 
-// Plays an example on this bus, which no call was made on, and prints its title and its report.
+// Plays an example on this bus beside tables of these limits, and prints its title and its report.
+fn print_beside_tables<L: Ledger, K: Sink>(
+    alloc: Global,
+    example: &Example,
+    config: &Config,
+    played: &mut PlayedBus<'_>,
+    sink: &mut SinkGuard<'_, K>,
+    steps: &mut Steps<L>,
+) -> Result<(), Fail>
+    requires { sink.old.failed ≡ false }
+    ensures { OnOk result (sink.new.failed ≡ false) }
+{
+    let mut blocks = vec![in alloc; 0u8; config.tablepool as usize]?;
+    let mut work = vec![in alloc; 0u8; 4 * config.tablemax as usize]?;
+    let mut tables = UnusedTables::new(alloc, config, example.apps, &mut blocks, &mut work)?;
+    print_played(alloc, example, played, &mut tables, sink, steps)
+}
+
+// Plays an example on this bus and these tables, on which no call was made, and prints its title
+// and its report.
 fn print_played<L: Ledger, K: Sink>(
     alloc: Global,
     example: &Example,
     played: &mut PlayedBus<'_>,
+    tables: &mut UnusedTables<'_>,
     sink: &mut SinkGuard<'_, K>,
     steps: &mut Steps<L>,
 ) -> Result<(), Fail>
@@ -52,11 +73,11 @@ fn print_played<L: Ledger, K: Sink>(
     let mut seen = Vec::with_capacity(alloc, example.steps.len())?;
     print_title(example.title, sink)?;
     for step in example.steps {
-        let outcome = play(played, step, &mut buffer, steps);
+        let outcome = play(played, tables, step, &mut buffer, steps);
         tell(outcome, &mut seen, sink)?;
     }
     let receipts = receipt_lists(alloc, example.apps, &seen)?;
-    write_report(played.journal(), &receipts, &played.readings(), sink)?;
+    write_report(&played.readings(), &tables.readings(), &receipts, sink)?;
     Ok(())
 }
 

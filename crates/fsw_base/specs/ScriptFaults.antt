@@ -1,7 +1,7 @@
 -- The names that the program prints for faults of a script.
 use Rattle.std.specs.Prelude.{ℕ, List, codes}
 use Rattle.fsw_base.specs.declared.script_faults.FaultKind.{FaultKind}
-use Rattle.fsw_base.specs.declared.script_faults.FaultKind.TheVariants.{LineTooLong, BadByte, UnknownWord, Misplaced, WrongCount, BadWord, OutOfRange, Repeated, TooManyApps, TooManyCalls, TooManyBytes, TooLarge, NoApp, NotYet}
+use Rattle.fsw_base.specs.declared.script_faults.FaultKind.TheVariants.{LineTooLong, BadByte, UnknownWord, Misplaced, WrongCount, BadWord, OutOfRange, Repeated, TooManyApps, TooManyCalls, TooManyBytes, TooLarge, NoApp}
 
 abbrev pub fault_name : FaultKind → List ℕ
 fault_name LineTooLong = codes "LineTooLong"
@@ -17,4 +17,3 @@ fault_name TooManyCalls = codes "TooManyCalls"
 fault_name TooManyBytes = codes "TooManyBytes"
 fault_name TooLarge = codes "TooLarge"
 fault_name NoApp = codes "NoApp"
-fault_name NotYet = codes "NotYet"

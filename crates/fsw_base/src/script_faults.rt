@@ -44,8 +44,6 @@ pub enum FaultKind {
     TooLarge,
     /// No application is there.
     NoApp,
-    /// The line is right, and this program doesn't run it yet.
-    NotYet,
 }
 
 impl FaultKind {
@@ -67,7 +65,6 @@ impl FaultKind {
             FaultKind::TooManyBytes => "TooManyBytes",
             FaultKind::TooLarge => "TooLarge",
             FaultKind::NoApp => "NoApp",
-            FaultKind::NotYet => "NotYet",
         }
     }
 }

@@ -7,7 +7,8 @@ use Rattle.bus_words.specs.Entries.{call_bytes}
 use Rattle.journal_store.specs.Budgets.{allowances, charged, left_from}
 use Rattle.bus_words.specs.Log.{Log, charge_of, left_of, with_entry}
 use Rattle.bus_words.proofs.Journals.{left_from-push}
-use Rattle.host_run.specs.Copies.{Copies, has_room, fits, is_within, with_copy, CopiesEntry}
+use Rattle.script_runs.specs.Histories.{Histories}
+use Rattle.host_run.specs.Copies.{Copies, has_room, fits, are_within, with_copy, CopiesEntry}
 
 -- what is left of a list from one of its items on
 pub drop_get : {X : Type 0} (xs : List X) (i : ℕ) (x : X) → slice_get xs i ≡ Some x → drop i xs ≡ x ∷ drop (i + 1) xs
@@ -62,16 +63,15 @@ copy_goes old new history i done there copies added so_far =
           ∙ ap (λ b. b && fits (charged (left_of old) e.app (call_bytes e.call)) rest) (sym ((copies e place.1).0) ∙ added)),
     )
 
--- a history within the budgets is copied where there is room
-pub one_more : (c : Copies) (history : List Entry) → 1 ≤ c.room → is_within c.budgets history ≡ true →
-    with_copy c history ≡ record c { copies = c.copies ++ history ∷ []; room = c.room - 1 }
-one_more c history some within =
+-- histories within the budgets are copied where there is room
+pub one_more : (c : Copies) (histories : Histories) → 1 ≤ c.room → are_within c.budgets histories ≡ true →
+    with_copy c histories ≡ record c { copies = c.copies ++ histories ∷ []; room = c.room - 1 }
+one_more c histories some within =
     let room : nat_le 1 c.room ≡ true = grind (arith, nat_tests) in
-    let both : (nat_le 1 c.room && is_within c.budgets history) ≡ true =
-    ap (λ b. b && is_within c.budgets history) room ∙ within in
-    ap (λ b. cond b (record c { copies = c.copies ++ history ∷ []; room = c.room - 1 }) (record c { told = false; room = 0 })) both
+    let both : (nat_le 1 c.room && are_within c.budgets histories) ≡ true =
+    ap (λ b. b && are_within c.budgets histories) room ∙ within in
+    ap (λ b. cond b (record c { copies = c.copies ++ histories ∷ []; room = c.room - 1 }) (record c { told = false; room = 0 })) both
 
 -- what an empty journal leaves is what its budgets allow
-pub within-empty : (journal : Log) (history : List Entry) → journal.entries ≡ [] → fits (left_of journal) history ≡ is_within journal.budgets history
-unfolding is_within
-within-empty journal history empty = ap (λ es. fits (left_from (allowances journal.budgets) (map charge_of es)) history) empty
+pub fits-empty : (journal : Log) (history : List Entry) → journal.entries ≡ [] → fits (left_of journal) history ≡ fits (allowances journal.budgets) history
+fits-empty journal history empty = ap (λ es. fits (left_from (allowances journal.budgets) (map charge_of es)) history) empty

@@ -4,16 +4,22 @@ use Rattle.std.specs.List.{range_with_len}
 use Rattle.fsw_base.specs.declared.script_faults.ScriptFault.{ScriptFault}
 use Rattle.bus_words.specs.declared.history.Entry.{Entry}
 use Rattle.bus_words.specs.ReceiptLists.{Receipts}
-use Rattle.run_report.specs.Report.{ending_text, figures_shown, report_text}
-use Rattle.app_script.specs.Grammar.{built_script}
+use Rattle.tbl_words.specs.declared.history.Entry.{Entry as TableEntry}
+use Rattle.run_report.specs.Report.{ending_text, figures_shown, table_figures_shown, report_text}
+use Rattle.app_script.specs.Grammar.{grammar}
+use Rattle.script_runs.specs.Histories.{Histories}
 use Rattle.script_runs.specs.Rotation.{rotation}
 use Rattle.app_script.specs.Script.{ScriptText}
 use Rattle.script_runs.specs.Told.{receipts_told}
-use Rattle.script_runs.proofs.Merged.{rotation-legal, rotation-merges, rotation-holds_nothing}
-use Rattle.host_run.proofs.Sizes.{length-built_script}
+use Rattle.script_runs.proofs.Merged.{rotation-legal, rotation-holds_nothing}
+use Rattle.script_runs.proofs.TablesMerged.{rotation-legal_tables, rotation-merges_both, rotation-holds_no_tables}
+use Rattle.host_run.proofs.Sizes.{length-grammar}
+use Rattle.text_page.specs.Pieces.{Grew, CutShort}
+use Rattle.host_run.specs.Audit.{IsShown, histories_of}
 use Rattle.host_run.specs.Input.{most_input, IsWhole, IsTooLarge}
 use Rattle.sb_calls.specs.Core.{Core, apps_of, state_of}
-use Rattle.host_run.specs.Serve.{Fed, Made, Lockstep, Read, TooLong, SourceFailed, NoRoom, OtherWords, Serves, EndsInput, EndsScript, EndsText, EndsRefused, HasCauses, Completes, CompletesUnread, Headline, too_large, figures_after, rotation_part, part_of}
+use Rattle.tbl_load.specs.Core.{Core as TableCore, apps_of as table_apps_of}
+use Rattle.host_run.specs.Serve.{Fed, Made, Lockstep, Read, TooLong, SourceFailed, NoRoom, OtherWords, Serves, EndsInput, EndsScript, EndsRun, EndsText, EndsRefused, HasCauses, Completes, CompletesUnread, Headline, too_large, figures_after, report_part, part_shown}
 use Rattle.host_run.specs.declared.reporting.Part.{Part}
 use Rattle.host_run.specs.declared.reporting.Part.TheVariants.{Whole, Ending}
 use Rattle.host_run.specs.declared.words.Task.{Task}
@@ -51,7 +57,7 @@ causes-input result (Err fault) fed fed' old new ends = causes-refused result fa
 
 -- each end has its cause
 causes-lockstep : (result : HostStatus) (fed fed' : Fed) (old new : Made) → Lockstep result fed fed' old new → HasCauses result fed fed' old new
-causes-lockstep result fed fed' old new (Read bytes whole ends) = causes-input result (built_script bytes) fed fed' old new ends
+causes-lockstep result fed fed' old new (Read bytes whole ends) = causes-input result (grammar bytes) fed fed' old new ends
 causes-lockstep result fed fed' old new (TooLong large ends) = causes-refused result too_large fed fed' old new ends
 causes-lockstep result fed fed' old new (SourceFailed is rose part nothing) = subst (λ r. HasCauses r fed fed' old new) (sym is) rose
 causes-lockstep result fed fed' old new (NoRoom is unread nothing) = subst (λ r. HasCauses r fed fed' old new) (sym is) tt
@@ -100,9 +106,9 @@ pub completes-lockstep : (result : HostStatus) (fed fed' : Fed) (old new : Made)
 completes-lockstep result fed fed' old new (Read bytes whole ends) = λ input script told form source sink.
     let same = whole-told bytes input fed.left fed'.left whole told in
     script-done result Whole script old new
-    (subst (λ found. EndsInput result found old new) (ap built_script same ∙ form) ends) sink
+    (subst (λ found. EndsInput result found old new) (ap grammar same ∙ form) ends) sink
 completes-lockstep result fed fed' old new (TooLong large ends) = λ input script told form source sink.
-    absurd (omega (arith, length-built_script input script form, large-long input fed.left fed'.left large told))
+    absurd (omega (arith, length-grammar input script form, large-long input fed.left fed'.left large told))
 completes-lockstep result fed fed' old new (SourceFailed is rose part nothing) = λ input script told form source sink. absurd (source rose)
 completes-lockstep result fed fed' old new (NoRoom is unread nothing) = λ input script told form source sink. inr is
 
@@ -123,7 +129,7 @@ serves-other wanted result fed fed' old new none other = record {
 }
 
 -- where all was done the headline holds
-headline-input : (found : Result ScriptText ScriptFault) (bytes : List ℕ) (fed fed' : Fed) (old new : Made) → built_script bytes ≡ found →
+headline-input : (found : Result ScriptText ScriptFault) (bytes : List ℕ) (fed fed' : Fed) (old new : Made) → grammar bytes ≡ found →
     IsWhole bytes fed.left fed'.left → EndsInput Done found old new → Headline Done fed fed' old new
 headline-input (Err fault) bytes fed fed' old new built whole ends = absurd ends
 headline-input (Ok script) bytes fed fed' old new built whole ends = λ done. (
@@ -133,37 +139,88 @@ headline-input (Ok script) bytes fed fed' old new built whole ends = λ done. (
   whole,
   built,
   rotation-legal script,
-  rotation-merges script,
+  rotation-legal_tables script,
+  rotation-merges_both script,
   rotation-holds_nothing script,
+  rotation-holds_no_tables script,
   ends.shown,
   ends.written,
 )
 
 pub headline-lockstep : (result : HostStatus) (fed fed' : Fed) (old new : Made) → Lockstep result fed fed' old new → Headline result fed fed' old new
 headline-lockstep result fed fed' old new (Read bytes whole ends) = λ done.
-    headline-input (built_script bytes) bytes fed fed' old new refl whole (subst (λ r. EndsInput r (built_script bytes) old new) done ends) refl
+    headline-input (grammar bytes) bytes fed fed' old new refl whole (subst (λ r. EndsInput r (grammar bytes) old new) done ends) refl
 headline-lockstep result fed fed' old new (TooLong large ends) = λ done. absurd (subst (λ r. EndsRefused r too_large old new) done ends)
 headline-lockstep result fed fed' old new (SourceFailed is rose part nothing) = λ done. absurd (cc (is, done))
 headline-lockstep result fed fed' old new (NoRoom is unread nothing) = λ done. absurd (cc (is, done))
 
 -- what a report shows of a core after a script's rotation
-figures-rotation : (script : ScriptText) (core : Core) → core.limits ≡ script.limits → apps_of core ≡ length script.apps → core.log.entries ≡ rotation script →
-    figures_shown core.limits (state_of core) ≡ figures_after script.limits (length script.apps) (rotation script)
+figures-rotation : (script : ScriptText) (core : Core) → core.limits ≡ script.limits → apps_of core ≡ length script.apps → core.log.entries ≡ (rotation script).bus →
+    figures_shown core.limits (state_of core) ≡ figures_after script.limits (length script.apps) (rotation script).bus
 figures-rotation script core limits apps history =
     ap (λ l. figures_after l (apps_of core) core.log.entries) limits
     ∙ ap (λ n. figures_after script.limits n core.log.entries) apps
     ∙ ap (figures_after script.limits (length script.apps)) history
 
+-- and of the tables
+table-figures-rotation : (script : ScriptText) (core : TableCore) → core.limits ≡ script.limits → table_apps_of core ≡ length script.apps →
+    core.log.entries ≡ (rotation script).tables →
+    table_figures_shown core.limits (table_apps_of core) core.log.entries ≡ table_figures_shown script.limits (length script.apps) (rotation script).tables
+table-figures-rotation script core limits apps history =
+    ap (λ l. table_figures_shown l (table_apps_of core) core.log.entries) limits
+    ∙ ap (λ n. table_figures_shown script.limits n core.log.entries) apps
+    ∙ ap (table_figures_shown script.limits (length script.apps)) history
+
 -- what is reported of a run is what is reported of the script's rotation
-pub part-rotation : (part : Part) (script : ScriptText) (core : Core) (lists : List Receipts) →
-    core.limits ≡ script.limits → apps_of core ≡ length script.apps → core.log.entries ≡ rotation script →
+part-rotation : (part : Part) (script : ScriptText) (core : Core) (tables : TableCore) (lists : List Receipts) →
+    core.limits ≡ script.limits → tables.limits ≡ script.limits → apps_of core ≡ length script.apps → table_apps_of tables ≡ length script.apps →
+    core.log.entries ≡ (rotation script).bus → tables.log.entries ≡ (rotation script).tables →
     map (λ list. list.receipts) lists ≡ map (receipts_told script (rotation script)) (range_with_len 1 (length script.apps)) →
-    part_of part core.log lists (figures_shown core.limits (state_of core)) ≡ rotation_part part script
-part-rotation Whole script core lists limits apps history told =
-    ap (report_text core.log.entries (map (λ list. list.receipts) lists)) (figures-rotation script core limits apps history)
-    ∙ ap (λ entries. report_text entries (map (λ list. list.receipts) lists) (figures_after script.limits (length script.apps) (rotation script))) history
-    ∙ ap (λ receipts. report_text (rotation script) receipts (figures_after script.limits (length script.apps) (rotation script))) told
-part-rotation Ending script core lists limits apps history told = ap ending_text (figures-rotation script core limits apps history)
+    part_shown part core tables lists ≡ report_part part script (rotation script)
+part-rotation Whole script core tables lists limits table_limits apps table_apps history table_history told =
+    let figures = figures_after script.limits (length script.apps) (rotation script).bus in
+    let uses = table_figures_shown script.limits (length script.apps) (rotation script).tables in
+    ap (λ f. report_text core.log.entries tables.log.entries (map (λ list. list.receipts) lists) f (table_figures_shown tables.limits (table_apps_of tables) tables.log.entries))
+    (figures-rotation script core limits apps history)
+    ∙ ap (report_text core.log.entries tables.log.entries (map (λ list. list.receipts) lists) figures) (table-figures-rotation script tables table_limits table_apps table_history)
+    ∙ ap (λ entries. report_text entries tables.log.entries (map (λ list. list.receipts) lists) figures uses) history
+    ∙ ap (λ entries. report_text (rotation script).bus entries (map (λ list. list.receipts) lists) figures uses) table_history
+    ∙ ap (λ receipts. report_text (rotation script).bus (rotation script).tables receipts figures uses) told
+part-rotation Ending script core tables lists limits table_limits apps table_apps history table_history told =
+    ap (λ f. ending_text f (table_figures_shown tables.limits (table_apps_of tables) tables.log.entries)) (figures-rotation script core limits apps history)
+    ∙ ap (ending_text (figures_after script.limits (length script.apps) (rotation script).bus)) (table-figures-rotation script tables table_limits table_apps table_history)
+
+-- the same histories, one by one and as a pair
+same-histories : (bus : List Entry) (tables : List TableEntry) (histories : Histories) → bus ≡ histories.bus → tables ≡ histories.tables →
+    (let pair : Histories = record { bus = bus; tables = tables } in pair) ≡ histories
+same-histories bus tables histories one two = λ i. record { bus = one i; tables = two i }
+
+-- where the histories of a run are the script's rotation, and its text is due of the script, the script ended so
+ends-as : (result : HostStatus) (part : Part) (script : ScriptText) (histories : Histories) (text : List ℕ) (old new : Made) →
+    histories ≡ rotation script → text ≡ report_part part script (rotation script) → EndsRun result histories text old new → EndsScript result part script old new
+ends-as Done part script histories text old new one two ends = record {
+  written = subst (Grew old.written new.written) two ends.written;
+  shown = subst (IsShown old.shown new.shown) one ends.shown;
+}
+ends-as Usage part script histories text old new one two ends = ends
+ends-as (Refused fault) part script histories text old new one two ends = ends
+ends-as ReadFault part script histories text old new one two ends = ends
+ends-as WriteFault part script histories text old new one two ends = record {
+  front = subst (CutShort old.written new.written) two ends.front;
+  cause = ends.cause;
+  shown = subst (IsShown old.shown new.shown) one ends.shown;
+}
+ends-as NoMemory part script histories text old new one two ends = absurd ends
+
+pub ends-run : (result : HostStatus) (part : Part) (script : ScriptText) (core : Core) (tables : TableCore) (lists : List Receipts) (old new : Made) →
+    core.limits ≡ script.limits → tables.limits ≡ script.limits → apps_of core ≡ length script.apps → table_apps_of tables ≡ length script.apps →
+    core.log.entries ≡ (rotation script).bus → tables.log.entries ≡ (rotation script).tables →
+    map (λ list. list.receipts) lists ≡ map (receipts_told script (rotation script)) (range_with_len 1 (length script.apps)) →
+    EndsRun result (histories_of core tables) (part_shown part core tables lists) old new → EndsScript result part script old new
+ends-run result part script core tables lists old new limits table_limits apps table_apps history table_history told ends =
+    ends-as result part script (histories_of core tables) (part_shown part core tables lists) old new
+    (same-histories core.log.entries tables.log.entries (rotation script) history table_history)
+    (part-rotation part script core tables lists limits table_limits apps table_apps history table_history told) ends
 
 -- the same in other words, where what guards told is what the traits tell
 pub serves-as : {wanted : Option Task} {result : HostStatus} {fed fed' fed₂ fed₂' : Fed} {old new old₂ new₂ : Made} → fed₂ ≡ fed → fed₂' ≡ fed' → old₂ ≡ old → new₂ ≡ new →
@@ -176,6 +233,6 @@ pub fed-as : {left left' : Option (List ℕ)} {faults faults' : ℕ} → left �
     (let f : Fed = record { left = left; faults = faults } in f) ≡ record { left = left'; faults = faults' }
 fed-as one two = cc
 
-pub made-as : {written written' : Option (List ℕ)} {faults faults' : ℕ} {shown shown' : Option (List (List Entry))} → written ≡ written' → faults ≡ faults' → shown ≡ shown' →
+pub made-as : {written written' : Option (List ℕ)} {faults faults' : ℕ} {shown shown' : Option (List Histories)} → written ≡ written' → faults ≡ faults' → shown ≡ shown' →
     (let m : Made = record { written = written; faults = faults; shown = shown } in m) ≡ record { written = written'; faults = faults'; shown = shown' }
 made-as one two three = cc

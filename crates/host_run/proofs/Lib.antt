@@ -3,3 +3,4 @@ pub mod Ends
 pub mod Figures
 pub mod Numbers
 pub mod Sizes
+pub mod TableCopyLaws

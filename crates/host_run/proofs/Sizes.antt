@@ -1,9 +1,8 @@
 -- How long a text is that is read as a script.
-use Rattle.std.proofs.Common.{◌≡◌, ℕ, ◌≤◌, nat_lt, Bool, true, false, cond, List, length, Option, Some, None, Result, Ok, Err, refl, subst}
+use Rattle.std.proofs.Common.{◌≡◌, ℕ, ◌≤◌, nat_lt, Bool, true, false, cond, List, length, Result, Ok, Err, refl, subst}
 use Rattle.std.proofs.lemmas.Bool.{ltb-false}
 use Rattle.fsw_base.specs.declared.script_faults.ScriptFault.{ScriptFault}
-use Rattle.app_script.specs.Grammar.{◌>=>◌, progress_of, grammar, built_script}
-use Rattle.app_script.specs.Built.{unbuilt_line}
+use Rattle.app_script.specs.Grammar.{◌>=>◌, progress_of, grammar}
 use Rattle.app_script.specs.Script.{ScriptText}
 
 -- what was read, if it was, has this property
@@ -22,12 +21,6 @@ pub go_on : {A B : Type 0} (Q : A → Type 0) (P : B → Type 0) (r : Result A S
 go_on Q P (Ok x) f first second = second x first
 go_on Q P (Err fault) f first second = tt
 
--- what holds of all that the grammar gives holds of all that is read
-pub by_unbuilt : (P : ScriptText → Type 0) (script : ScriptText) (unbuilt : Option ℕ) (fault : ℕ → ScriptFault) → P script →
-    Yields P (elim unbuilt as (λ u. Result ScriptText ScriptFault) [ None ↦ Ok script | Some number ↦ Err (fault number) ])
-by_unbuilt P script None fault one = one
-by_unbuilt P script (Some number) fault one = tt
-
 any : {A : Type 0} (P : Type 0) (r : Result A ScriptFault) → P → Yields (λ x. P) r
 any P (Ok x) p = p
 any P (Err fault) p = tt
@@ -42,12 +35,6 @@ small-grammar : (bytes : List ℕ) → Yields (λ s. length bytes ≤ 1048576) (
 unfolding grammar
 small-grammar bytes = go_on (λ s. length bytes ≤ 1048576) (λ s. length bytes ≤ 1048576) (progress_of bytes) _ (small-progress bytes) (λ s few. few)
 
-small-built : (bytes : List ℕ) → Yields (λ s. length bytes ≤ 1048576) (built_script bytes)
-unfolding built_script
-small-built bytes =
-    go_on (λ s. length bytes ≤ 1048576) (λ s. length bytes ≤ 1048576) (grammar bytes) _ (small-grammar bytes)
-    (λ script few. by_unbuilt (λ s. length bytes ≤ 1048576) script (unbuilt_line bytes) _ few)
-
 -- a script that is read has at most so many bytes
-pub length-built_script : (bytes : List ℕ) (script : ScriptText) → built_script bytes ≡ Ok script → length bytes ≤ 1048576
-length-built_script bytes script built = subst (Yields (λ s. length bytes ≤ 1048576)) built (small-built bytes)
+pub length-grammar : (bytes : List ℕ) (script : ScriptText) → grammar bytes ≡ Ok script → length bytes ≤ 1048576
+length-grammar bytes script form = subst (Yields (λ s. length bytes ≤ 1048576)) form (small-grammar bytes)

@@ -2,13 +2,19 @@
 use base.Fml.{GName}
 use Rattle.std.specs.Prelude.{◌≡◌, ◌⊎◌, List, [], ◌∷◌, ◌++◌, Option, None}
 use Rattle.std.specs.Option.{option_map}
-use Rattle.bus_words.specs.declared.history.Entry.{Entry}
+use Rattle.sb_calls.specs.Core.{Core}
+use Rattle.tbl_load.specs.Core.{Core as TableCore}
+use Rattle.script_runs.specs.Histories.{Histories}
 
--- the history was put behind those shown before, or nothing is told from now on
-abbrev pub IsShown : Option (List (List Entry)) → Option (List (List Entry)) → List Entry → Type 0
-IsShown old new history = (new ≡ option_map (λ shown. shown ++ history ∷ []) old) ⊎ (new ≡ None)
+-- the histories of both services
+abbrev pub histories_of : Core → TableCore → Histories
+histories_of bus tables = record { bus = bus.log.entries; tables = tables.log.entries }
+
+-- the histories of the run were put behind those shown before, or nothing is told from now on
+abbrev pub IsShown : Option (List Histories) → Option (List Histories) → Histories → Type 0
+IsShown old new histories = (new ≡ option_map (λ shown. shown ++ histories ∷ []) old) ⊎ (new ≡ None)
 
 -- An audit behind a guard: which audit it is, and the histories that it was shown, where it tells them.
 pub record GuardedAudit : Type 0 where
   pub audit : GName
-  pub shown : Option (List (List Entry))
+  pub shown : Option (List Histories)

@@ -8,21 +8,25 @@ use Rattle.fsw_base.specs.declared.script_faults.FaultKind.TheVariants.{TooLarge
 use Rattle.fsw_base.specs.declared.script_faults.ScriptFault.{ScriptFault}
 use Rattle.bus_words.specs.declared.history.Entry.{Entry}
 use Rattle.bus_words.specs.Held.{HoldsNothing}
-use Rattle.bus_words.specs.Log.{Log}
 use Rattle.bus_words.specs.Machine.{IsLegal, state_after}
 use Rattle.bus_words.specs.ReceiptLists.{Receipts}
 use Rattle.fsw_base.specs.Limits.{Limits}
+use Rattle.sb_calls.specs.Core.{Core, state_of}
+use Rattle.tbl_load.specs.Core.{Core as TableCore, apps_of as table_apps_of}
+use Rattle.tbl_words.specs.Leaves.{HoldsNothing as HoldsNoTables}
+use Rattle.tbl_words.specs.Machine.{IsLegal as AreLegalTables, state_after as tables_after}
 use Rattle.text_page.specs.Pieces.{Grew, CutShort}
-use Rattle.run_report.specs.CounterText.{BusFigures}
-use Rattle.run_report.specs.Report.{ending_text, figures_shown, report_of, report_text}
-use Rattle.app_script.specs.Grammar.{built_script}
+use Rattle.run_report.specs.CounterText.{BusFigures, TableFigures}
+use Rattle.run_report.specs.Report.{ending_text, figures_shown, table_figures_shown, report_text}
+use Rattle.app_script.specs.Grammar.{grammar}
+use Rattle.script_runs.specs.Histories.{Histories}
+use Rattle.script_runs.specs.Merges.{Merges}
 use Rattle.script_runs.specs.Rotation.{rotation}
 use Rattle.app_script.specs.Script.{ScriptText}
 use Rattle.script_runs.specs.Told.{receipts_told}
-use Rattle.script_runs.specs.Trace.{Merges}
 use Rattle.script_generate.specs.Generated.{generated}
 use Rattle.script_printing.specs.ScriptSpelling.{spelled_script}
-use Rattle.host_run.specs.Audit.{IsShown, GuardedAudit}
+use Rattle.host_run.specs.Audit.{IsShown, GuardedAudit, histories_of}
 use Rattle.host_run.specs.Input.{IsWhole, IsTooLarge, IsPartRead}
 use Rattle.host_run.specs.declared.reporting.Part.{Part}
 use Rattle.host_run.specs.declared.reporting.Part.TheVariants.{Whole, Ending}
@@ -49,26 +53,36 @@ too_large = record { line = 0; kind = TooLarge }
 abbrev pub figures_after : Limits → ℕ → List Entry → BusFigures
 figures_after limits apps history = figures_shown limits (state_after limits apps history)
 
--- the report of a script's history, with what each of its applications tells of what it received, and with the figures of the bus
--- after it
-abbrev pub report : ScriptText → List Entry → List ℕ
-report script history =
-    report_text history (map (receipts_told script history) (range_with_len 1 (length script.apps)))
-    (figures_after script.limits (length script.apps) history)
+-- the report of a script's histories, with what each of its applications tells of what it received and held, and with the figures of
+-- both services after them
+abbrev pub report : ScriptText → Histories → List ℕ
+report script histories =
+    report_text histories.bus histories.tables
+    (map (receipts_told script histories) (range_with_len 1 (length script.apps)))
+    (figures_after script.limits (length script.apps) histories.bus) (table_figures_shown script.limits (length script.apps) histories.tables)
 
 -- the end of this report, from its line `counters` on
-abbrev pub report_ending : ScriptText → List Entry → List ℕ
-report_ending script history = ending_text (figures_after script.limits (length script.apps) history)
+abbrev pub report_ending : ScriptText → Histories → List ℕ
+report_ending script histories =
+    ending_text (figures_after script.limits (length script.apps) histories.bus)
+    (table_figures_shown script.limits (length script.apps) histories.tables)
 
--- this much of the report of a script, run in rotation
-abbrev pub rotation_part : Part → ScriptText → List ℕ
-rotation_part Whole script = report script (rotation script)
-rotation_part Ending script = report_ending script (rotation script)
+-- this much of the report of a script's histories
+abbrev pub report_part : Part → ScriptText → Histories → List ℕ
+report_part Whole script histories = report script histories
+report_part Ending script histories = report_ending script histories
 
--- this much of the report of a journal, of the applications' lists of receipts, and of these figures
-abbrev pub part_of : Part → Log → List Receipts → BusFigures → List ℕ
-part_of Whole log lists figures = report_of log lists figures
-part_of Ending log lists figures = ending_text figures
+-- this much of the report of these histories, of the applications' lists of receipts, and of these figures
+abbrev pub part_of : Part → Histories → List Receipts → BusFigures → TableFigures → List ℕ
+part_of Whole histories lists figures tables =
+    report_text histories.bus histories.tables (map (λ list. list.receipts) lists) figures tables
+part_of Ending histories lists figures tables = ending_text figures tables
+
+-- this much of the report of both services as they are, and of the applications' lists of receipts
+abbrev pub part_shown : Part → Core → TableCore → List Receipts → List ℕ
+part_shown part bus tables lists =
+    part_of part (histories_of bus tables) lists (figures_shown bus.limits (state_of bus))
+    (table_figures_shown tables.limits (table_apps_of tables) tables.log.entries)
 
 -- A source: the input left, where it is told, and the count of its faults.
 pub record Fed : Type 0 where
@@ -83,15 +97,15 @@ fed_by left faults source = record { left = left source; faults = faults source 
 abbrev pub fed_through : GuardedSource → Fed
 fed_through source = record { left = source.left; faults = source.faults }
 
--- What the program made: the bytes written, where they are told, the count of the sink's faults, and the histories that
--- an audit was shown, where it tells them.
+-- What the program made: the bytes written, where they are told, the count of the sink's faults, and the histories of the runs
+-- that an audit was shown, where it tells them.
 pub record Made : Type 0 where
   pub written : Option (List ℕ)
   pub faults : ℕ
-  pub shown : Option (List (List Entry))
+  pub shown : Option (List Histories)
 
 -- a sink and an audit as they are, by what their traits tell
-abbrev pub made_by : {K A : Type 0} → (K → Option (List ℕ)) → (K → ℕ) → (A → Option (List (List Entry))) → K → A → Made
+abbrev pub made_by : {K A : Type 0} → (K → Option (List ℕ)) → (K → ℕ) → (A → Option (List Histories)) → K → A → Made
 made_by written faults shown sink audit = record { written = written sink; faults = faults sink; shown = shown audit }
 
 -- a sink and an audit as they are behind their guards
@@ -113,31 +127,40 @@ pub record TellsFront (old new : Made) (text : List ℕ) : Type 0 where
   pub cause : Rose old.faults new.faults
   pub shown : new.shown ≡ old.shown
 
--- a history was shown, and a text written
-pub record Reports (old new : Made) (history : List Entry) (text : List ℕ) : Type 0 where
+-- the histories of a run were shown, and a text written
+pub record Reports (old new : Made) (histories : Histories) (text : List ℕ) : Type 0 where
   pub written : Grew old.written new.written text
-  pub shown : IsShown old.shown new.shown history
+  pub shown : IsShown old.shown new.shown histories
 
--- a history was shown, a front of a text written, and the sink's count of faults rose
-pub record ReportsFront (old new : Made) (history : List Entry) (text : List ℕ) : Type 0 where
+-- the histories of a run were shown, a front of a text written, and the sink's count of faults rose
+pub record ReportsFront (old new : Made) (histories : Histories) (text : List ℕ) : Type 0 where
   pub front : CutShort old.written new.written text
   pub cause : Rose old.faults new.faults
-  pub shown : IsShown old.shown new.shown history
+  pub shown : IsShown old.shown new.shown histories
 
 -- what a wanted end, or a failing sink in its place, made of a text
 abbrev pub EndsTelling : HostStatus → HostStatus → Made → Made → List ℕ → Type 0
 EndsTelling wanted result old new text =
     ((result ≡ wanted) × Tells old new text) ⊎ ((result ≡ status.WriteFault) × TellsFront old new text)
 
--- what was made of a script of which this much is reported, by how it ended: the history of its rotation was shown, and that part
--- of its report written
+-- what was made of a script of which this much is reported, by how it ended: the histories of its rotation were shown, and that
+-- part of their report written
 abbrev pub EndsScript : HostStatus → Part → ScriptText → Made → Made → Type 0
-EndsScript status.Done part script old new = Reports old new (rotation script) (rotation_part part script)
-EndsScript status.WriteFault part script old new = ReportsFront old new (rotation script) (rotation_part part script)
+EndsScript status.Done part script old new = Reports old new (rotation script) (report_part part script (rotation script))
+EndsScript status.WriteFault part script old new = ReportsFront old new (rotation script) (report_part part script (rotation script))
 EndsScript status.NoMemory part script old new = MakesNothing old new
 EndsScript status.Usage part script old new = ⊥
 EndsScript (status.Script fault) part script old new = ⊥
 EndsScript status.ReadFault part script old new = ⊥
+
+-- what was made of a run that went through: its histories were shown, and a text written
+abbrev pub EndsRun : HostStatus → Histories → List ℕ → Made → Made → Type 0
+EndsRun status.Done histories text old new = Reports old new histories text
+EndsRun status.WriteFault histories text old new = ReportsFront old new histories text
+EndsRun status.NoMemory histories text old new = ⊥
+EndsRun status.Usage histories text old new = ⊥
+EndsRun (status.Script fault) histories text old new = ⊥
+EndsRun status.ReadFault histories text old new = ⊥
 
 -- what was made of a text that takes memory, by how it ended
 abbrev pub EndsText : HostStatus → List ℕ → Made → Made → Type 0
@@ -148,7 +171,7 @@ EndsText status.Usage text old new = ⊥
 EndsText (status.Script fault) text old new = ⊥
 EndsText status.ReadFault text old new = ⊥
 
--- what was made of an input that is no script, or one that isn't run yet, by how it ended
+-- what was made of an input that is no script, by how it ended
 abbrev pub EndsRefused : HostStatus → ScriptFault → Made → Made → Type 0
 EndsRefused (status.Script told) fault old new = (told ≡ fault) × Tells old new (fault_text fault)
 EndsRefused status.WriteFault fault old new = TellsFront old new (fault_text fault)
@@ -165,7 +188,7 @@ EndsInput result (Err fault) old new = EndsRefused result fault old new
 -- On the word `lockstep` one of these happened.
 pub data Lockstep (result : HostStatus) (fed fed' : Fed) (old new : Made) : Type 0 where
   -- the whole input was read, and made what it is worth
-  Read : (bytes : List ℕ) → IsWhole bytes fed.left fed'.left → EndsInput result (built_script bytes) old new → Lockstep result fed fed' old new
+  Read : (bytes : List ℕ) → IsWhole bytes fed.left fed'.left → EndsInput result (grammar bytes) old new → Lockstep result fed fed' old new
   -- the input is longer than any script
   TooLong : IsTooLarge fed.left fed'.left → EndsRefused result too_large old new → Lockstep result fed fed' old new
   -- the source failed
@@ -206,11 +229,10 @@ HasCauses status.Done fed fed' old new = Unit {0}
 HasCauses (status.Script fault) fed fed' old new = Unit {0}
 HasCauses status.NoMemory fed fed' old new = Unit {0}
 
--- where the input is told and is a script that the program runs, and neither count of faults rose, all was done or there
--- was no memory
+-- where the input is told and is a script, and neither count of faults rose, all was done or there was no memory
 abbrev pub Completes : HostStatus → Fed → Fed → Made → Made → Type 0
 Completes result fed fed' old new =
-    (input : List ℕ) (script : ScriptText) → fed.left ≡ Some input → built_script input ≡ Ok script →
+    (input : List ℕ) (script : ScriptText) → fed.left ≡ Some input → grammar input ≡ Ok script →
     ¬ Rose fed.faults fed'.faults → ¬ Rose old.faults new.faults →
     (result ≡ status.Done) ⊎ (result ≡ status.NoMemory)
 
@@ -218,17 +240,19 @@ Completes result fed fed' old new =
 abbrev pub CompletesUnread : HostStatus → Made → Made → Type 0
 CompletesUnread result old new = ¬ Rose old.faults new.faults → (result ≡ status.Done) ⊎ (result ≡ status.NoMemory)
 
--- The headline of runs in rotation: where all was done, the whole input was read and is a script, and there is a
--- history that the bus can have under the script's limits, that merges the calls of the script's applications, each once
--- and in order, behind which no pipe is live, no message and no buffer is held and no byte of the bus's pool in use, that the
--- audit was shown, and of which the report was written.
+-- The headline of runs in rotation: where all was done, the whole input was read and is a script, and there are a history that
+-- the bus and one that the tables can have under the script's limits, which merge the calls of the script's applications, each once
+-- and in order, behind which no pipe is live, no message and no buffer is held and no byte of the bus's pool in use, and no table
+-- and no handle left and no byte of the tables' pool in use; these the audit was shown, and of these the report was written.
 abbrev pub Headline : HostStatus → Fed → Fed → Made → Made → Type 0
 Headline result fed fed' old new =
-    result ≡ status.Done → (bytes : List ℕ) × (script : ScriptText) × (history : List Entry)
+    result ≡ status.Done → (bytes : List ℕ) × (script : ScriptText) × (histories : Histories)
     × IsWhole bytes fed.left fed'.left
-    × (built_script bytes ≡ Ok script)
-    × IsLegal script.limits (length script.apps) history
-    × Merges script history
-    × HoldsNothing script.limits (state_after script.limits (length script.apps) history)
-    × IsShown old.shown new.shown history
-    × Grew old.written new.written (report script history)
+    × (grammar bytes ≡ Ok script)
+    × IsLegal script.limits (length script.apps) histories.bus
+    × AreLegalTables script.limits (length script.apps) histories.tables
+    × Merges script histories
+    × HoldsNothing script.limits (state_after script.limits (length script.apps) histories.bus)
+    × HoldsNoTables script.limits (tables_after script.limits (length script.apps) histories.tables)
+    × IsShown old.shown new.shown histories
+    × Grew old.written new.written (report script histories)

@@ -1,21 +1,22 @@
-//! Who is shown the bus of each run.
+//! Who is shown both services of each run.
 ghost use Rattle.std.specs.Prelude.{◌≡◌, true, List, Option, None};
-ghost use Rattle.bus_words.specs.declared.history.Entry.{Entry};
-ghost use Rattle.host_run.specs.Audit.{IsShown};
+ghost use Rattle.script_runs.specs.Histories.{Histories};
+ghost use Rattle.host_run.specs.Audit.{IsShown, histories_of};
 
 use fsw_base::{Sink, SinkGuard};
 use sb_calls::BusCore;
 use std::marker::Model;
+use tbl_load::TblCore;
 
-/// Who is shown the bus of each run, once, before its report is written.
+/// Who is shown the bus and the tables of each run, once, before its report is written.
 pub trait Audit {
-    /// The histories that it was shown, where it tells them.
-    ghost shown: { Self → Option (List (List Entry)) };
+    /// The histories of the runs that it was shown, where it tells them.
+    ghost shown: { Self → Option (List Histories) };
 
-    /// Is shown a bus; `serve` shows the one of a whole run. Its history is put behind those shown
-    /// before, or nothing is told from then on.
-    fn closed(&mut self, bus: &BusCore<'_>)
-        ensures { IsShown (shown self.old) (shown self.new) bus.now.log.entries };
+    /// Is shown a bus and its tables; `serve` shows those of a whole run. Both histories are put
+    /// behind those shown before, or nothing is told from then on.
+    fn closed(&mut self, bus: &BusCore<'_>, tables: &TblCore<'_>)
+        ensures { IsShown (shown self.old) (shown self.new) (histories_of bus.now tables.now) };
 }
 
 /// An audit that tells nothing.
@@ -25,10 +26,10 @@ pub struct NoAudit;
 impl Audit for NoAudit {
     ghost shown = { λ _. None };
 
-    fn closed(&mut self, _bus: &BusCore<'_>) {}
+    fn closed(&mut self, _bus: &BusCore<'_>, _tables: &TblCore<'_>) {}
 }
 
-/// An audit that is shown a bus only while nothing was written.
+/// An audit that is shown a run only while nothing was written.
 ///
 /// Who has only the guard can't reach the audit in another way.
 #[derive(Drop)]
@@ -52,13 +53,19 @@ impl<'a, A: Audit> AuditGuard<'a, A> {
         AuditGuard { audit }
     }
 
-    /// Shows the audit a bus. Nothing may have been written through the sink's guard.
-    pub fn closed<K: Sink>(&mut self, bus: &BusCore<'_>, _sink: &SinkGuard<'_, K>)
+    /// Shows the audit a bus and its tables. Nothing may have been written through the sink's
+    /// guard.
+    pub fn closed<K: Sink>(
+        &mut self,
+        bus: &BusCore<'_>,
+        tables: &TblCore<'_>,
+        _sink: &SinkGuard<'_, K>,
+    )
         requires { _sink.now.untouched ≡ true }
-        ensures shown { IsShown self.old.shown self.new.shown bus.now.log.entries }
+        ensures shown { IsShown self.old.shown self.new.shown (histories_of bus.now tables.now) }
         ensures same_audit { self.new.audit ≡ self.old.audit }
     {
-        self.audit.closed(bus);
+        self.audit.closed(bus, tables);
     }
 
     /// Gives the audit back.

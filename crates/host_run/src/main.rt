@@ -1,4 +1,5 @@
-//! The program: reads a script, runs its applications on the software bus, and writes a report.
+//! The program: reads a script, runs its applications on the software bus and on Table Services,
+//! and writes a report.
 #![tactic(auto)]
 
 mod audit;
@@ -12,6 +13,7 @@ mod serve;
 #[cfg(test)]
 mod serve_tests;
 mod status;
+mod table_copies;
 #[cfg(test)]
 mod tests;
 mod words;

@@ -1,16 +1,19 @@
-//! What the bus of a run has in its memory pools once every application has ended.
+//! What both services of a run have in their memory pools once every application has ended.
 
 use crate::audit::Audit;
 use crate::serve::serve;
 use crate::status::HostStatus;
 use crate::words::Words;
-use es_pool::ClassStats;
+use es_pool::{ClassStats, Pool};
 use fsw_base::{MemSink, MemSource, OpenGate};
 use sb_calls::BusCore;
 use std::test::Fail;
+use tbl_load::TblCore;
 
-/// Two blocks of 64 bytes go out, one of them twice; both come back, the last at the end.
-const SCRIPT: &[u8] = b"sizes 32 64\napp A\npool q0 176\npget m0 q0 64\npget m1 q0 64\n\
+/// Of the application's pool two blocks of 64 bytes go out, one of them twice, and of the tables'
+/// pool two more; all come back, the last at the end.
+const SCRIPT: &[u8] = b"sizes 32 64\napp A\ntreg t0 T 40 1\ntget t0\npool q0 176\n\
+    pget m0 q0 64\npget m1 q0 64\n\
     pput q0 m1\npget m2 q0 32\npput q0 m1\npget m2 q0 65\npget m2 q0 40\npput q0 m5\npstats q0\n\
     pget m3 q1 8\n";
 
@@ -27,7 +30,12 @@ const REPORT: &[u8] = b"fsw 1\nbus\n\
     10 a1 pstats 1 -> CFE_SUCCESS 176 3 2 16\n\
     11 a1 pget 0 8 -> NO_SUCH_POOL\n\
     12 a1 end -> CFE_SUCCESS\n\
+    tables\n\
+    1 a1 treg T 40 1 0 -> CFE_SUCCESS 1\n\
+    2 a1 tget 1 -> CFE_TBL_ERR_NEVER_LOADED 0\n\
+    3 a1 end -> CFE_SUCCESS\n\
     receipts\n\
+    a1 tbl h1 v0 size=40 sum=0 head=00000000000000000000000000000000\n\
     events\n\
     counters\n\
     bus nosub=0 send=0 recv=0 create=0 sub=0 opts=0 find=0 dup=0 limit=0 overflow=0\n\
@@ -36,27 +44,37 @@ const REPORT: &[u8] = b"fsw 1\nbus\n\
     apool 1 size=176 free=16 requests=3 errors=2\n\
     aclass 1 64 made=2 free=2\n\
     evs sent=0 filtered=0 cut=0 refused=0 logged=0 lost=0 mode=1\n\
+    tbl count=0/1 handles=0/1 bytes=0/128\n\
+    tpool size=524288 free=524128 requests=2 errors=0\n\
+    tclass 64 made=2 free=2\n\
     end\n";
 
-// The second block size of the first pool, on the bus that was shown.
+// The second block size of an application's first pool and of the tables' pool, of what was shown.
 #[derive(Drop)]
-struct SecondSize {
-    found: Option<ClassStats>,
+struct SecondSizes {
+    of_application: Option<ClassStats>,
+    of_tables: Option<ClassStats>,
 }
 
-impl Audit for SecondSize {
+impl Audit for SecondSizes {
     ghost use Rattle.std.specs.Prelude.{None};
 
     ghost shown = { λ _. None };
 
-    fn closed(&mut self, bus: &BusCore<'_>) {
+    fn closed(&mut self, bus: &BusCore<'_>, tables: &TblCore<'_>) {
         if 1 <= bus.app_pools() {
-            let pool = bus.app_pool(1);
-            if 2 <= pool.classes() {
-                self.found = Some(pool.class(1));
-            }
+            self.of_application = second_of(bus.app_pool(1));
         }
+        self.of_tables = second_of(tables.pool());
     }
+}
+
+// The figures of a pool's second block size, where it has two.
+fn second_of(pool: &Pool) -> Option<ClassStats> {
+    if 2 <= pool.classes() {
+        return Some(pool.class(1));
+    }
+    None
 }
 
 #[test]
@@ -65,7 +83,10 @@ fn blocks_are_free_once_their_application_has_ended(rt: HostRuntime) -> Result<(
     words.add("lockstep");
     let mut source = MemSource::new(SCRIPT, 1000, &[]);
     let mut sink = MemSink::new(rt.alloc(), 10_000, 1000, &[])?;
-    let mut audit = SecondSize { found: None };
+    let mut audit = SecondSizes {
+        of_application: None,
+        of_tables: None,
+    };
     let status = serve(
         &rt,
         rt.alloc(),
@@ -82,6 +103,7 @@ fn blocks_are_free_once_their_application_has_ended(rt: HostRuntime) -> Result<(
         made: 2,
         free: 2,
     };
-    assert_eq!(rt; audit.found, Some(wanted));
+    assert_eq!(rt; audit.of_application, Some(wanted));
+    assert_eq!(rt; audit.of_tables, Some(wanted));
     Ok(())
 }

@@ -1,10 +1,11 @@
 //! The top call: all that the program does.
 ghost use Rattle.std.specs.Prelude.{◌≡◌, ◌≤◌, ◌⊎◌, ℕ, Some, None, true, false};
-ghost use Rattle.app_script.specs.Grammar.{built_script};
+ghost use Rattle.app_run.specs.Openings.{HaveRoom};
+ghost use Rattle.app_script.specs.Grammar.{grammar};
 ghost use Rattle.script_generate.specs.Generated.{generated};
 ghost use Rattle.script_printing.specs.ScriptSpelling.{spelled_script};
-ghost use Rattle.host_run.specs.Audit.{GuardedAudit};
-ghost use Rattle.host_run.specs.Serve.{Headline, Lockstep, Generates, Soaks, OtherWords, Serves, HasCauses, Completes, CompletesUnread, fed_by, made_by, fed_through, made_through, EndsInput, EndsScript, EndsText, EndsRefused, EndsTelling, usage_text};
+ghost use Rattle.host_run.specs.Audit.{GuardedAudit, histories_of};
+ghost use Rattle.host_run.specs.Serve.{Headline, Lockstep, Generates, Soaks, OtherWords, Serves, HasCauses, Completes, CompletesUnread, fed_by, made_by, fed_through, made_through, EndsInput, EndsScript, EndsRun, EndsText, EndsRefused, EndsTelling, part_shown, usage_text};
 ghost use Rattle.host_run.specs.Status.{is_read_fault, is_write_fault};
 ghost use Rattle.host_run.specs.Words.{task_of};
 
@@ -16,10 +17,13 @@ use crate::status::HostStatus;
 use crate::words::{Task, Words};
 use app_run::{Finished, Regions, lockstep};
 use app_script::{ReadFail, Script, read_script};
+use bus_words::ReceiptList;
 use fsw_base::{FaultKind, Gate, ScriptFault, Sink, SinkGuard, Source, SourceGuard, WriteFault};
+use sb_calls::BusCore;
 use script_generate::generate;
 use script_printing::print_script;
 use std::alloc::Global;
+use tbl_load::TblCore;
 use text_page::write_text;
 
 // The fault of an input that is longer than any script.
@@ -29,15 +33,16 @@ const TOO_LARGE: ScriptFault = ScriptFault {
 };
 
 /// Does what the words say. On `lockstep` it reads a script from the source to its end, runs it in
-/// strict rotation, shows the bus to the audit, and writes the report to the sink. On `gen N` it
-/// reads nothing, and writes the generated script of number N. On `soak N` it reads nothing, runs
-/// that script as `lockstep` would, shows the bus to the audit, and writes the end of the report,
-/// from its line `counters` on. N is in decimal, with no needless 0 before it, at most 4294967295.
+/// strict rotation, shows the bus and its tables to the audit, and writes the report to the sink.
+/// On `gen N` it reads nothing, and writes the generated script of number N. On `soak N` it reads
+/// nothing, runs that script as `lockstep` would, shows both to the audit, and writes the end of
+/// the report, from its line `counters` on. N is in decimal, with no needless 0 before it, at most
+/// 4294967295.
 ///
 /// - `Usage`, on all other words: nothing is read, and the usage line is written.
-/// - `Script`, where the input is no script, or has a line that the program doesn't run yet, or is
-///   longer than 1,048,576 bytes; at most one byte more than that is read. The line of the first
-///   fault is written; by the code, no application ran.
+/// - `Script`, where the input is no script, or is longer than 1,048,576 bytes; at most one byte
+///   more than that is read. The line of the first fault is written; by the code, no application
+///   ran.
 /// - `ReadFault`, only where the source's count of faults rose, or stands at its last value:
 ///   nothing is written.
 /// - `WriteFault`, only where the sink's count of faults rose, or stands at its last value: a front
@@ -189,7 +194,7 @@ fn serve_text<K: Sink, A: Audit>(
 ) -> HostStatus
     requires none_failed { sink.old.failed ≡ false }
     requires untouched { sink.old.untouched ≡ true }
-    ensures end { EndsInput result (built_script text.now) (made_through sink.old audit.old)
+    ensures end { EndsInput result (grammar text.now) (made_through sink.old audit.old)
         (made_through sink.new audit.new) }
     ensures failed { sink.new.failed ≡ is_write_fault result }
     ensures no_read_fault { is_read_fault result ≡ false }
@@ -244,7 +249,7 @@ fn soak<K: Sink, A: Audit>(
     serve_script(alloc, &script, Part::Ending, sink, audit)
 }
 
-// Runs the script, shows its bus to the audit, and writes so much of its report.
+// Runs the script, shows both services to the audit, and writes so much of its report.
 fn serve_script<K: Sink, A: Audit>(
     alloc: Global,
     script: &Script,
@@ -267,7 +272,7 @@ fn serve_script<K: Sink, A: Audit>(
     run_script(alloc, script, part, &mut regions, sink, audit)
 }
 
-// The same, with the memory that the messages of the run lie in.
+// The same, with the memory that the messages and the tables of the run lie in.
 fn run_script<K: Sink, A: Audit>(
     alloc: Global,
     script: &Script,
@@ -276,7 +281,7 @@ fn run_script<K: Sink, A: Audit>(
     sink: &mut SinkGuard<'_, K>,
     audit: &mut AuditGuard<'_, A>,
 ) -> HostStatus
-    requires regions { script.now.limits.pool ≤ regions.old.pool }
+    requires regions { HaveRoom regions.old script.now.limits }
     requires none_failed { sink.old.failed ≡ false }
     requires untouched { sink.old.untouched ≡ true }
     ensures end { EndsScript result part script.now (made_through sink.old audit.old)
@@ -286,11 +291,40 @@ fn run_script<K: Sink, A: Audit>(
     ensures same_sink { sink.new.sink ≡ sink.old.sink }
     ensures same_audit { audit.new.audit ≡ audit.old.audit }
 {
-    let Ok(Finished { bus, receipts }) = lockstep(alloc, script, regions) else {
+    let Ok(
+        Finished {
+            bus,
+            tables,
+            receipts,
+        },
+    ) = lockstep(alloc, script, regions)
+    else {
         return HostStatus::NoMemory;
     };
-    audit.closed(&bus, sink);
-    match write_part(&bus, receipts.as_slice(), part, sink) {
+    tell_run(&bus, &tables, receipts.as_slice(), part, sink, audit)
+}
+
+// Shows both services to the audit, and writes so much of their report.
+fn tell_run<K: Sink, A: Audit>(
+    bus: &BusCore<'_>,
+    tables: &TblCore<'_>,
+    receipts: &[ReceiptList],
+    part: Part,
+    sink: &mut SinkGuard<'_, K>,
+    audit: &mut AuditGuard<'_, A>,
+) -> HostStatus
+    requires none_failed { sink.old.failed ≡ false }
+    requires untouched { sink.old.untouched ≡ true }
+    ensures end { EndsRun result (histories_of bus.now tables.now)
+        (part_shown part bus.now tables.now receipts.now) (made_through sink.old audit.old)
+        (made_through sink.new audit.new) }
+    ensures failed { sink.new.failed ≡ is_write_fault result }
+    ensures no_read_fault { is_read_fault result ≡ false }
+    ensures same_sink { sink.new.sink ≡ sink.old.sink }
+    ensures same_audit { audit.new.audit ≡ audit.old.audit }
+{
+    audit.closed(bus, tables, sink);
+    match write_part(bus, tables, receipts, part, sink) {
         Ok(()) => HostStatus::Done,
         Err(WriteFault) => HostStatus::WriteFault,
     }

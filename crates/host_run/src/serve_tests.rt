@@ -20,6 +20,8 @@ const REPORT: &[u8] = b"fsw 1\nbus\n\
     3 a1 send 8 235 inc -> CFE_SUCCESS 1 1\n\
     4 a1 recv 1 -> CFE_SUCCESS 1\n\
     5 a1 end -> CFE_SUCCESS\n\
+    tables\n\
+    1 a1 end -> CFE_SUCCESS\n\
     receipts\n\
     a1 msg p1 n1 id=0x0801 seq=1 size=8 sum=236 head=0801c00100011011\n\
     events\n\
@@ -29,10 +31,12 @@ const REPORT: &[u8] = b"fsw 1\nbus\n\
     pool size=524288 free=524264 requests=1 errors=0\n\
     class 8 made=1 free=1\n\
     evs sent=0 filtered=0 cut=0 refused=0 logged=0 lost=0 mode=1\n\
+    tbl count=0/0 handles=0/0 bytes=0/0\n\
+    tpool size=524288 free=524288 requests=0 errors=0\n\
     end\n";
 
 /// How many calls of a source or a sink are made to fail, one in each run.
-const CALLS: u32 = 40;
+const CALLS: u32 = 60;
 
 /// How the generated script of number 0 begins.
 const GENERATED: &[u8] = b"app G1\ncreate p0 8 P1\nsub 0x0801 p0 4 global\nsub 0x0802 p0 4 global\n\
@@ -49,6 +53,8 @@ const SOAKED: &[u8] = b"counters\n\
     class 48 made=14 free=14\n\
     class 64 made=14 free=14\n\
     evs sent=591 filtered=0 cut=0 refused=0 logged=20 lost=571 mode=1\n\
+    tbl count=0/0 handles=0/0 bytes=0/0\n\
+    tpool size=524288 free=524288 requests=0 errors=0\n\
     end\n";
 
 // So many words.
@@ -93,6 +99,9 @@ const ROTATION_REPORT: &[u8] = b"fsw 1\nbus\n\
     5 a1 recv 1 -> CFE_SUCCESS 1\n\
     6 a2 end -> CFE_SUCCESS\n\
     7 a1 end -> CFE_SUCCESS\n\
+    tables\n\
+    1 a2 end -> CFE_SUCCESS\n\
+    2 a1 end -> CFE_SUCCESS\n\
     receipts\n\
     a1 msg p1 n1 id=0x0801 seq=1 size=7 sum=203 head=0801c001000001\n\
     a1 msg p1 n1 id=0x0801 seq=1 size=7 sum=203 head=0801c001000001\n\
@@ -103,6 +112,8 @@ const ROTATION_REPORT: &[u8] = b"fsw 1\nbus\n\
     pool size=524288 free=524264 requests=1 errors=0\n\
     class 8 made=1 free=1\n\
     evs sent=0 filtered=0 cut=0 refused=0 logged=0 lost=0 mode=1\n\
+    tbl count=0/0 handles=0/0 bytes=0/0\n\
+    tpool size=524288 free=524288 requests=0 errors=0\n\
     end\n";
 
 /// Two applications that wait, each on a pipe that nobody sends to.
@@ -116,6 +127,9 @@ const PENDING_REPORT: &[u8] = b"fsw 1\nbus\n\
     5 a2 end -> CFE_SUCCESS\n\
     6 a1 look 1 -> CFE_SB_TIME_OUT\n\
     7 a1 end -> CFE_SUCCESS\n\
+    tables\n\
+    1 a2 end -> CFE_SUCCESS\n\
+    2 a1 end -> CFE_SUCCESS\n\
     receipts\n\
     events\n\
     counters\n\
@@ -123,6 +137,40 @@ const PENDING_REPORT: &[u8] = b"fsw 1\nbus\n\
     use msgids=0/0 pipes=0/2 subs=0/0 buffers=0/0 bytes=0/0\n\
     pool size=524288 free=524288 requests=0 errors=0\n\
     evs sent=0 filtered=0 cut=0 refused=0 logged=0 lost=0 mode=1\n\
+    tbl count=0/0 handles=0/0 bytes=0/0\n\
+    tpool size=524288 free=524288 requests=0 errors=0\n\
+    end\n";
+
+/// Two applications that share a table, whose owner still holds the version before.
+const TABLES: &[u8] = b"app A\ntreg t0 T 4 1\ntload t0 0 00010203\ntget t0\ntload t0 0 04050607\n\
+    show t0\napp B\ntshare t0 T\ntval t0\ntget t0\n";
+
+const TABLE_REPORT: &[u8] = b"fsw 1\nbus\n\
+    1 a2 end -> CFE_SUCCESS\n\
+    2 a1 end -> CFE_SUCCESS\n\
+    tables\n\
+    1 a1 treg T 4 1 0 -> CFE_SUCCESS 1\n\
+    2 a2 tshare T -> CFE_SUCCESS 2\n\
+    3 a1 tload 1 0 4 6 -> CFE_SUCCESS\n\
+    4 a2 tval 2 -> NO_LOAD\n\
+    5 a1 tget 1 -> CFE_TBL_INFO_UPDATED 1\n\
+    6 a2 tget 2 -> CFE_TBL_INFO_UPDATED 1\n\
+    7 a1 tload 1 0 4 22 -> CFE_SUCCESS\n\
+    8 a2 end -> CFE_SUCCESS\n\
+    9 a1 end -> CFE_SUCCESS\n\
+    receipts\n\
+    a1 tbl h1 v1 size=4 sum=6 head=00010203\n\
+    a1 tbl h1 v1 size=4 sum=6 head=00010203\n\
+    a2 tbl h2 v1 size=4 sum=6 head=00010203\n\
+    events\n\
+    counters\n\
+    bus nosub=0 send=0 recv=0 create=0 sub=0 opts=0 find=0 dup=0 limit=0 overflow=0\n\
+    use msgids=0/0 pipes=0/0 subs=0/0 buffers=0/0 bytes=0/0\n\
+    pool size=524288 free=524288 requests=0 errors=0\n\
+    evs sent=0 filtered=0 cut=0 refused=0 logged=0 lost=0 mode=1\n\
+    tbl count=0/1 handles=0/2 bytes=0/16\n\
+    tpool size=524288 free=524240 requests=2 errors=0\n\
+    tclass 8 made=2 free=2\n\
     end\n";
 
 // The status of a script with this fault.
@@ -152,11 +200,7 @@ fn scripts_print_their_reports(rt: HostRuntime) -> Result<(), Fail> {
             fault(2, FaultKind::BadWord),
             b"script:2:BadWord\n",
         ),
-        (
-            b"app A\ntval t0\n",
-            fault(2, FaultKind::NotYet),
-            b"script:2:NotYet\n",
-        ),
+        (TABLES, HostStatus::Done, TABLE_REPORT),
     ];
     for (input, status, output) in &cases {
         let (ended, sink) = run(&rt, input)?;
@@ -366,5 +410,6 @@ fn audit_holds_the_entries_of_the_report(rt: HostRuntime) -> Result<(), Fail> {
     assert!(rt; audit.tells());
     assert_eq!(rt; audit.pairs(), 1);
     assert_eq!(rt; audit.bus(0).len(), 5);
+    assert_eq!(rt; audit.tables(0).len(), 1);
     Ok(())
 }

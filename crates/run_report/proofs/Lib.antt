@@ -1,4 +1,7 @@
 pub mod Accounts
 pub mod Legal
 pub mod Splitting
+pub mod TableLegal
+pub mod TableTelling
 pub mod Telling
+pub mod Words

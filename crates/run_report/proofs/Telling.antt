@@ -1,8 +1,7 @@
 -- What the lines of a report tell.
-use Rattle.std.proofs.Common.{◌≡◌, ℕ, suc, ◌+◌, ◌*◌, ◌<◌, ◌^◌, ◌==◌, nat_lt, if◌then◌else◌, Bool, true, false, List, [], ◌∷◌, ◌++◌, length, get_or, sum, find, Option, Some, None, All, codes, decimal, refl, ap, sym, ◌∙◌, arith, append_assoc}
+use Rattle.std.proofs.Common.{◌≡◌, ℕ, ◌+◌, ◌<◌, ◌^◌, ◌==◌, nat_lt, if◌then◌else◌, Bool, true, false, List, [], ◌∷◌, ◌++◌, length, get_or, sum, find, Option, Some, None, All, codes, decimal, refl, ap, sym, ◌∙◌, arith, append_assoc}
 use Rattle.std.specs.List.{list_all}
 use Rattle.std.specs.Str.{bytes_eq}
-use Rattle.std.proofs.lemmas.Bool.{leb-true}
 use Rattle.std.proofs.lemmas.Fmt.{decimal_injective}
 use Rattle.std.proofs.lemmas.List.{append_cancel_left}
 use Rattle.std.proofs.lemmas.List.Elements.{All-head, All-tail}
@@ -25,8 +24,9 @@ use Rattle.bus_words.specs.declared.history.Call.TheVariants.{Create, Delete, Se
 use Rattle.bus_words.specs.declared.history.Entry.{Entry}
 use Rattle.text_page.specs.Texts.{name_text, numbered}
 use Rattle.run_report.specs.BusText.{scope_text, mode_text, call_text, figures_text, stats_text, answer_text, entry_text}
-use Rattle.run_report.specs.ReadBack.{is_visible, has_plain_name, can_answer, tells_plain_name, are_short, are_short_stats, has_short_numbers, IsPlain, TellTheSame}
+use Rattle.run_report.specs.ReadBack.{has_plain_name, can_answer, tells_plain_name, are_short, are_short_stats, has_short_numbers, IsPlain, TellTheSame}
 use Rattle.run_report.proofs.Splitting.{above, above-append, above-from_within, and_first, and_second, split_once, split_twice, split_thrice, decimal_above, letter_not_decimal}
+use Rattle.run_report.proofs.Words.{short, same_fronts, name_word, word, behind_word, behind_number, split_four, beginning, fourth, line_parts}
 
 -- Answers. --
 
@@ -206,13 +206,6 @@ sixth (Evs s) = sixth_event_name s
 
 same_kind : (a b : BusAnswer) → answer_text a ≡ answer_text b → kind_of a ≡ kind_of b
 same_kind a b e = sym (sixth a) ∙ ap kind_at e ∙ sixth b
-
-short : (n : ℕ) → nat_lt n (2 ^ 32) ≡ true → n < 2 ^ 64
-short n holds = let below : n < 2 ^ 32 = leb-true (suc n) (2 ^ 32) holds in omega arith
-
--- two texts that begin with a number and a blank
-same_fronts : (m n : ℕ) (x y : List ℕ) → decimal m ++ 32 ∷ x ≡ decimal n ++ 32 ∷ y → (decimal m ≡ decimal n) × (x ≡ y)
-same_fronts m n x y same = split_once 33 32 (decimal m) (decimal n) x y (omega arith) (decimal_above 33 m (omega arith)) (decimal_above 33 n (omega arith)) same
 
 -- of numbers that have 32 bits, the first and the others
 first_short : (n : ℕ) (ns : List ℕ) → list_all (λ number. nat_lt number (2 ^ 32)) (n ∷ ns) ≡ true →
@@ -475,10 +468,6 @@ record Tells (c d : Call) (x y : List ℕ) : Type 0 where
   kind : telling c ≡ telling d
   rest : x ≡ y
 
-name_word : (name : List ℕ) → list_all is_visible name ≡ true → above 33 (name_text name) ≡ true
-name_word [] plain = refl
-name_word (x ∷ xs) plain = above-from_within 33 126 33 (omega arith) (x ∷ xs) plain
-
 scope_word : (scope : Scope) → above 33 (scope_text scope) ≡ true
 scope_word scopes.Global = refl
 scope_word scopes.Local = refl
@@ -486,36 +475,6 @@ scope_word scopes.Local = refl
 mode_word : (inc : Bool) → above 33 (mode_text inc) ≡ true
 mode_word true = refl
 mode_word false = refl
-
-word : (n : ℕ) → above 33 (decimal n) ≡ true
-word n = decimal_above 33 n (omega arith)
-
--- a word, and a number, with a blank behind it
-behind_word : (u v x y : List ℕ) → above 33 u ≡ true → above 33 v ≡ true → u ++ 32 ∷ x ≡ v ++ 32 ∷ y → x ≡ y
-behind_word u v x y one other e = (split_once 33 32 u v x y (omega arith) one other e).1
-
-behind_number : (m n : ℕ) (x y : List ℕ) → decimal m ++ 32 ∷ x ≡ decimal n ++ 32 ∷ y → x ≡ y
-behind_number m n x y e = behind_word (decimal m) (decimal n) x y (word m) (word n) e
-
--- four words, with blanks between and behind them
-split_four : (a b u v w z s t x y : List ℕ) → above 33 a ≡ true → above 33 b ≡ true → above 33 u ≡ true → above 33 v ≡ true → above 33 w ≡ true → above 33 z ≡ true →
-    above 33 s ≡ true → above 33 t ≡ true →
-    (((((a ++ 32 ∷ []) ++ u) ++ 32 ∷ []) ++ w) ++ 32 ∷ []) ++ s ++ 32 ∷ x ≡ (((((b ++ 32 ∷ []) ++ v) ++ 32 ∷ []) ++ z) ++ 32 ∷ []) ++ t ++ 32 ∷ y → x ≡ y
-split_four a b u v w z s t x y number other one two three four five six same =
-    let rest : a ++ 32 ∷ ((u ++ 32 ∷ []) ++ w ++ 32 ∷ [] ++ s ++ 32 ∷ x) ≡ b ++ 32 ∷ ((v ++ 32 ∷ []) ++ z ++ 32 ∷ [] ++ t ++ 32 ∷ y) =
-    regroup a u w s x ∙ same ∙ sym (regroup b v z t y) in
-    split_thrice u v w z s t x y one two three four five six (behind_word a b _ _ number other rest)
-  where
-    regroup : (a u w s x : List ℕ) → a ++ 32 ∷ ((u ++ 32 ∷ []) ++ w ++ 32 ∷ [] ++ s ++ 32 ∷ x) ≡ (((((a ++ 32 ∷ []) ++ u) ++ 32 ∷ []) ++ w) ++ 32 ∷ []) ++ s ++ 32 ∷ x
-    regroup a u w s x = simp append_assoc
-
--- the first three bytes of a text, as a number that tells the words for calls apart, but for two pairs of words
-abbrev beginning : List ℕ → ℕ
-beginning text = get_or text 0 0 + 128 * get_or text 1 0 + 16384 * get_or text 2 0
-
--- which the fourth or the fifth byte tells apart
-abbrev fourth : List ℕ → ℕ
-fourth text = get_or text 3 0 + 128 * get_or text 4 0
 
 call_tells : (c d : Call) (x y : List ℕ) → has_plain_name c ≡ true → has_plain_name d ≡ true → call_text c ++ 32 ∷ x ≡ call_text d ++ 32 ∷ y → Tells c d x y
 call_tells (Create depth name) (Create height title) x y plain clear e = record {
@@ -585,12 +544,9 @@ call_tells c d x y plain clear e = absurd (omega (arith, ap beginning e))
 -- Lines. --
 
 -- a line and what is behind it, word by word
-line_parts : (n : ℕ) (e : Entry) (x : List ℕ) →
+parts_of : (n : ℕ) (e : Entry) (x : List ℕ) →
     entry_text n e ++ x ≡ decimal n ++ 32 ∷ 97 ∷ (decimal e.app ++ 32 ∷ (call_text e.call ++ 32 ∷ 45 ∷ 62 ∷ 32 ∷ (answer_text e.answer ++ 10 ∷ x)))
-line_parts n e x = parts (decimal n) (decimal e.app) (call_text e.call) (answer_text e.answer)
-  where
-    parts : (u v w z : List ℕ) → ((((((u ++ 32 ∷ 97 ∷ []) ++ v) ++ 32 ∷ []) ++ w) ++ 32 ∷ 45 ∷ 62 ∷ 32 ∷ []) ++ z) ++ 10 ∷ [] ++ x ≡ u ++ 32 ∷ 97 ∷ (v ++ 32 ∷ (w ++ 32 ∷ 45 ∷ 62 ∷ 32 ∷ (z ++ 10 ∷ x)))
-    parts u v w z = simp append_assoc
+parts_of n e x = line_parts (decimal n) (decimal e.app) (call_text e.call) (answer_text e.answer) x
 
 -- what two lines tell that read the same
 record LinesTell (e f : Entry) (x y : List ℕ) : Type 0 where
@@ -600,7 +556,7 @@ record LinesTell (e f : Entry) (x y : List ℕ) : Type 0 where
 
 line_tells : (n : ℕ) (e f : Entry) (x y : List ℕ) → IsPlain e → IsPlain f → entry_text n e ++ x ≡ entry_text n f ++ y → LinesTell e f x y
 line_tells n e f x y one other same =
-    let text = sym (line_parts n e x) ∙ same ∙ line_parts n f y in
+    let text = sym (parts_of n e x) ∙ same ∙ parts_of n f y in
     let behind = append_cancel_left (decimal n) _ _ text in
     let apps = split_once 33 32 (decimal e.app) (decimal f.app) (call_text e.call ++ 32 ∷ 45 ∷ 62 ∷ 32 ∷ (answer_text e.answer ++ 10 ∷ x)) (call_text f.call ++ 32 ∷ 45 ∷ 62 ∷ 32 ∷ (answer_text f.answer ++ 10 ∷ y))
     (omega arith) (word e.app) (word f.app) (cc behind) in
@@ -617,12 +573,17 @@ line_tells n e f x y one other same =
 
 -- a line is no letter's
 line_not_letter : (n c : ℕ) (e : Entry) (x y : List ℕ) → 57 < c → entry_text n e ++ x ≡ c ∷ y → ⊥
-line_not_letter n c e x y letter same = letter_not_decimal n c _ y letter (sym (line_parts n e x) ∙ same)
+line_not_letter n c e x y letter same = letter_not_decimal n c _ y letter (sym (parts_of n e x) ∙ same)
+
+-- what the lines of two histories tell that read the same, and what is behind them
+pub record HistoriesTell (one other : List Entry) (x y : List ℕ) : Type 0 where
+  pub same : TellTheSame one other
+  pub rest : x ≡ y
 
 -- lines that are followed by the line of a letter
 pub lines_tell : (n c : ℕ) (one other : List Entry) (x y : List ℕ) → 57 < c → All IsPlain one → All IsPlain other →
-    numbered entry_text n one ++ c ∷ x ≡ numbered entry_text n other ++ c ∷ y → TellTheSame one other
-lines_tell n c [] [] x y letter plain clear same = record { apps = refl; answers = refl }
+    numbered entry_text n one ++ c ∷ x ≡ numbered entry_text n other ++ c ∷ y → HistoriesTell one other x y
+lines_tell n c [] [] x y letter plain clear same = record { same = record { apps = refl; answers = refl }; rest = cc same }
 lines_tell n c [] (f ∷ fs) x y letter plain clear same =
     absurd (line_not_letter n c f (numbered entry_text (n + 1) fs ++ c ∷ y) x letter (sym (append_assoc (entry_text n f) (numbered entry_text (n + 1) fs) (c ∷ y)) ∙ sym same))
 lines_tell n c (e ∷ es) [] x y letter plain clear same =
@@ -631,15 +592,4 @@ lines_tell n c (e ∷ es) (f ∷ fs) x y letter plain clear same =
     let first = line_tells n e f (numbered entry_text (n + 1) es ++ c ∷ x) (numbered entry_text (n + 1) fs ++ c ∷ y) (All-head IsPlain e es plain) (All-head IsPlain f fs clear)
     (sym (append_assoc (entry_text n e) (numbered entry_text (n + 1) es) (c ∷ x)) ∙ same ∙ append_assoc (entry_text n f) (numbered entry_text (n + 1) fs) (c ∷ y)) in
     let others = lines_tell (n + 1) c es fs x y letter (All-tail IsPlain e es plain) (All-tail IsPlain f fs clear) first.rest in
-    record { apps = cc (first.app, others.apps); answers = cc (first.answer, others.answers) }
-
--- whole reports: their lines on the bus are followed by those on receipts, and by what is behind these
-pub reports_tell : (one other : List Entry) (r s x y z w : List ℕ) → All IsPlain one → All IsPlain other →
-    numbered entry_text 1 one ++ codes "receipts\n" ++ r ++ codes "events\n" ++ x ++ z ≡ numbered entry_text 1 other ++ codes "receipts\n" ++ s ++ codes "events\n" ++ y ++ w →
-    TellTheSame one other
-reports_tell one other r s x y z w plain clear same =
-    lines_tell 1 114 one other (codes "eceipts\n" ++ (r ++ (codes "events\n" ++ (x ++ z)))) (codes "eceipts\n" ++ (s ++ (codes "events\n" ++ (y ++ w)))) (omega arith) plain clear
-    (sym (regroup (numbered entry_text 1 one) r x z) ∙ same ∙ regroup (numbered entry_text 1 other) s y w)
-  where
-    regroup : (u t v q : List ℕ) → u ++ codes "receipts\n" ++ t ++ codes "events\n" ++ v ++ q ≡ u ++ 114 ∷ (codes "eceipts\n" ++ (t ++ (codes "events\n" ++ (v ++ q))))
-    regroup u t v q = simp append_assoc
+    record { same = record { apps = cc (first.app, others.same.apps); answers = cc (first.answer, others.same.answers) }; rest = others.rest }

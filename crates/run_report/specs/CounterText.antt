@@ -1,4 +1,5 @@
--- The lines of a report on what the bus counted and on what is in use: of the bus, of its memory pools and of its event desk.
+-- The lines of a report on what was counted and on what is in use: of the bus, of its memory pools and of its event desk, and of the
+-- tables and their pool.
 use Rattle.std.specs.Prelude.{ℕ, ◌-◌, ◌==◌, List, [], ◌++◌, length, map, slice_index, codes, decimal, if◌then◌else◌}
 use Rattle.std.specs.List.{flat_map, range_with_len}
 use Rattle.fsw_base.specs.EventDesk.{Desk}
@@ -7,9 +8,10 @@ use Rattle.es_pool.specs.Pool.{PoolState, made_in, out_in}
 use Rattle.housekeeping.specs.declared.in_use.InUse.{InUse}
 use Rattle.housekeeping.specs.Counters.{Counts}
 use Rattle.housekeeping.specs.Statistics.{Statistics}
+use Rattle.tbl_words.specs.declared.uses.TblUse.{TblUse}
 use Rattle.text_page.specs.Texts.{numbered}
 use Rattle.run_report.specs.declared.pools.PoolName.{PoolName}
-use Rattle.run_report.specs.declared.pools.PoolName.TheVariants.{Bus, Applications}
+use Rattle.run_report.specs.declared.pools.PoolName.TheVariants.{Bus, Applications, Tables}
 
 -- What a report shows of a bus beside its history: the event desk, the counters with the peaks, what is in use now, the account of
 -- the bus's own memory pool, and those of the applications' pools, number 1 first.
@@ -19,6 +21,12 @@ pub record BusFigures : Type 0 where
   pub now : InUse
   pub pool : Account
   pub pools : List Account
+
+-- What a report shows of the tables beside their history: what is in use now and was at the most, and the account of their pool.
+pub record TableFigures : Type 0 where
+  pub now : TblUse
+  pub peak : TblUse
+  pub pool : Account
 
 -- a number with its name before it
 abbrev pub field_text : List ℕ → ℕ → List ℕ
@@ -58,15 +66,17 @@ account_read pool = record {
   errors = pool.errors;
 }
 
--- how the line of a pool begins: the bus's own, or one of the applications by its number
+-- how the line of a pool begins: the bus's own, one of the applications by its number, or the tables'
 abbrev pub pool_head : PoolName → List ℕ
 pool_head Bus = codes "pool"
 pool_head (Applications number) = codes "apool " ++ decimal number
+pool_head Tables = codes "tpool"
 
 -- how the line of one of its block sizes begins
 abbrev pub class_head : PoolName → List ℕ
 class_head Bus = codes "class"
 class_head (Applications number) = codes "aclass " ++ decimal number
+class_head Tables = codes "tclass"
 
 -- a pool: its bytes, those that were never cut into blocks, the blocks drawn and the returns refused
 abbrev pub pool_text : PoolName → Account → List ℕ
@@ -98,9 +108,17 @@ desk_text desk =
     ++ field_text (codes "refused") desk.refused ++ field_text (codes "logged") (length desk.log.lines) ++ field_text (codes "lost") desk.lost
     ++ field_text (codes "mode") desk.log.mode ++ codes "\n"
 
+-- The tables. --
+
+-- the three numbers in use, with their peaks
+abbrev pub table_uses_text : TblUse → TblUse → List ℕ
+table_uses_text now peak =
+    codes "tbl" ++ use_text (codes "count") now.tables peak.tables ++ use_text (codes "handles") now.handles peak.handles
+    ++ use_text (codes "bytes") now.bytes peak.bytes ++ codes "\n"
+
 -- All lines. --
 
-abbrev pub counters_text : BusFigures → List ℕ
-counters_text figures =
+abbrev pub counters_text : BusFigures → TableFigures → List ℕ
+counters_text figures tables =
     counts_text figures.statistics.counts ++ uses_text figures.now figures.statistics.peak ++ account_text Bus figures.pool
-    ++ accounts_text figures.pools ++ desk_text figures.events
+    ++ accounts_text figures.pools ++ desk_text figures.events ++ table_uses_text tables.now tables.peak ++ account_text Tables tables.pool

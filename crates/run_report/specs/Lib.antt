@@ -4,3 +4,5 @@ pub mod EventText
 pub mod ReadBack
 pub mod ReceiptText
 pub mod Report
+pub mod TableReadBack
+pub mod TableText

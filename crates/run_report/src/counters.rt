@@ -1,11 +1,12 @@
-//! The lines on what was counted: by the bus, and at its event desk.
+//! The lines on what was counted and is in use: by the bus, at its event desk, and of the tables.
 ghost use Rattle.std.specs.Prelude.{◌≡◌, ◌++◌, ℕ};
 ghost use Rattle.text_page.specs.Pieces.{Puts};
-ghost use Rattle.run_report.specs.CounterText.{field_text, use_text, counts_text, uses_text, desk_text};
+ghost use Rattle.run_report.specs.CounterText.{field_text, use_text, counts_text, uses_text, desk_text, table_uses_text};
 
 use evs_events::EventDesk;
 use fsw_base::{Sink, SinkGuard};
 use housekeeping::{CounterName, Counters, InUse};
+use tbl_words::TblUse;
 use text_page::{Page, put, put_number};
 
 /// Puts a number with its name before it.
@@ -76,5 +77,21 @@ pub fn put_desk<K: Sink>(sink: &mut SinkGuard<'_, K>, page: &mut Page, desk: &Ev
     put_field(sink, page, b"logged", desk.log_len());
     put_field(sink, page, b"lost", counts.lost);
     put_field(sink, page, b"mode", u32::from(counts.mode));
+    put(sink, page, b"\n");
+}
+
+/// Puts the line of the tables: the numbers in use, each with its peak.
+pub fn put_table_uses<K: Sink>(
+    sink: &mut SinkGuard<'_, K>,
+    page: &mut Page,
+    now: TblUse,
+    peak: TblUse,
+)
+    ensures { Puts sink.old sink.new page.old page.new (table_uses_text now peak) }
+{
+    put(sink, page, b"tbl");
+    put_use(sink, page, b"count", now.tables, peak.tables);
+    put_use(sink, page, b"handles", now.handles, peak.handles);
+    put_use(sink, page, b"bytes", now.bytes, peak.bytes);
     put(sink, page, b"\n");
 }

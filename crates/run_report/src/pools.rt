@@ -1,4 +1,4 @@
-//! The lines on memory pools: the bus's own, and those that applications created.
+//! The lines on memory pools: the bus's own, those that applications created, and the tables'.
 ghost use Rattle.std.specs.Prelude.{◌≡◌, ◌<◌, ℕ, length, map};
 ghost use Rattle.std.specs.List.{flat_map, range_with_len};
 ghost use Rattle.text_page.specs.Pieces.{Puts};
@@ -17,6 +17,8 @@ pub(crate) enum PoolName {
     Bus,
     /// The applications' pool of this number, from 1.
     Applications(u32),
+    /// The tables'.
+    Tables,
 }
 
 /// Puts the lines of the pools that applications created, number 1 first.
@@ -105,6 +107,7 @@ fn put_pool_head<K: Sink>(sink: &mut SinkGuard<'_, K>, page: &mut Page, name: Po
             put(sink, page, b"apool ");
             put_number(sink, page, number);
         }
+        PoolName::Tables => put(sink, page, b"tpool"),
     }
 }
 
@@ -118,5 +121,6 @@ fn put_class_head<K: Sink>(sink: &mut SinkGuard<'_, K>, page: &mut Page, name: P
             put(sink, page, b"aclass ");
             put_number(sink, page, number);
         }
+        PoolName::Tables => put(sink, page, b"tclass"),
     }
 }

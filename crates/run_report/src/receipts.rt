@@ -1,4 +1,4 @@
-//! The lines on what each application received.
+//! The lines on what each application received and held.
 ghost use Rattle.std.specs.Prelude.{◌≡◌, ℕ, map};
 ghost use Rattle.text_page.specs.Pieces.{Puts};
 ghost use Rattle.run_report.specs.ReceiptText.{seen_text, receipt_text, application_text, receipts_text};
@@ -65,6 +65,24 @@ fn put_seen<K: Sink>(sink: &mut SinkGuard<'_, K>, page: &mut Page, receipt: &Rec
             put_hex_id(sink, page, *id);
             put(sink, page, b" seq=");
             put_number(sink, page, *count);
+            put(sink, page, b" size=");
+            put_number(sink, page, *size);
+            put(sink, page, b" sum=");
+            put_number(sink, page, *sum);
+            put(sink, page, b" head=");
+            put_hex_bytes(sink, page, head.as_slice());
+        }
+        Receipt::Table {
+            handle,
+            version,
+            size,
+            sum,
+            head,
+        } => {
+            put(sink, page, b"tbl h");
+            put_number(sink, page, *handle);
+            put(sink, page, b" v");
+            put_number(sink, page, *version);
             put(sink, page, b" size=");
             put_number(sink, page, *size);
             put(sink, page, b" sum=");

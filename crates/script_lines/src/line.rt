@@ -1,75 +1,11 @@
 //! The call lines of a script, one variant a form.
-ghost use Rattle.std.specs.Prelude.{◌≡◌, ◌<◌, ◌≤◌, ◌↔◌, length, slice_get, IsSome, IfSome, IfOk};
-ghost use Rattle.std.specs.Prelude.{Some};
+ghost use Rattle.std.specs.Prelude.{◌≡◌, IfOk};
 
-use arrayvec::ArrayVec;
 use fsw_base::{EventKind, FilterList, Scope};
 use script_words::{ByteText, Content};
 use std::alloc::{AllocError, Global};
 use std::marker::Model;
-
-/// How many rules a table may have.
-pub const MAX_RULES: usize = 8;
-
-/// What a table's validation asks of one byte.
-#[derive(Clone, Copy, Debug, Default, PartialEq, Eq)]
-pub struct Rule {
-    /// The byte's place in the table.
-    pub offset: u32,
-    /// The least value that it may have.
-    pub low: u8,
-    /// The greatest value that it may have.
-    pub high: u8,
-}
-
-/// Up to [`MAX_RULES`] rules.
-#[derive(Drop)]
-pub struct RuleList {
-    rules: ArrayVec<Rule, MAX_RULES>,
-}
-
-impl Model for RuleList {
-    ghost use Rattle.std.specs.Prelude.{List, length, ◌≤◌};
-    ghost use Rattle.script_lines.specs.declared.line.Rule.{Rule};
-    ghost use Rattle.script_lines.specs.declared.line.TheConstants.{MAX_RULES};
-
-    ghost Value = { List Rule };
-
-    ghost view = { λ r. r.rules.items };
-
-    ghost invariant = { λ r. length r.rules.items ≤ MAX_RULES };
-}
-
-impl RuleList {
-    /// These rules; None exactly where there are too many.
-    pub fn try_new(rules: &[Rule]) -> Option<RuleList>
-        ensures valid { IsSome result ↔ (length rules.now ≤ MAX_RULES) }
-        ensures value { IfSome result (λ kept. kept ≡ rules.now) }
-    {
-        if rules.len() > MAX_RULES {
-            return None;
-        }
-        let mut kept = ArrayVec::new();
-        let _ = kept.try_extend_from_slice(rules);
-        Some(RuleList { rules: kept })
-    }
-
-    /// How many rules there are, at most [`MAX_RULES`].
-    pub fn count(&self) -> u32
-        ensures count { result ≡ length self.now }
-        ensures few { result ≤ MAX_RULES }
-    {
-        self.rules.len() as u32
-    }
-
-    /// The rule at a place, in the order given; places count from 0.
-    pub fn at(&self, i: u32) -> Rule
-        requires { i < length self.now }
-        ensures { slice_get self.now i ≡ Some result }
-    {
-        self.rules.as_slice()[i as usize]
-    }
-}
+use tbl_words::RuleList;
 
 /// The rules that a line gives a table, with a place of their own in memory, so that a line is
 /// small.
@@ -80,7 +16,7 @@ pub struct BoxedRules {
 
 impl Model for BoxedRules {
     ghost use Rattle.std.specs.Prelude.{List};
-    ghost use Rattle.script_lines.specs.declared.line.Rule.{Rule};
+    ghost use Rattle.tbl_words.specs.declared.rules.Rule.{Rule};
 
     ghost Value = { List Rule };
 

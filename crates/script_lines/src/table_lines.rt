@@ -7,7 +7,7 @@ ghost use Rattle.script_lines.specs.TableLines.{table_alone, triple_word, rule_o
 ghost use Rattle.script_lines.specs.TableLines.{described, treg_of, tshare_of, placed, load_of};
 ghost use Rattle.script_lines.specs.TableLines.{table_line_of, table_word, shown, show_of};
 
-use crate::line::{BoxedRules, Line, MAX_RULES, Rule, RuleList};
+use crate::line::{BoxedRules, Line};
 use arrayvec::ArrayVec;
 use fsw_base::{FaultKind, MAX_TABLE_BYTES};
 use script_words::counts::{few, next_two, one, three, two};
@@ -16,6 +16,7 @@ use script_words::text::{first_word, is_same};
 use script_words::words::{content, filling, name};
 use script_words::{Content, LineFail};
 use std::alloc::Global;
+use tbl_words::{MAX_RULES, Rule, RuleList};
 
 /// The first word of a line of tables.
 #[derive(Clone, Copy)]

@@ -2,6 +2,10 @@ pub mod Buffers
 pub mod OwnLasts
 pub mod OnlyMessages
 pub mod LastMessages
+pub mod HeldReceipts
 pub mod OneTurn
+pub mod TableTurn
 pub mod Rotated
+pub mod TableRotated
 pub mod Merged
+pub mod TablesMerged

@@ -1,4 +1,4 @@
--- The rotation of a script ends; and its history is a legal one that has each application's calls, each once and in order.
+-- The rotation of a script ends; and its history of the bus is a legal one that has each application's calls, each once and in order.
 use Rattle.std.proofs.Common.{◌≡◌, ◌⊎◌, ℕ, zero, suc, ◌+◌, ◌-◌, ◌*◌, ◌<◌, ◌≤◌, ◌==◌, not, Bool, true, false, cond, true≢false, eq-eqb, ne_eqb, IsTrue, All, List, [], ◌∷◌, ◌++◌, length, replicate, sum_by, slice_index_or, Option, Some, None, refl, ap, sym, ◌∙◌, subst, arith}
 use Rattle.std.specs.Prelude.{find}
 use Rattle.std.specs.Option.{is_some, option_map}
@@ -15,7 +15,8 @@ use Rattle.bus_words.proofs.Owners.{AreOwned-after, AreHanded-after, none_left, 
 use Rattle.bus_words.proofs.Steps.{length-standings-step}
 use Rattle.script_runs.specs.Rotation.{Running, SoFar, before_all, enough, rotation, rotations, starting}
 use Rattle.app_script.specs.Script.{Application, ScriptText, app_at}
-use Rattle.script_runs.specs.Trace.{Trace, Merges, first_registers, own_entries}
+use Rattle.script_runs.specs.TableTrace.{first_handles}
+use Rattle.script_runs.specs.Trace.{Trace, first_registers, own_entries}
 use Rattle.script_runs.specs.Written.{first_written}
 use Rattle.bus_words.proofs.LegalSteps.{standing_at}
 use Rattle.script_runs.proofs.OneTurn.{Owes, HasWritten, waits, is_ended}
@@ -23,10 +24,10 @@ use Rattle.script_runs.proofs.Rotated.{left_of, AreApart, IsFit, Owed, HasRotate
 
 -- At the opening. --
 
-left-starting : (from : ℕ) (apps : List Application) (k : ℕ) → k < from → left_of (starting from apps) k ≡ None
+pub left-starting : (from : ℕ) (apps : List Application) (k : ℕ) → k < from → left_of (starting from apps) k ≡ None
 left-starting from [] k below = refl
 left-starting from (a ∷ apps) k below =
-    ap (λ b. cond {A = Option Running} b (Some (record { app = from; lines = a.lines; registers = first_registers; written = first_written })) (left_of (starting (from + 1) apps) k))
+    ap (λ b. cond {A = Option Running} b (Some (record { app = from; lines = a.lines; registers = first_registers; handles = first_handles; written = first_written })) (left_of (starting (from + 1) apps) k))
     (ne_eqb from k (λ same. omega (arith, same, below)))
     ∙ left-starting (from + 1) apps k (omega (arith, below))
 
@@ -35,8 +36,8 @@ apart-starting from [] = tt
 apart-starting from (a ∷ apps) = (left-starting (from + 1) apps from (omega arith), apart-starting (from + 1) apps)
 
 -- the application with this number, before its first line
-abbrev first_of : ℕ → Application → Running
-first_of app a = record { app = app; lines = a.lines; registers = first_registers; written = first_written }
+abbrev pub first_of : ℕ → Application → Running
+first_of app a = record { app = app; lines = a.lines; registers = first_registers; handles = first_handles; written = first_written }
 
 skip-starting : (from : ℕ) (a : Application) (apps : List Application) (i : ℕ) → left_of (starting from (a ∷ apps)) (from + suc i) ≡ left_of (starting (from + 1) apps) ((from + 1) + i)
 skip-starting from a apps i =
@@ -53,13 +54,13 @@ here-starting from a apps =
     same : (from : ℕ) → from ≡ from + 0
     same from = omega arith
 
-fits-starting : (from : ℕ) (apps : List Application) (i : ℕ) →
+pub fits-starting : (from : ℕ) (apps : List Application) (i : ℕ) →
     is_some (left_of (starting from apps) (from + i)) ≡ not (is_ended (slice_index_or (replicate (length apps) Active) i Ended))
 fits-starting from [] i = refl
 fits-starting from (a ∷ apps) zero = ap is_some (here-starting from a apps)
 fits-starting from (a ∷ apps) (suc i) = ap is_some (skip-starting from a apps i) ∙ fits-starting (from + 1) apps i
 
-lines-starting : (from : ℕ) (apps : List Application) (i : ℕ) (d : Application) → i < length apps →
+pub lines-starting : (from : ℕ) (apps : List Application) (i : ℕ) (d : Application) → i < length apps →
     left_of (starting from apps) (from + i) ≡ Some (first_of (from + i) (slice_index_or apps i d))
 lines-starting from [] i d few = absurd (omega (arith, few))
 lines-starting from (a ∷ apps) zero d few = here-starting from a apps ∙ ap (λ n. Some (first_of n a)) (same from)
@@ -72,7 +73,7 @@ lines-starting from (a ∷ apps) (suc i) d few =
     moved : (from i : ℕ) → (from + 1) + i ≡ from + suc i
     moved from i = omega arith
 
-first-plus : (i : ℕ) → suc i ≡ 1 + i
+pub first-plus : (i : ℕ) → suc i ≡ 1 + i
 first-plus i = omega arith
 
 fits-opening : (limits : Limits) (apps : List Application) (k : ℕ) → is_some (left_of (starting 1 apps) k) ≡ not (is_ended (standing_of (opening limits (length apps)) k))
@@ -96,7 +97,7 @@ written-opening limits n k from (a ∷ apps) =
     none_at (suc n) zero = refl
     none_at (suc n) (suc i) = none_at n i
 
-fit-opening : (script : ScriptText) → IsFit script.limits (length script.apps) (before_all script).0 (before_all script).1
+pub fit-opening : (script : ScriptText) → IsFit script.limits (length script.apps) (before_all script).0 (before_all script).1
 fit-opening script = record {
   sound = record { legal = tt; state = refl };
   apart = apart-starting 1 script.apps;
@@ -124,7 +125,7 @@ weights-starting s calm from (a ∷ apps) =
 
 -- Rotations. --
 
-all-rotated : (script : ScriptText) → HasRotated script.limits (length script.apps) (before_all script).0 (before_all script).1 (rotations (enough script) script.limits (before_all script))
+pub all-rotated : (script : ScriptText) → HasRotated script.limits (length script.apps) (before_all script).0 (before_all script).1 (rotations (enough script) script.limits (before_all script))
 all-rotated script =
     rotations-end (enough script) script.limits (length script.apps) (before_all script).0 (before_all script).1 (fit-opening script)
     (enough-turns (weights-starting (opening script.limits (length script.apps)) (opening-waits script.limits (length script.apps)) 1 script.apps))
@@ -135,11 +136,11 @@ all-rotated script =
 pub rotation-ends : (script : ScriptText) → (rotations (enough script) script.limits (before_all script)).1 ≡ []
 rotation-ends script = (all-rotated script).none
 
-pub rotation-legal : (script : ScriptText) → IsLegal script.limits (length script.apps) (rotation script)
+pub rotation-legal : (script : ScriptText) → IsLegal script.limits (length script.apps) (rotation script).bus
 rotation-legal script = (all-rotated script).leads.fit.sound.legal
 
 -- who isn't left has ended
-pub rotation-all_ended : (script : ScriptText) (app : ℕ) → has_ended (standing_of (state_after script.limits (length script.apps) (rotation script)) app) ≡ true
+pub rotation-all_ended : (script : ScriptText) (app : ℕ) → has_ended (standing_of (state_after script.limits (length script.apps) (rotation script).bus) app) ≡ true
 rotation-all_ended script app =
     let done = all-rotated script in
     let last : SoFar × List Running = rotations (enough script) script.limits (before_all script) in
@@ -152,13 +153,13 @@ rotation-all_ended script app =
     over Ended gone = refl
 
 -- so nothing is held
-pub rotation-holds_nothing : (script : ScriptText) → HoldsNothing script.limits (state_after script.limits (length script.apps) (rotation script))
+pub rotation-holds_nothing : (script : ScriptText) → HoldsNothing script.limits (state_after script.limits (length script.apps) (rotation script).bus)
 rotation-holds_nothing script =
-    let s = state_after script.limits (length script.apps) (rotation script) in
+    let s = state_after script.limits (length script.apps) (rotation script).bus in
     let legal = rotation-legal script in
     holds_nothing script.limits s
-    (none_left s s.pipes (AreOwned-after script.limits (length script.apps) (rotation script) legal) (rotation-all_ended script))
-    (none_handed s (AreHanded-after script.limits (length script.apps) (rotation script) legal) (rotation-all_ended script))
+    (none_left s s.pipes (AreOwned-after script.limits (length script.apps) (rotation script).bus legal) (rotation-all_ended script))
+    (none_handed s (AreHanded-after script.limits (length script.apps) (rotation script).bus legal) (rotation-all_ended script))
 
 -- Merges. --
 
@@ -216,7 +217,14 @@ none-owed sofar rs none = record {
   owes = λ k. subst (λ l. Owes (standing_of sofar.state k) (left_of l k) []) (sym none) refl;
 }
 
-pub rotation-merges : (script : ScriptText) → Merges script (rotation script)
+-- Each application's calls of the bus, each once and in order, and no other's.
+pub record MergesAtBus (script : ScriptText) (history : List Entry) : Type 0 where
+  pub each :
+      (app : ℕ) → 1 ≤ app → app ≤ length script.apps →
+      Trace first_registers first_written (app_at script app).lines (own_entries app history)
+  pub nobody_else : All (λ e. (1 ≤ e.app) × (e.app ≤ length script.apps)) history
+
+pub rotation-merges : (script : ScriptText) → MergesAtBus script (rotation script).bus
 rotation-merges script =
     let done = all-rotated script in
     let last : SoFar × List Running = rotations (enough script) script.limits (before_all script) in
@@ -225,5 +233,5 @@ rotation-merges script =
       each = λ app first few.
           subst (λ h. Trace first_registers first_written (app_at script app).lines (own_entries app h)) (sym owed.history)
           (opening-owed script app (own_entries app owed.entries) first few (owed.owes app));
-      nobody_else = legal-known script.limits (length script.apps) [] (opening script.limits (length script.apps)) (rotation script) (length-replicate (length script.apps) _) (rotation-legal script);
+      nobody_else = legal-known script.limits (length script.apps) [] (opening script.limits (length script.apps)) (rotation script).bus (length-replicate (length script.apps) _) (rotation-legal script);
     }

@@ -18,7 +18,9 @@ use Rattle.bus_words.proofs.Replay.{goes_on}
 use Rattle.bus_words.proofs.Steps.{with_subscription}
 use Rattle.script_lines.specs.declared.line.Line.{Line}
 use Rattle.script_lines.specs.declared.line.Line.TheVariants as lines
-use Rattle.script_runs.specs.Rotation.{Running, SoFar, answer_to, after_call, after_look, behind, line_turn, active_turn, turn_in}
+use Rattle.tbl_words.specs.declared.history.Call.{Call as TableCall}
+use Rattle.script_runs.specs.Rotation.{Running, SoFar, answer_to, after_call, after_look, table_answer_to, after_end, behind, behind_table, other_turn, line_turn, active_turn, turn_in}
+use Rattle.script_runs.specs.TableTrace.{table_call_of, handles_after}
 use Rattle.script_runs.specs.Trace.{Registers, call_of, registers_after, AfterAnswer, LineEntries, IsEnd, Trace}
 use Rattle.script_runs.specs.Written.{Written, written_after, written_by}
 use Rattle.bus_words.proofs.LegalSteps.{standing_at, standing-ended, standing-step}
@@ -371,14 +373,15 @@ written-call limits apps sofar running call sound live agree =
 
 -- the end
 turn-end : (limits : Limits) (apps : ℕ) (sofar : SoFar) (running : Running) → IsSound limits apps sofar → standing_of sofar.state running.app ≡ Active → running.lines ≡ [] →
-    IsTurn limits apps sofar running Active (after_call limits sofar running.app calls.End, [])
+    IsTurn limits apps sofar running Active (after_end limits sofar running.app, [])
 turn-end limits apps sofar running sound is has =
     let may : IsTrue (may_call (standing_of sofar.state running.app) calls.End) = ap (λ st. may_call st calls.End) is in
     let e : Entry = record { app = running.app; call = calls.End; answer = answer_to limits sofar running.app calls.End } in
+    let ends = sound-call limits apps sofar running.app calls.End sound may refl refl in
     record {
       now = Ended;
       left = None;
-      sound = sound-call limits apps sofar running.app calls.End sound may refl refl;
+      sound = record { legal = ends.legal; state = ends.state };
       lists = refl;
       number = tt;
       stands = standing-ended sofar.state running.app;
@@ -391,6 +394,42 @@ turn-end limits apps sofar running sound is has =
       own = (refl, tt);
       owes = λ es none. subst (λ ls. Trace running.registers running.written ls (e ∷ es)) (sym has) (subst (λ (xs : List Entry). IsEnd (e ∷ xs)) (sym none) refl);
       falls = inl (omega arith);
+    }
+
+-- a line that the tables see writes nothing
+unwritten : (handles : List ℕ) (written : Written) (buffers : List ℕ) (line : Line) (call : TableCall) → table_call_of handles line ≡ Some call → written_by written buffers line ≡ written
+unfolding table_call_of written_by
+unwritten handles written buffers (lines.Form buf id fill) call is = absurd (true≢false (sym (ap is_some is)))
+unwritten handles written buffers (lines.Put buf offset bytes) call is = absurd (true≢false (sym (ap is_some is)))
+unwritten handles written buffers line call is = refl
+
+-- a line that the tables see
+turn-table : (limits : Limits) (apps : ℕ) (sofar : SoFar) (running : Running) (line : Line) (others : List Line) (call : TableCall) → IsSound limits apps sofar →
+    AreWritten sofar.state.unsent running.app running.written →
+    standing_of sofar.state running.app ≡ Active → running.lines ≡ line ∷ others → call_of running.registers running.written line ≡ None → table_call_of running.handles line ≡ Some call →
+    IsTurn limits apps sofar running Active (other_turn limits sofar running line others (Some call))
+turn-table limits apps sofar running line others call sound agree is has none some =
+    let fewer : length running.lines ≡ suc (length others) = ap length has in
+    record {
+      now = Active;
+      left = Some (behind_table running others (handles_after running.handles line (table_answer_to limits sofar running.app call)));
+      sound = record { legal = sound.legal; state = sound.state };
+      lists = refl;
+      number = refl;
+      stands = is;
+      others = λ k differ. refl;
+      written = agree;
+      buffers = λ k first differ. refl;
+      fits = refl;
+      added = [];
+      history = sym (append-nil sofar.history);
+      own = tt;
+      owes = λ es owed.
+          subst (λ ls. Trace running.registers running.written ls es) (sym has)
+          (subst (λ (c : Option Call). LineEntries c (λ call answer rest. Trace (registers_after running.registers line answer) (written_after running.written call answer) others rest)
+          (λ rest. Trace running.registers (written_by running.written running.registers.buffers line) others rest) es) (sym none)
+          (subst (λ (written : Written). Trace running.registers written others es) (sym (unwritten running.handles running.written running.registers.buffers line call some)) owed));
+      falls = inl (omega (arith, fewer));
     }
 
 -- a line that no service sees
@@ -608,11 +647,19 @@ turn-waiting limits apps sofar running pipe (Sb status) sound agree is answers =
 turn-waiting limits apps sofar running pipe (Es status) sound agree is answers = turn-look limits apps sofar running pipe sound agree is (ap is_pending answers) (ap (makes_entry (calls.Look pipe)) answers)
 turn-waiting limits apps sofar running pipe (Evs status) sound agree is answers = turn-look limits apps sofar running pipe sound agree is (ap is_pending answers) (ap (makes_entry (calls.Look pipe)) answers)
 
+turn-other : (limits : Limits) (apps : ℕ) (sofar : SoFar) (running : Running) (line : Line) (others : List Line) (made : Option TableCall) → IsSound limits apps sofar →
+    AreWritten sofar.state.unsent running.app running.written →
+    standing_of sofar.state running.app ≡ Active → running.lines ≡ line ∷ others → call_of running.registers running.written line ≡ None → table_call_of running.handles line ≡ made →
+    IsTurn limits apps sofar running Active (other_turn limits sofar running line others made)
+turn-other limits apps sofar running line others None sound agree is has none makes = turn-local limits apps sofar running line others sound agree is has none
+turn-other limits apps sofar running line others (Some call) sound agree is has none makes = turn-table limits apps sofar running line others call sound agree is has none makes
+
 turn-line : (limits : Limits) (apps : ℕ) (sofar : SoFar) (running : Running) (line : Line) (others : List Line) (made : Option Call) → IsSound limits apps sofar →
     AreWritten sofar.state.unsent running.app running.written →
     standing_of sofar.state running.app ≡ Active → running.lines ≡ line ∷ others → call_of running.registers running.written line ≡ made →
     IsTurn limits apps sofar running Active (line_turn limits sofar running line others made)
-turn-line limits apps sofar running line others None sound agree is has makes = turn-local limits apps sofar running line others sound agree is has makes
+turn-line limits apps sofar running line others None sound agree is has makes =
+    turn-other limits apps sofar running line others (table_call_of running.handles line) sound agree is has makes refl
 turn-line limits apps sofar running line others (Some call) sound agree is has makes =
     turn-call limits apps sofar running line others call sound agree is has makes (ap is_line_option (sym makes) ∙ line_calls running.registers running.written line)
 

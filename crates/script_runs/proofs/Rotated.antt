@@ -30,7 +30,7 @@ AreApart (r ∷ rs) = (left_of rs r.app ≡ None) × AreApart rs
 some_none : (r : Running) → Some r ≡ None → ⊥
 some_none r is = true≢false (ap is_some is)
 
-left-front : (xs ys : List Running) (k : ℕ) → left_of xs k ≡ None → left_of (xs ++ ys) k ≡ left_of ys k
+pub left-front : (xs ys : List Running) (k : ℕ) → left_of xs k ≡ None → left_of (xs ++ ys) k ≡ left_of ys k
 left-front [] ys k none = refl
 left-front (x ∷ xs) ys k none =
     elim (x.app == k) as (λ b. cond {A = Option Running} b (Some x) (left_of xs k) ≡ None → cond {A = Option Running} b (Some x) (left_of (xs ++ ys) k) ≡ left_of ys k) [
@@ -47,7 +47,7 @@ left-none (d ∷ ds) others r k none =
       | false ↦ λ is. left-none ds others r k is
     ] none
 
-left-other : (ds others : List Running) (r : Running) (left : Option Running) (k : ℕ) → HasNumber r.app left → (k == r.app) ≡ false →
+pub left-other : (ds others : List Running) (r : Running) (left : Option Running) (k : ℕ) → HasNumber r.app left → (k == r.app) ≡ false →
     left_of (ds ++ (listed left ++ others)) k ≡ left_of (ds ++ r ∷ others) k
 left-other [] others r None k number differ = ap (λ b. cond {A = Option Running} b (Some r) (left_of others k)) (sym (same-sym r.app k ∙ differ))
 left-other [] others r (Some x) k number differ =
@@ -56,11 +56,11 @@ left-other [] others r (Some x) k number differ =
 left-other (d ∷ ds) others r left k number differ =
     ap (λ o. cond {A = Option Running} (d.app == k) (Some d) o) (left-other ds others r left k number differ)
 
-left-here : (left : Option Running) (others : List Running) (app : ℕ) → HasNumber app left → left_of others app ≡ None → left_of (listed left ++ others) app ≡ left
+pub left-here : (left : Option Running) (others : List Running) (app : ℕ) → HasNumber app left → left_of others app ≡ None → left_of (listed left ++ others) app ≡ left
 left-here None others app number none = none
 left-here (Some r) others app number none = ap (λ b. cond {A = Option Running} b (Some r) (left_of others app)) (eq-eqb r.app app number)
 
-apart-front : (ds others : List Running) (r : Running) → AreApart (ds ++ r ∷ others) → (left_of ds r.app ≡ None) × (left_of others r.app ≡ None)
+pub apart-front : (ds others : List Running) (r : Running) → AreApart (ds ++ r ∷ others) → (left_of ds r.app ≡ None) × (left_of others r.app ≡ None)
 apart-front [] others r apart = (refl, apart.0)
 apart-front (d ∷ ds) others r apart =
     let rest = apart-front ds others r apart.1 in (
@@ -76,7 +76,7 @@ apart-after (d ∷ ds) others r left number apart = (
   apart-after ds others r left number apart.1,
 )
 
-left-turned : (ds others : List Running) (r : Running) → AreApart (ds ++ r ∷ others) → left_of (ds ++ r ∷ others) r.app ≡ Some r
+pub left-turned : (ds others : List Running) (r : Running) → AreApart (ds ++ r ∷ others) → left_of (ds ++ r ∷ others) r.app ≡ Some r
 left-turned ds others r apart =
     left-front ds (r ∷ others) r.app (apart-front ds others r apart).0
     ∙ ap (λ b. cond {A = Option Running} b (Some r) (left_of others r.app)) (same-self r.app)
@@ -223,7 +223,7 @@ pub record HasTurned (limits : Limits) (apps : ℕ) (sofar : SoFar) (ds others :
   pub leads : Leads limits apps sofar (ds ++ others) next.0 (ds ++ next.1)
   pub falls : (weights next.0.state (ds ++ next.1) < weights sofar.state (ds ++ others)) ⊎ ((next ≡ (sofar, others)) × Each (λ r. IsStuck sofar.state r.app) others)
 
-is_live : (limits : Limits) (apps : ℕ) (sofar : SoFar) (ds others : List Running) (r : Running) → IsFit limits apps sofar (ds ++ r ∷ others) → is_ended (standing_of sofar.state r.app) ≡ false
+pub is_live : (limits : Limits) (apps : ℕ) (sofar : SoFar) (ds others : List Running) (r : Running) → IsFit limits apps sofar (ds ++ r ∷ others) → is_ended (standing_of sofar.state r.app) ≡ false
 is_live limits apps sofar ds others r fit =
     not_true (is_ended (standing_of sofar.state r.app)) (sym (fit.fits r.app) ∙ ap is_some (left-turned ds others r fit.apart))
 
@@ -265,16 +265,29 @@ falls-then sofar ds others r first rest (inr stay) (inr stuck) =
       (stay.1, subst (λ (x : SoFar × List Running). Each (λ q. IsStuck x.0.state q.app) others) stay.0 stuck.1),
     )
 
+-- one turn, of the first of those who have still to take it
+pub one-turn : (limits : Limits) (apps : ℕ) (sofar : SoFar) (ds others : List Running) (r : Running) → IsFit limits apps sofar (ds ++ r ∷ others) →
+    IsTurn limits apps sofar r (standing_of sofar.state r.app) (turn limits sofar r)
+one-turn limits apps sofar ds others r fit =
+    turn-in limits apps sofar r (standing_of sofar.state r.app) fit.sound
+    (own-written limits apps sofar ds others r fit) refl (is_live limits apps sofar ds others r fit)
+
+pub one-leads : (limits : Limits) (apps : ℕ) (sofar : SoFar) (ds others : List Running) (r : Running) → IsFit limits apps sofar (ds ++ r ∷ others) →
+    Leads limits apps sofar (ds ++ r ∷ others) (turn limits sofar r).0 ((ds ++ (turn limits sofar r).1) ++ others)
+one-leads limits apps sofar ds others r fit =
+    let first : SoFar × List Running = turn limits sofar r in
+    let t : IsTurn limits apps sofar r (standing_of sofar.state r.app) first = one-turn limits apps sofar ds others r fit in
+    let lists : ds ++ (listed t.left ++ others) ≡ ds ++ (first.1 ++ others) = ap (λ l. ds ++ (l ++ others)) (sym t.lists) in
+    subst (λ l. Leads limits apps sofar (ds ++ r ∷ others) first.0 l) (lists ∙ sym (append_assoc ds first.1 others)) (turn-leads limits apps sofar ds others r first fit t)
+
 pub rotated-turns : (limits : Limits) (apps : ℕ) (sofar : SoFar) (ds others : List Running) → IsFit limits apps sofar (ds ++ others) →
     HasTurned limits apps sofar ds others (rotated limits sofar others)
 rotated-turns limits apps sofar ds [] fit = record { leads = record { fit = fit; back = λ whole owed. owed }; falls = inr (refl, tt) }
 rotated-turns limits apps sofar ds (r ∷ others) fit =
     let first : SoFar × List Running = turn limits sofar r in
-    let t : IsTurn limits apps sofar r (standing_of sofar.state r.app) first = turn-in limits apps sofar r (standing_of sofar.state r.app) fit.sound
-    (own-written limits apps sofar ds others r fit) refl (is_live limits apps sofar ds others r fit) in
+    let t : IsTurn limits apps sofar r (standing_of sofar.state r.app) first = one-turn limits apps sofar ds others r fit in
     let lists : ds ++ (listed t.left ++ others) ≡ ds ++ (first.1 ++ others) = ap (λ l. ds ++ (l ++ others)) (sym t.lists) in
-    let one : Leads limits apps sofar (ds ++ r ∷ others) first.0 ((ds ++ first.1) ++ others) =
-    subst (λ l. Leads limits apps sofar (ds ++ r ∷ others) first.0 l) (lists ∙ sym (append_assoc ds first.1 others)) (turn-leads limits apps sofar ds others r first fit t) in
+    let one = one-leads limits apps sofar ds others r fit in
     let rest = rotated-turns limits apps first.0 (ds ++ first.1) others one.fit in
     let next : SoFar × List Running = rotated limits first.0 others in
     record {

@@ -1,6 +1,6 @@
--- What an application tells of the messages that it received, in the order of its lines.
+-- What an application tells of the messages that it received and of the tables that it held, in the order of its lines.
 use Rattle.std.specs.Prelude.{ℕ, ◌==◌, List, [], ◌∷◌, ◌++◌, length, slice_index, Option, Some, None, unwrap_or, if◌then◌else◌}
-use Rattle.std.specs.Option.{option_and_then, option_to_list}
+use Rattle.std.specs.Option.{option_map, option_and_then, option_to_list}
 use Rattle.fsw_base.specs.Limits.{Limits}
 use Rattle.bus_words.specs.declared.calls.BusAnswer.{BusAnswer}
 use Rattle.bus_words.specs.declared.calls.BusAnswer.TheVariants.{Got, Pending}
@@ -8,15 +8,28 @@ use Rattle.bus_words.specs.declared.history.Call.{Call}
 use Rattle.bus_words.specs.declared.history.Call.TheVariants as calls
 use Rattle.bus_words.specs.declared.history.Entry.{Entry}
 use Rattle.bus_words.specs.declared.receipts.Receipt.{Receipt}
-use Rattle.bus_words.specs.declared.receipts.Receipt.TheVariants.{Nothing}
+use Rattle.bus_words.specs.declared.receipts.Receipt.TheVariants.{Nothing, Table}
 use Rattle.bus_words.specs.Bus.{Item, Pipe, State, opening, owns, pipe_at}
 use Rattle.bus_words.specs.Machine.{step}
 use Rattle.bus_words.specs.Receipts.{receipt_in}
+use Rattle.tbl_words.specs.declared.calls.TblAnswer.{TblAnswer}
+use Rattle.tbl_words.specs.declared.calls.TblAnswer.TheVariants.{Address}
+use Rattle.tbl_words.specs.declared.history.Call.{Call as TableCall}
+use Rattle.tbl_words.specs.declared.history.Call.TheVariants as table_calls
+use Rattle.tbl_words.specs.declared.history.Entry.{Entry as TableEntry}
+use Rattle.tbl_words.specs.Machine.{step as table_step}
+use Rattle.tbl_words.specs.Receipts.{receipt_in as table_receipt_in}
+use Rattle.tbl_words.specs.Holds.{hold_of}
+use Rattle.tbl_words.specs.Tables.{Hold, State as Tables, opening as no_tables, owns as owns_handle}
 use Rattle.script_lines.specs.declared.line.Line.{Line}
-use Rattle.script_lines.specs.declared.line.Line.TheVariants.{ShowPipe}
+use Rattle.script_lines.specs.declared.line.Line.TheVariants.{ShowPipe, ShowTable}
 use Rattle.app_script.specs.Script.{ScriptText, app_at}
+use Rattle.script_runs.specs.Histories.{Histories}
+use Rattle.script_runs.specs.TableTrace.{first_handles, table_call_of, handles_after}
 use Rattle.script_runs.specs.Trace.{Registers, first_registers, call_of, registers_after}
 use Rattle.script_runs.specs.Written.{Written, first_written, written_after, written_by}
+
+-- The bus. --
 
 -- the last message of the application's own live pipe of this number, where it has one
 abbrev pub own_last : List Pipe → ℕ → ℕ → Option Item
@@ -44,33 +57,113 @@ got_in app s call answer = []
 abbrev pub receipts_of : ℕ → Seen → List Receipt
 receipts_of app seen = got_in app seen.after seen.entry.call seen.entry.answer
 
--- what a line tells that no service sees: `show` the pipe's last message, or nothing where the application has none there
-unfoldable pub shown : ℕ → State → Registers → Line → List Receipt
-shown app s registers (ShowPipe pipe) = unwrap_or (receipt_in s app (slice_index registers.pipes pipe)) Nothing ∷ []
-shown app s registers line = []
+-- The tables. --
 
--- what follows an entry so answered: where it waits, its look's receipts first
+-- what the application's own live handle of this number holds, where it holds something
+abbrev pub own_hold : Tables → ℕ → ℕ → Option Hold
+own_hold t app handle = if owns_handle t.handles app handle then hold_of t.handles handle else None
+
+-- the receipt of what a handle of the application's holds, where it holds something
+abbrev pub held_in : Tables → ℕ → ℕ → Option Receipt
+held_in t app handle = option_map (λ r. Table r.handle r.version r.size r.sum_of_bytes r.head) (table_receipt_in t app handle)
+
+-- An entry of an application, and the tables after it.
+pub record TableSeen : Type 0 where
+  pub entry : TableEntry
+  pub after : Tables
+
+-- an application's entries among those that follow where the tables are so, each with the tables after it
+abbrev pub table_seen_from : Limits → Tables → ℕ → List TableEntry → List TableSeen
+table_seen_from limits t app [] = []
+table_seen_from limits t app (e ∷ es) =
+    let after = (table_step limits t e.app e.call).1 in
+    (if e.app == app then record { entry = e; after = after } ∷ [] else []) ++ table_seen_from limits after app es
+
+-- the receipt that an entry makes: one where it gave an address, of what the handle then holds
+abbrev pub addressed_in : ℕ → Tables → TableCall → TblAnswer → List Receipt
+addressed_in app t (table_calls.GetAddress handle) (Address told version) = option_to_list (held_in t app handle)
+addressed_in app t call answer = []
+
+abbrev pub table_receipts_of : ℕ → TableSeen → List Receipt
+table_receipts_of app seen = addressed_in app seen.after seen.entry.call seen.entry.answer
+
+-- Lines. --
+
+-- Where an application is in what it tells: its registers, what it wrote, both services as they are after its latest entry of
+-- each, and its entries to come.
+pub record Telling : Type 0 where
+  pub registers : Registers
+  pub handles : List ℕ
+  pub written : Written
+  pub state : State
+  pub tables : Tables
+  pub seen : List Seen
+  pub table_seen : List TableSeen
+
+-- what a line tells that no service sees: `show` the pipe's last message, or what the handle holds, or nothing where there is none
+unfoldable pub shown : ℕ → State → Tables → Registers → List ℕ → Line → List Receipt
+shown app s t registers handles (ShowPipe pipe) = unwrap_or (receipt_in s app (slice_index registers.pipes pipe)) Nothing ∷ []
+shown app s t registers handles (ShowTable handle) = unwrap_or (held_in t app (slice_index handles handle)) Nothing ∷ []
+shown app s t registers handles line = []
+
+-- what follows an entry of the bus so answered: where it waits, its look's receipts first
 abbrev pub told_after : ℕ → BusAnswer → Seen → List Seen → (State → List Seen → List Receipt) → List Receipt
 told_after app Pending seen [] rest = []
 told_after app Pending seen (look ∷ others) rest = receipts_of app look ++ rest look.after others
 told_after app answer seen others rest = receipts_of app seen ++ rest seen.after others
 
--- what a line tells
-abbrev pub line_told : ℕ → Option Call → List Receipt → List Seen → (State → List Seen → List Receipt) → (Call → BusAnswer → State → List Seen → List Receipt) → State → List Receipt
-line_told app None local seen same next s = local ++ same s seen
-line_told app (Some call) local [] same next s = []
-line_told app (Some call) local (first ∷ others) same next s = told_after app first.entry.answer first others (next call first.entry.answer)
+-- what a line with this call of the bus tells, and what comes then: it has the next entry of the bus
+abbrev pub seen_told : ℕ → Line → Call → List Seen → Telling → (Telling → List Receipt) → List Receipt
+seen_told app line call [] at next = []
+seen_told app line call (first ∷ others) at next =
+    let answer = first.entry.answer in
+    told_after app answer first others
+    (λ after rest. next (record at {
+      registers = registers_after at.registers line answer;
+      written = written_after at.written call answer;
+      state = after;
+      seen = rest;
+    }))
 
--- What the lines tell, with the bus as it is after the application's latest entry, and its entries to come.
-abbrev pub told : ℕ → Registers → Written → State → List Line → List Seen → List Receipt
-told app registers written s [] seen = []
-told app registers written s (line ∷ lines) seen =
-    line_told app (call_of registers written line) (shown app s registers line) seen
-    (λ after rest. told app registers (written_by written registers.buffers line) after lines rest)
-    (λ call answer after rest. told app (registers_after registers line answer) (written_after written call answer) after lines rest) s
+-- what a line with a call of the tables tells, and what comes then: it has the next entry of the tables
+abbrev pub table_seen_told : ℕ → Line → List TableSeen → Telling → (Telling → List Receipt) → List Receipt
+table_seen_told app line [] at next = []
+table_seen_told app line (first ∷ others) at next =
+    table_receipts_of app first
+    ++ next (record at { handles = handles_after at.handles line first.entry.answer; tables = first.after; table_seen = others })
 
--- the receipts of one application of a script in a history
-abbrev pub receipts_told : ScriptText → List Entry → ℕ → List Receipt
-receipts_told script history app =
+-- what a line tells that the bus doesn't see, and what comes then
+abbrev pub other_told : ℕ → Line → Option TableCall → Telling → (Telling → List Receipt) → List Receipt
+other_told app line None at next =
+    shown app at.state at.tables at.registers at.handles line
+    ++ next (record at { written = written_by at.written at.registers.buffers line })
+other_told app line (Some call) at next = table_seen_told app line at.table_seen at next
+
+-- what a line tells, and what comes then
+abbrev pub line_told : ℕ → Line → Option Call → Telling → (Telling → List Receipt) → List Receipt
+line_told app line None at next = other_told app line (table_call_of at.handles line) at next
+line_told app line (Some call) at next = seen_told app line call at.seen at next
+
+-- What the lines tell, from there on.
+abbrev pub told : ℕ → List Line → Telling → List Receipt
+told app [] at = []
+told app (line ∷ lines) at = line_told app line (call_of at.registers at.written line) at (λ now. told app lines now)
+
+-- before the first line of an application, where a script's run has these histories
+abbrev pub telling_from : ScriptText → Histories → ℕ → Telling
+telling_from script histories app =
     let s = opening script.limits (length script.apps) in
-    told app first_registers first_written s (app_at script app).lines (seen_from script.limits [] s app history)
+    let t = no_tables script.limits (length script.apps) in
+    record {
+      registers = first_registers;
+      handles = first_handles;
+      written = first_written;
+      state = s;
+      tables = t;
+      seen = seen_from script.limits [] s app histories.bus;
+      table_seen = table_seen_from script.limits t app histories.tables;
+    }
+
+-- the receipts of one application of a script in these histories
+abbrev pub receipts_told : ScriptText → Histories → ℕ → List Receipt
+receipts_told script histories app = told app (app_at script app).lines (telling_from script histories app)

@@ -1,5 +1,5 @@
--- What a history has of a script: each application's calls, each once and in the order of its lines.
-use Rattle.std.specs.Prelude.{◌≡◌, ℕ, ◌==◌, ◌≤◌, List, [], ◌∷◌, length, filter, replicate, All, slice_index, slice_set, Option, Some, None}
+-- What a history of the bus has of one application of a script: the calls of its lines, each once and in their order.
+use Rattle.std.specs.Prelude.{◌≡◌, ℕ, ◌==◌, List, [], ◌∷◌, filter, replicate, slice_index, slice_set, Option, Some, None}
 use Rattle.bus_words.specs.declared.calls.BusAnswer.{BusAnswer}
 use Rattle.bus_words.specs.declared.calls.BusAnswer.TheVariants.{Number, Pending}
 use Rattle.bus_words.specs.declared.history.Call.{Call}
@@ -8,10 +8,9 @@ use Rattle.bus_words.specs.declared.history.Entry.{Entry}
 use Rattle.script_lines.specs.declared.line.Line.{Line}
 use Rattle.script_lines.specs.declared.line.Line.TheVariants as lines
 use Rattle.script_runs.specs.Messages.{sent_message}
-use Rattle.script_runs.specs.Written.{Written, first_written, bytes_in, written_after, written_by}
-use Rattle.app_script.specs.Script.{ScriptText, app_at}
+use Rattle.script_runs.specs.Written.{Written, bytes_in, written_after, written_by}
 
--- An application's registers: of pipes, of unsent buffers, of memory pools and of their grants.
+-- An application's registers of what the bus numbers: of pipes, of unsent buffers, of memory pools and of their grants.
 pub record Registers : Type 0 where
   pub pipes : List ℕ
   pub buffers : List ℕ
@@ -22,7 +21,7 @@ pub record Registers : Type 0 where
 abbrev pub first_registers : Registers
 first_registers = record { pipes = replicate 64 0; buffers = replicate 64 0; pools = replicate 8 0; grants = replicate 64 0 }
 
--- The call that a line makes, its registers filled in; None for a line that no service sees, and for one that isn't run yet.
+-- The call of the bus that a line makes, its registers filled in; None for a line that the bus doesn't see.
 -- A buffer is sent with its bytes as they were written, and with none where the application has no such buffer.
 unfoldable pub call_of : Registers → Written → Line → Option Call
 call_of registers written (lines.Create pipe depth name) = Some (calls.Create depth name)
@@ -88,7 +87,7 @@ AfterAnswer (calls.Pend pipe) Pending Rest [] = ⊥
 AfterAnswer (calls.Pend pipe) Pending Rest (e ∷ es) = (e.call ≡ calls.Look pipe) × Rest es
 AfterAnswer call answer Rest es = Rest es
 
--- the entries of a line: none where no service sees it, else one of its call
+-- the entries of a line: none where the bus doesn't see it, else one of its call
 abbrev pub LineEntries : Option Call → (Call → BusAnswer → List Entry → Type 0) → (List Entry → Type 0) → List Entry → Type 0
 LineEntries None Next Same es = Same es
 LineEntries (Some call) Next Same [] = ⊥
@@ -100,8 +99,8 @@ IsEnd [] = ⊥
 IsEnd (e ∷ []) = e.call ≡ calls.End
 IsEnd (e ∷ f ∷ es) = ⊥
 
--- One entry for each line that a service sees, with that line's call, and a look after one that waits; the application's
--- end after them all.
+-- One entry for each line that the bus sees, with that line's call, and a look after one that waits; the application's end
+-- after them all.
 abbrev pub Trace : Registers → Written → List Line → List Entry → Type 0
 Trace registers written [] es = IsEnd es
 Trace registers written (line ∷ lines) es =
@@ -112,8 +111,3 @@ Trace registers written (line ∷ lines) es =
 -- the entries of one application
 abbrev pub own_entries : ℕ → List Entry → List Entry
 own_entries app history = filter (λ e. e.app == app) history
-
--- The history has each application's calls, each once and in the order of its lines, and no other's.
-pub record Merges (script : ScriptText) (history : List Entry) : Type 0 where
-  pub each : (app : ℕ) → 1 ≤ app → app ≤ length script.apps → Trace first_registers first_written (app_at script app).lines (own_entries app history)
-  pub nobody_else : All (λ e. (1 ≤ e.app) × (e.app ≤ length script.apps)) history

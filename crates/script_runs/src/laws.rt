@@ -7,9 +7,14 @@ ghost use Rattle.bus_words.specs.Bus.{standing_of};
 ghost use Rattle.bus_words.specs.Held.{HoldsNothing};
 ghost use Rattle.bus_words.specs.Machine.{state_after, step, may_call, IsLegal};
 ghost use Rattle.bus_words.specs.Receipts.{receipt_in};
+ghost use Rattle.tbl_words.specs.declared.history.Call.{Call as TableCall};
+ghost use Rattle.tbl_words.specs.declared.history.Entry.{Entry as TableEntry};
+ghost use Rattle.tbl_words.specs.Leaves.{HoldsNothing as HoldsNoTables};
+ghost use Rattle.tbl_words.specs.Machine.{state_after as tables_after, step as table_step, IsLegal as AreLegalTables};
 ghost use Rattle.app_script.specs.Script.{ScriptText};
+ghost use Rattle.script_runs.specs.Merges.{Merges};
 ghost use Rattle.script_runs.specs.Rotation.{before_all, enough, rotation, rotations};
-ghost use Rattle.script_runs.specs.Trace.{Merges};
+ghost use Rattle.script_runs.specs.Told.{held_in};
 
 /// What an application tells of a pipe's last message changes by its own calls alone: an entry of
 /// another application, whatever its call, leaves it as it is, and so does a call that another may
@@ -27,16 +32,35 @@ pub fn last_messages_stay()
         receipt_in (state_after limits apps history) app pipe }
 {}
 
-/// A rotation ends: after enough turns of all no application is left. Its history is one that the
-/// bus can have, and has each application's calls, each once and in the order of its lines, with
-/// its end behind them; so at its end nothing is held, and no byte of the bus's pool is in use.
+/// What an application tells of what a handle holds changes by its own calls alone: an entry of
+/// another application, whatever its call, leaves it as it is, and so does any call of another.
+pub fn held_receipts_stay()
+    ensures stays { (limits : Limits) (apps app handle : ℕ) (history : List TableEntry)
+        (e : TableEntry) → AreLegalTables limits apps (history ++ e ∷ []) → ¬ (e.app ≡ app) →
+        held_in (tables_after limits apps (history ++ e ∷ [])) app handle ≡
+        held_in (tables_after limits apps history) app handle }
+    ensures step { (limits : Limits) (apps app handle : ℕ) (history : List TableEntry) (who : ℕ)
+        (call : TableCall) → AreLegalTables limits apps history → ¬ (who ≡ app) →
+        held_in ((table_step limits (tables_after limits apps history) who call).1) app handle ≡
+        held_in (tables_after limits apps history) app handle }
+{}
+
+/// A rotation ends: after enough turns of all no application is left. Its histories are ones that
+/// the bus and the tables can have, and have each application's calls, each once and in the order
+/// of its lines, with its end behind them; so at its end nothing is held, no byte of the bus's pool
+/// is in use, and no table is left.
 pub fn rotations_merge()
     ensures ends { (script : ScriptText) →
         (rotations (enough script) script.limits (before_all script)).1 ≡ [] }
     ensures legal { (script : ScriptText) →
-        IsLegal script.limits (length script.apps) (rotation script) }
+        IsLegal script.limits (length script.apps) (rotation script).bus }
+    ensures legal_tables { (script : ScriptText) →
+        AreLegalTables script.limits (length script.apps) (rotation script).tables }
     ensures merges { (script : ScriptText) → Merges script (rotation script) }
     ensures nothing { (script : ScriptText) →
         HoldsNothing script.limits
-        (state_after script.limits (length script.apps) (rotation script)) }
+        (state_after script.limits (length script.apps) (rotation script).bus) }
+    ensures no_tables { (script : ScriptText) →
+        HoldsNoTables script.limits
+        (tables_after script.limits (length script.apps) (rotation script).tables) }
 {}

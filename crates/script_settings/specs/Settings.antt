@@ -1,5 +1,5 @@
 -- The lines that configure a run.
-use Rattle.std.specs.Prelude.{ℕ, ◌==◌, ◌||◌, ◌&&◌, nat_le, Bool, true, false, List, [], ◌∷◌, length, Option, Some, None, Result, Ok, Err, codes, if◌then◌else◌}
+use Rattle.std.specs.Prelude.{ℕ, ◌==◌, ◌||◌, ◌&&◌, nat_le, Bool, List, [], ◌∷◌, length, Option, Some, None, Result, Ok, Err, codes, if◌then◌else◌}
 use Rattle.std.specs.List.{list_any, list_all}
 use Rattle.fsw_base.specs.declared.script_faults.FaultKind.{FaultKind}
 use Rattle.fsw_base.specs.declared.script_faults.FaultKind.TheVariants.{WrongCount, BadWord, OutOfRange}
@@ -146,17 +146,3 @@ script_of words = do
   word ← one words
   version ← number_of word
   within 1 1 version
-
--- which limits this program runs with already
-abbrev pub is_built_limit : LimitName → Bool
-is_built_limit MsgIds = true
-is_built_limit Pipes = true
-is_built_limit Dests = true
-is_built_limit Depth = true
-is_built_limit MsgMax = true
-is_built_limit Pool = true
-is_built_limit AppPool = true
-is_built_limit Tables = false
-is_built_limit Handles = false
-is_built_limit TableMax = false
-is_built_limit TablePool = false

@@ -10,7 +10,6 @@ ghost use Rattle.script_settings.specs.Settings.{limit_name, limit_number, least
 ghost use Rattle.script_settings.specs.Settings.{with_limit, is_among, limit_named, set_of};
 ghost use Rattle.script_settings.specs.Settings.{some_words, sizes_within, sizes_of, seq_of};
 ghost use Rattle.script_settings.specs.Settings.{is_name_byte, is_app_name, app_of, script_of};
-ghost use Rattle.script_settings.specs.Settings.{is_built_limit};
 
 use arrayvec::ArrayVec;
 use fsw_base::{BlockSizes, Config, FaultKind, MAX_BLOCK_SIZES};
@@ -313,24 +312,4 @@ pub fn version(rest: &[u8]) -> Result<u32, FaultKind>
     let word = one(rest)?;
     let version = number(word)?;
     within(1, 1, version)
-}
-
-/// Whether the program runs with this limit already: `pool`, `apppool` and those from `msgids` to
-/// `msgmax`.
-pub fn is_built_limit(name: LimitName) -> bool
-    ensures { result ≡ is_built_limit name }
-{
-    match name {
-        LimitName::MsgIds => true,
-        LimitName::Pipes => true,
-        LimitName::Dests => true,
-        LimitName::Depth => true,
-        LimitName::MsgMax => true,
-        LimitName::Pool => true,
-        LimitName::AppPool => true,
-        LimitName::Tables => false,
-        LimitName::Handles => false,
-        LimitName::TableMax => false,
-        LimitName::TablePool => false,
-    }
 }

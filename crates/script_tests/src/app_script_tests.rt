@@ -36,10 +36,11 @@ fn first_fault_is_told(rt: HostRuntime) -> Result<(), Fail> {
 }
 
 #[test]
-fn lines_of_events_and_figures_are_run_already(rt: HostRuntime) -> Result<(), Fail> {
-    let script =
+fn lines_of_events_figures_and_tables_are_read(rt: HostRuntime) -> Result<(), Fail> {
+    let events =
         b"app A\nevreg 1:0xffff\nevent 1 2 pump on\nevreset 1\nlogmode 1\nlogclear\nhk\nstats\n";
-    assert_eq!(rt; apps_of(rt.alloc(), script), Some(1));
-    assert_eq!(rt; fault_line_of(rt.alloc(), b"app A\nhk\ntval t0\n"), Some(3));
+    assert_eq!(rt; apps_of(rt.alloc(), events), Some(1));
+    let tables = b"app A\ntreg t0 LIMITS 8 0 0:1:9\ntload t0 0 fill:8:1\ntget t0\nshow t0\n";
+    assert_eq!(rt; apps_of(rt.alloc(), tables), Some(1));
     Ok(())
 }

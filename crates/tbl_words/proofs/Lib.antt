@@ -1,9 +1,11 @@
 pub mod Accounts
 pub mod Bounds
+pub mod Ends
 pub mod Holds
 pub mod Leaves
 pub mod Numbers
 pub mod Orders
+pub mod Others
 pub mod Peaks
 pub mod Replay
 pub mod Ties

@@ -1,5 +1,5 @@
 -- How a journal keeps its entries: rows of one size, each with its bytes.
-use Rattle.std.specs.Prelude.{◌≡◌, ℕ, List, [], map}
+use Rattle.std.specs.Prelude.{◌≡◌, ℕ, List, map}
 use Rattle.journal_store.specs.Store.{Stored}
 use Rattle.journal_store.specs.Store as store
 use Rattle.tbl_words.specs.declared.history.Call.{Call}

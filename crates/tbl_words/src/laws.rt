@@ -1,11 +1,11 @@
 //! What holds of every history of the tables, whoever kept it.
-ghost use Rattle.std.specs.Prelude.{◌≡◌, ℕ, List, [], ◌∷◌, ◌++◌, IsTrue};
+ghost use Rattle.std.specs.Prelude.{◌≡◌, ◌≤◌, ℕ, true, false, List, [], ◌∷◌, ◌++◌, IsTrue};
 ghost use Rattle.fsw_base.specs.Limits.{Limits};
 ghost use Rattle.tbl_words.specs.declared.history.Entry.{Entry};
-ghost use Rattle.tbl_words.specs.Tables.{opening};
+ghost use Rattle.tbl_words.specs.Tables.{opening, has_ended, owns};
 ghost use Rattle.tbl_words.specs.Machine.{step, state_after, may_call, IsLegal};
 ghost use Rattle.tbl_words.specs.Runs.{callers, run_from, Follows};
-ghost use Rattle.tbl_words.specs.Leaves.{LeavesAddUp};
+ghost use Rattle.tbl_words.specs.Leaves.{LeavesAddUp, HoldsNothing};
 ghost use Rattle.tbl_words.specs.Uses.{PeaksGoOn, PeaksAreGreatest};
 ghost use Rattle.tbl_words.specs.Accounts.{RegistrationsDraw, LeavingReturns};
 ghost use Rattle.tbl_words.specs.Bounds.{HandlesGoByEntries, VersionsGoByEntries};
@@ -48,6 +48,19 @@ pub fn held_tables_stay()
 /// application's end can give its handles back in any order.
 pub fn leaves_add_up()
     ensures { LeavesAddUp }
+{}
+
+/// An application that has ended owns no handle; and once all have ended, nothing is left of the
+/// tables, and none of their pool's bytes is in use.
+pub fn ends_leave_nothing()
+    ensures owners { (limits : Limits) (apps app number : ℕ) (history : List Entry) →
+        IsLegal limits apps history → has_ended (state_after limits apps history) app ≡ true →
+        owns (state_after limits apps history).handles app number ≡ false }
+    ensures nothing { (limits : Limits) (apps : ℕ) (history : List Entry) →
+        IsLegal limits apps history →
+        ((app : ℕ) → 1 ≤ app → app ≤ apps →
+        has_ended (state_after limits apps history) app ≡ true) →
+        HoldsNothing limits (state_after limits apps history) }
 {}
 
 /// The peaks of what is in use: with one entry more, the greater of the peak before and of what is

@@ -26,8 +26,9 @@ pub use history::{Call, Entry};
 pub use journal::TblJournal;
 pub use journal_store::Allowance;
 pub use laws::{
-    blocks_go_by_tables, handles_are_numbered, handles_have_tables, held_tables_stay,
-    histories_are_runs, leaves_add_up, numbers_go_by_entries, peaks_are_greatest, worked_examples,
+    blocks_go_by_tables, ends_leave_nothing, handles_are_numbered, handles_have_tables,
+    held_tables_stay, histories_are_runs, leaves_add_up, numbers_go_by_entries, peaks_are_greatest,
+    worked_examples,
 };
 pub use receipts::{HEAD_BYTES, TableReceipt};
 pub use rules::{MAX_RULES, Rule, RuleList};

@@ -1,14 +1,11 @@
 use Rattle.std.proofs.Common.{◌≡◌, ◌+◌, ◌≤◌, length}
 use Rattle.script_words.specs.Text.{lines_of}
-use Rattle.app_script.specs.Built.{unbuilt_from, unbuilt_line}
 use Rattle.app_script.specs.Grammar.{after_lines}
-use Rattle.app_script.proofs.ReadLemmas.{first_of}
 use Rattle.app_script.proofs.script.read_lines.Given as goal
 
 abbrev pub invariant-loop-rest : goal.invariant-loop-rest
 invariant-loop-rest l = record {
   read : after_lines l.number l.reading (lines_of l.rest) ≡ after_lines 1 l.initial.reading (lines_of l.initial.rest);
-  unbuilt : first_of l.unbuilt (unbuilt_from l.number (lines_of l.rest)) ≡ unbuilt_line l.initial.rest;
   count : l.number + length l.rest ≤ 1048577;
 }
 

@@ -1,5 +1,5 @@
 use Rattle.std.proofs.Common.{◌≡◌, ◌<◌, false, true, length, sym, ◌∙◌, arith}
-use Rattle.host_run.proofs.CopyLaws.{copy_stops, copy_goes, within-empty}
+use Rattle.host_run.proofs.CopyLaws.{copy_stops, copy_goes, fits-empty}
 use Rattle.host_run.proofs.mem_audit.copy_entries.Goals as goal
 
 pub returns-then-not-copy_entry-clause-fits : goal.returns-then-not-copy_entry-clause-fits
@@ -16,4 +16,4 @@ loop-i-preserved c =
     record { copied = more.0; rest = more.1 ∙ c.loop-i.invariant.rest }
 
 pub loop-i-init : goal.loop-i-init
-loop-i-init c = record { copied = c.requires; rest = within-empty c.args.target.now c.args.journal.now.entries c.requires }
+loop-i-init c = record { copied = c.requires; rest = fits-empty c.args.target.now c.args.journal.now.entries c.requires }

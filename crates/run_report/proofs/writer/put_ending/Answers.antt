@@ -6,6 +6,6 @@ use Rattle.run_report.proofs.writer.put_ending.Goals as goal
 pub returns : goal.returns
 returns g c =
     c.put.ensures
-    ▸ (c.put_counts.ensures ▸ puts_as _ (ap (uses_text c.args.readings.now.in_use) c.peak.ensures) c.put_uses.ensures ▸ c.put_account.ensures
-    ▸ c.put_app_pools.ensures ▸ c.put_desk.ensures)
+    ▸ (c.put_counts.ensures ▸ puts_as _ (ap (uses_text c.args.bus.now.in_use) c.peak.ensures) c.put_uses.ensures ▸ c.put_account.ensures
+    ▸ c.put_app_pools.ensures ▸ c.put_desk.ensures ▸ c.put_table_uses.ensures ▸ c.put_account-2.ensures)
     ▸ c.put-2.ensures

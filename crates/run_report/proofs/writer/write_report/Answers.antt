@@ -1,15 +1,15 @@
 use Rattle.std.proofs.Common.{append-nil}
 use Rattle.std.proofs.lemmas.Result.{on_err_weaker}
-use Rattle.run_report.specs.Report.{figures_read, report_of}
+use Rattle.run_report.specs.Report.{report_of}
 use Rattle.text_page.proofs.Putting.{◌▸◌, on_ok_both, puts_as, puts_never_falls, puts_part, puts_rose, puts_whole}
 use Rattle.run_report.proofs.writer.write_report.Goals as goal
 
 pub returns : goal.returns
 returns g c =
-    let text = report_of c.args.journal.now c.args.receipts.now (figures_read c.args.readings.now) in
+    let text = report_of c.args.bus.now c.args.tables.now c.args.receipts.now in
     let all = puts_as text (append-nil text)
-    (c.put.ensures ▸ c.put_entries.ensures ▸ c.put-2.ensures ▸ c.put_receipts.ensures ▸ c.put-3.ensures ▸ c.put_log.ensures
-    ▸ c.put_ending.ensures ▸ c.finish.ensures.puts) in
+    (c.put.ensures ▸ c.put_entries.ensures ▸ c.put-2.ensures ▸ c.put_table_entries.ensures ▸ c.put-3.ensures ▸ c.put_receipts.ensures
+    ▸ c.put-4.ensures ▸ c.put_log.ensures ▸ c.put_ending.ensures ▸ c.finish.ensures.puts) in
     let blank = c.new-page.ensures in
     record {
       ok = on_ok_both c.finish.result (puts_whole c.requires blank all) c.finish.ensures.none_failed c.finish.ensures.ok;

@@ -11,5 +11,6 @@ returns g c = record {
   buffers = leaves-given c.args.self.now.core.now c.allocate.new.self c.args.self.now.app c.args.size c.args.self.now.held.now c.allocate.new.held c.allocate.result
       (record { may = c.requires.may; has = c.requires.bag; does = c.allocate.ensures.does; its = c.allocate.ensures.bag; rest = c.allocate.ensures.views; count = omega (arith, c.allocate.ensures.count) })
       c.allocate.ensures.zeros c.allocate.ensures.buffers c.allocate.ensures.bag_refused;
-  same = record { app = refl; bus = refl; bag = refl; alone = refl };
+  others = record { tables = refl; held = refl };
+  same = record { app = refl; names = refl; alone = refl };
 }

@@ -9,5 +9,6 @@ returns g c = record {
   does = c.end.ensures.does;
   bag = c.end.ensures.bag;
   buffers = leaves-none c.args.self.now.held.now c.end.new.held c.end.ensures.empty;
-  same = record { app = refl; bus = refl; bag = refl; alone = refl };
+  others = record { tables = refl; held = refl };
+  same = record { app = refl; names = refl; alone = refl };
 }

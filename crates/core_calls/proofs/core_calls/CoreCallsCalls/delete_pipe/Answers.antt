@@ -9,5 +9,6 @@ returns g c = record {
   does = c.delete_pipe.ensures.does;
   bag = c.delete_pipe.ensures.bag;
   buffers = leaves-views c.args.self.now.held.now c.delete_pipe.new.held _ _ c.delete_pipe.ensures.buffers (λ number. refl);
-  same = record { app = refl; bus = refl; bag = refl; alone = refl };
+  others = record { tables = refl; held = refl };
+  same = record { app = refl; names = refl; alone = refl };
 }

@@ -9,5 +9,6 @@ returns g c = record {
   does = c.look.ensures.looks;
   bag = c.look.ensures.bag;
   buffers = leaves-views c.args.self.now.held.now c.look.new.held _ _ c.look.ensures.buffers (λ number. refl);
-  same = record { app = refl; bus = refl; bag = refl; alone = refl };
+  others = record { tables = refl; held = refl };
+  same = record { app = refl; names = refl; alone = refl };
 }

@@ -9,5 +9,6 @@ returns g c = record {
   does = c.receive.ensures.does;
   bag = c.receive.ensures.bag;
   buffers = leaves-views c.args.self.now.held.now c.receive.new.held _ _ c.receive.ensures.buffers (λ number. refl);
-  same = record { app = refl; bus = refl; bag = refl; alone = refl };
+  others = record { tables = refl; held = refl };
+  same = record { app = refl; names = refl; alone = refl };
 }

@@ -11,5 +11,6 @@ returns g c = record {
   buffers = leaves-released c.args.self.now.core.now c.release.new.self c.args.self.now.app c.args.buf c.args.self.now.held.now c.release.new.held c.release.result
       (record { may = c.requires.may; has = c.requires.bag; does = c.release.ensures.does; its = c.release.ensures.bag; rest = c.release.ensures.views; count = omega (arith, c.release.ensures.count) })
       c.release.ensures.buffers c.release.ensures.bag_refused;
-  same = record { app = refl; bus = refl; bag = refl; alone = refl };
+  others = record { tables = refl; held = refl };
+  same = record { app = refl; names = refl; alone = refl };
 }

@@ -12,5 +12,6 @@ returns g c = record {
   buffers = leaves-sent c.args.self.now.core.now c.transmit_buffer.new.self c.args.self.now.app c.args.buf (bytes_at c.args.self.now.held.now c.args.buf) c.args.inc c.args.self.now.held.now c.transmit_buffer.new.held c.transmit_buffer.result
       (record { may = c.requires.may; has = c.requires.bag; does = c.transmit_buffer.ensures.does; its = c.transmit_buffer.ensures.bag; rest = c.transmit_buffer.ensures.views; count = omega (arith, c.transmit_buffer.ensures.count) })
       c.transmit_buffer.ensures.buffers c.transmit_buffer.ensures.bag_refused;
-  same = record { app = refl; bus = refl; bag = refl; alone = refl };
+  others = record { tables = refl; held = refl };
+  same = record { app = refl; names = refl; alone = refl };
 }

@@ -1,0 +1,13 @@
+use Rattle.std.proofs.Common.{map, ap, sym}
+use Rattle.bus_words.specs.Held.{account_of}
+use Rattle.sb_calls.specs.Core.{state_of}
+use Rattle.run_report.proofs.Accounts.{one_account}
+use Rattle.host_run.proofs.Figures.{figures-as}
+use Rattle.host_run.proofs.reporting.bus_readings.Goals as goal
+
+pub returns-clause-figures : goal.returns-clause-figures
+returns-clause-figures c =
+    let bus = c.args.bus.now in
+    figures-as c.events.ensures.desk c.counters.ensures.statistics c.in_use.ensures.now
+    (sym (one_account c.pool.result.now (account_of bus.limits (state_of bus)) c.pool.ensures.account))
+    (ap (λ pools. map (λ pool. pool.account) pools.pools) c.pools.ensures)

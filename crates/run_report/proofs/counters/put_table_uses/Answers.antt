@@ -1,0 +1,5 @@
+use Rattle.text_page.proofs.Putting.{◌▸◌}
+use Rattle.run_report.proofs.counters.put_table_uses.Goals as goal
+
+pub returns : goal.returns
+returns g c = c.put.ensures ▸ c.put_use.ensures ▸ c.put_use-2.ensures ▸ c.put_use-3.ensures ▸ c.put-2.ensures

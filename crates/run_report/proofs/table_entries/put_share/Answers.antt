@@ -1,0 +1,5 @@
+use Rattle.text_page.proofs.Putting.{◌▸◌}
+use Rattle.run_report.proofs.table_entries.put_share.Goals as goal
+
+pub returns : goal.returns
+returns g c = c.put.ensures ▸ c.put_name.ensures

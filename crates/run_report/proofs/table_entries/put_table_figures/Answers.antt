@@ -1,0 +1,6 @@
+use Rattle.text_page.proofs.Putting.{◌▸◌}
+use Rattle.run_report.proofs.table_entries.put_table_figures.Goals as goal
+
+pub returns : goal.returns
+returns g c =
+    c.put_number.ensures ▸ c.put.ensures ▸ c.put_flag.ensures ▸ c.put-2.ensures ▸ c.put_number-2.ensures ▸ c.put-3.ensures ▸ c.put_number-3.ensures
