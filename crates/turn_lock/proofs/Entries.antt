@@ -1,7 +1,8 @@
 -- The entries of one application in a history.
-use Rattle.std.proofs.Common.{◌≡◌, ◌≢◌, ℕ, List, [], ◌++◌, ap, ◌∙◌, append-nil}
+use Rattle.std.proofs.Common.{◌≡◌, ◌≢◌, ℕ, List, [], ◌∷◌, ◌++◌, refl, ap, sym, ◌∙◌, append-nil}
 use Rattle.std.specs.Prelude.{◌==◌}
 use Rattle.std.proofs.lemmas.List.Elements.{filter-append}
+use mathlib.Core.List.{IsPrefix}
 use Rattle.turn_lock.specs.Views.{entries_of}
 
 module _ {E : Type 0} where
@@ -11,3 +12,12 @@ module _ {E : Type 0} where
   -- entries of one application leave those of another as they were
   pub entries_of-append_other : (other app : ℕ) (log more : List (ℕ × E)) → ((third : ℕ) → third ≢ app → entries_of third more ≡ []) → other ≢ app → entries_of other (log ++ more) ≡ entries_of other log
   entries_of-append_other other app log more theirs apart = entries_of-append other log more ∙ (ap (λ l. entries_of other log ++ l) (theirs other apart) ∙ append-nil (entries_of other log))
+
+  nothing_before : (xs ys : List (ℕ × E)) → xs ++ ys ≡ [] → xs ≡ []
+  nothing_before [] ys is = refl
+  nothing_before (x ∷ xs) ys is = absurd (cc (is))
+
+  -- a beginning of a history has no entries of whom the history has none
+  pub entries_of-beginning : (app : ℕ) (seen log : List (ℕ × E)) → IsPrefix seen log → entries_of app log ≡ [] → entries_of app seen ≡ []
+  entries_of-beginning app seen log begins none =
+      nothing_before (entries_of app seen) (entries_of app begins.0) (sym (entries_of-append app seen begins.0) ∙ (ap (entries_of app) begins.1 ∙ none))

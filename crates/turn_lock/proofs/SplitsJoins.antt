@@ -16,6 +16,7 @@ use Rattle.turn_lock.specs.Views.{entries_of, is_live, is_queued, is_served, is_
 use Rattle.turn_lock.specs.Rule.{Fits, Differ, Each, IsAmong, Governs, Kept}
 use Rattle.turn_lock.specs.Steps.{Meets}
 use Rattle.turn_lock.proofs.Counting.{counts_again, queue_same}
+use Rattle.turn_lock.proofs.Entries.{entries_of-beginning}
 use Rattle.turn_lock.proofs.Stages.{off}
 use Rattle.turn_lock.proofs.TakesTurns.{stays}
 use Rattle.turn_lock.proofs.ViewLists.{set_comm, tickets_same, few_set, each_set, each_push, differ_set, differ_push, value_set, value_push}
@@ -128,10 +129,22 @@ module _ {T F E : Type 0} (fixed : T → F) (history : T → List (ℕ × E)) (o
   meet_keeps slots id me main s h homes at small =
       let v : View F E = me.0 in
       let f = h.each id v at in
+      let r = h.main id v at (ap is_main main) in
       dite (dec_le (length v.seen) (length v.joined))
-      (λ le. (record v { seen = v.joined }, keeps, tt, meet_longer id v main s h at, (refl, inl (prefix_shorter v.seen v.joined h.log f.seen f.joined le, refl))))
-      (λ more. let longer : length v.joined < length v.seen = lt_of_not-le more in
-      (v, keeps, tt, stays fixed history opening s h 0 id v at, (refl, inr (prefix_shorter v.joined v.seen h.log f.joined f.seen (omega arith), refl))))
+      (λ le. (
+        record v { seen = v.joined },
+        keeps,
+        tt,
+        meet_longer id v main s h at,
+        (refl, inl (prefix_shorter v.seen v.joined h.log f.seen f.joined le, refl), λ app out. entries_of-beginning app v.joined h.log f.joined (r.others app out)),
+      ))
+      (λ more. let longer : length v.joined < length v.seen = lt_of_not-le more in (
+        v,
+        keeps,
+        tt,
+        stays fixed history opening s h 0 id v at,
+        (refl, inr (prefix_shorter v.joined v.seen h.log f.joined f.seen (omega arith), refl), λ app out. entries_of-beginning app v.seen h.log f.seen (r.others app out)),
+      ))
 
   -- of the seats after a join: each other one is as it was, one is spent, and main has the ended seat's entries
   each_joined : (Q : View F E → Type 0) (views : List (View F E)) (id other : ℕ) (b z : View F E) → ((j : ℕ) (u : View F E) → get_elem? views j ≡ some u → Q u) → Q z → Q b → Each Q (set (set views other z) id b)

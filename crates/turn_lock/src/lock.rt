@@ -154,7 +154,8 @@ impl<T: Historied> TurnLock<T> {
     }
 
     /// Takes a seat that ends into the main one, which keeps its entries and the longer of what
-    /// the two had seen; the shorter one begins it.
+    /// the two had seen; the shorter one begins it. What it has seen then has no entries but those
+    /// of applications that were split off.
     pub fn join(&self, main: &mut Seat<T::Fixed, T::Event>, seat: Seat<T::Fixed, T::Event>)
         requires main { IsMain main.old self.now.name }
         requires seat { IsReady seat self.now.name }
@@ -164,6 +165,8 @@ impl<T: Historied> TurnLock<T> {
         ensures ended { (view_of main.new).ended ≡ (view_of main.old).ended
             ++ ((view_of seat).app, (view_of seat).mine) ∷ [] }
         ensures apps { (view_of main.new).apps ≡ (view_of main.old).apps }
+        ensures others { (app : ℕ) → ¬ (Contains (view_of main.new).apps app)
+            → entries_of app (view_of main.new).seen ≡ [] }
         ensures opening { (view_of main.new).fixed ≡ (view_of main.old).fixed }
     {
         let mut place = main.take_place();

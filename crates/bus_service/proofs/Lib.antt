@@ -1,0 +1,9 @@
+mod Allowances
+mod Few
+mod Found
+mod Histories
+mod Lent
+mod Mains
+pub mod Meanwhile
+mod Unowned
+mod Visits

@@ -1,0 +1,185 @@
+//! What the lock guards: the core in a box, so that a turn moves a pointer.
+ghost use Rattle.std.specs.Prelude.{◌≡◌, ◌<◌, ◌≤◌, IfOk};
+ghost use Rattle.journal_store.specs.Budgets.{allowance_of};
+ghost use Rattle.bus_words.specs.Bus.{standing_of, waited_on};
+ghost use Rattle.bus_words.specs.Log.{left_of};
+ghost use Rattle.bus_words.specs.declared.history.Call.TheVariants.{Look};
+ghost use Rattle.sb_calls.specs.Bags.{HasBag, AreOneLoan};
+ghost use Rattle.sb_calls.specs.Core.{MayCall, Does, Looks, IsLegalCore, IsNoted, StandAlone, apps_of, state_of};
+ghost use Rattle.bus_service.specs.Ports.{FindsRoom};
+
+use crate::calls::PortCall;
+use bucket_list::{Blank, Ledger, Steps};
+use buf_desc::Held;
+use bus_words::{Allowance, BusAnswer, Call};
+use fsw_base::{AppNo, Budget, Config};
+use lend_block::Note;
+use sb_calls::{BusCore, Pended};
+use std::alloc::{AllocError, Global};
+use std::collections::LinkedList;
+use std::marker::Model;
+use turn_lock::Historied;
+
+/// What never changes while the bus is open: the limits of a configuration, and the budgets. No
+/// value of it is made.
+pub struct Opening {
+    /// The configuration.
+    pub config: Config,
+    /// The budgets of the applications 1, 2, 3 and so on.
+    pub budgets: LinkedList<Budget>,
+}
+
+impl Model for Opening {
+    ghost use Rattle.fsw_base.specs.Limits.{limits_of};
+    ghost use Rattle.bus_service.specs.Histories.{Fixed};
+
+    ghost Value = { Fixed };
+
+    ghost view = { λ o. record { limits = limits_of o.config; budgets = o.budgets } };
+}
+
+/// An entry of the journal with its note, but for the application, which the lock's history has
+/// beside it. No value of it is made.
+pub struct NotedCall {
+    /// The call.
+    pub call: Call,
+    /// What it was answered.
+    pub answer: BusAnswer,
+    /// What was noted beside it.
+    pub note: Note,
+}
+
+/// The core in a box, and whether somebody sleeps until its history grows.
+#[derive(Drop)]
+pub(crate) struct BoxedCore<'r> {
+    // The core.
+    core: Box<BusCore<'r>>,
+    // An application looked in vain since the last entry.
+    asleep: bool,
+}
+
+impl<'r> Model for BoxedCore<'r> {
+    ghost use Rattle.std.specs.Prelude.{box_value};
+    ghost use Rattle.sb_calls.specs.Core.{Core};
+
+    ghost Value = { Core };
+
+    ghost view = { λ boxed. box_value boxed.core };
+}
+
+impl<'r> Historied for BoxedCore<'r> {
+    ghost use Rattle.bus_service.specs.Histories.{fixed_of, history_of};
+
+    type Fixed = Opening;
+
+    type Event = NotedCall;
+
+    ghost fixed = { λ core. fixed_of core };
+
+    ghost history = { λ core. history_of core };
+}
+
+impl<'r> BoxedCore<'r> {
+    /// This core in a box.
+    ///
+    /// # Errors
+    /// Where memory runs out.
+    pub(crate) fn new(alloc: Global, core: BusCore<'r>) -> Result<BoxedCore<'r>, AllocError>
+        ensures { IfOk result (λ boxed. boxed ≡ core.entry) }
+    {
+        let core = Box::new(alloc, core)?;
+        Ok(BoxedCore {
+            core,
+            asleep: false,
+        })
+    }
+
+    /// The core.
+    pub(crate) fn into_core(self) -> BusCore<'r>
+        ensures { result ≡ self.entry }
+    {
+        let BoxedCore { core, asleep: _ } = self;
+        Box::into_inner(core)
+    }
+
+    /// The core's history is one that the bus can have, and each entry has the note that is due;
+    /// each pipe gave what it gives alone, and pipes whose last messages are of one send were given
+    /// views of one loan. Does nothing.
+    pub(crate) fn recall(&self)
+        ensures legal { IsLegalCore self.now }
+        ensures noted { IsNoted self.now }
+        ensures alone { StandAlone self.now }
+        ensures loans { AreOneLoan self.now }
+    {
+        self.core.journal();
+    }
+
+    /// How many entries the history has, modulo 2^32.
+    pub(crate) fn len(&self) -> u32 {
+        self.core.journal().len()
+    }
+
+    /// What an application may still add to the journal.
+    pub(crate) fn left(&self, app: AppNo) -> Allowance
+        requires { app ≤ apps_of self.now }
+        ensures { result ≡ allowance_of (left_of self.now.log) app }
+    {
+        Allowance {
+            entries: self.core.entries_left(app),
+            bytes: self.core.bytes_left(app),
+        }
+    }
+
+    /// Makes a call at the core. Its steps are counted for nobody.
+    pub(crate) fn make<C: PortCall, L: Ledger>(
+        &mut self,
+        call: C,
+        app: AppNo,
+        bag: &mut Held<'r>,
+        blank: Blank,
+    ) -> C::Told
+        requires name { blank.name ≡ L.name }
+        requires parts { blank.parts ≡ L.parts }
+        requires some_part { 0 < blank.parts }
+        requires may { MayCall self.old app (C.call call bag.old) }
+        requires bag { HasBag self.old app bag.old }
+        requires room { FindsRoom bag.old (C.call call bag.old) }
+        ensures does { Does self.old self.new app (C.call call bag.old) (C.answer result) }
+        ensures bag { HasBag self.new app bag.new }
+        ensures left { C.leaves call bag.old bag.new result }
+    {
+        let mut steps = Steps::<L>::new(blank);
+        call.make(&mut self.core, app, bag, &mut steps)
+    }
+
+    /// Looks again for a message on the pipe that the application waits on, as [`BusCore::look`].
+    pub(crate) fn look(&mut self, app: AppNo, bag: &mut Held<'r>) -> Pended
+        requires may { MayCall self.old app
+            (Look (waited_on (standing_of (state_of self.old) app))) }
+        requires bag { HasBag self.old app bag.old }
+        ensures looks { Looks self.old self.new app
+            (waited_on (standing_of (state_of self.old) app)) result }
+        ensures still { result ≡ Pended.Pending → bag.new ≡ bag.old }
+        ensures bag { HasBag self.new app bag.new }
+        ensures buffers { bag.new ≡ record bag.old { views = bag.new.views } }
+    {
+        self.core.look(app, bag)
+    }
+
+    /// Notes that somebody is about to sleep until the history grows.
+    pub(crate) fn note_sleeper(&mut self)
+        ensures { self.new ≡ self.old }
+    {
+        self.asleep = true;
+    }
+
+    /// Whether somebody sleeps until the history grows, who is to be woken now that it did. From
+    /// now on nobody does.
+    pub(crate) fn take_sleepers(&mut self) -> bool
+        ensures { self.new ≡ self.old }
+    {
+        let asleep = self.asleep;
+        self.asleep = false;
+        asleep
+    }
+}

@@ -1,0 +1,205 @@
+//! One application's part of the service.
+ghost use Rattle.std.specs.Prelude.{◌≡◌, ◌-◌, true, length};
+ghost use Rattle.std.specs.Option.{option_map};
+ghost use Rattle.journal_store.specs.Budgets.{allowance_of};
+ghost use Rattle.bus_words.specs.Log.{left_of};
+ghost use Rattle.bus_words.specs.Bus.{standing_of, waited_on, has_ended};
+ghost use Rattle.bus_words.specs.declared.history.Call.TheVariants.{Look};
+ghost use Rattle.sb_calls.specs.Bags.{HasBag, last_message};
+ghost use Rattle.sb_calls.specs.Core.{MayCall, state_of};
+ghost use Rattle.sb_calls.specs.Views.{bytes_seen};
+ghost use Rattle.bus_service.specs.Histories.{own_entries};
+ghost use Rattle.bus_service.specs.Ports.{Answers, AnswersLook, FindsRoom, left_by};
+
+use crate::boxed::{NotedCall, Opening};
+use crate::bus::Bus;
+use crate::calls::PortCall;
+use crate::turns::{begin, finish, pause};
+use bucket_list::Blank;
+use buf_desc::Held;
+use bus_words::Allowance;
+use fsw_base::AppNo;
+use sb_calls::{Pended, bags_stay};
+use std::marker::{Brand, Model};
+use std::sync::Wait;
+use turn_lock::Seat;
+
+/// One application's calls of the software bus, from a thread of its own. Each call waits for the
+/// application's turn at the core.
+///
+/// Contracts see which lock it is of, its application, the core with the history that it has seen,
+/// the entries that it made, and what its application holds.
+#[derive(Drop)]
+pub struct BusPort<'r> {
+    // The seat with which it takes turns.
+    pub(crate) seat: Seat<Opening, NotedCall>,
+    // Its application.
+    pub(crate) app: AppNo,
+    // What its application may still add to the journal.
+    pub(crate) left: Allowance,
+    // How many entries the history had when the application looked last, where that was in vain.
+    pub(crate) looked: Option<u32>,
+    // What its application holds.
+    pub(crate) bag: Held<'r>,
+}
+
+impl<'r> Model for BusPort<'r> {
+    ghost use Rattle.bus_service.specs.Ports.{PortView};
+    ghost use Rattle.bus_service.specs.Inside.{port_in, IsPort};
+
+    ghost Value = { PortView };
+
+    ghost view = { λ p. port_in p.seat p.app p.bag };
+
+    ghost invariant = { λ p. IsPort p.seat p.app p.left p.bag };
+}
+
+/// What is left of a port whose application has ended. It names no lifetime.
+///
+/// Contracts see what they see of the port, but for the bag.
+#[derive(Drop)]
+pub struct BusDone {
+    // The seat.
+    pub(crate) seat: Seat<Opening, NotedCall>,
+}
+
+impl Model for BusDone {
+    ghost use Rattle.bus_service.specs.Ports.{DoneView};
+    ghost use Rattle.bus_service.specs.Inside.{done_in, IsDone};
+
+    ghost Value = { DoneView };
+
+    ghost view = { λ d. done_in d.seat };
+
+    ghost invariant = { λ d. IsDone d.seat };
+}
+
+impl<'r> BusPort<'r> {
+    /// Its application.
+    pub fn app(&self) -> AppNo
+        ensures { result ≡ self.now.app }
+    {
+        self.app
+    }
+
+    /// How many entries the application may still add to the journal, told from its own entries
+    /// without the lock.
+    pub fn entries_left(&self) -> u32
+        ensures asked { result ≡
+            (allowance_of (left_of self.now.seen.log) self.now.app).entries }
+        ensures own { result ≡
+            (allowance_of (left_by self.now.seen self.now.mine) self.now.app).entries }
+    {
+        self.left.entries
+    }
+
+    /// How many bytes of names, messages and buffers the application may still add to the journal,
+    /// told from its own entries without the lock.
+    pub fn bytes_left(&self) -> u32
+        ensures asked { result ≡
+            (allowance_of (left_of self.now.seen.log) self.now.app).bytes }
+        ensures own { result ≡
+            (allowance_of (left_by self.now.seen self.now.mine) self.now.app).bytes }
+    {
+        self.left.bytes
+    }
+
+    /// How many buffers still fit into the application's bag.
+    pub fn buffer_room(&self) -> u32
+        ensures { result ≡ self.now.bag.buffer_room - length self.now.bag.buffers }
+    {
+        self.bag.buffer_room()
+    }
+
+    /// The message received last from a pipe; None exactly where the pipe has none, or isn't this
+    /// application's. Takes neither the lock nor the runtime.
+    pub fn last(&self, pipe: u32) -> Option<&[u8]>
+        ensures last { option_map (λ bytes. bytes.now) result ≡
+            last_message (state_of self.now.seen) self.now.app pipe }
+        ensures seen { option_map (λ bytes. bytes.now) result ≡ bytes_seen self.now.bag pipe }
+    {
+        bags_stay();
+        match self.bag.view_of(pipe) {
+            Some(view) => Some(view.bytes()),
+            None => None,
+        }
+    }
+
+    /// The bag is the application's, and the port's own entries are all that the history seen has
+    /// of the application. Does nothing.
+    pub fn recall(&self)
+        ensures bag { HasBag self.now.seen self.now.app self.now.bag }
+        ensures mine { own_entries self.now.app self.now.seen.log.entries ≡ self.now.mine }
+    {
+        self.bag.buffer_room();
+    }
+
+    /// What is left of a port whose application has ended. Its bag, which is empty, is let go.
+    pub fn finish(self) -> BusDone
+        requires { has_ended (standing_of (state_of self.seen) self.app) ≡ true }
+        ensures { result ≡
+            record {
+              lock = self.entry.lock;
+              app = self.entry.app;
+              seen = self.entry.seen;
+              mine = self.entry.mine;
+            } }
+    {
+        let BusPort {
+            seat,
+            app: _,
+            left: _,
+            looked: _,
+            bag: _,
+        } = self;
+        BusDone { seat }
+    }
+
+    /// Makes one call of the core at the application's turn, which it waits for.
+    pub(crate) fn visit<R: Wait, C: PortCall>(&mut self, bus: &Bus<'r>, rt: &R, call: C) -> C::Told
+        requires bus { self.old.lock ≡ bus.now }
+        requires may { MayCall self.old.seen self.old.app (C.call call self.old.bag) }
+        requires room { FindsRoom self.old.bag (C.call call self.old.bag) }
+        ensures answers { Answers self.old self.new (C.call call self.old.bag) (C.answer result) }
+        ensures left { C.leaves call self.old.bag self.new.bag result }
+    {
+        let mut turn = begin(bus, rt, &mut self.seat);
+        let told = turn
+            .value_mut()
+            .make::<C, Brand>(call, self.app, &mut self.bag, Blank::new(1));
+        self.left = turn.value().left(self.app);
+        self.looked = None;
+        finish(bus, &mut self.seat, turn);
+        told
+    }
+
+    /// Looks again for a message on the pipe that the application waits on, as [`BusCore::look`]
+    /// does at the application's turn. Where its last look was in vain, it sleeps before until the
+    /// bus's history has grown, or a little less long; nothing is claimed of how long.
+    ///
+    /// [`BusCore::look`]: sb_calls::BusCore::look
+    pub fn look<R: Wait>(&mut self, bus: &Bus<'r>, rt: &R) -> Pended
+        requires bus { self.old.lock ≡ bus.now }
+        requires may { MayCall self.old.seen self.old.app
+            (Look (waited_on (standing_of (state_of self.old.seen) self.old.app))) }
+        ensures answers { AnswersLook self.old self.new
+            (waited_on (standing_of (state_of self.old.seen) self.old.app)) result }
+        ensures still { result ≡ Pended.Pending → self.new.bag ≡ self.old.bag }
+        ensures buffers { self.new.bag ≡ record self.old.bag { views = self.new.bag.views } }
+    {
+        if let Some(entries) = self.looked {
+            bus.lock.sleep(rt, entries);
+        }
+        let mut turn = begin(bus, rt, &mut self.seat);
+        let told = turn.value_mut().look(self.app, &mut self.bag);
+        if told.is_pending() {
+            self.looked = Some(turn.value().len());
+            pause(bus, &mut self.seat, turn);
+            return told;
+        }
+        self.left = turn.value().left(self.app);
+        self.looked = None;
+        finish(bus, &mut self.seat, turn);
+        told
+    }
+}

@@ -1,0 +1,101 @@
+//! Receives, by ports.
+ghost use Rattle.std.specs.Prelude.{◌≡◌};
+ghost use Rattle.bus_words.specs.declared.history.Call.TheVariants as made;
+ghost use Rattle.sb_core.specs.Answers.{got, pended};
+ghost use Rattle.sb_calls.specs.Core.{MayCall};
+ghost use Rattle.bus_service.specs.Ports.{Answers};
+
+use crate::bus::Bus;
+use crate::calls::PortCall;
+use crate::ports::BusPort;
+use bucket_list::{Ledger, Steps};
+use buf_desc::Held;
+use fsw_base::{AppNo, SbStatus};
+use sb_calls::{BusCore, Pended};
+use std::sync::Wait;
+
+/// [`BusPort::receive`].
+#[derive(Drop)]
+pub(crate) struct Receive {
+    // The pipe's number.
+    pipe: u32,
+}
+
+impl PortCall for Receive {
+    type Told = Result<u32, SbStatus>;
+
+    ghost call = { λ c bag. made.Receive c.pipe };
+
+    ghost answer = { got };
+
+    ghost leaves = { λ c old new told. new ≡ record old { views = new.views } };
+
+    fn make<'r, L: Ledger>(
+        self,
+        core: &mut BusCore<'r>,
+        app: AppNo,
+        bag: &mut Held<'r>,
+        steps: &mut Steps<L>,
+    ) -> Result<u32, SbStatus> {
+        core.receive(app, self.pipe, bag, steps)
+    }
+}
+
+/// [`BusPort::pend`].
+#[derive(Drop)]
+pub(crate) struct Pend {
+    // The pipe's number.
+    pipe: u32,
+}
+
+impl PortCall for Pend {
+    type Told = Result<Pended, SbStatus>;
+
+    ghost call = { λ c bag. made.Pend c.pipe };
+
+    ghost answer = { pended };
+
+    ghost leaves = { λ c old new told. new ≡ record old { views = new.views } };
+
+    fn make<'r, L: Ledger>(
+        self,
+        core: &mut BusCore<'r>,
+        app: AppNo,
+        bag: &mut Held<'r>,
+        steps: &mut Steps<L>,
+    ) -> Result<Pended, SbStatus> {
+        core.pend(app, self.pipe, bag, steps)
+    }
+}
+
+impl<'r> BusPort<'r> {
+    /// Takes the oldest message that waits on a pipe of the application's, as
+    /// [`BusCore::receive`] does at the application's turn, which it waits for.
+    ///
+    /// # Errors
+    /// Those of [`BusCore::receive`], at the turn.
+    pub fn receive<R: Wait>(&mut self, bus: &Bus<'r>, rt: &R, pipe: u32) -> Result<u32, SbStatus>
+        requires bus { self.old.lock ≡ bus.now }
+        requires may { MayCall self.old.seen self.old.app (made.Receive pipe) }
+        ensures answers { Answers self.old self.new (made.Receive pipe) (got result) }
+        ensures buffers { self.new.bag ≡ record self.old.bag { views = self.new.bag.views } }
+    {
+        self.visit(bus, rt, Receive { pipe })
+    }
+
+    /// Takes the oldest message that waits on a pipe of the application's; where none waits,
+    /// and it is no time-out, the application waits on the pipe from then on, and looks again
+    /// by [`BusPort::look`], as [`BusCore::pend`] does at the application's turn, which it
+    /// waits for.
+    ///
+    /// # Errors
+    /// Those of [`BusCore::pend`], at the turn.
+    pub fn pend<R: Wait>(&mut self, bus: &Bus<'r>, rt: &R, pipe: u32) -> Result<Pended, SbStatus>
+        requires bus { self.old.lock ≡ bus.now }
+        requires may { MayCall self.old.seen self.old.app (made.Pend pipe) }
+        ensures answers { Answers self.old self.new (made.Pend pipe) (pended result) }
+        ensures buffers { self.new.bag ≡ record self.old.bag { views = self.new.bag.views } }
+    {
+        self.visit(bus, rt, Pend { pipe })
+    }
+}

@@ -1,0 +1,6 @@
+//! Tests of the services behind the turn lock, over their public calls: applications on threads of
+//! their own.
+#![tactic(auto)]
+
+#[cfg(test)]
+mod tbl_service_tests;

@@ -1,0 +1,10 @@
+mod Allowances
+mod Allowed
+mod Few
+mod Found
+mod Histories
+mod Mains
+mod Meanwhile
+mod Standing
+mod Unowned
+mod Visits

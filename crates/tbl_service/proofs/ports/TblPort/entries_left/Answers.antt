@@ -1,0 +1,10 @@
+use Rattle.std.proofs.Common.{ap, sym, ◌∙◌}
+use Rattle.journal_store.specs.Budgets.{allowance_of}
+use Rattle.tbl_service.specs.Ports.{PortView, left_by}
+use Rattle.tbl_service.proofs.Found.{own_left}
+use Rattle.tbl_service.proofs.ports.TblPort.entries_left.Goals as goal
+
+pub returns-clause-own : goal.returns-clause-own
+returns-clause-own c =
+    ap (λ a. a.entries) (c.self.invariant.0.allows ∙ sym (own_left c.self.inside.seat c.self.inside.app c.self.inside.left c.self.inside.bag c.self.invariant.0))
+    ∙ ap (λ (p : PortView). (allowance_of (left_by p.seen p.mine) p.app).entries) c.self.view_is

@@ -1,0 +1,76 @@
+-- What is seen of a port, of one that is finished and of the main part, and what a port's calls answer.
+use Rattle.std.specs.Prelude.{◌≡◌, ℕ, ◌==◌, ◌⊎◌, false, List, [], ◌∷◌, ◌++◌}
+use Rattle.atomic_table.specs.Seated.{TableId}
+use Rattle.journal_store.specs.declared.allowance.Allowance.{Allowance}
+use Rattle.tbl_words.specs.declared.calls.TblAnswer.{TblAnswer}
+use Rattle.tbl_words.specs.declared.history.Call.{Call}
+use Rattle.tbl_words.specs.declared.history.Entry.{Entry}
+use Rattle.tbl_words.specs.Log.{left_of}
+use Rattle.tbl_blocks.specs.Held.{HeldViews, held_at}
+use Rattle.tbl_load.specs.Core.{Core, Does}
+use Rattle.tbl_load.specs.Bags.{HasBag, CalledByOthers, AreOneLoan}
+use mathlib.Core.List.{IsPrefix}
+
+-- A port: the lock that it is of, its application, the core with the history that it has seen, the entries that it made, and what
+-- its application holds.
+pub record PortView : Type 0 where
+  pub lock : TableId
+  pub app : ℕ
+  pub seen : Core
+  pub mine : List Entry
+  pub bag : HeldViews
+
+-- A finished port, without its bag.
+pub record DoneView : Type 0 where
+  pub lock : TableId
+  pub app : ℕ
+  pub seen : Core
+  pub mine : List Entry
+
+-- The main part: the lock that it is of, the core with the history that it has seen, the applications whose ports were made, and
+-- those whose ports were joined, each with its entries.
+pub record MainView : Type 0 where
+  pub lock : TableId
+  pub seen : Core
+  pub apps : List ℕ
+  pub ended : List (ℕ × List Entry)
+
+-- Own entries. --
+
+-- what the budgets leave behind these entries alone
+abbrev pub left_by : Core → List Entry → List Allowance
+left_by core mine = left_of (record { budgets = core.log.budgets; entries = mine })
+
+-- Answers. --
+
+-- The call came behind the history that the port had seen and entries of others alone, was answered as the tables answer it there,
+-- and its entry stands at the end of what the port has seen now, and of its own entries; the bag is the application's again. Handles
+-- that hold one version of one table were given views of one loan.
+pub record Answers (old new : PortView) (call : Call) (answer : TblAnswer) : Type 0 where
+  pub between : Core
+  pub others : CalledByOthers old.seen between old.app
+  pub does : Does between new.seen old.app call answer
+  pub mine : new.mine ≡ old.mine ++ record { app = old.app; call = call; answer = answer } ∷ []
+  pub bag : HasBag new.seen old.app new.bag
+  pub loans : AreOneLoan new.seen
+  pub lock : new.lock ≡ old.lock
+  pub app : new.app ≡ old.app
+
+-- what is held for other handles than this one stays
+abbrev pub KeepsOthers : ℕ → HeldViews → HeldViews → Type 0
+KeepsOthers handle old new = (other : ℕ) → (handle == other) ≡ false → held_at new other ≡ held_at old other
+
+-- Joins and the close. --
+
+-- the history of the one begins that of the other, and so do the notes
+pub record Begins (one other : Core) : Type 0 where
+  pub entries : IsPrefix one.log.entries other.log.entries
+  pub notes : IsPrefix one.notes other.notes
+
+-- this core, with the history of that one
+abbrev pub with_history : Core → Core → Core
+with_history core other = record { limits = core.limits; log = record { budgets = core.log.budgets; entries = other.log.entries }; notes = other.notes }
+
+-- one of the two histories begins the other, and the longer one is kept
+abbrev pub KeepsLongerOf : Core → Core → Core → Type 0
+KeepsLongerOf one other kept = (Begins one other × (kept ≡ with_history one other)) ⊎ (Begins other one × (kept ≡ one))

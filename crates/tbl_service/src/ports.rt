@@ -1,0 +1,159 @@
+//! One application's part of the service.
+ghost use Rattle.std.specs.Prelude.{◌≡◌, true};
+ghost use Rattle.std.specs.Option.{option_map};
+ghost use Rattle.journal_store.specs.Budgets.{allowance_of};
+ghost use Rattle.tbl_words.specs.Log.{left_of};
+ghost use Rattle.tbl_words.specs.Tables.{has_ended};
+ghost use Rattle.tbl_load.specs.Bags.{bytes_seen, held_bytes};
+ghost use Rattle.tbl_load.specs.Core.{MayCall, state_of};
+ghost use Rattle.tbl_service.specs.Ports.{Answers, left_by};
+
+use crate::boxed::{NotedCall, Opening};
+use crate::calls::PortCall;
+use crate::tables::Tables;
+use crate::turns::{begin, finish};
+use bucket_list::Blank;
+use fsw_base::AppNo;
+use std::marker::{Brand, Model};
+use std::sync::Wait;
+use tbl_load::{HeldTables, bags_stay};
+use tbl_words::Allowance;
+use turn_lock::Seat;
+
+/// One application's calls of Table Services, from a thread of its own. Each call waits for the
+/// application's turn at the core.
+///
+/// Contracts see which lock it is of, its application, the core with the history that it has seen,
+/// the entries that it made, and what its application holds.
+#[derive(Drop)]
+pub struct TblPort<'r> {
+    // The seat with which it takes turns.
+    pub(crate) seat: Seat<Opening, NotedCall>,
+    // Its application.
+    pub(crate) app: AppNo,
+    // What its application may still add to the journal.
+    pub(crate) left: Allowance,
+    // Whether it may make its last call, as any other that brings no bytes.
+    pub(crate) may_end: bool,
+    // What its application holds.
+    pub(crate) bag: HeldTables<'r>,
+}
+
+impl<'r> Model for TblPort<'r> {
+    ghost use Rattle.tbl_service.specs.Ports.{PortView};
+    ghost use Rattle.tbl_service.specs.Inside.{port_in, IsPort, TellsOpen};
+
+    ghost Value = { PortView };
+
+    ghost view = { λ p. port_in p.seat p.app p.bag };
+
+    ghost invariant = { λ p. IsPort p.seat p.app p.left p.bag × TellsOpen p.seat p.app p.may_end };
+}
+
+/// What is left of a port whose application has ended. It names no lifetime.
+///
+/// Contracts see what they see of the port, but for the bag.
+#[derive(Drop)]
+pub struct TblDone {
+    // The seat.
+    pub(crate) seat: Seat<Opening, NotedCall>,
+}
+
+impl Model for TblDone {
+    ghost use Rattle.tbl_service.specs.Ports.{DoneView};
+    ghost use Rattle.tbl_service.specs.Inside.{done_in, IsDone};
+
+    ghost Value = { DoneView };
+
+    ghost view = { λ d. done_in d.seat };
+
+    ghost invariant = { λ d. IsDone d.seat };
+}
+
+impl<'r> TblPort<'r> {
+    /// Its application.
+    pub fn app(&self) -> AppNo
+        ensures { result ≡ self.now.app }
+    {
+        self.app
+    }
+
+    /// How many entries the application may still add to the journal, told from its own entries
+    /// without the lock.
+    pub fn entries_left(&self) -> u32
+        ensures asked { result ≡
+            (allowance_of (left_of self.now.seen.log) self.now.app).entries }
+        ensures own { result ≡
+            (allowance_of (left_by self.now.seen self.now.mine) self.now.app).entries }
+    {
+        self.left.entries
+    }
+
+    /// How many bytes of names and loads the application may still add to the journal, told from
+    /// its own entries without the lock.
+    pub fn bytes_left(&self) -> u32
+        ensures asked { result ≡
+            (allowance_of (left_of self.now.seen.log) self.now.app).bytes }
+        ensures own { result ≡
+            (allowance_of (left_by self.now.seen self.now.mine) self.now.app).bytes }
+    {
+        self.left.bytes
+    }
+
+    /// The bytes of the version that a handle holds, whatever was loaded since; None exactly where
+    /// it holds nothing, or isn't this application's. Takes neither the lock nor the runtime.
+    pub fn held(&self, handle: u32) -> Option<&[u8]>
+        ensures held { option_map (λ bytes. bytes.now) result ≡
+            held_bytes (state_of self.now.seen) self.now.app handle }
+        ensures seen { option_map (λ bytes. bytes.now) result ≡ bytes_seen self.now.bag handle }
+    {
+        bags_stay();
+        match self.bag.view_of(handle) {
+            Some(view) => Some(view.bytes()),
+            None => None,
+        }
+    }
+
+    /// What is left of a port whose application has ended. Its bag, which is empty, is let go.
+    pub fn finish(self) -> TblDone
+        requires { has_ended (state_of self.seen) self.app ≡ true }
+        ensures { result ≡
+            record {
+              lock = self.entry.lock;
+              app = self.entry.app;
+              seen = self.entry.seen;
+              mine = self.entry.mine;
+            } }
+    {
+        let TblPort {
+            seat,
+            app: _,
+            left: _,
+            may_end: _,
+            bag: _,
+        } = self;
+        TblDone { seat }
+    }
+
+    /// Makes one call of the core at the application's turn, which it waits for.
+    pub(crate) fn visit<R: Wait, C: PortCall>(
+        &mut self,
+        tables: &Tables<'r>,
+        rt: &R,
+        call: C,
+    ) -> C::Told
+        requires tables { self.old.lock ≡ tables.now }
+        requires may { MayCall self.old.seen self.old.app (C.call call) }
+        ensures answers { Answers self.old self.new (C.call call) (C.answer result) }
+        ensures left { C.leaves call self.old.bag self.new.bag result }
+    {
+        let mut turn = begin(tables, rt, &mut self.seat);
+        let told = turn
+            .value_mut()
+            .make::<C, Brand>(call, self.app, &mut self.bag, Blank::new(1));
+        self.left = turn.value().left(self.app);
+        self.may_end = turn.value().is_open(self.app);
+        finish(tables, &mut self.seat, turn);
+        told
+    }
+}

@@ -1,0 +1,188 @@
+//! The service: a core of tables behind a lock, and its main part.
+ghost use Rattle.std.specs.Prelude.{◌≡◌, ℕ, ◌≤◌, ◌*◌, ◌++◌, ◌∷◌, [], length, map, All, Contains, IfOk, IfErr};
+ghost use Rattle.fsw_base.specs.Limits.{limits_of};
+ghost use Rattle.journal_store.specs.Budgets.{AreBudgets};
+ghost use Rattle.tbl_load.specs.Core.{IsLegalCore};
+ghost use Rattle.tbl_service.specs.Histories.{own_entries};
+ghost use Rattle.tbl_service.specs.Ports.{Begins, KeepsLongerOf};
+
+use crate::boxed::{BoxedCore, NotedCall, Opening};
+use crate::ports::{TblDone, TblPort};
+use fsw_base::{AppNo, Budget, Config};
+use std::alloc::{AllocError, Global};
+use std::marker::Model;
+use tbl_load::{HeldTables, TblCore};
+use tbl_words::Allowance;
+use turn_lock::{MOST_SEATS, Seat, TurnLock};
+
+/// Table Services that threads share. The threads' ports take turns at one core.
+///
+/// Contracts see which lock it is.
+#[derive(Drop)]
+pub struct Tables<'r> {
+    // The lock, from which a seat can be split off for each application that there may be.
+    pub(crate) lock: TurnLock<BoxedCore<'r>>,
+}
+
+impl<'r> Model for Tables<'r> {
+    ghost use Rattle.std.specs.Prelude.{◌≡◌};
+    ghost use Rattle.atomic_table.specs.Seated.{TableId};
+
+    ghost Value = { TableId };
+
+    ghost view = { λ t. t.lock.name };
+
+    ghost invariant = { λ t. t.lock.seats ≡ 16 };
+}
+
+/// The part of the service that makes ports and closes it. It stays with whoever opened the
+/// service, and names no lifetime.
+///
+/// Contracts see which lock it is of, the core with the history that it has seen, the applications
+/// whose ports were made, and of those joined their entries.
+#[derive(Drop)]
+pub struct TblMain {
+    // The lock's main seat.
+    seat: Seat<Opening, NotedCall>,
+    // The budgets of the applications 1, 2, 3 and so on.
+    budgets: Vec<Budget>,
+    // How many handles there may be.
+    handles: u32,
+}
+
+impl Model for TblMain {
+    ghost use Rattle.tbl_service.specs.Ports.{MainView};
+    ghost use Rattle.tbl_service.specs.Inside.{main_in, IsMainPart};
+
+    ghost Value = { MainView };
+
+    ghost view = { λ m. main_in m.seat };
+
+    ghost invariant = { λ m. IsMainPart m.seat m.budgets.items m.handles };
+}
+
+impl<'r> Tables<'r> {
+    /// Table Services on which no call was made, as [`TblCore::new`] makes them, and their main
+    /// part.
+    ///
+    /// # Errors
+    /// Where memory runs out.
+    pub fn new(
+        alloc: Global,
+        cfg: &Config,
+        budgets: &[Budget],
+        region: &'r mut [u8],
+        work: &'r mut [u8],
+    ) -> Result<(Tables<'r>, TblMain), AllocError>
+        requires budgets { AreBudgets budgets.now }
+        requires region { cfg.now.tablepool ≤ length region.old }
+        requires work { 4 * cfg.now.tablemax ≤ length work.old }
+        ensures { IfOk result
+            (λ opened. opened.1 ≡
+            record {
+              lock = opened.0;
+              seen = record {
+                limits = limits_of cfg.now;
+                log = record { budgets = budgets.now; entries = [] };
+                notes = [];
+              };
+              apps = [];
+              ended = [];
+            }) }
+    {
+        let given = budgets.to_vec(alloc)?;
+        let core = TblCore::new(alloc, cfg, budgets, region, work)?;
+        let boxed = BoxedCore::new(alloc, core)?;
+        let (lock, seat) = TurnLock::new(alloc, boxed, MOST_SEATS)?;
+        Ok((
+            Tables { lock },
+            TblMain {
+                seat,
+                budgets: given,
+                handles: cfg.handles,
+            },
+        ))
+    }
+
+    /// The port of an application that has none yet. It has seen what the main part has, has made
+    /// no call, and holds nothing.
+    ///
+    /// # Errors
+    /// Where memory runs out: the application has no port then, and may still get one.
+    pub fn port(
+        &self,
+        alloc: Global,
+        main: &mut TblMain,
+        app: AppNo,
+    ) -> Result<TblPort<'r>, AllocError>
+        requires main { main.old.lock ≡ self.now }
+        requires known { app ≤ length main.old.seen.log.budgets }
+        requires new { ¬ (Contains main.old.apps app) }
+        ensures port { IfOk result
+            (λ port. port ≡
+            record {
+              lock = self.now;
+              app = app;
+              seen = main.old.seen;
+              mine = [];
+              bag = record { views = []; room = main.old.seen.limits.handles };
+            }) }
+        ensures apps { IfOk result
+            (λ _. main.new ≡ record main.old { apps = main.old.apps ++ app ∷ [] }) }
+        ensures refused { IfErr result (λ _. main.new ≡ main.old) }
+    {
+        let bag = HeldTables::new(alloc, main.handles)?;
+        let budget = main.budgets[(app.get() - 1) as usize];
+        let left = Allowance {
+            entries: budget.entries,
+            bytes: budget.bytes,
+        };
+        let seat = self.lock.split(&mut main.seat, app);
+        Ok(TblPort {
+            seat,
+            app,
+            left,
+            may_end: 1 <= budget.entries,
+            bag,
+        })
+    }
+
+    /// Takes a finished port into the main part, which keeps its entries, and the longer of the
+    /// histories that the two had seen; the shorter one begins it.
+    pub fn join(&self, main: &mut TblMain, done: TblDone)
+        requires main { main.old.lock ≡ self.now }
+        requires done { done.lock ≡ self.now }
+        ensures lock { main.new.lock ≡ main.old.lock }
+        ensures seen { KeepsLongerOf main.old.seen done.seen main.new.seen }
+        ensures apps { main.new.apps ≡ main.old.apps }
+        ensures ended { main.new.ended ≡ main.old.ended ++ (done.app, done.mine) ∷ [] }
+    {
+        let TblDone { seat } = done;
+        self.lock.join(&mut main.seat, seat);
+    }
+
+    /// Ends the service, whose ports have all been joined, and answers the core. Its history is one
+    /// that the tables can have, extends what the main part has seen, has of each application just
+    /// the entries of its finished port, in order, and has no others.
+    pub fn close(self, main: TblMain) -> TblCore<'r>
+        requires main { main.lock ≡ self }
+        requires joined { All (Contains (map (λ e. e.0) main.ended)) main.apps }
+        ensures limits { result.limits ≡ main.seen.limits }
+        ensures budgets { result.log.budgets ≡ main.seen.log.budgets }
+        ensures legal { IsLegalCore result }
+        ensures extends { Begins main.seen result }
+        ensures ended { All (λ e. own_entries e.0 result.log.entries ≡ e.1) main.ended }
+        ensures others { (app : ℕ) → ¬ (Contains main.apps app) →
+            own_entries app result.log.entries ≡ [] }
+    {
+        let Tables { lock } = self;
+        let TblMain {
+            seat,
+            budgets: _,
+            handles: _,
+        } = main;
+        let boxed = lock.close(seat);
+        boxed.recall();
+        boxed.into_core()
+    }
+}
