@@ -22,7 +22,7 @@ SECONDS = "600"
 def given_input(words):
     """Standard input to its end, or MOST_INPUT bytes of it; nothing of a terminal, and nothing where
     the program reads none."""
-    if words != ["lockstep"] or sys.stdin is None or sys.stdin.isatty():
+    if words not in (["run"], ["lockstep"]) or sys.stdin is None or sys.stdin.isatty():
         return b""
     return sys.stdin.buffer.read(MOST_INPUT)
 

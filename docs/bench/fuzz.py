@@ -2,14 +2,16 @@
 """Feeds the program inputs that are made from the scripts of corpus/ by changing, dropping, doubling
 and exchanging bytes, words and lines, and some of bytes of all kinds; and looks at what it answers.
 
-    python3 docs/bench/fuzz.py [--model FILE] [--first N] [--count N] [--seconds N] [--memcheck N]
+    python3 docs/bench/fuzz.py [--model FILE] [--first N] [--count N] [--seconds N] [--memcheck N] [--threads N]
     python3 docs/bench/fuzz.py --show N
 
 With the file of the executable model each answer must be the model's: the same status, and the same
-fault line or report. Without it the program must end within a second of the processor, either with status 0 and a
-whole report or with status 3 and a fault line. One input in so many (--memcheck; 0: none) is run
-under valgrind too. Inputs are numbered, and a number makes the same input each time: --show writes it
-to standard output. The program is the built one, crates/host_run/out/host_run, or PROGRAM's.
+fault line or report. Without it the program must end within a second of the processor, either with
+status 0 and a whole report or with status 3 and a fault line. One input in so many (--memcheck; 0: none)
+is run under valgrind too, and one in so many (--threads; 0: none) on threads: a fault must be the same
+there, and a report whole and, with the model, one that its checker holds for legal. Inputs are numbered,
+and a number makes the same input each time: --show writes it to standard output. The program is the built
+one, crates/host_run/out/host_run, or PROGRAM's.
 """
 import argparse
 import collections
@@ -17,6 +19,7 @@ import os
 import random
 import re
 import resource
+import signal
 import subprocess
 import sys
 import time
@@ -51,7 +54,7 @@ KINDS = [rb"0x[0-9a-fA-F]{1,8}", rb"\d+", rb"[pbqmt]\d+", rb"fill:\d+:\d+", rb"\
 
 def scripts():
     """The scripts of the corpus that aren't too long."""
-    found = [case.script for path in files() for case in cases_of(path)[1] if case.words == ["lockstep"]]
+    found = [case.script for path in files() for case in cases_of(path)[1] if case.words in (["lockstep"], ["run"])]
     return [script for script in found if 0 < len(script) <= LONGEST_SCRIPT]
 
 
@@ -143,14 +146,14 @@ class Maker:
         return text + (b"" if text.endswith(b"\n") else b"\n") + behind
 
 
-def answered(text, seconds, under=()):
-    """The status and what is written; no status where it doesn't end, or isn't by itself."""
+def answered(text, seconds, under=(), word="lockstep"):
+    """The status and what is written; no status where it doesn't end, and one below 0 where a signal ended it."""
     limit = lambda: resource.setrlimit(resource.RLIMIT_CPU, (seconds, seconds))
     try:
-        run = subprocess.run([*under, PROGRAM, "lockstep"], input=text, capture_output=True, timeout=SECONDS_BY_THE_CLOCK, preexec_fn=limit)
+        run = subprocess.run([*under, PROGRAM, word], input=text, capture_output=True, timeout=SECONDS_BY_THE_CLOCK, preexec_fn=limit)
     except subprocess.TimeoutExpired:
         return None, b"", b""
-    return None if run.returncode < 0 else run.returncode, run.stdout, run.stderr
+    return run.returncode, run.stdout, run.stderr
 
 
 def form_of(status, written):
@@ -159,7 +162,9 @@ def form_of(status, written):
         return None if written.startswith(b"fsw 1\nbus\n") and written.endswith(b"\nend\n") else "no whole report"
     if status == 3:
         return None if A_FAULT.fullmatch(written) else "no fault line"
-    return "no end in time, or by a signal" if status is None else f"status {status}"
+    if status in (-signal.SIGXCPU, -signal.SIGKILL):
+        return "no end within the time of the processor, or killed from outside"
+    return "no end" if status is None else f"signal {-status}" if status < 0 else f"status {status}"
 
 
 class Tally:
@@ -168,7 +173,7 @@ class Tally:
     def __init__(self, model):
         self.model, self.counts, self.findings = model, collections.Counter(), []
 
-    def try_input(self, number, text, is_checked):
+    def try_input(self, number, text, is_checked, is_on_threads):
         status, written, said = answered(text, SECONDS_OF_A_RUN)
         wrong = form_of(status, written) or (said and "something on standard error")
         if not wrong and self.model:
@@ -180,17 +185,31 @@ class Tally:
             if answered(text, SECONDS_UNDER_VALGRIND, valgrind)[:2] != (status, written):
                 wrong = "another end under valgrind"
             self.counts["under valgrind"] += 1
+        if is_on_threads and not wrong:
+            wrong = self.fault_on_threads(text, status, written)
+            self.counts["on threads"] += 1
         self.counts["inputs"] += 1
         self.counts["reports" if status == 0 else written.decode(errors="replace").strip().rpartition(":")[2]] += 1
         if wrong:
             self.findings.append(f"input {number}: {wrong}")
             print(self.findings[-1], flush=True)
 
+    def fault_on_threads(self, text, status, written):
+        """What is wrong with the answer on threads to an input with this answer in rotation."""
+        told, report, said = answered(text, SECONDS_OF_A_RUN, word="run")
+        wrong = form_of(told, report) or (said and "something on standard error")
+        if wrong or told != status:
+            return f"on threads: {wrong or 'another status'}"
+        if status:
+            return None if report == written else "on threads: another fault"
+        illegal = self.model and self.model.check(self.model.read_script(text), report)
+        return illegal and "on threads: line %d of the report: %s" % illegal
+
 
 def main():
     words = argparse.ArgumentParser(description=__doc__, formatter_class=argparse.RawDescriptionHelpFormatter)
     words.add_argument("--model")
-    for name, value in (("first", 0), ("count", 1 << 40), ("seconds", 60), ("memcheck", 200), ("show", None)):
+    for name, value in (("first", 0), ("count", 1 << 40), ("seconds", 60), ("memcheck", 200), ("threads", 4), ("show", None)):
         words.add_argument(f"--{name}", type=int, default=value)
     given = words.parse_args()
     maker = Maker(scripts())
@@ -201,7 +220,8 @@ def main():
     end, number = time.monotonic() + given.seconds, given.first
     while number < given.first + given.count and time.monotonic() < end:
         is_checked = given.memcheck and number % given.memcheck == 0
-        tally.try_input(number, maker.input_of(number), is_checked)
+        is_on_threads = given.threads and number % given.threads == 0
+        tally.try_input(number, maker.input_of(number), is_checked, is_on_threads)
         number += 1
     print(", ".join(f"{count} {name}" for name, count in tally.counts.most_common()))
     print(f"inputs {given.first} to {number - 1}, {len(tally.findings)} findings")

@@ -1,23 +1,29 @@
 /* Refuses one request for memory of the program that it is loaded into: the one whose number, from 1,
- * the variable REFUSE has. At the end it writes how many requests there were to the file that the
+ * the variable REFUSE has; and the threads whose bits, from 1 for the first one, are set in the number
+ * that the variable THREADS has. At the end it writes how many requests there were to the file that the
  * variable REQUESTS names, if there is one. refused_memory.py uses it. */
 #define _GNU_SOURCE
 #include <dlfcn.h>
 #include <errno.h>
+#include <pthread.h>
+#include <stdatomic.h>
 #include <stddef.h>
 #include <stdio.h>
 #include <stdlib.h>
 
-static unsigned long requests;
-static unsigned long refused;
+/* Threads count together. */
+static atomic_ulong requests;
+static atomic_ulong refused;
 
 static int is_refused(void) {
-    if (requests == 0) {
-        const char *number = getenv("REFUSE");
-        refused = number ? strtoul(number, NULL, 10) : 0;
+    unsigned long number = atomic_fetch_add(&requests, 1) + 1;
+    if (number == 1) {
+        const char *word = getenv("REFUSE");
+        atomic_store(&refused, word ? strtoul(word, NULL, 10) : 0);
     }
-    requests += 1;
-    return requests == refused;
+    if (number != atomic_load(&refused)) return 0;
+    errno = ENOMEM;
+    return 1;
 }
 
 void *malloc(size_t size) {
@@ -50,12 +56,29 @@ int posix_memalign(void **block, size_t alignment, size_t size) {
     return is_refused() ? ENOMEM : next(block, alignment, size);
 }
 
+int pthread_create(pthread_t *thread, const pthread_attr_t *attr, void *(*start)(void *), void *given) {
+    static int (*next)(pthread_t *, const pthread_attr_t *, void *(*)(void *), void *);
+    static atomic_ulong begun;
+    const char *mask = getenv("THREADS");
+    unsigned long bit = 1ul << atomic_fetch_add(&begun, 1);
+    if (!next) next = (int (*)(pthread_t *, const pthread_attr_t *, void *(*)(void *), void *))dlsym(RTLD_NEXT, "pthread_create");
+    return mask && strtoul(mask, NULL, 10) & bit ? EAGAIN : next(thread, attr, start, given);
+}
+
 __attribute__((destructor)) static void tell(void) {
-    unsigned long made = requests;
+    unsigned long made = atomic_load(&requests);
     const char *name = getenv("REQUESTS");
     FILE *file = name ? fopen(name, "w") : NULL;
     if (file) {
         fprintf(file, "%lu\n", made);
         fclose(file);
     }
+}
+
+/* A program with threads ends by this call, behind which no destructor runs. */
+void _exit(int status) {
+    void (*next)(int) = (void (*)(int))dlsym(RTLD_NEXT, "_exit");
+    tell();
+    next(status);
+    __builtin_unreachable();
 }

@@ -4,9 +4,14 @@ same sends, the one with four pipes and ids, the other with 256 pipes and 1024 i
 pipe again and again; `copied` and `written` send the same messages, the one from their bytes, the other in buffers. `queued`,
 `missed` and `logged` make the same sends to one pipe, which takes each, or is full; then the event log drops each event, or
 has its oldest line overwritten. `everything` has 20,000 lines of every kind that there is, over four applications; `greatest`
-has every limit at its greatest and sixteen applications, and fills what it can.
+has every limit at its greatest and sixteen applications, and fills what it can. `two`, `four` and `sixteen` make the same 9,600
+sends and receives, by so many applications that each have a pipe of their own; `relayed` has two applications that each wait for
+what the other sends, 2,000 messages in all. In `working` one application makes 9,000 sends and receives, in `waiting` it makes the
+same beside fifteen that wait for its last message; in `loading` and `sleeping` it loads and takes a table in place of that. `alone`
+is an application without a line.
 
     scripts.py largest|mixed|longest|narrow|wide|cycles|copied|written|queued|missed|logged|everything|greatest
+    scripts.py two|four|sixteen|relayed|working|waiting|loading|sleeping|alone
 """
 import sys
 
@@ -188,7 +193,44 @@ def greatest():
         yield from lines[:1250]
 
 
+def together(apps):
+    """9,600 sends and as many receives, shared out among so many applications."""
+    for app in range(apps):
+        yield f"app A{app}"
+        yield f"create p0 4 P{app}"
+        yield f"sub 0x{0x0801 + app:04x} p0"
+        for _ in range(9600 // apps):
+            yield f"send 0x{0x0801 + app:04x} 64 1"
+            yield "recv p0"
+
+
+def relayed():
+    """One waits until the other does, which is then subscribed; each message is sent where the one before it came."""
+    yield from ("app A", "create p0 4 A", "sub 0x0801 p0", "send 0x0803 8 0", "pend p0")
+    for _ in range(1000):
+        yield from ("send 0x0802 64 1", "pend p0")
+    yield from ("app B", "create p0 4 B", "sub 0x0803 p0", "sub 0x0802 p0", "pend p0", "send 0x0801 8 0")
+    for _ in range(1000):
+        yield from ("pend p0", "send 0x0801 64 1")
+
+
+def works(lines, waiting):
+    """One that has these two lines 9,000 times, and so many that wait for its last message."""
+    yield from ("app A", "create p0 4 A", "sub 0x0801 p0", "treg t0 T 64 1")
+    for _ in range(9000):
+        yield from lines
+    yield "send 0x0802 8 1"
+    for app in range(waiting):
+        yield from (f"app W{app}", f"create p0 4 W{app}", "sub 0x0802 p0", "pend p0")
+
+
 def main():
+    ways = {"two": together(2), "four": together(4), "sixteen": together(16), "relayed": relayed(), "alone": ["app A"]}
+    bus, tables = ("send 0x0801 64 1", "recv p0"), ("tload t0 0 fill:64:1", "tget t0")
+    ways |= {"working": works(bus, 0), "waiting": works(bus, 15), "loading": works(tables, 0), "sleeping": works(tables, 15)}
+    if sys.argv[1] in ways:
+        sys.stdout.write("\n".join(ways[sys.argv[1]]) + "\n")
+        return
     lines = {"everything": everything, "greatest": greatest, "queued": queued, "missed": missed, "logged": logged, "copied": copied, "written": written, "cycles": cycles, "narrow": narrow, "wide": wide, "largest": largest, "mixed": mixed, "longest": longest}[sys.argv[1]]()
     sys.stdout.write("\n".join(lines) + "\n")
 

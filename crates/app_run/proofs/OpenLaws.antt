@@ -134,7 +134,7 @@ active-at zero i below = absurd (omega (arith, below))
 active-at (suc n) zero below = refl
 active-at (suc n) (suc i) below = active-at n i (omega (arith, below))
 
-active-opening : (limits : Limits) (n k : ℕ) → 1 ≤ k → k ≤ n → standing_of (opening limits n) k ≡ Active
+pub active-opening : (limits : Limits) (n k : ℕ) → 1 ≤ k → k ≤ n → standing_of (opening limits n) k ≡ Active
 active-opening limits n k first last =
     ap (λ b. cond {A = Standing} b Ended (slice_index_or (replicate n Active) (k - 1) Ended)) (ne_eqb k 0 (λ is. omega (arith, is, first)))
     ∙ active-at n (k - 1) (omega (arith, first, last))
@@ -150,7 +150,7 @@ none-opening limits n k first last =
     ap (λ b. cond {A = Bool} b true (slice_index_or (replicate n false) (k - 1) true)) (ne_eqb k 0 (λ is. omega (arith, is, first)))
     ∙ none-at n (k - 1) (omega (arith, first, last))
 
-map-at : {X Y : Type 0} (f : X → Y) (xs : List X) (i : ℕ) (d : X) (e : Y) → i < length xs → slice_index_or (map f xs) i e ≡ f (slice_index_or xs i d)
+pub map-at : {X Y : Type 0} (f : X → Y) (xs : List X) (i : ℕ) (d : X) (e : Y) → i < length xs → slice_index_or (map f xs) i e ≡ f (slice_index_or xs i d)
 map-at f [] i d e within = absurd (omega (arith, within))
 map-at f (x ∷ xs) zero d e within = refl
 map-at f (x ∷ xs) (suc i) d e within = map-at f xs i d e (omega (arith, within))
@@ -211,7 +211,7 @@ stands-opened_tables script k small first last =
       small = small;
     }
 
-stands-opened : (script : ScriptText) (k : ℕ) → script.limits.msgmax ≤ 65542 → script.limits.tablemax ≤ 65536 → 1 ≤ k → k ≤ length script.apps →
+pub stands-opened : (script : ScriptText) (k : ℕ) → script.limits.msgmax ≤ 65542 → script.limits.tablemax ≤ 65536 → 1 ≤ k → k ≤ length script.apps →
     Stands (first_equipped script k) (opened_both script)
 stands-opened script k small small_tables first last =
     record { bus = stands-opened_bus script k small first last; tables = stands-opened_tables script k small_tables first last; limits = refl }
@@ -228,7 +228,7 @@ telling_first script k m entries = record {
   table_seen = table_seen_from script.limits (no_tables script.limits m) k entries.tables;
 }
 
-told-opened : (script : ScriptText) (k : ℕ) → 1 ≤ k → k ≤ length script.apps → HasTold script (opened_both script) (first_equipped script k)
+pub told-opened : (script : ScriptText) (k : ℕ) → 1 ≤ k → k ≤ length script.apps → HasTold script (opened_both script) (first_equipped script k)
 told-opened script k first last = λ entries.
     let lines = (app_at script k).lines in
     let n = apps_of (opened script) in

@@ -84,11 +84,11 @@ stands-called one before after who call answer c apps other some stands =
     }
 
 -- the bus with these entries
-abbrev with_entries : Core → List Entry → Core
+abbrev pub with_entries : Core → List Entry → Core
 with_entries core entries = record core { log = record { budgets = core.log.budgets; entries = entries } }
 
 -- the first of the entries behind those seen
-called-front : (core : Core) (e : Entry) (rest : List Entry) → IsLegalCore (with_entries core ((core.log.entries ++ e ∷ []) ++ rest)) →
+pub called-front : (core : Core) (e : Entry) (rest : List Entry) → IsLegalCore (with_entries core ((core.log.entries ++ e ∷ []) ++ rest)) →
     Called core (with_entries core (core.log.entries ++ e ∷ [])) e.app e.call e.answer
 called-front core e rest legal =
     let apps = apps_of core in
@@ -203,7 +203,7 @@ stands-called_at_tables one before after who call answer c apps other some stand
     }
 
 -- the tables with these entries
-abbrev with_table_entries : TableCore → List TableEntry → TableCore
+abbrev pub with_table_entries : TableCore → List TableEntry → TableCore
 with_table_entries core entries = record core { log = record { budgets = core.log.budgets; entries = entries } }
 
 -- a legal history's last entry, and what is before it
@@ -219,7 +219,7 @@ legal-front_at_tables limits s [] more legal = tt
 legal-front_at_tables limits s (x ∷ es) more legal = (legal.0, legal.1, legal-front_at_tables limits ((table_step limits s x.app x.call).1) es more legal.2)
 
 -- the first of the entries behind those seen
-called-front_at_tables : (core : TableCore) (e : TableEntry) (rest : List TableEntry) → IsLegalTableCore (with_table_entries core ((core.log.entries ++ e ∷ []) ++ rest)) →
+pub called-front_at_tables : (core : TableCore) (e : TableEntry) (rest : List TableEntry) → IsLegalTableCore (with_table_entries core ((core.log.entries ++ e ∷ []) ++ rest)) →
     CalledAtTables core (with_table_entries core (core.log.entries ++ e ∷ [])) e.app e.call e.answer
 called-front_at_tables core e rest legal =
     let opened = no_tables core.limits (table_apps_of core) in

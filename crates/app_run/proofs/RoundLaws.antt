@@ -44,7 +44,7 @@ the_histories entries table_entries = record { bus = entries; tables = table_ent
 
 -- Another application's call. --
 
-called : (before after : Core) (who : ℕ) (call : Call) (answer : BusAnswer) → Does before after who call answer → Called before after who call answer
+pub called : (before after : Core) (who : ℕ) (call : Call) (answer : BusAnswer) → Does before after who call answer → Called before after who call answer
 called before after who call answer does =
     let e : Entry = record { app = who; call = call; answer = answer } in
     let legal-now : IsLegal before.limits (apps_of before) (before.log.entries ++ e ∷ []) = subst (λ (core : Core). IsLegalCore core) does.entry does.legal in
@@ -58,7 +58,7 @@ called before after who call answer does =
       state = does.state;
     }
 
-called_at_tables : (before after : TableCore) (who : ℕ) (call : TableCall) (answer : TblAnswer) → TablesDo before after who call answer → CalledAtTables before after who call answer
+pub called_at_tables : (before after : TableCore) (who : ℕ) (call : TableCall) (answer : TblAnswer) → TablesDo before after who call answer → CalledAtTables before after who call answer
 called_at_tables before after who call answer does =
     let e : TableEntry = record { app = who; call = call; answer = answer } in
     let parts = table_legal-last before e (note_due answer does.loan) (subst (λ (core : TableCore). IsLegalTableCore core) does.entry does.legal) in
@@ -127,7 +127,7 @@ comes-other_tables bus before after who call answer running c same other entries
     ∙ ap (λ u. told_on (standing_of s app) app running.lines (the_telling running s u seen (table_seen_from before.limits u app entries.tables))) (sym c.state)
     ∙ ap (λ l. told_on (standing_of s app) app running.lines (the_telling running s (tables_of after) seen (table_seen_from l (tables_of after) app entries.tables))) same
 
-told-called : (script : ScriptText) (one : Equipped) (before after : Core) (tables : TableCore) (who : ℕ) (call : Call) (answer : BusAnswer) → Called before after who call answer →
+pub told-called : (script : ScriptText) (one : Equipped) (before after : Core) (tables : TableCore) (who : ℕ) (call : Call) (answer : BusAnswer) → Called before after who call answer →
     (who ≡ one.progress.running.app → ⊥) → HasTold script (both before tables) one → HasTold script (both after tables) one
 told-called script one before after tables who call answer c other told = λ entries.
     let e : Entry = record { app = who; call = call; answer = answer } in
@@ -138,7 +138,7 @@ told-called script one before after tables who call answer c other told = λ ent
     ∙ told (the_histories (e ∷ entries.bus) entries.tables)
     ∙ ap (λ r. one.progress.receipts ++ r) (comes-other before after tables who call answer (running_of one) c other entries)
 
-told-called_at_tables : (script : ScriptText) (one : Equipped) (bus : Core) (before after : TableCore) (who : ℕ) (call : TableCall) (answer : TblAnswer) → CalledAtTables before after who call answer →
+pub told-called_at_tables : (script : ScriptText) (one : Equipped) (bus : Core) (before after : TableCore) (who : ℕ) (call : TableCall) (answer : TblAnswer) → CalledAtTables before after who call answer →
     before.limits ≡ bus.limits → (who ≡ one.progress.running.app → ⊥) → HasTold script (both bus before) one → HasTold script (both bus after) one
 told-called_at_tables script one bus before after who call answer c same other told = λ entries.
     let e : TableEntry = record { app = who; call = call; answer = answer } in
@@ -196,7 +196,7 @@ pub record MovesBoth (before after : Services) (who : ℕ) : Type 0 where
   pub moved : Moved before.bus after.bus who
   pub tables_moved : TablesMoved before.tables after.tables who
 
-moved-same : (before after : Services) (who : ℕ) → MovesBoth before after who → AreSame before after
+pub moved-same : (before after : Services) (who : ℕ) → MovesBoth before after who → AreSame before after
 moved-same before after who moves = record {
   limits = moved-limits before.bus after.bus who moves.moved;
   table_limits = moved-table_limits before.tables after.tables who moves.tables_moved;
@@ -224,7 +224,7 @@ goes-here : (ended : Bool) (new old : Running) → new.app ≡ old.app → GoesO
 goes-here true new old same = same
 goes-here false new old same = refl
 
-told-own : (script : ScriptText) (old new : Equipped) (before after : Services) → TakesTurn old new before after → HasTold script before old → HasTold script after new
+pub told-own : (script : ScriptText) (old new : Equipped) (before after : Services) → TakesTurn old new before after → HasTold script before old → HasTold script after new
 told-own script old new before after t told = λ entries.
     let limits = before.bus.limits in
     let app = old.progress.running.app in

@@ -9,6 +9,7 @@ use Rattle.script_lines.specs.declared.line.Line.{Line}
 use Rattle.sb_calls.specs.Core.{Core}
 use Rattle.tbl_blocks.specs.Held.{HeldViews}
 use Rattle.tbl_load.specs.Core.{Core as TableCore}
+use Rattle.script_runs.specs.Histories.{Histories}
 use Rattle.script_runs.specs.TableTrace.{first_handles}
 use Rattle.script_runs.specs.Trace.{Registers, first_registers}
 use Rattle.script_runs.specs.Rotation.{Running}
@@ -18,6 +19,10 @@ use Rattle.core_calls.specs.Callers.{written_in}
 pub record Services : Type 0 where
   pub bus : Core
   pub tables : TableCore
+
+-- the histories of both services
+abbrev pub histories_of : Core → TableCore → Histories
+histories_of bus tables = record { bus = bus.log.entries; tables = tables.log.entries }
 
 -- Where an application is in its script: its number, the lines left and its registers, those of table handles by themselves.
 pub record Place : Type 0 where

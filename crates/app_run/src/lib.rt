@@ -27,6 +27,6 @@ mod runner;
 mod table_calls;
 
 pub use core_calls::{Calls, CoreCalls};
-pub use regions::Regions;
-pub use rotating::{Finished, lockstep};
+pub use regions::{Blocks, Regions};
+pub use rotating::{Finished, budgets_of, lockstep, recall_limits};
 pub use runner::{Runner, Turned};

@@ -36,13 +36,13 @@ impl Model for Regions {
 }
 
 /// The three blocks of a run's regions.
-pub(crate) struct Blocks<'r> {
+pub struct Blocks<'r> {
     /// For the bus's pool.
-    pub(crate) pool: &'r mut [u8],
+    pub pool: &'r mut [u8],
     /// For the tables' pool.
-    pub(crate) tables: &'r mut [u8],
+    pub tables: &'r mut [u8],
     /// For the tables' working buffers.
-    pub(crate) work: &'r mut [u8],
+    pub work: &'r mut [u8],
 }
 
 impl Regions {
@@ -66,8 +66,8 @@ impl Regions {
         })
     }
 
-    /// The three blocks.
-    pub(crate) fn blocks_mut(&mut self) -> Blocks<'_>
+    /// The three blocks, for who opens both services in them.
+    pub fn blocks_mut(&mut self) -> Blocks<'_>
         ensures pool { length result.pool.now ≡ self.old.pool }
         ensures tables { length result.tables.now ≡ self.old.tables }
         ensures work { length result.work.now ≡ self.old.work }

@@ -72,8 +72,8 @@ pub fn lockstep<'r>(
     Ok(run(script, services, apps))
 }
 
-// Does nothing; the proof learns of it how large a script's messages and tables may be.
-fn recall_limits(script: &Script)
+/// Does nothing; a proof learns of it how large a script's messages and tables may be.
+pub fn recall_limits(script: &Script)
     ensures small { script.now.limits.msgmax ≤ 65542 }
     ensures small_tables { script.now.limits.tablemax ≤ 65536 }
 {
@@ -178,8 +178,11 @@ fn run<'r>(script: &Script, services: OpenedServices<'r>, apps: OpenedApps<'_, '
     }
 }
 
-// What each application may add to the run.
-fn budgets_of(alloc: Global, script: &Script) -> Result<Vec<Budget>, AllocError>
+/// What each application may add to each of the two histories of a run.
+///
+/// # Errors
+/// Where memory runs out.
+pub fn budgets_of(alloc: Global, script: &Script) -> Result<Vec<Budget>, AllocError>
     ensures { IfOk result
         (λ budgets. budgets.items ≡ map (λ a. budget_of a.lines) script.now.apps) }
 {

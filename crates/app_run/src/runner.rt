@@ -116,6 +116,19 @@ impl<'s> Runner<'s> {
         self.ended
     }
 
+    /// Whether its next turn runs a line: it has one left, and waits for nothing. Who holds a run
+    /// up at its lines asks this; no clause tells of it.
+    pub fn begins_line(&self) -> bool {
+        self.waits_on.is_none() && self.next < self.script.lines(self.app)
+    }
+
+    /// How many of its lines it has begun; the last of them may still wait.
+    pub fn lines_begun(&self) -> u32
+        ensures { result ≤ 20000 }
+    {
+        self.next
+    }
+
     /// The application's number.
     pub fn app(&self) -> AppNo
         ensures { result ≡ self.now.running.app }

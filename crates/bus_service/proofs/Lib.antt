@@ -1,4 +1,7 @@
+mod Active
 mod Allowances
+mod Allowed
+pub mod Crossing
 mod Few
 mod Found
 mod Histories

@@ -1,5 +1,5 @@
 -- The main part: how it opens, the ports that it makes, what it is once a port was joined, and what the core is in the end.
-use Rattle.std.proofs.Common.{◌≡◌, ℕ, ◌-◌, ◌<◌, ◌≤◌, inl, inr, ⊎_elim, List, [], ◌∷◌, ◌++◌, length, map, get_or, All, Contains, Option, Some, refl, ap, ap₂, sym, ◌∙◌, subst, arith}
+use Rattle.std.proofs.Common.{◌≡◌, ℕ, ◌-◌, ◌<◌, ◌≤◌, inl, inr, ⊎_elim, Bool, leb, List, [], ◌∷◌, ◌++◌, length, map, get_or, All, Contains, Option, Some, refl, ap, ap₂, sym, ◌∙◌, subst, true, IsTrue, arith}
 use Rattle.std.specs.List.{IsDistinct}
 use Rattle.std.proofs.Common.{eqb}
 use Rattle.std.proofs.lemmas.List.{get_or-map, map_push}
@@ -12,21 +12,30 @@ use Rattle.journal_store.specs.Budgets.{allowance_of, allowances}
 use Rattle.turn_lock.specs.declared.view.View.{View}
 use Rattle.turn_lock.specs.Views.{entries_of, main_view, seat_view, with_app}
 use Rattle.turn_lock.specs.Seats.{SeatView, IsMain, IsReady, KeepsLonger, view_of}
+use Rattle.bus_words.specs.declared.history.Call.{Call}
+use Rattle.bus_words.specs.declared.history.Call.TheVariants.{Figures, End}
 use Rattle.bus_words.specs.declared.history.Entry.{Entry}
+use Rattle.bus_words.specs.Bus.{Standing, Active}
+use Rattle.bus_words.specs.Entries.{call_bytes}
 use Rattle.bus_words.specs.Log.{left_of}
+use Rattle.bus_words.specs.Machine.{may_call}
 use Rattle.lend_block.specs.Loan.{LentBytes}
 use Rattle.buf_desc.specs.Held.{Holding}
+use Rattle.sb_core.specs.Core.{is_within}
 use Rattle.sb_calls.specs.Bags.{HasBag}
-use Rattle.sb_calls.specs.Core.{Core, IsNoted}
+use Rattle.sb_calls.specs.Core.{Core, MayCall, IsNoted}
 use Rattle.bus_words.proofs.Journals.{length-left_of}
 use Rattle.bus_service.specs.Histories.{Fixed, the_fixed, fixed_of, history_of, core_with, entries_in, notes_in, own_entries}
-use Rattle.bus_service.specs.Inside.{IsPort, IsDone, IsMainPart, seen_in, port_in, main_in, ended_in}
+use Rattle.bus_service.specs.Inside.{IsPort, Tells, IsDone, IsMainPart, seen_in, port_in, main_in, ended_in}
 use Rattle.bus_service.specs.Ports.{PortView, MainView, Begins, KeepsLongerOf, buffers_for}
 use Rattle.bus_service.specs.declared.boxed.NotedCall.{NotedCall}
+use Rattle.bus_service.specs.declared.permits.Permits.{Permits}
+use Rattle.bus_service.proofs.Active.{active_alone}
 use Rattle.bus_service.proofs.Allowances.{allowed_by_own}
+use Rattle.bus_service.proofs.Allowed.{at_most, tested}
 use Rattle.bus_service.proofs.Few.{none_once, one_more, room_for}
 use Rattle.bus_service.proofs.Found.{core_of, entries_again, notes_again}
-use Rattle.bus_service.proofs.Histories.{own-entries_in, entries_in-append, notes_in-append}
+use Rattle.bus_service.proofs.Histories.{own-entries_in, entries_in-append, notes_in-append, by_others}
 use Rattle.bus_service.proofs.Unowned.{empty_bag}
 
 -- the pairs are of applications, which are numbered from 1
@@ -127,6 +136,29 @@ module _ (s : SeatView Fixed NotedCall) (budgets : List Budget) (pipes : ℕ) (p
               subst (λ (v : View Fixed NotedCall). HasBag (core_with v.fixed v.seen) app bag) (sym is)
               (empty_bag (seen_in s) app bag first part.called none (ap (λ (b : Holding LentBytes). b.views) empty) (ap (λ (b : Holding LentBytes). b.buffers) empty)
               (omega (arith, part.room, ap (λ (b : Holding LentBytes). b.view_room) empty)));
+        }
+
+    -- its application is active, and may make a call where its budget allows one
+    pub is_telling : (left : Allowance) (permits : Permits) → IsPort t app left bag → permits.any ≡ leb 1 left.entries → permits.last ≡ leb 1 left.entries → Tells (seen_in t) app permits
+    is_telling left permits port any last =
+        let core = seen_in t in
+        let none : own_entries app core.log.entries ≡ [] = ap (λ (v : View Fixed NotedCall). own_entries app (entries_in v.seen)) is ∙ part.others app out in
+        let active = active_alone core app first port.known port.called (by_others app core.log.entries none) in
+        let may : leb 1 left.entries ≡ true → (call : Call) → IsTrue (may_call Active call) → call_bytes call ≡ 0 → IsTrue (is_within call) → MayCall core app call = λ some call standing empty within. record {
+          known = port.known;
+          standing = ap (λ (x : Standing). may_call x call) active ∙ standing;
+          room = record {
+            known = omega (arith, port.known, length-left_of core.log);
+            one_entry = subst (λ (a : Allowance). 1 ≤ a.entries) port.allows (at_most 1 left.entries some);
+            its_bytes = omega (arith, empty);
+          };
+          within = within;
+        } in
+        let tests : (call : Call) → MayCall core app call → leb 1 left.entries ≡ true = λ call granted.
+        tested 1 left.entries (subst (λ (a : Allowance). 1 ≤ a.entries) (sym port.allows) granted.room.one_entry) in
+        record {
+          any = (λ yes. may (sym any ∙ yes) Figures refl refl refl, λ granted. any ∙ tests Figures granted);
+          last = (λ yes. may (sym last ∙ yes) End refl refl refl, λ granted. last ∙ tests End granted);
         }
 
 -- Beginnings. --

@@ -22,10 +22,11 @@ use Rattle.sb_core.specs.declared.pending.Pended.TheVariants as waits
 use Rattle.sb_core.specs.Answers.{waited, is_pending}
 use Rattle.bus_words.specs.declared.history.Call.TheVariants.{Look}
 use Rattle.bus_service.specs.Histories.{Fixed, the_fixed, fixed_of, history_of, core_with, entries_in, own_entries}
-use Rattle.bus_service.specs.Inside.{IsPort, seen_in, mine_in, port_in}
+use Rattle.bus_service.specs.Inside.{IsPort, Tells, seen_in, mine_in, port_in}
 use Rattle.bus_service.specs.Ports.{PortView, Answers, AnswersLook, look_entries}
 use Rattle.bus_service.specs.Turns.{Entered, MadeOne}
 use Rattle.bus_service.specs.declared.boxed.NotedCall.{NotedCall}
+use Rattle.bus_service.specs.declared.permits.Permits.{Permits}
 use Rattle.bus_service.proofs.Found.{core_of, even, entries_again, notes_again, fixed_found, own_found, own_at, others_called, known, left_found, standing_found, bag_found}
 use Rattle.bus_service.proofs.Histories.{with_notes-push, own-entries_in, own-push}
 use Rattle.bus_service.proofs.Meanwhile.{callers_from_one}
@@ -112,6 +113,9 @@ module _ (s : SeatView Fixed NotedCall) (app : ℕ) (left : Allowance) (bag : Ho
       holds = subst (λ (c : Core). HasBag c app new_bag) (sym seen_after) has;
     }
 
+    pub stays_telling : (permits : Permits) → Tells new app permits → Tells (seen_in t) app permits
+    stays_telling permits tells = subst (λ (c : Core). Tells c app permits) (sym seen_after) tells
+
 -- Looks. --
 
 -- a look that found something is a call
@@ -186,3 +190,6 @@ module _ (s : SeatView Fixed NotedCall) (app : ℕ) (left : Allowance) (bag : Ho
       mine = ap (λ (c : Core). own_entries app c.log.entries) seen_idle ∙ own_at s app left bag port old e ∙ sym mine_idle;
       holds = subst (λ (c : Core). HasBag c app bag) (sym seen_idle) (bag_found s app left bag port old e);
     }
+
+    pub idle_telling : (permits : Permits) → Tells old app permits → Tells (seen_in t) app permits
+    idle_telling permits tells = subst (λ (c : Core). Tells c app permits) (sym seen_idle) tells

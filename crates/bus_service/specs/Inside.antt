@@ -1,19 +1,22 @@
 -- What the fields of a port, a finished port and the main part stand for, and what is always true of them.
-use Rattle.std.specs.Prelude.{◌≡◌, ℕ, ◌≤◌, nat_eq, List, [], ◌∷◌, length, map, All, Contains}
+use Rattle.std.specs.Prelude.{◌≡◌, ◌↔◌, ℕ, ◌≤◌, nat_eq, Bool, true, false, IsTrue, List, [], ◌∷◌, length, map, All, Contains}
 use Rattle.std.specs.List.{IsDistinct}
 use Rattle.fsw_base.specs.declared.config.Budget.{Budget}
 use Rattle.turn_lock.specs.Seats.{SeatView, view_of, IsReady, IsMain}
 use Rattle.journal_store.specs.declared.allowance.Allowance.{Allowance}
 use Rattle.journal_store.specs.Budgets.{allowance_of}
+use Rattle.bus_words.specs.declared.history.Call.{Call}
+use Rattle.bus_words.specs.declared.history.Call.TheVariants.{Look, Figures, End}
 use Rattle.bus_words.specs.declared.history.Entry.{Entry}
 use Rattle.bus_words.specs.Log.{left_of}
 use Rattle.lend_block.specs.Loan.{LentBytes}
 use Rattle.buf_desc.specs.Held.{Holding}
 use Rattle.sb_calls.specs.Bags.{HasBag}
-use Rattle.sb_calls.specs.Core.{Core}
+use Rattle.sb_calls.specs.Core.{Core, MayCall}
 use Rattle.bus_service.specs.Histories.{Fixed, core_with, entries_in, own_entries}
 use Rattle.bus_service.specs.Ports.{PortView, DoneView, MainView}
 use Rattle.bus_service.specs.declared.boxed.NotedCall.{NotedCall}
+use Rattle.bus_service.specs.declared.permits.Permits.{Permits}
 
 -- the core with the history that a seat has seen
 abbrev pub seen_in : SeatView Fixed NotedCall → Core
@@ -44,6 +47,18 @@ pub record IsPort (s : SeatView Fixed NotedCall) (app : ℕ) (left : Allowance) 
   pub allows : left ≡ allowance_of (left_of (seen_in s).log) app
   pub mine : own_entries app (seen_in s).log.entries ≡ mine_in s
   pub holds : HasBag (seen_in s) app bag
+
+-- these permits tell whether the application may ask for the figures of the bus, and so make any call that brings no bytes, but for a
+-- look; and whether it may make its last one
+pub record Tells (core : Core) (app : ℕ) (permits : Permits) : Type 0 where
+  pub any : IsTrue permits.any ↔ MayCall core app Figures
+  pub last : IsTrue permits.last ↔ MayCall core app End
+
+-- whether they let the application make this call, so far as it brings no bytes; they tell of no look
+abbrev pub lets : Permits → Call → Bool
+lets permits (Look pipe) = false
+lets permits End = permits.last
+lets permits call = permits.any
 
 -- the seat is ready
 pub record IsDone (s : SeatView Fixed NotedCall) : Type 0 where

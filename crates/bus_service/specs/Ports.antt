@@ -1,5 +1,5 @@
 -- What is seen of a port, of one that is finished and of the main part, and what a port's calls answer.
-use Rattle.std.specs.Prelude.{◌≡◌, ℕ, ◌+◌, ◌-◌, ◌<◌, ◌≤◌, ◌⊎◌, List, [], ◌∷◌, ◌++◌, length, replicate, slice_index_or, Result, IfOk, OnErr}
+use Rattle.std.specs.Prelude.{◌≡◌, ℕ, ◌+◌, ◌-◌, ◌<◌, ◌≤◌, ◌⊎◌, Bool, true, false, List, [], ◌∷◌, ◌++◌, length, replicate, slice_index_or, Result, IfOk, OnErr}
 use Rattle.atomic_table.specs.Seated.{TableId}
 use Rattle.fsw_base.specs.declared.config.Budget.{Budget}
 use Rattle.fsw_base.specs.declared.statuses.SbStatus.{SbStatus}
@@ -57,6 +57,11 @@ buffers_for budgets app = (slice_index_or budgets (app - 1) (record { entries = 
 abbrev pub FindsRoom : Holding LentBytes → Call → Type 0
 FindsRoom bag (Allocate size) = length bag.buffers < bag.buffer_room
 FindsRoom bag call = Unit {0}
+
+-- whether a call is a look, which an application makes while it waits
+abbrev pub is_look : Call → Bool
+is_look (Look pipe) = true
+is_look call = false
 
 -- Buffers. --
 

@@ -6,12 +6,14 @@ ghost use Rattle.bus_words.specs.Log.{left_of};
 ghost use Rattle.bus_words.specs.declared.history.Call.TheVariants.{Look};
 ghost use Rattle.sb_calls.specs.Bags.{HasBag, AreOneLoan};
 ghost use Rattle.sb_calls.specs.Core.{MayCall, Does, Looks, IsLegalCore, IsNoted, StandAlone, apps_of, state_of};
+ghost use Rattle.bus_service.specs.Inside.{Tells};
 ghost use Rattle.bus_service.specs.Ports.{FindsRoom};
 
 use crate::calls::PortCall;
+use crate::permits::Permits;
 use bucket_list::{Blank, Ledger, Steps};
 use buf_desc::Held;
-use bus_words::{Allowance, BusAnswer, Call};
+use bus_words::{Allowance, BusAnswer, BusCall, Call};
 use fsw_base::{AppNo, Budget, Config};
 use lend_block::Note;
 use sb_calls::{BusCore, Pended};
@@ -127,6 +129,16 @@ impl<'r> BoxedCore<'r> {
         Allowance {
             entries: self.core.entries_left(app),
             bytes: self.core.bytes_left(app),
+        }
+    }
+
+    /// Which calls an application may make that bring no bytes.
+    pub(crate) fn permits(&self, app: AppNo) -> Permits
+        ensures { Tells self.now app result }
+    {
+        Permits {
+            any: self.core.may_make(app, &BusCall::Figures),
+            last: self.core.may_make(app, &BusCall::End),
         }
     }
 

@@ -7,6 +7,7 @@ ghost use Rattle.bus_service.specs.Histories.{own_entries};
 ghost use Rattle.bus_service.specs.Ports.{Begins, KeepsLongerOf, buffers_for};
 
 use crate::boxed::{BoxedCore, NotedCall, Opening};
+use crate::permits::Permits;
 use crate::ports::{BusDone, BusPort};
 use buf_desc::Held;
 use bus_words::Allowance;
@@ -140,11 +141,17 @@ impl<'r> Bus<'r> {
             entries: budget.entries,
             bytes: budget.bytes,
         };
+        let some = 1 <= budget.entries;
+        let permits = Permits {
+            any: some,
+            last: some,
+        };
         let seat = self.lock.split(&mut main.seat, app);
         Ok(BusPort {
             seat,
             app,
             left,
+            permits,
             looked: None,
             bag,
         })

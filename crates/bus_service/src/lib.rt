@@ -39,6 +39,7 @@ mod counters;
 mod events;
 mod leaving;
 mod messages;
+mod permits;
 mod pipes;
 mod pools;
 mod ports;

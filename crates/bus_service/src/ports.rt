@@ -14,6 +14,7 @@ ghost use Rattle.bus_service.specs.Ports.{Answers, AnswersLook, FindsRoom, left_
 use crate::boxed::{NotedCall, Opening};
 use crate::bus::Bus;
 use crate::calls::PortCall;
+use crate::permits::Permits;
 use crate::turns::{begin, finish, pause};
 use bucket_list::Blank;
 use buf_desc::Held;
@@ -37,6 +38,8 @@ pub struct BusPort<'r> {
     pub(crate) app: AppNo,
     // What its application may still add to the journal.
     pub(crate) left: Allowance,
+    // Which calls it may make that bring no bytes.
+    pub(crate) permits: Permits,
     // How many entries the history had when the application looked last, where that was in vain.
     pub(crate) looked: Option<u32>,
     // What its application holds.
@@ -45,13 +48,14 @@ pub struct BusPort<'r> {
 
 impl<'r> Model for BusPort<'r> {
     ghost use Rattle.bus_service.specs.Ports.{PortView};
-    ghost use Rattle.bus_service.specs.Inside.{port_in, IsPort};
+    ghost use Rattle.bus_service.specs.Inside.{port_in, seen_in, IsPort, Tells};
 
     ghost Value = { PortView };
 
     ghost view = { λ p. port_in p.seat p.app p.bag };
 
-    ghost invariant = { λ p. IsPort p.seat p.app p.left p.bag };
+    ghost invariant = { λ p. IsPort p.seat p.app p.left p.bag ×
+        Tells (seen_in p.seat) p.app p.permits };
 }
 
 /// What is left of a port whose application has ended. It names no lifetime.
@@ -149,6 +153,7 @@ impl<'r> BusPort<'r> {
             seat,
             app: _,
             left: _,
+            permits: _,
             looked: _,
             bag: _,
         } = self;
@@ -168,6 +173,7 @@ impl<'r> BusPort<'r> {
             .value_mut()
             .make::<C, Brand>(call, self.app, &mut self.bag, Blank::new(1));
         self.left = turn.value().left(self.app);
+        self.permits = turn.value().permits(self.app);
         self.looked = None;
         finish(bus, &mut self.seat, turn);
         told
@@ -193,11 +199,13 @@ impl<'r> BusPort<'r> {
         let mut turn = begin(bus, rt, &mut self.seat);
         let told = turn.value_mut().look(self.app, &mut self.bag);
         if told.is_pending() {
+            self.permits = turn.value().permits(self.app);
             self.looked = Some(turn.value().len());
             pause(bus, &mut self.seat, turn);
             return told;
         }
         self.left = turn.value().left(self.app);
+        self.permits = turn.value().permits(self.app);
         self.looked = None;
         finish(bus, &mut self.seat, turn);
         told

@@ -1,5 +1,5 @@
 -- Why the program ended as it did, and that a script is run where nothing fails.
-use Rattle.std.proofs.Common.{◌≡◌, ◌⊎◌, ℕ, ◌<◌, List, ◌++◌, length, map, Option, Some, None, Result, Ok, Err, IfSome, inl, inr, refl, sym, ap, subst, ◌∙◌, arith, length-append}
+use Rattle.std.proofs.Common.{◌≡◌, ◌⊎◌, ℕ, ◌<◌, List, ◌++◌, length, map, Option, Some, None, Result, Ok, Err, IfOk, IfSome, inl, inr, refl, sym, ap, subst, ◌∙◌, arith, length-append}
 use Rattle.std.specs.List.{range_with_len}
 use Rattle.fsw_base.specs.declared.script_faults.ScriptFault.{ScriptFault}
 use Rattle.bus_words.specs.declared.history.Entry.{Entry}
@@ -11,17 +11,21 @@ use Rattle.script_runs.specs.Histories.{Histories}
 use Rattle.script_runs.specs.Rotation.{rotation}
 use Rattle.app_script.specs.Script.{ScriptText}
 use Rattle.script_runs.specs.Told.{receipts_told}
-use Rattle.script_runs.proofs.Merged.{rotation-legal, rotation-holds_nothing}
-use Rattle.script_runs.proofs.TablesMerged.{rotation-legal_tables, rotation-merges_both, rotation-holds_no_tables}
+use Rattle.script_runs.specs.Runs.{IsRunOf}
+use Rattle.script_runs.proofs.EndsCome.{run-comes-to}
+use Rattle.script_runs.proofs.Merged.{rotation-legal}
+use Rattle.script_runs.proofs.TablesMerged.{rotation-legal_tables, rotation-merges_both}
 use Rattle.host_run.proofs.Sizes.{length-grammar}
 use Rattle.text_page.specs.Pieces.{Grew, CutShort}
-use Rattle.host_run.specs.Audit.{IsShown, histories_of}
+use Rattle.app_run.specs.Runners.{histories_of}
 use Rattle.host_run.specs.Input.{most_input, IsWhole, IsTooLarge}
 use Rattle.sb_calls.specs.Core.{Core, apps_of, state_of}
 use Rattle.tbl_load.specs.Core.{Core as TableCore, apps_of as table_apps_of}
-use Rattle.host_run.specs.Serve.{Fed, Made, Lockstep, Read, TooLong, SourceFailed, NoRoom, OtherWords, Serves, EndsInput, EndsScript, EndsRun, EndsText, EndsRefused, HasCauses, Completes, CompletesUnread, Headline, too_large, figures_after, report_part, part_shown}
+use Rattle.host_run.specs.Serve.{Fed, Made, Runs, IsLeftBy, Read, TooLong, SourceFailed, NoRoom, OtherWords, Serves, EndsInput, EndsScript, EndsRun, EndsText, EndsRefused, HasCauses, Completes, CompletesUnread, Headline, too_large, figures_after, report_part, part_shown}
 use Rattle.host_run.specs.declared.reporting.Part.{Part}
 use Rattle.host_run.specs.declared.reporting.Part.TheVariants.{Whole, Ending}
+use Rattle.host_run.specs.declared.running.Way.{Way}
+use Rattle.host_run.specs.declared.running.Way.TheVariants as way
 use Rattle.host_run.specs.declared.words.Task.{Task}
 use Rattle.host_run.specs.declared.words.Task.TheVariants as task
 use Rattle.host_run.specs.declared.status.HostStatus.{HostStatus}
@@ -35,13 +39,13 @@ causes-refused ReadFault fault fed fed' old new ends = absurd ends
 causes-refused WriteFault fault fed fed' old new ends = ends.cause
 causes-refused NoMemory fault fed fed' old new ends = tt
 
-causes-script : (result : HostStatus) (part : Part) (script : ScriptText) (fed fed' : Fed) (old new : Made) → EndsScript result part script old new → HasCauses result fed fed' old new
-causes-script Done part script fed fed' old new ends = tt
-causes-script Usage part script fed fed' old new ends = ends
-causes-script (Refused fault) part script fed fed' old new ends = tt
-causes-script ReadFault part script fed fed' old new ends = absurd ends
-causes-script WriteFault part script fed fed' old new ends = ends.cause
-causes-script NoMemory part script fed fed' old new ends = tt
+causes-script : (result : HostStatus) (how : Way) (part : Part) (script : ScriptText) (fed fed' : Fed) (old new : Made) → EndsScript result how part script old new → HasCauses result fed fed' old new
+causes-script Done how part script fed fed' old new ends = tt
+causes-script Usage how part script fed fed' old new ends = ends
+causes-script (Refused fault) how part script fed fed' old new ends = tt
+causes-script ReadFault how part script fed fed' old new ends = absurd ends
+causes-script WriteFault how part script fed fed' old new ends = ends.2.cause
+causes-script NoMemory how part script fed fed' old new ends = tt
 
 causes-text : (result : HostStatus) (text : List ℕ) (fed fed' : Fed) (old new : Made) → EndsText result text old new → HasCauses result fed fed' old new
 causes-text Done text fed fed' old new ends = tt
@@ -51,31 +55,32 @@ causes-text ReadFault text fed fed' old new ends = absurd ends
 causes-text WriteFault text fed fed' old new ends = ends.cause
 causes-text NoMemory text fed fed' old new ends = tt
 
-causes-input : (result : HostStatus) (found : Result ScriptText ScriptFault) (fed fed' : Fed) (old new : Made) → EndsInput result found old new → HasCauses result fed fed' old new
-causes-input result (Ok script) fed fed' old new ends = causes-script result Whole script fed fed' old new ends
-causes-input result (Err fault) fed fed' old new ends = causes-refused result fault fed fed' old new ends
+causes-input : (result : HostStatus) (how : Way) (found : Result ScriptText ScriptFault) (fed fed' : Fed) (old new : Made) → EndsInput result how found old new → HasCauses result fed fed' old new
+causes-input result how (Ok script) fed fed' old new ends = causes-script result how Whole script fed fed' old new ends
+causes-input result how (Err fault) fed fed' old new ends = causes-refused result fault fed fed' old new ends
 
 -- each end has its cause
-causes-lockstep : (result : HostStatus) (fed fed' : Fed) (old new : Made) → Lockstep result fed fed' old new → HasCauses result fed fed' old new
-causes-lockstep result fed fed' old new (Read bytes whole ends) = causes-input result (grammar bytes) fed fed' old new ends
-causes-lockstep result fed fed' old new (TooLong large ends) = causes-refused result too_large fed fed' old new ends
-causes-lockstep result fed fed' old new (SourceFailed is rose part nothing) = subst (λ r. HasCauses r fed fed' old new) (sym is) rose
-causes-lockstep result fed fed' old new (NoRoom is unread nothing) = subst (λ r. HasCauses r fed fed' old new) (sym is) tt
+causes-runs : (result : HostStatus) (how : Way) (fed fed' : Fed) (old new : Made) → Runs how result fed fed' old new → HasCauses result fed fed' old new
+causes-runs result how fed fed' old new (Read bytes whole ends) = causes-input result how (grammar bytes) fed fed' old new ends
+causes-runs result how fed fed' old new (TooLong large ends) = causes-refused result too_large fed fed' old new ends
+causes-runs result how fed fed' old new (SourceFailed is rose part nothing) = subst (λ r. HasCauses r fed fed' old new) (sym is) rose
+causes-runs result how fed fed' old new (NoRoom is unread nothing) = subst (λ r. HasCauses r fed fed' old new) (sym is) tt
 
 pub causes-task : (wanted : Option Task) (result : HostStatus) (fed fed' : Fed) (old new : Made) → Serves wanted result fed fed' old new →
     (asked : Task) → wanted ≡ Some asked → HasCauses result fed fed' old new
-causes-task wanted result fed fed' old new serves task.Lockstep is = causes-lockstep result fed fed' old new (serves.lockstep is)
+causes-task wanted result fed fed' old new serves task.Run is = causes-runs result way.OnThreads fed fed' old new (serves.on_threads is)
+causes-task wanted result fed fed' old new serves task.Lockstep is = causes-runs result way.Rotating fed fed' old new (serves.lockstep is)
 causes-task wanted result fed fed' old new serves (task.Generate number) is = causes-text result _ fed fed' old new (serves.generates number is).ends
-causes-task wanted result fed fed' old new serves (task.Soak number) is = causes-script result Ending _ fed fed' old new (serves.soaks number is).ends
+causes-task wanted result fed fed' old new serves (task.Soak number) is = causes-script result way.Rotating Ending _ fed fed' old new (serves.soaks number is).ends
 
 -- a script ends done, or without memory, where the sink didn't fail
-pub script-done : (result : HostStatus) (part : Part) (script : ScriptText) (old new : Made) → EndsScript result part script old new → CompletesUnread result old new
-script-done Done part script old new ends = λ clean. inl refl
-script-done Usage part script old new ends = λ clean. absurd ends
-script-done (Refused fault) part script old new ends = λ clean. absurd ends
-script-done ReadFault part script old new ends = λ clean. absurd ends
-script-done WriteFault part script old new ends = λ clean. absurd (clean ends.cause)
-script-done NoMemory part script old new ends = λ clean. inr refl
+pub script-done : (result : HostStatus) (how : Way) (part : Part) (script : ScriptText) (old new : Made) → EndsScript result how part script old new → CompletesUnread result old new
+script-done Done how part script old new ends = λ clean. inl refl
+script-done Usage how part script old new ends = λ clean. absurd ends
+script-done (Refused fault) how part script old new ends = λ clean. absurd ends
+script-done ReadFault how part script old new ends = λ clean. absurd ends
+script-done WriteFault how part script old new ends = λ clean. absurd (clean ends.2.cause)
+script-done NoMemory how part script old new ends = λ clean. inr refl
 
 -- and so does the writing of a text
 pub text-done : (result : HostStatus) (text : List ℕ) (old new : Made) → EndsText result text old new → CompletesUnread result old new
@@ -102,15 +107,15 @@ large-long input left (Some rest) large told =
     option_length None = 0
 large-long input left None large told = absurd (cc (large.2, told))
 
-pub completes-lockstep : (result : HostStatus) (fed fed' : Fed) (old new : Made) → Lockstep result fed fed' old new → Completes result fed fed' old new
-completes-lockstep result fed fed' old new (Read bytes whole ends) = λ input script told form source sink.
+pub completes-runs : (result : HostStatus) (how : Way) (fed fed' : Fed) (old new : Made) → Runs how result fed fed' old new → Completes result fed fed' old new
+completes-runs result how fed fed' old new (Read bytes whole ends) = λ input script told form source sink.
     let same = whole-told bytes input fed.left fed'.left whole told in
-    script-done result Whole script old new
-    (subst (λ found. EndsInput result found old new) (ap grammar same ∙ form) ends) sink
-completes-lockstep result fed fed' old new (TooLong large ends) = λ input script told form source sink.
+    script-done result how Whole script old new
+    (subst (λ found. EndsInput result how found old new) (ap grammar same ∙ form) ends) sink
+completes-runs result how fed fed' old new (TooLong large ends) = λ input script told form source sink.
     absurd (omega (arith, length-grammar input script form, large-long input fed.left fed'.left large told))
-completes-lockstep result fed fed' old new (SourceFailed is rose part nothing) = λ input script told form source sink. absurd (source rose)
-completes-lockstep result fed fed' old new (NoRoom is unread nothing) = λ input script told form source sink. inr is
+completes-runs result how fed fed' old new (SourceFailed is rose part nothing) = λ input script told form source sink. absurd (source rose)
+completes-runs result how fed fed' old new (NoRoom is unread nothing) = λ input script told form source sink. inr is
 
 pub ends-other : (result : HostStatus) (fed fed' : Fed) (old new : Made) → OtherWords result fed fed' old new → (result ≡ Usage) ⊎ (result ≡ WriteFault)
 ends-other result fed fed' old new words = either words.usage
@@ -122,105 +127,106 @@ ends-other result fed fed' old new words = either words.usage
 -- what happens on words that the program doesn't know is what happens
 pub serves-other : (wanted : Option Task) (result : HostStatus) (fed fed' : Fed) (old new : Made) → wanted ≡ None → OtherWords result fed fed' old new → Serves wanted result fed fed' old new
 serves-other wanted result fed fed' old new none other = record {
+  on_threads = λ words. absurd (cc (none, words));
   lockstep = λ words. absurd (cc (none, words));
   generates = λ number words. absurd (cc (none, words));
   soaks = λ number words. absurd (cc (none, words));
   other_words = λ words. other;
 }
 
+-- what a run leaves, in either way, is left by a run of the script
+run-left : (how : Way) (script : ScriptText) (histories : Histories) → IsLeftBy how script histories → IsRunOf script histories
+run-left way.Rotating script histories is =
+    subst (λ h. IsRunOf script h) (sym is)
+    (record { legal = rotation-legal script; legal_tables = rotation-legal_tables script; merges = rotation-merges_both script })
+run-left way.OnThreads script histories run = run
+
 -- where all was done the headline holds
-headline-input : (found : Result ScriptText ScriptFault) (bytes : List ℕ) (fed fed' : Fed) (old new : Made) → grammar bytes ≡ found →
-    IsWhole bytes fed.left fed'.left → EndsInput Done found old new → Headline Done fed fed' old new
-headline-input (Err fault) bytes fed fed' old new built whole ends = absurd ends
-headline-input (Ok script) bytes fed fed' old new built whole ends = λ done. (
-  bytes,
-  script,
-  rotation script,
-  whole,
-  built,
-  rotation-legal script,
-  rotation-legal_tables script,
-  rotation-merges_both script,
-  rotation-holds_nothing script,
-  rotation-holds_no_tables script,
-  ends.shown,
-  ends.written,
-)
+headline-input : (how : Way) (found : Result ScriptText ScriptFault) (bytes : List ℕ) (fed fed' : Fed) (old new : Made) → grammar bytes ≡ found →
+    IsWhole bytes fed.left fed'.left → EndsInput Done how found old new → Headline Done fed fed' old new
+headline-input how (Err fault) bytes fed fed' old new built whole ends = absurd ends
+headline-input how (Ok script) bytes fed fed' old new built whole ends =
+    let run = run-left how script ends.0 ends.1 in
+    λ done. (bytes, script, ends.0, whole, built, run, run-comes-to script ends.0 run, ends.2.shown, ends.2.written)
 
-pub headline-lockstep : (result : HostStatus) (fed fed' : Fed) (old new : Made) → Lockstep result fed fed' old new → Headline result fed fed' old new
-headline-lockstep result fed fed' old new (Read bytes whole ends) = λ done.
-    headline-input (grammar bytes) bytes fed fed' old new refl whole (subst (λ r. EndsInput r (grammar bytes) old new) done ends) refl
-headline-lockstep result fed fed' old new (TooLong large ends) = λ done. absurd (subst (λ r. EndsRefused r too_large old new) done ends)
-headline-lockstep result fed fed' old new (SourceFailed is rose part nothing) = λ done. absurd (cc (is, done))
-headline-lockstep result fed fed' old new (NoRoom is unread nothing) = λ done. absurd (cc (is, done))
+pub headline-runs : (result : HostStatus) (how : Way) (fed fed' : Fed) (old new : Made) → Runs how result fed fed' old new → Headline result fed fed' old new
+headline-runs result how fed fed' old new (Read bytes whole ends) = λ done.
+    headline-input how (grammar bytes) bytes fed fed' old new refl whole (subst (λ r. EndsInput r how (grammar bytes) old new) done ends) refl
+headline-runs result how fed fed' old new (TooLong large ends) = λ done. absurd (subst (λ r. EndsRefused r too_large old new) done ends)
+headline-runs result how fed fed' old new (SourceFailed is rose part nothing) = λ done. absurd (cc (is, done))
+headline-runs result how fed fed' old new (NoRoom is unread nothing) = λ done. absurd (cc (is, done))
 
--- what a report shows of a core after a script's rotation
-figures-rotation : (script : ScriptText) (core : Core) → core.limits ≡ script.limits → apps_of core ≡ length script.apps → core.log.entries ≡ (rotation script).bus →
-    figures_shown core.limits (state_of core) ≡ figures_after script.limits (length script.apps) (rotation script).bus
-figures-rotation script core limits apps history =
-    ap (λ l. figures_after l (apps_of core) core.log.entries) limits
-    ∙ ap (λ n. figures_after script.limits n core.log.entries) apps
-    ∙ ap (figures_after script.limits (length script.apps)) history
+-- what a report shows of a core with the script's limits and applications
+figures-run : (script : ScriptText) (core : Core) → core.limits ≡ script.limits → apps_of core ≡ length script.apps →
+    figures_shown core.limits (state_of core) ≡ figures_after script.limits (length script.apps) core.log.entries
+figures-run script core limits apps =
+    ap (λ l. figures_after l (apps_of core) core.log.entries) limits ∙ ap (λ n. figures_after script.limits n core.log.entries) apps
 
 -- and of the tables
-table-figures-rotation : (script : ScriptText) (core : TableCore) → core.limits ≡ script.limits → table_apps_of core ≡ length script.apps →
-    core.log.entries ≡ (rotation script).tables →
-    table_figures_shown core.limits (table_apps_of core) core.log.entries ≡ table_figures_shown script.limits (length script.apps) (rotation script).tables
-table-figures-rotation script core limits apps history =
-    ap (λ l. table_figures_shown l (table_apps_of core) core.log.entries) limits
-    ∙ ap (λ n. table_figures_shown script.limits n core.log.entries) apps
-    ∙ ap (table_figures_shown script.limits (length script.apps)) history
+table-figures-run : (script : ScriptText) (core : TableCore) → core.limits ≡ script.limits → table_apps_of core ≡ length script.apps →
+    table_figures_shown core.limits (table_apps_of core) core.log.entries ≡ table_figures_shown script.limits (length script.apps) core.log.entries
+table-figures-run script core limits apps =
+    ap (λ l. table_figures_shown l (table_apps_of core) core.log.entries) limits ∙ ap (λ n. table_figures_shown script.limits n core.log.entries) apps
 
--- what is reported of a run is what is reported of the script's rotation
-part-rotation : (part : Part) (script : ScriptText) (core : Core) (tables : TableCore) (lists : List Receipts) →
+-- what is reported of both services after a run of the script is the report of their histories: their limits and their applications
+-- are the script's
+part-run : (part : Part) (script : ScriptText) (core : Core) (tables : TableCore) (lists : List Receipts) →
     core.limits ≡ script.limits → tables.limits ≡ script.limits → apps_of core ≡ length script.apps → table_apps_of tables ≡ length script.apps →
-    core.log.entries ≡ (rotation script).bus → tables.log.entries ≡ (rotation script).tables →
-    map (λ list. list.receipts) lists ≡ map (receipts_told script (rotation script)) (range_with_len 1 (length script.apps)) →
-    part_shown part core tables lists ≡ report_part part script (rotation script)
-part-rotation Whole script core tables lists limits table_limits apps table_apps history table_history told =
-    let figures = figures_after script.limits (length script.apps) (rotation script).bus in
-    let uses = table_figures_shown script.limits (length script.apps) (rotation script).tables in
+    map (λ list. list.receipts) lists ≡ map (receipts_told script (histories_of core tables)) (range_with_len 1 (length script.apps)) →
+    part_shown part core tables lists ≡ report_part part script (histories_of core tables)
+part-run Whole script core tables lists limits table_limits apps table_apps told =
     ap (λ f. report_text core.log.entries tables.log.entries (map (λ list. list.receipts) lists) f (table_figures_shown tables.limits (table_apps_of tables) tables.log.entries))
-    (figures-rotation script core limits apps history)
-    ∙ ap (report_text core.log.entries tables.log.entries (map (λ list. list.receipts) lists) figures) (table-figures-rotation script tables table_limits table_apps table_history)
-    ∙ ap (λ entries. report_text entries tables.log.entries (map (λ list. list.receipts) lists) figures uses) history
-    ∙ ap (λ entries. report_text (rotation script).bus entries (map (λ list. list.receipts) lists) figures uses) table_history
-    ∙ ap (λ receipts. report_text (rotation script).bus (rotation script).tables receipts figures uses) told
-part-rotation Ending script core tables lists limits table_limits apps table_apps history table_history told =
-    ap (λ f. ending_text f (table_figures_shown tables.limits (table_apps_of tables) tables.log.entries)) (figures-rotation script core limits apps history)
-    ∙ ap (ending_text (figures_after script.limits (length script.apps) (rotation script).bus)) (table-figures-rotation script tables table_limits table_apps table_history)
+    (figures-run script core limits apps)
+    ∙ ap (report_text core.log.entries tables.log.entries (map (λ list. list.receipts) lists) (figures_after script.limits (length script.apps) core.log.entries))
+    (table-figures-run script tables table_limits table_apps)
+    ∙ ap (λ receipts. report_text core.log.entries tables.log.entries receipts (figures_after script.limits (length script.apps) core.log.entries)
+    (table_figures_shown script.limits (length script.apps) tables.log.entries)) told
+part-run Ending script core tables lists limits table_limits apps table_apps told =
+    ap (λ f. ending_text f (table_figures_shown tables.limits (table_apps_of tables) tables.log.entries)) (figures-run script core limits apps)
+    ∙ ap (ending_text (figures_after script.limits (length script.apps) core.log.entries)) (table-figures-run script tables table_limits table_apps)
+
+-- where what a run left is shown and its text is due of the script, the script ended so
+ends-as : (result : HostStatus) (how : Way) (part : Part) (script : ScriptText) (histories : Histories) (text : List ℕ) (old new : Made) →
+    IsLeftBy how script histories → text ≡ report_part part script histories → EndsRun result histories text old new → EndsScript result how part script old new
+ends-as Done how part script histories text old new left is ends =
+    (histories, left, record { written = subst (Grew old.written new.written) is ends.written; shown = ends.shown })
+ends-as Usage how part script histories text old new left is ends = ends
+ends-as (Refused fault) how part script histories text old new left is ends = ends
+ends-as ReadFault how part script histories text old new left is ends = ends
+ends-as WriteFault how part script histories text old new left is ends =
+    (histories, left, record { front = subst (CutShort old.written new.written) is ends.front; cause = ends.cause; shown = ends.shown })
+ends-as NoMemory how part script histories text old new left is ends = absurd ends
+
+pub ends-run : (result : HostStatus) (how : Way) (part : Part) (script : ScriptText) (core : Core) (tables : TableCore) (lists : List Receipts) (old new : Made) →
+    core.limits ≡ script.limits → tables.limits ≡ script.limits → apps_of core ≡ length script.apps → table_apps_of tables ≡ length script.apps →
+    IsLeftBy how script (histories_of core tables) →
+    map (λ list. list.receipts) lists ≡ map (receipts_told script (histories_of core tables)) (range_with_len 1 (length script.apps)) →
+    EndsRun result (histories_of core tables) (part_shown part core tables lists) old new → EndsScript result how part script old new
+ends-run result how part script core tables lists old new limits table_limits apps table_apps left told ends =
+    ends-as result how part script (histories_of core tables) (part_shown part core tables lists) old new left
+    (part-run part script core tables lists limits table_limits apps table_apps told) ends
 
 -- the same histories, one by one and as a pair
 same-histories : (bus : List Entry) (tables : List TableEntry) (histories : Histories) → bus ≡ histories.bus → tables ≡ histories.tables →
     (let pair : Histories = record { bus = bus; tables = tables } in pair) ≡ histories
 same-histories bus tables histories one two = λ i. record { bus = one i; tables = two i }
 
--- where the histories of a run are the script's rotation, and its text is due of the script, the script ended so
-ends-as : (result : HostStatus) (part : Part) (script : ScriptText) (histories : Histories) (text : List ℕ) (old new : Made) →
-    histories ≡ rotation script → text ≡ report_part part script (rotation script) → EndsRun result histories text old new → EndsScript result part script old new
-ends-as Done part script histories text old new one two ends = record {
-  written = subst (Grew old.written new.written) two ends.written;
-  shown = subst (IsShown old.shown new.shown) one ends.shown;
-}
-ends-as Usage part script histories text old new one two ends = ends
-ends-as (Refused fault) part script histories text old new one two ends = ends
-ends-as ReadFault part script histories text old new one two ends = ends
-ends-as WriteFault part script histories text old new one two ends = record {
-  front = subst (CutShort old.written new.written) two ends.front;
-  cause = ends.cause;
-  shown = subst (IsShown old.shown new.shown) one ends.shown;
-}
-ends-as NoMemory part script histories text old new one two ends = absurd ends
+-- what rotation leaves, in both services of what it gives
+pub left-rotating : {T E : Type 0} (r : Result T E) (bus : T → Core) (tables : T → TableCore) (how : Way) (script : ScriptText) → how ≡ way.Rotating →
+    IfOk r (λ x. (bus x).log.entries ≡ (rotation script).bus) → IfOk r (λ x. (tables x).log.entries ≡ (rotation script).tables) →
+    IfOk r (λ x. IsLeftBy how script (histories_of (bus x) (tables x)))
+left-rotating (Ok x) bus tables how script is one two =
+    subst (λ h. IsLeftBy h script (histories_of (bus x) (tables x))) (sym is)
+    (same-histories (bus x).log.entries (tables x).log.entries (rotation script) one two)
+left-rotating (Err e) bus tables how script is one two = tt
 
-pub ends-run : (result : HostStatus) (part : Part) (script : ScriptText) (core : Core) (tables : TableCore) (lists : List Receipts) (old new : Made) →
-    core.limits ≡ script.limits → tables.limits ≡ script.limits → apps_of core ≡ length script.apps → table_apps_of tables ≡ length script.apps →
-    core.log.entries ≡ (rotation script).bus → tables.log.entries ≡ (rotation script).tables →
-    map (λ list. list.receipts) lists ≡ map (receipts_told script (rotation script)) (range_with_len 1 (length script.apps)) →
-    EndsRun result (histories_of core tables) (part_shown part core tables lists) old new → EndsScript result part script old new
-ends-run result part script core tables lists old new limits table_limits apps table_apps history table_history told ends =
-    ends-as result part script (histories_of core tables) (part_shown part core tables lists) old new
-    (same-histories core.log.entries tables.log.entries (rotation script) history table_history)
-    (part-rotation part script core tables lists limits table_limits apps table_apps history table_history told) ends
+-- and what is told of the rotation is told of them
+pub told-rotating : {T E X : Type 0} (r : Result T E) (bus : T → Core) (tables : T → TableCore) (lists : T → X) (told : Histories → X) (script : ScriptText) →
+    IfOk r (λ x. (bus x).log.entries ≡ (rotation script).bus) → IfOk r (λ x. (tables x).log.entries ≡ (rotation script).tables) →
+    IfOk r (λ x. lists x ≡ told (rotation script)) → IfOk r (λ x. lists x ≡ told (histories_of (bus x) (tables x)))
+told-rotating (Ok x) bus tables lists told script one two three =
+    three ∙ ap told (sym (same-histories (bus x).log.entries (tables x).log.entries (rotation script) one two))
+told-rotating (Err e) bus tables lists told script one two three = tt
 
 -- the same in other words, where what guards told is what the traits tell
 pub serves-as : {wanted : Option Task} {result : HostStatus} {fed fed' fed₂ fed₂' : Fed} {old new old₂ new₂ : Made} → fed₂ ≡ fed → fed₂' ≡ fed' → old₂ ≡ old → new₂ ≡ new →

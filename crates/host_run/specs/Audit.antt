@@ -2,13 +2,7 @@
 use base.Fml.{GName}
 use Rattle.std.specs.Prelude.{◌≡◌, ◌⊎◌, List, [], ◌∷◌, ◌++◌, Option, None}
 use Rattle.std.specs.Option.{option_map}
-use Rattle.sb_calls.specs.Core.{Core}
-use Rattle.tbl_load.specs.Core.{Core as TableCore}
 use Rattle.script_runs.specs.Histories.{Histories}
-
--- the histories of both services
-abbrev pub histories_of : Core → TableCore → Histories
-histories_of bus tables = record { bus = bus.log.entries; tables = tables.log.entries }
 
 -- the histories of the run were put behind those shown before, or nothing is told from now on
 abbrev pub IsShown : Option (List Histories) → Option (List Histories) → Histories → Type 0

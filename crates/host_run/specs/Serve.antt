@@ -7,29 +7,29 @@ use Rattle.fsw_base.specs.ScriptFaults.{fault_name}
 use Rattle.fsw_base.specs.declared.script_faults.FaultKind.TheVariants.{TooLarge}
 use Rattle.fsw_base.specs.declared.script_faults.ScriptFault.{ScriptFault}
 use Rattle.bus_words.specs.declared.history.Entry.{Entry}
-use Rattle.bus_words.specs.Held.{HoldsNothing}
-use Rattle.bus_words.specs.Machine.{IsLegal, state_after}
+use Rattle.bus_words.specs.Machine.{state_after}
 use Rattle.bus_words.specs.ReceiptLists.{Receipts}
 use Rattle.fsw_base.specs.Limits.{Limits}
 use Rattle.sb_calls.specs.Core.{Core, state_of}
 use Rattle.tbl_load.specs.Core.{Core as TableCore, apps_of as table_apps_of}
-use Rattle.tbl_words.specs.Leaves.{HoldsNothing as HoldsNoTables}
-use Rattle.tbl_words.specs.Machine.{IsLegal as AreLegalTables, state_after as tables_after}
 use Rattle.text_page.specs.Pieces.{Grew, CutShort}
 use Rattle.run_report.specs.CounterText.{BusFigures, TableFigures}
 use Rattle.run_report.specs.Report.{ending_text, figures_shown, table_figures_shown, report_text}
 use Rattle.app_script.specs.Grammar.{grammar}
 use Rattle.script_runs.specs.Histories.{Histories}
-use Rattle.script_runs.specs.Merges.{Merges}
+use Rattle.script_runs.specs.Runs.{IsRunOf, ComesTo}
 use Rattle.script_runs.specs.Rotation.{rotation}
 use Rattle.app_script.specs.Script.{ScriptText}
 use Rattle.script_runs.specs.Told.{receipts_told}
 use Rattle.script_generate.specs.Generated.{generated}
 use Rattle.script_printing.specs.ScriptSpelling.{spelled_script}
-use Rattle.host_run.specs.Audit.{IsShown, GuardedAudit, histories_of}
+use Rattle.host_run.specs.Audit.{IsShown, GuardedAudit}
+use Rattle.app_run.specs.Runners.{histories_of}
 use Rattle.host_run.specs.Input.{IsWhole, IsTooLarge, IsPartRead}
 use Rattle.host_run.specs.declared.reporting.Part.{Part}
 use Rattle.host_run.specs.declared.reporting.Part.TheVariants.{Whole, Ending}
+use Rattle.host_run.specs.declared.running.Way.{Way}
+use Rattle.host_run.specs.declared.running.Way.TheVariants as way
 use Rattle.host_run.specs.declared.words.Task.{Task}
 use Rattle.host_run.specs.declared.words.Task.TheVariants as task
 use Rattle.host_run.specs.declared.status.HostStatus.{HostStatus}
@@ -39,7 +39,7 @@ use Rattle.host_run.specs.declared.status.HostStatus.TheVariants as status
 
 -- the line that tells which words the program knows
 abbrev pub usage_text : List ℕ
-usage_text = codes "usage: lockstep | gen N | soak N\n"
+usage_text = codes "usage: run | lockstep | gen N | soak N\n"
 
 -- the line that tells a fault
 abbrev pub fault_text : ScriptFault → List ℕ
@@ -143,15 +143,30 @@ abbrev pub EndsTelling : HostStatus → HostStatus → Made → Made → List �
 EndsTelling wanted result old new text =
     ((result ≡ wanted) × Tells old new text) ⊎ ((result ≡ status.WriteFault) × TellsFront old new text)
 
--- what was made of a script of which this much is reported, by how it ended: the histories of its rotation were shown, and that
--- part of their report written
-abbrev pub EndsScript : HostStatus → Part → ScriptText → Made → Made → Type 0
-EndsScript status.Done part script old new = Reports old new (rotation script) (report_part part script (rotation script))
-EndsScript status.WriteFault part script old new = ReportsFront old new (rotation script) (report_part part script (rotation script))
-EndsScript status.NoMemory part script old new = MakesNothing old new
-EndsScript status.Usage part script old new = ⊥
-EndsScript (status.Script fault) part script old new = ⊥
-EndsScript status.ReadFault part script old new = ⊥
+-- the histories that a run of a script leaves: in rotation those of its rotation; on threads, whatever the interleaving, ones that both
+-- services can have and that merge the calls of its applications
+abbrev pub IsLeftBy : Way → ScriptText → Histories → Type 0
+IsLeftBy way.Rotating script histories = histories ≡ rotation script
+IsLeftBy way.OnThreads script histories = IsRunOf script histories
+
+-- the histories that a run of a script left were shown, and this part of their report written
+abbrev pub ReportsRun : Way → Part → ScriptText → Made → Made → Type 0
+ReportsRun how part script old new =
+    (histories : Histories) × IsLeftBy how script histories × Reports old new histories (report_part part script histories)
+
+-- the same, but that a front of the report was written, since the sink failed
+abbrev pub ReportsRunFront : Way → Part → ScriptText → Made → Made → Type 0
+ReportsRunFront how part script old new =
+    (histories : Histories) × IsLeftBy how script histories × ReportsFront old new histories (report_part part script histories)
+
+-- what was made of a script that was run in a way, and of which this much is reported, by how it ended
+abbrev pub EndsScript : HostStatus → Way → Part → ScriptText → Made → Made → Type 0
+EndsScript status.Done how part script old new = ReportsRun how part script old new
+EndsScript status.WriteFault how part script old new = ReportsRunFront how part script old new
+EndsScript status.NoMemory how part script old new = MakesNothing old new
+EndsScript status.Usage how part script old new = ⊥
+EndsScript (status.Script fault) how part script old new = ⊥
+EndsScript status.ReadFault how part script old new = ⊥
 
 -- what was made of a run that went through: its histories were shown, and a text written
 abbrev pub EndsRun : HostStatus → Histories → List ℕ → Made → Made → Type 0
@@ -180,21 +195,21 @@ EndsRefused status.Done fault old new = ⊥
 EndsRefused status.Usage fault old new = ⊥
 EndsRefused status.ReadFault fault old new = ⊥
 
--- what was made of an input, by what it is: a script, or the first fault
-abbrev pub EndsInput : HostStatus → Result ScriptText ScriptFault → Made → Made → Type 0
-EndsInput result (Ok script) old new = EndsScript result Whole script old new
-EndsInput result (Err fault) old new = EndsRefused result fault old new
+-- what was made of an input, by what it is: a script, which was run in this way, or the first fault
+abbrev pub EndsInput : HostStatus → Way → Result ScriptText ScriptFault → Made → Made → Type 0
+EndsInput result how (Ok script) old new = EndsScript result how Whole script old new
+EndsInput result how (Err fault) old new = EndsRefused result fault old new
 
--- On the word `lockstep` one of these happened.
-pub data Lockstep (result : HostStatus) (fed fed' : Fed) (old new : Made) : Type 0 where
+-- On a word that has a script read and run in this way, one of these happened.
+pub data Runs (how : Way) (result : HostStatus) (fed fed' : Fed) (old new : Made) : Type 0 where
   -- the whole input was read, and made what it is worth
-  Read : (bytes : List ℕ) → IsWhole bytes fed.left fed'.left → EndsInput result (grammar bytes) old new → Lockstep result fed fed' old new
+  Read : (bytes : List ℕ) → IsWhole bytes fed.left fed'.left → EndsInput result how (grammar bytes) old new → Runs how result fed fed' old new
   -- the input is longer than any script
-  TooLong : IsTooLarge fed.left fed'.left → EndsRefused result too_large old new → Lockstep result fed fed' old new
+  TooLong : IsTooLarge fed.left fed'.left → EndsRefused result too_large old new → Runs how result fed fed' old new
   -- the source failed
-  SourceFailed : result ≡ status.ReadFault → Rose fed.faults fed'.faults → IsPartRead fed.left fed'.left → MakesNothing old new → Lockstep result fed fed' old new
+  SourceFailed : result ≡ status.ReadFault → Rose fed.faults fed'.faults → IsPartRead fed.left fed'.left → MakesNothing old new → Runs how result fed fed' old new
   -- no memory for the input, of which nothing was read
-  NoRoom : result ≡ status.NoMemory → fed' ≡ fed → MakesNothing old new → Lockstep result fed fed' old new
+  NoRoom : result ≡ status.NoMemory → fed' ≡ fed → MakesNothing old new → Runs how result fed fed' old new
 
 -- on `gen` and a number nothing is read, and the generated script of this number is written
 pub record Generates (result : HostStatus) (number : ℕ) (fed fed' : Fed) (old new : Made) : Type 0 where
@@ -204,7 +219,7 @@ pub record Generates (result : HostStatus) (number : ℕ) (fed fed' : Fed) (old 
 -- on `soak` and a number nothing is read; the generated script of this number is run, and the end of its report written
 pub record Soaks (result : HostStatus) (number : ℕ) (fed fed' : Fed) (old new : Made) : Type 0 where
   pub unread : fed' ≡ fed
-  pub ends : EndsScript result Ending (generated number) old new
+  pub ends : EndsScript result way.Rotating Ending (generated number) old new
 
 -- on other words nothing is read, and the usage line is written
 pub record OtherWords (result : HostStatus) (fed fed' : Fed) (old new : Made) : Type 0 where
@@ -213,7 +228,8 @@ pub record OtherWords (result : HostStatus) (fed fed' : Fed) (old new : Made) : 
 
 -- what happened, by what the words ask for
 pub record Serves (wanted : Option Task) (result : HostStatus) (fed fed' : Fed) (old new : Made) : Type 0 where
-  pub lockstep : wanted ≡ Some task.Lockstep → Lockstep result fed fed' old new
+  pub on_threads : wanted ≡ Some task.Run → Runs way.OnThreads result fed fed' old new
+  pub lockstep : wanted ≡ Some task.Lockstep → Runs way.Rotating result fed fed' old new
   pub generates : (number : ℕ) → wanted ≡ Some (task.Generate number) → Generates result number fed fed' old new
   pub soaks : (number : ℕ) → wanted ≡ Some (task.Soak number) → Soaks result number fed fed' old new
   pub other_words : wanted ≡ None → OtherWords result fed fed' old new
@@ -240,19 +256,19 @@ Completes result fed fed' old new =
 abbrev pub CompletesUnread : HostStatus → Made → Made → Type 0
 CompletesUnread result old new = ¬ Rose old.faults new.faults → (result ≡ status.Done) ⊎ (result ≡ status.NoMemory)
 
--- The headline of runs in rotation: where all was done, the whole input was read and is a script, and there are a history that
--- the bus and one that the tables can have under the script's limits, which merge the calls of the script's applications, each once
--- and in order, behind which no pipe is live, no message and no buffer is held and no byte of the bus's pool in use, and no table
--- and no handle left and no byte of the tables' pool in use; these the audit was shown, and of these the report was written.
+-- The headline, of runs on threads and in rotation alike: where all was done, the whole input was read and is a script, and there are a
+-- history of the bus and one of the tables, both legal under the script's limits, so that each answer is the machine's and each refusal its
+-- named cause's, which merge the calls of the script's applications, each once and in script order. By these each pipe's receipts are
+-- those of a list machine over the accepted sends, under the pipe's own limits and depth; the pool's bytes in use are at each time those
+-- of the held buffers, zero at the end; and held tables never change. No held buffer is handed out again: each gets a number that none had
+-- before, and a core has a block for each number that is held, and no others. These two histories the audit was shown, by the cores
+-- that have them, and the report of these was written.
 abbrev pub Headline : HostStatus → Fed → Fed → Made → Made → Type 0
 Headline result fed fed' old new =
     result ≡ status.Done → (bytes : List ℕ) × (script : ScriptText) × (histories : Histories)
     × IsWhole bytes fed.left fed'.left
     × (grammar bytes ≡ Ok script)
-    × IsLegal script.limits (length script.apps) histories.bus
-    × AreLegalTables script.limits (length script.apps) histories.tables
-    × Merges script histories
-    × HoldsNothing script.limits (state_after script.limits (length script.apps) histories.bus)
-    × HoldsNoTables script.limits (tables_after script.limits (length script.apps) histories.tables)
+    × IsRunOf script histories
+    × ComesTo script histories
     × IsShown old.shown new.shown histories
     × Grew old.written new.written (report script histories)

@@ -1,7 +1,8 @@
 //! Who is shown both services of each run.
 ghost use Rattle.std.specs.Prelude.{◌≡◌, true, List, Option, None};
 ghost use Rattle.script_runs.specs.Histories.{Histories};
-ghost use Rattle.host_run.specs.Audit.{IsShown, histories_of};
+ghost use Rattle.host_run.specs.Audit.{IsShown};
+ghost use Rattle.app_run.specs.Runners.{histories_of};
 
 use fsw_base::{Sink, SinkGuard};
 use sb_calls::BusCore;

@@ -1,5 +1,5 @@
 //! The program: reads a script, runs its applications on the software bus and on Table Services,
-//! and writes a report.
+//! each on a thread of its own or all in rotation, and writes a report.
 #![tactic(auto)]
 
 mod audit;
@@ -9,6 +9,9 @@ mod mem_audit;
 mod pool_tests;
 mod reading;
 mod reporting;
+#[cfg(test)]
+mod run_tests;
+mod running;
 mod serve;
 #[cfg(test)]
 mod serve_tests;

@@ -4,7 +4,8 @@ ghost use Rattle.std.specs.Option.{option_map};
 ghost use Rattle.journal_store.specs.Budgets.{AreBudgets};
 ghost use Rattle.bus_words.specs.Log.{left_of};
 ghost use Rattle.bus_words.specs.Entries.{call_of, call_bytes};
-ghost use Rattle.host_run.specs.Audit.{IsShown, histories_of};
+ghost use Rattle.host_run.specs.Audit.{IsShown};
+ghost use Rattle.app_run.specs.Runners.{histories_of};
 ghost use Rattle.host_run.specs.Copies.{shown, no_copies, has_room, fits, with_copy, are_within, CopiesEntry};
 ghost use Rattle.journal_store.specs.Budgets.{allowances};
 

@@ -1,11 +1,12 @@
 //! The top call: all that the program does.
 ghost use Rattle.std.specs.Prelude.{◌≡◌, ◌≤◌, ◌⊎◌, ℕ, Some, None, true, false};
 ghost use Rattle.app_run.specs.Openings.{HaveRoom};
+ghost use Rattle.app_run.specs.Runners.{histories_of};
 ghost use Rattle.app_script.specs.Grammar.{grammar};
 ghost use Rattle.script_generate.specs.Generated.{generated};
 ghost use Rattle.script_printing.specs.ScriptSpelling.{spelled_script};
-ghost use Rattle.host_run.specs.Audit.{GuardedAudit, histories_of};
-ghost use Rattle.host_run.specs.Serve.{Headline, Lockstep, Generates, Soaks, OtherWords, Serves, HasCauses, Completes, CompletesUnread, fed_by, made_by, fed_through, made_through, EndsInput, EndsScript, EndsRun, EndsText, EndsRefused, EndsTelling, part_shown, usage_text};
+ghost use Rattle.host_run.specs.Audit.{GuardedAudit};
+ghost use Rattle.host_run.specs.Serve.{Headline, Runs, Generates, Soaks, OtherWords, Serves, HasCauses, Completes, CompletesUnread, fed_by, made_by, fed_through, made_through, EndsInput, EndsScript, EndsRun, EndsText, EndsRefused, EndsTelling, part_shown, usage_text};
 ghost use Rattle.host_run.specs.Status.{is_read_fault, is_write_fault};
 ghost use Rattle.host_run.specs.Words.{task_of};
 
@@ -13,9 +14,10 @@ use crate::audit::{Audit, AuditGuard};
 use crate::fault_line::write_fault;
 use crate::reading::{Reading, read_all};
 use crate::reporting::{Part, write_part};
+use crate::running::{Way, run_script_by};
 use crate::status::HostStatus;
 use crate::words::{Task, Words};
-use app_run::{Finished, Regions, lockstep};
+use app_run::{Finished, Regions};
 use app_script::{ReadFail, Script, read_script};
 use bus_words::ReceiptList;
 use fsw_base::{FaultKind, Gate, ScriptFault, Sink, SinkGuard, Source, SourceGuard, WriteFault};
@@ -23,6 +25,8 @@ use sb_calls::BusCore;
 use script_generate::generate;
 use script_printing::print_script;
 use std::alloc::Global;
+use std::sync::Wait;
+use std::thread::Threads;
 use tbl_load::TblCore;
 use text_page::write_text;
 
@@ -32,12 +36,22 @@ const TOO_LARGE: ScriptFault = ScriptFault {
     kind: FaultKind::TooLarge,
 };
 
-/// Does what the words say. On `lockstep` it reads a script from the source to its end, runs it in
-/// strict rotation, shows the bus and its tables to the audit, and writes the report to the sink.
-/// On `gen N` it reads nothing, and writes the generated script of number N. On `soak N` it reads
-/// nothing, runs that script as `lockstep` would, shows both to the audit, and writes the end of
-/// the report, from its line `counters` on. N is in decimal, with no needless 0 before it, at most
-/// 4294967295.
+// By what the program runs: its runtime, its memory and the gate round the lines of scripts.
+#[derive(Drop)]
+struct Means<'a, R, G> {
+    rt: &'a R,
+    alloc: Global,
+    gate: &'a G,
+}
+
+/// Does what the words say. On `run` it reads a script from the source to its end, runs each of its
+/// applications on a thread of its own, with the gate's calls round each line, shows the bus and
+/// its tables to the audit, and writes the report to the sink; this may wait, for messages that the
+/// applications send to each other. On `lockstep` it does the same in strict rotation, without
+/// threads and without the gate. On `gen N` it reads nothing, and writes the generated script of
+/// number N. On `soak N` it reads nothing, runs that script as `lockstep` would, shows both to the
+/// audit, and writes the end of the report, from its line `counters` on. N is in decimal, with no
+/// needless 0 before it, at most 4294967295.
 ///
 /// - `Usage`, on all other words: nothing is read, and the usage line is written.
 /// - `Script`, where the input is no script, or is longer than 1,048,576 bytes; at most one byte
@@ -50,22 +64,32 @@ const TOO_LARGE: ScriptFault = ScriptFault {
 /// - `NoMemory`, never on other words: nothing is written; by the code, no application ran.
 ///
 /// On `gen N` and `soak N` no answer but `Done`, `WriteFault` and `NoMemory` comes.
-pub fn serve<R, S: Source, K: Sink, G: Gate, A: Audit>(
-    _rt: &R,
+pub fn serve<R: Threads + Wait + Sync, S: Source, K: Sink, G: Gate, A: Audit>(
+    rt: &R,
     alloc: Global,
     words: &Words,
     source: &mut S,
     sink: &mut K,
-    _gate: &G,
+    gate: &G,
     audit: &mut A,
 ) -> HostStatus
+    // Whatever the interleaving, the report prints one history for each service that merges the
+    // applications' calls, each once and in script order, and what follows of it.
+    ensures headline_on_run { task_of words.now ≡ Some Task.Run → Headline result
+        (fed_by S.left S.faults source.old) (fed_by S.left S.faults source.new)
+        (made_by K.written K.faults A.shown sink.old audit.old)
+        (made_by K.written K.faults A.shown sink.new audit.new) }
     ensures headline { task_of words.now ≡ Some Task.Lockstep → Headline result
         (fed_by S.left S.faults source.old) (fed_by S.left S.faults source.new)
         (made_by K.written K.faults A.shown sink.old audit.old)
         (made_by K.written K.faults A.shown sink.new audit.new) }
 
     // What was read, written and shown, by how it ended.
-    ensures lockstep { task_of words.now ≡ Some Task.Lockstep → Lockstep result
+    ensures on_threads { task_of words.now ≡ Some Task.Run → Runs Way.OnThreads result
+        (fed_by S.left S.faults source.old) (fed_by S.left S.faults source.new)
+        (made_by K.written K.faults A.shown sink.old audit.old)
+        (made_by K.written K.faults A.shown sink.new audit.new) }
+    ensures lockstep { task_of words.now ≡ Some Task.Lockstep → Runs Way.Rotating result
         (fed_by S.left S.faults source.old) (fed_by S.left S.faults source.new)
         (made_by K.written K.faults A.shown sink.old audit.old)
         (made_by K.written K.faults A.shown sink.new audit.new) }
@@ -91,6 +115,10 @@ pub fn serve<R, S: Source, K: Sink, G: Gate, A: Audit>(
         (made_by K.written K.faults A.shown sink.new audit.new) }
     ensures usage_or_fault { task_of words.now ≡ None → (result ≡ HostStatus.Usage) ⊎
         (result ≡ HostStatus.WriteFault) }
+    ensures complete_on_run { task_of words.now ≡ Some Task.Run → Completes result
+        (fed_by S.left S.faults source.old) (fed_by S.left S.faults source.new)
+        (made_by K.written K.faults A.shown sink.old audit.old)
+        (made_by K.written K.faults A.shown sink.new audit.new) }
     ensures complete { task_of words.now ≡ Some Task.Lockstep → Completes result
         (fed_by S.left S.faults source.old) (fed_by S.left S.faults source.new)
         (made_by K.written K.faults A.shown sink.old audit.old)
@@ -104,13 +132,14 @@ pub fn serve<R, S: Source, K: Sink, G: Gate, A: Audit>(
         (made_by K.written K.faults A.shown sink.old audit.old)
         (made_by K.written K.faults A.shown sink.new audit.new) }
 {
-    serve_guarded(alloc, words, source, sink, audit)
+    let means = Means { rt, alloc, gate };
+    serve_guarded(&means, words, source, sink, audit)
 }
 
 // Does what the words say, with the source, the sink and the audit behind guards: below here they
 // are reached in no other way.
-fn serve_guarded<S: Source, K: Sink, A: Audit>(
-    alloc: Global,
+fn serve_guarded<R: Threads + Wait + Sync, G: Gate, S: Source, K: Sink, A: Audit>(
+    means: &Means<'_, R, G>,
     words: &Words,
     source: &mut S,
     sink: &mut K,
@@ -124,7 +153,7 @@ fn serve_guarded<S: Source, K: Sink, A: Audit>(
     let mut source = SourceGuard::new(source);
     let mut sink = SinkGuard::new(sink);
     let mut audit = AuditGuard::new(audit);
-    let status = serve_words(alloc, words, &mut source, &mut sink, &mut audit);
+    let status = serve_words(means, words, &mut source, &mut sink, &mut audit);
     let _source = source.into_inner();
     let _sink = sink.into_inner();
     let _audit = audit.into_inner();
@@ -132,8 +161,8 @@ fn serve_guarded<S: Source, K: Sink, A: Audit>(
 }
 
 // Does what the words say.
-fn serve_words<S: Source, K: Sink, A: Audit>(
-    alloc: Global,
+fn serve_words<R: Threads + Wait + Sync, G: Gate, S: Source, K: Sink, A: Audit>(
+    means: &Means<'_, R, G>,
     words: &Words,
     source: &mut SourceGuard<'_, S>,
     sink: &mut SinkGuard<'_, K>,
@@ -152,16 +181,18 @@ fn serve_words<S: Source, K: Sink, A: Audit>(
     ensures same_audit { audit.new.audit ≡ audit.old.audit }
 {
     match words.task() {
-        Some(Task::Lockstep) => serve_source(alloc, source, sink, audit),
-        Some(Task::Generate(number)) => write_generated(alloc, number, sink),
-        Some(Task::Soak(number)) => soak(alloc, number, sink, audit),
+        Some(Task::Run) => serve_source(means, Way::OnThreads, source, sink, audit),
+        Some(Task::Lockstep) => serve_source(means, Way::Rotating, source, sink, audit),
+        Some(Task::Generate(number)) => write_generated(means.alloc, number, sink),
+        Some(Task::Soak(number)) => soak(means, number, sink, audit),
         None => tell_usage(sink),
     }
 }
 
-// Runs the script that the source gives.
-fn serve_source<S: Source, K: Sink, A: Audit>(
-    alloc: Global,
+// Runs the script that the source gives, in this way.
+fn serve_source<R: Threads + Wait + Sync, G: Gate, S: Source, K: Sink, A: Audit>(
+    means: &Means<'_, R, G>,
+    way: Way,
     source: &mut SourceGuard<'_, S>,
     sink: &mut SinkGuard<'_, K>,
     audit: &mut AuditGuard<'_, A>,
@@ -169,7 +200,7 @@ fn serve_source<S: Source, K: Sink, A: Audit>(
     requires no_read_failed { source.old.failed ≡ false }
     requires no_write_failed { sink.old.failed ≡ false }
     requires untouched { sink.old.untouched ≡ true }
-    ensures end { Lockstep result (fed_through source.old) (fed_through source.new)
+    ensures end { Runs way result (fed_through source.old) (fed_through source.new)
         (made_through sink.old audit.old) (made_through sink.new audit.new) }
     ensures read_failed { source.new.failed ≡ is_read_fault result }
     ensures write_failed { sink.new.failed ≡ is_write_fault result }
@@ -177,32 +208,33 @@ fn serve_source<S: Source, K: Sink, A: Audit>(
     ensures same_sink { sink.new.sink ≡ sink.old.sink }
     ensures same_audit { audit.new.audit ≡ audit.old.audit }
 {
-    match read_all(alloc, source) {
-        Reading::Whole(text) => serve_text(alloc, &text, sink, audit),
+    match read_all(means.alloc, source) {
+        Reading::Whole(text) => serve_text(means, way, &text, sink, audit),
         Reading::TooLarge => refuse(sink, TOO_LARGE),
         Reading::Fault => HostStatus::ReadFault,
         Reading::NoMemory => HostStatus::NoMemory,
     }
 }
 
-// Runs the text, where it is a script.
-fn serve_text<K: Sink, A: Audit>(
-    alloc: Global,
+// Runs the text in this way, where it is a script.
+fn serve_text<R: Threads + Wait + Sync, G: Gate, K: Sink, A: Audit>(
+    means: &Means<'_, R, G>,
+    way: Way,
     text: &[u8],
     sink: &mut SinkGuard<'_, K>,
     audit: &mut AuditGuard<'_, A>,
 ) -> HostStatus
     requires none_failed { sink.old.failed ≡ false }
     requires untouched { sink.old.untouched ≡ true }
-    ensures end { EndsInput result (grammar text.now) (made_through sink.old audit.old)
+    ensures end { EndsInput result way (grammar text.now) (made_through sink.old audit.old)
         (made_through sink.new audit.new) }
     ensures failed { sink.new.failed ≡ is_write_fault result }
     ensures no_read_fault { is_read_fault result ≡ false }
     ensures same_sink { sink.new.sink ≡ sink.old.sink }
     ensures same_audit { audit.new.audit ≡ audit.old.audit }
 {
-    match read_script(alloc, text) {
-        Ok(script) => serve_script(alloc, &script, Part::Whole, sink, audit),
+    match read_script(means.alloc, text) {
+        Ok(script) => serve_script(means, way, &script, Part::Whole, sink, audit),
         Err(ReadFail::Fault(fault)) => refuse(sink, fault),
         Err(ReadFail::Memory(_)) => HostStatus::NoMemory,
     }
@@ -227,31 +259,32 @@ fn write_generated<K: Sink>(alloc: Global, number: u32, sink: &mut SinkGuard<'_,
     }
 }
 
-// Runs the generated script of a number, and writes the end of its report.
-fn soak<K: Sink, A: Audit>(
-    alloc: Global,
+// Runs the generated script of a number in rotation, and writes the end of its report.
+fn soak<R: Threads + Wait + Sync, G: Gate, K: Sink, A: Audit>(
+    means: &Means<'_, R, G>,
     number: u32,
     sink: &mut SinkGuard<'_, K>,
     audit: &mut AuditGuard<'_, A>,
 ) -> HostStatus
     requires none_failed { sink.old.failed ≡ false }
     requires untouched { sink.old.untouched ≡ true }
-    ensures end { EndsScript result Part.Ending (generated number)
+    ensures end { EndsScript result Way.Rotating Part.Ending (generated number)
         (made_through sink.old audit.old) (made_through sink.new audit.new) }
     ensures failed { sink.new.failed ≡ is_write_fault result }
     ensures no_read_fault { is_read_fault result ≡ false }
     ensures same_sink { sink.new.sink ≡ sink.old.sink }
     ensures same_audit { audit.new.audit ≡ audit.old.audit }
 {
-    let Ok(script) = generate(alloc, number) else {
+    let Ok(script) = generate(means.alloc, number) else {
         return HostStatus::NoMemory;
     };
-    serve_script(alloc, &script, Part::Ending, sink, audit)
+    serve_script(means, Way::Rotating, &script, Part::Ending, sink, audit)
 }
 
-// Runs the script, shows both services to the audit, and writes so much of its report.
-fn serve_script<K: Sink, A: Audit>(
-    alloc: Global,
+// Runs the script in this way, shows both services to the audit, and writes so much of its report.
+fn serve_script<R: Threads + Wait + Sync, G: Gate, K: Sink, A: Audit>(
+    means: &Means<'_, R, G>,
+    way: Way,
     script: &Script,
     part: Part,
     sink: &mut SinkGuard<'_, K>,
@@ -259,22 +292,23 @@ fn serve_script<K: Sink, A: Audit>(
 ) -> HostStatus
     requires none_failed { sink.old.failed ≡ false }
     requires untouched { sink.old.untouched ≡ true }
-    ensures end { EndsScript result part script.now (made_through sink.old audit.old)
+    ensures end { EndsScript result way part script.now (made_through sink.old audit.old)
         (made_through sink.new audit.new) }
     ensures failed { sink.new.failed ≡ is_write_fault result }
     ensures no_read_fault { is_read_fault result ≡ false }
     ensures same_sink { sink.new.sink ≡ sink.old.sink }
     ensures same_audit { audit.new.audit ≡ audit.old.audit }
 {
-    let Ok(mut regions) = Regions::new(alloc, script.config()) else {
+    let Ok(mut regions) = Regions::new(means.alloc, script.config()) else {
         return HostStatus::NoMemory;
     };
-    run_script(alloc, script, part, &mut regions, sink, audit)
+    run_script(means, way, script, part, &mut regions, sink, audit)
 }
 
 // The same, with the memory that the messages and the tables of the run lie in.
-fn run_script<K: Sink, A: Audit>(
-    alloc: Global,
+fn run_script<R: Threads + Wait + Sync, G: Gate, K: Sink, A: Audit>(
+    means: &Means<'_, R, G>,
+    way: Way,
     script: &Script,
     part: Part,
     regions: &mut Regions,
@@ -284,7 +318,7 @@ fn run_script<K: Sink, A: Audit>(
     requires regions { HaveRoom regions.old script.now.limits }
     requires none_failed { sink.old.failed ≡ false }
     requires untouched { sink.old.untouched ≡ true }
-    ensures end { EndsScript result part script.now (made_through sink.old audit.old)
+    ensures end { EndsScript result way part script.now (made_through sink.old audit.old)
         (made_through sink.new audit.new) }
     ensures failed { sink.new.failed ≡ is_write_fault result }
     ensures no_read_fault { is_read_fault result ≡ false }
@@ -297,7 +331,7 @@ fn run_script<K: Sink, A: Audit>(
             tables,
             receipts,
         },
-    ) = lockstep(alloc, script, regions)
+    ) = run_script_by(way, means.rt, means.alloc, script, regions, means.gate)
     else {
         return HostStatus::NoMemory;
     };
@@ -355,7 +389,7 @@ fn tell_usage<K: Sink>(sink: &mut SinkGuard<'_, K>) -> HostStatus
     ensures no_read_fault { is_read_fault result ≡ false }
     ensures same_sink { sink.new.sink ≡ sink.old.sink }
 {
-    match write_text(sink, b"usage: lockstep | gen N | soak N\n") {
+    match write_text(sink, b"usage: run | lockstep | gen N | soak N\n") {
         Ok(()) => HostStatus::Usage,
         Err(WriteFault) => HostStatus::WriteFault,
     }

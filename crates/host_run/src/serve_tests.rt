@@ -8,13 +8,16 @@ use crate::words::Words;
 use fsw_base::{Budget, FaultKind, MemSink, MemSource, OpenGate, ScriptFault};
 use std::alloc::{AllocError, Global};
 use std::process::Abort;
+use std::sync::Wait;
 use std::test::Fail;
+use std::thread::Threads;
 
 /// One message through one pipe.
-const SCRIPT: &[u8] = b"app A\ncreate p0 4 ALPHA\nsub 0x0801 p0\nsend 0x0801 8 16\nrecv p0\n";
+pub(crate) const SCRIPT: &[u8] =
+    b"app A\ncreate p0 4 ALPHA\nsub 0x0801 p0\nsend 0x0801 8 16\nrecv p0\n";
 
 /// And what is printed for it.
-const REPORT: &[u8] = b"fsw 1\nbus\n\
+pub(crate) const REPORT: &[u8] = b"fsw 1\nbus\n\
     1 a1 create 4 ALPHA -> CFE_SUCCESS 1\n\
     2 a1 sub 0x0801 1 4 global -> CFE_SUCCESS\n\
     3 a1 send 8 235 inc -> CFE_SUCCESS 1 1\n\
@@ -57,8 +60,8 @@ const SOAKED: &[u8] = b"counters\n\
     tpool size=524288 free=524288 requests=0 errors=0\n\
     end\n";
 
-// So many words.
-fn words_of(words: &[&str]) -> Words {
+/// So many words.
+pub(crate) fn words_of(words: &[&str]) -> Words {
     let mut kept = Words::new();
     for word in words {
         kept.add(word);
@@ -72,12 +75,16 @@ fn lockstep() -> Words {
 }
 
 // How a run over this input ends, and what it writes.
-fn run(rt: &HostRuntime, input: &[u8]) -> Result<(HostStatus, MemSink<'static>), AllocError> {
+fn run<R: Threads + Wait + Sync>(
+    rt: &R,
+    alloc: Global,
+    input: &[u8],
+) -> Result<(HostStatus, MemSink<'static>), AllocError> {
     let mut source = MemSource::new(input, 1000, &[]);
-    let mut sink = MemSink::new(rt.alloc(), 10_000, 1000, &[])?;
+    let mut sink = MemSink::new(alloc, 10_000, 1000, &[])?;
     let status = serve(
         rt,
-        rt.alloc(),
+        alloc,
         &lockstep(),
         &mut source,
         &mut sink,
@@ -203,7 +210,7 @@ fn scripts_print_their_reports(rt: HostRuntime) -> Result<(), Fail> {
         (TABLES, HostStatus::Done, TABLE_REPORT),
     ];
     for (input, status, output) in &cases {
-        let (ended, sink) = run(&rt, input)?;
+        let (ended, sink) = run(&rt, rt.alloc(), input)?;
         assert_eq!(rt; ended, *status);
         assert_eq!(rt; sink.written(), *output);
     }
@@ -240,22 +247,23 @@ fn other_words_are_told_the_usage(rt: HostRuntime) -> Result<(), Fail> {
         assert_eq!(rt; status.exit_status(), 2);
         assert_eq!(rt;
             sink.written(),
-            b"usage: lockstep | gen N | soak N\n".as_slice()
+            b"usage: run | lockstep | gen N | soak N\n".as_slice()
         );
     }
     Ok(())
 }
 
 // What the program writes on two words, from a source whose first read would fail.
-fn run_unread(
-    rt: &HostRuntime,
+fn run_unread<R: Threads + Wait + Sync>(
+    rt: &R,
+    alloc: Global,
     words: [&str; 2],
 ) -> Result<(HostStatus, MemSink<'static>), AllocError> {
     let mut source = MemSource::new(SCRIPT, 1000, &[1]);
-    let mut sink = MemSink::new(rt.alloc(), 100_000, 1000, &[])?;
+    let mut sink = MemSink::new(alloc, 100_000, 1000, &[])?;
     let status = serve(
         rt,
-        rt.alloc(),
+        alloc,
         &words_of(&words),
         &mut source,
         &mut sink,
@@ -267,10 +275,10 @@ fn run_unread(
 
 #[test]
 fn scripts_are_generated_by_number(rt: HostRuntime) -> Result<(), Fail> {
-    let (status, sink) = run_unread(&rt, ["gen", "0"])?;
+    let (status, sink) = run_unread(&rt, rt.alloc(), ["gen", "0"])?;
     assert_eq!(rt; status, HostStatus::Done);
     assert!(rt; sink.written().starts_with(GENERATED));
-    let (status, last) = run_unread(&rt, ["gen", "4294967295"])?;
+    let (status, last) = run_unread(&rt, rt.alloc(), ["gen", "4294967295"])?;
     assert_eq!(rt; status, HostStatus::Done);
     assert!(rt; last.written().starts_with(b"app G1\n"));
     Ok(())
@@ -279,21 +287,26 @@ fn scripts_are_generated_by_number(rt: HostRuntime) -> Result<(), Fail> {
 #[test]
 fn soak_runs_tell_their_counters_alone(rt: HostRuntime) -> Result<(), Fail> {
     for _ in 0..2 {
-        let (status, sink) = run_unread(&rt, ["soak", "0"])?;
+        let (status, sink) = run_unread(&rt, rt.alloc(), ["soak", "0"])?;
         assert_eq!(rt; status, HostStatus::Done);
         assert_eq!(rt; sink.written(), SOAKED);
     }
     Ok(())
 }
 
-// How many calls bring so many bytes over, a piece at a time.
-fn calls(bytes: usize, piece: usize) -> usize {
+/// How many calls bring so many bytes over, a piece at a time.
+pub(crate) fn calls(bytes: usize, piece: usize) -> usize {
     bytes.div_ceil(piece.max(1))
 }
 
 // Runs with a source that fails at one call. Where the call is reached nothing is written; one call
 // more than the pieces need tells the end.
-fn fail_read<R: Abort>(rt: &R, alloc: Global, piece: usize, call: u32) -> Result<(), AllocError> {
+fn fail_read<R: Threads + Wait + Sync + Abort>(
+    rt: &R,
+    alloc: Global,
+    piece: usize,
+    call: u32,
+) -> Result<(), AllocError> {
     let fails = [call];
     let mut source = MemSource::new(SCRIPT, piece.max(1), &fails);
     let mut sink = MemSink::new(alloc, 10_000, 1000, &[])?;
@@ -318,7 +331,12 @@ fn fail_read<R: Abort>(rt: &R, alloc: Global, piece: usize, call: u32) -> Result
 
 // Runs with a sink that fails at one call. Where the call is reached just the pieces before it are
 // written.
-fn fail_write<R: Abort>(rt: &R, alloc: Global, piece: usize, call: u32) -> Result<(), AllocError> {
+fn fail_write<R: Threads + Wait + Sync + Abort>(
+    rt: &R,
+    alloc: Global,
+    piece: usize,
+    call: u32,
+) -> Result<(), AllocError> {
     let fails = [call];
     let mut source = MemSource::new(SCRIPT, 1000, &[]);
     let mut sink = MemSink::new(alloc, 10_000, piece.max(1), &fails)?;
@@ -358,32 +376,34 @@ fn failures_in_mid_stream_leave_nothing_or_a_front(rt: HostRuntime) -> Result<()
 
 #[test]
 fn second_failing_call_ends_the_run(rt: HostRuntime) -> Result<(), Fail> {
-    let mut source = MemSource::new(SCRIPT, 4, &[2]);
-    let mut sink = MemSink::new(rt.alloc(), 10_000, 10, &[2])?;
-    let words = lockstep();
-    let failed = serve(
-        &rt,
-        rt.alloc(),
-        &words,
-        &mut source,
-        &mut sink,
-        &OpenGate,
-        &mut NoAudit,
-    );
-    assert_eq!(rt; failed.exit_status(), 4);
-    assert!(rt; sink.written().is_empty());
-    let mut whole = MemSource::new(SCRIPT, 4, &[]);
-    let cut = serve(
-        &rt,
-        rt.alloc(),
-        &words,
-        &mut whole,
-        &mut sink,
-        &OpenGate,
-        &mut NoAudit,
-    );
-    assert_eq!(rt; cut.exit_status(), 5);
-    assert_eq!(rt; sink.written(), b"fsw 1\nbus\n".as_slice());
+    for word in ["lockstep", "run"] {
+        let words = words_of(&[word]);
+        let mut source = MemSource::new(SCRIPT, 4, &[2]);
+        let mut sink = MemSink::new(rt.alloc(), 10_000, 10, &[2])?;
+        let failed = serve(
+            &rt,
+            rt.alloc(),
+            &words,
+            &mut source,
+            &mut sink,
+            &OpenGate,
+            &mut NoAudit,
+        );
+        assert_eq!(rt; failed.exit_status(), 4);
+        assert!(rt; sink.written().is_empty());
+        let mut whole = MemSource::new(SCRIPT, 4, &[]);
+        let cut = serve(
+            &rt,
+            rt.alloc(),
+            &words,
+            &mut whole,
+            &mut sink,
+            &OpenGate,
+            &mut NoAudit,
+        );
+        assert_eq!(rt; cut.exit_status(), 5);
+        assert_eq!(rt; sink.written(), b"fsw 1\nbus\n".as_slice());
+    }
     Ok(())
 }
 

@@ -15,7 +15,10 @@ const MAX_WORD_BYTES: usize = 64;
 /// What the words of a command line ask for.
 #[derive(Clone, Copy, Debug, PartialEq, Eq)]
 pub enum Task {
-    /// `lockstep`: to run the script that is read, and to write its report.
+    /// `run`: to run the script that is read, each application on a thread of its own, and to write
+    /// the report.
+    Run,
+    /// `lockstep`: to run the script that is read in rotation, and to write its report.
     Lockstep,
     /// `gen N`: to write the generated script of this number.
     Generate(u32),
@@ -103,7 +106,9 @@ impl Words {
 fn task_alone(word: &[u8]) -> Option<Task>
     ensures { result ≡ task_alone word.now }
 {
-    if word == b"lockstep".as_slice() {
+    if word == b"run".as_slice() {
+        Some(Task::Run)
+    } else if word == b"lockstep".as_slice() {
         Some(Task::Lockstep)
     } else {
         None

@@ -9,3 +9,4 @@ pub mod Rotated
 pub mod TableRotated
 pub mod Merged
 pub mod TablesMerged
+pub mod EndsCome

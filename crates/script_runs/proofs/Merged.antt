@@ -19,7 +19,8 @@ use Rattle.script_runs.specs.TableTrace.{first_handles}
 use Rattle.script_runs.specs.Trace.{Trace, first_registers, own_entries}
 use Rattle.script_runs.specs.Written.{first_written}
 use Rattle.bus_words.proofs.LegalSteps.{standing_at}
-use Rattle.script_runs.proofs.OneTurn.{Owes, HasWritten, waits, is_ended}
+use Rattle.script_runs.specs.Owing.{Owes}
+use Rattle.script_runs.proofs.OneTurn.{HasWritten, waits, is_ended}
 use Rattle.script_runs.proofs.Rotated.{left_of, AreApart, IsFit, Owed, HasRotated, weights, rotations-end}
 
 -- At the opening. --
@@ -174,13 +175,13 @@ known-caller s (suc app) apps many live =
     within (x ∷ xs) zero live = omega arith
     within (x ∷ xs) (suc i) live = let there = within xs i live in omega (arith, there)
 
-caller-live : (standing : Standing) (call : Rattle.bus_words.specs.declared.history.Call.Call) → IsTrue (may_call standing call) → is_ended standing ≡ false
+pub caller-live : (standing : Standing) (call : Rattle.bus_words.specs.declared.history.Call.Call) → IsTrue (may_call standing call) → is_ended standing ≡ false
 caller-live Active call may = refl
 caller-live (Waiting pipe) call may = refl
 caller-live Ended call may = absurd (true≢false (sym may))
 
 -- the entries of a legal history are of known applications
-legal-known : (limits : Limits) (apps : ℕ) (history : List Entry) (s : State) (es : List Entry) → length s.standings ≡ apps → LegalFrom limits history s es →
+pub legal-known : (limits : Limits) (apps : ℕ) (history : List Entry) (s : State) (es : List Entry) → length s.standings ≡ apps → LegalFrom limits history s es →
     All (λ e. (1 ≤ e.app) × (e.app ≤ apps)) es
 legal-known limits apps history s [] many legal = All-nil (λ e. (1 ≤ e.app) × (e.app ≤ apps))
 legal-known limits apps history s (e ∷ es) many legal =

@@ -19,6 +19,7 @@ use Rattle.bus_words.proofs.Steps.{with_subscription}
 use Rattle.script_lines.specs.declared.line.Line.{Line}
 use Rattle.script_lines.specs.declared.line.Line.TheVariants as lines
 use Rattle.tbl_words.specs.declared.history.Call.{Call as TableCall}
+use Rattle.script_runs.specs.Owing.{Owes}
 use Rattle.script_runs.specs.Rotation.{Running, SoFar, answer_to, after_call, after_look, table_answer_to, after_end, behind, behind_table, other_turn, line_turn, active_turn, turn_in}
 use Rattle.script_runs.specs.TableTrace.{table_call_of, handles_after}
 use Rattle.script_runs.specs.Trace.{Registers, call_of, registers_after, AfterAnswer, LineEntries, IsEnd, Trace}
@@ -277,14 +278,6 @@ look-active s app pipe answered =
 pub record IsSound (limits : Limits) (apps : ℕ) (sofar : SoFar) : Type 0 where
   pub legal : IsLegal limits apps sofar.history
   pub state : sofar.state ≡ state_after limits apps sofar.history
-
--- the entries are what an application in this standing has still to make
-abbrev pub Owes : Standing → Option Running → List Entry → Type 0
-Owes standing None es = es ≡ []
-Owes Active (Some r) es = Trace r.registers r.written r.lines es
-Owes (Waiting pipe) (Some r) [] = ⊥
-Owes (Waiting pipe) (Some r) (e ∷ es) = (e.call ≡ calls.Look pipe) × Trace r.registers r.written r.lines es
-Owes Ended (Some r) es = ⊥
 
 -- how many turns it may still take
 abbrev pub waits : Standing → ℕ

@@ -13,7 +13,8 @@ use Rattle.script_runs.specs.Rotation.{Running, SoFar, turn, rotated, rotations}
 use Rattle.script_runs.specs.Trace.{own_entries}
 use Rattle.bus_words.proofs.LegalSteps.{standing_at}
 use Rattle.script_runs.proofs.Buffers.{agree-other}
-use Rattle.script_runs.proofs.OneTurn.{IsSound, IsTurn, IsStuck, Owes, HasNumber, HasWritten, listed, weight, is_ended, is_pending, turn-in}
+use Rattle.script_runs.specs.Owing.{Owes}
+use Rattle.script_runs.proofs.OneTurn.{IsSound, IsTurn, IsStuck, HasNumber, HasWritten, listed, weight, is_ended, is_pending, turn-in}
 
 -- Who is left. --
 

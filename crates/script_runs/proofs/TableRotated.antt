@@ -10,7 +10,8 @@ use Rattle.script_runs.specs.Rotation.{Running, SoFar, turn, rotated, rotations}
 use Rattle.script_runs.specs.TableTrace.{own_table_entries}
 use Rattle.script_runs.proofs.OneTurn.{IsTurn, listed}
 use Rattle.script_runs.proofs.Rotated.{left_of, IsFit, apart-front, left-front, left-here, left-other, left-turned, is_live, one-leads, one-turn, rotated-turns}
-use Rattle.script_runs.proofs.TableTurn.{IsTableSound, IsTableTurn, TableOwes, first_left, table-turn-in}
+use Rattle.script_runs.specs.Owing.{TableOwes, first_left}
+use Rattle.script_runs.proofs.TableTurn.{IsTableSound, IsTableTurn, table-turn-in}
 
 -- Entries of one's own. --
 

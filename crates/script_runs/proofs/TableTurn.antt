@@ -17,6 +17,7 @@ use Rattle.tbl_words.proofs.Ends.{is_closed, ended_by, has_number, closed-other,
 use Rattle.tbl_words.proofs.Replay.{goes_on}
 use Rattle.script_lines.specs.declared.line.Line.{Line}
 use Rattle.script_lines.specs.declared.line.Line.TheVariants as lines
+use Rattle.script_runs.specs.Owing.{TableOwes, first_left}
 use Rattle.script_runs.specs.Rotation.{Running, SoFar, answer_to, after_call, after_look, table_answer_to, after_table_call, after_end, behind, other_turn, line_turn, active_turn, turn_in}
 use Rattle.script_runs.specs.TableTrace.{table_call_of, handles_after, TableLineEntries, IsTableEnd, TableTrace}
 use Rattle.script_runs.specs.Trace.{Registers, call_of, registers_after}
@@ -58,16 +59,6 @@ line_ends handles line app ended = refl
 pub record IsTableSound (limits : Limits) (apps : ℕ) (sofar : SoFar) : Type 0 where
   pub legal : IsLegal limits apps sofar.table_history
   pub tables : sofar.tables ≡ state_after limits apps sofar.table_history
-
--- the entries are what an application has still to make
-abbrev pub TableOwes : Option Running → List Entry → Type 0
-TableOwes None es = es ≡ []
-TableOwes (Some r) es = TableTrace r.handles r.lines es
-
--- the one that is left, where one is
-abbrev pub first_left : List Running → Option Running
-first_left [] = None
-first_left (r ∷ rs) = Some r
 
 -- what a turn does at the tables
 pub record IsTableTurn (limits : Limits) (apps : ℕ) (sofar : SoFar) (running : Running) (next : SoFar × List Running) : Type 0 where

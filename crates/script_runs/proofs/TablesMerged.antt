@@ -23,7 +23,7 @@ use Rattle.script_runs.proofs.Merged.{first_of, left-starting, fits-starting, li
 use Rattle.script_runs.proofs.OneTurn.{is_ended}
 use Rattle.script_runs.proofs.Rotated.{left_of}
 use Rattle.script_runs.proofs.TableRotated.{IsTableFit, TableOwed, TableLeads, rotations-tables}
-use Rattle.script_runs.proofs.TableTurn.{TableOwes}
+use Rattle.script_runs.specs.Owing.{TableOwes}
 
 -- At the opening. --
 
@@ -31,7 +31,7 @@ minus : (i : ℕ) → suc i - 1 ≡ i
 minus i = omega arith
 
 -- whether an application has ended stands at its place
-closed_at : (ended : List Bool) (i : ℕ) → is_closed ended (suc i) ≡ slice_index_or ended i true
+pub closed_at : (ended : List Bool) (i : ℕ) → is_closed ended (suc i) ≡ slice_index_or ended i true
 closed_at ended i =
     ap (λ b. cond {A = Bool} b true (slice_index_or ended (suc i - 1) true)) (ne_eqb (suc i) 0 (λ same. omega (arith, same)))
     ∙ ap (λ n. slice_index_or ended n true) (minus i)
@@ -101,7 +101,7 @@ length-ended app calls.End ended = length-set ended (app - 1) true
 length-ended app call ended = refl
 
 -- the entries of a legal history are of known applications
-legal-known : (limits : Limits) (apps : ℕ) (s : State) (es : List Entry) → length s.ended ≡ apps → LegalFrom limits s es →
+pub legal-known : (limits : Limits) (apps : ℕ) (s : State) (es : List Entry) → length s.ended ≡ apps → LegalFrom limits s es →
     All (λ e. (1 ≤ e.app) × (e.app ≤ apps)) es
 legal-known limits apps s [] many legal = All-nil (λ e. (1 ≤ e.app) × (e.app ≤ apps))
 legal-known limits apps s (e ∷ es) many legal =

@@ -6,3 +6,5 @@ pub mod TableTrace
 pub mod Merges
 pub mod Rotation
 pub mod Told
+pub mod Owing
+pub mod Runs

@@ -12,8 +12,10 @@ ghost use Rattle.tbl_words.specs.declared.history.Entry.{Entry as TableEntry};
 ghost use Rattle.tbl_words.specs.Leaves.{HoldsNothing as HoldsNoTables};
 ghost use Rattle.tbl_words.specs.Machine.{state_after as tables_after, step as table_step, IsLegal as AreLegalTables};
 ghost use Rattle.app_script.specs.Script.{ScriptText};
+ghost use Rattle.script_runs.specs.Histories.{Histories};
 ghost use Rattle.script_runs.specs.Merges.{Merges};
 ghost use Rattle.script_runs.specs.Rotation.{before_all, enough, rotation, rotations};
+ghost use Rattle.script_runs.specs.Runs.{IsRunOf, ComesTo};
 ghost use Rattle.script_runs.specs.Told.{held_in};
 
 /// What an application tells of a pipe's last message changes by its own calls alone: an entry of
@@ -63,4 +65,18 @@ pub fn rotations_merge()
     ensures no_tables { (script : ScriptText) →
         HoldsNoTables script.limits
         (tables_after script.limits (length script.apps) (rotation script).tables) }
+{}
+
+/// What histories come to that a run of a script may have left, whatever ran it: each pipe gave
+/// what it gives alone, the pool's bytes in use were at each time those of the blocks that were
+/// held, no entry changed what others held of a table, and behind them nothing is held or left at
+/// either service.
+pub fn runs_come_to()
+    ensures { (script : ScriptText) (histories : Histories) → IsRunOf script histories →
+        ComesTo script histories }
+{}
+
+/// Strict rotation is such a run.
+pub fn rotations_are_runs()
+    ensures { (script : ScriptText) → IsRunOf script (rotation script) }
 {}

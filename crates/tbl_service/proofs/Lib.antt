@@ -1,5 +1,6 @@
 mod Allowances
 mod Allowed
+pub mod Crossing
 mod Few
 mod Found
 mod Histories

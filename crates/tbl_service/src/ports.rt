@@ -4,8 +4,9 @@ ghost use Rattle.std.specs.Option.{option_map};
 ghost use Rattle.journal_store.specs.Budgets.{allowance_of};
 ghost use Rattle.tbl_words.specs.Log.{left_of};
 ghost use Rattle.tbl_words.specs.Tables.{has_ended};
-ghost use Rattle.tbl_load.specs.Bags.{bytes_seen, held_bytes};
+ghost use Rattle.tbl_load.specs.Bags.{HasBag, bytes_seen, held_bytes};
 ghost use Rattle.tbl_load.specs.Core.{MayCall, state_of};
+ghost use Rattle.tbl_service.specs.Histories.{own_entries};
 ghost use Rattle.tbl_service.specs.Ports.{Answers, left_by};
 
 use crate::boxed::{NotedCall, Opening};
@@ -112,6 +113,15 @@ impl<'r> TblPort<'r> {
             Some(view) => Some(view.bytes()),
             None => None,
         }
+    }
+
+    /// The bag is the application's, and the port's own entries are all that the history seen has
+    /// of the application. Does nothing.
+    pub fn recall(&self)
+        ensures bag { HasBag self.now.seen self.now.app self.now.bag }
+        ensures mine { own_entries self.now.app self.now.seen.log.entries ≡ self.now.mine }
+    {
+        self.bag.view_of(0);
     }
 
     /// What is left of a port whose application has ended. Its bag, which is empty, is let go.

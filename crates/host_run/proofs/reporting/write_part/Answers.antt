@@ -3,7 +3,7 @@ use Rattle.text_page.specs.Pieces.{Grew, CutShort}
 use Rattle.run_report.specs.Report.{figures_read, figures_shown, table_figures_read, table_figures_shown}
 use Rattle.sb_calls.specs.Core.{state_of}
 use Rattle.tbl_load.specs.Core.{apps_of as table_apps_of}
-use Rattle.host_run.specs.Audit.{histories_of}
+use Rattle.app_run.specs.Runners.{histories_of}
 use Rattle.host_run.proofs.Figures.{ending_is, whole_is}
 use Rattle.host_run.proofs.reporting.write_part.Goals as goal
 

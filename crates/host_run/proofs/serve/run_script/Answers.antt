@@ -6,7 +6,7 @@ use Rattle.host_run.proofs.serve.run_script.Goals as goal
 pub returns-clause-end : goal.returns-clause-end
 returns-clause-end g c =
     let run = c.in-Ok.ensures in
-    ends-run c.tell_run.result c.args.part c.args.script.now c.in-Ok.field-0.bus c.in-Ok.field-0.tables c.as_slice.result.now
+    ends-run c.tell_run.result c.args.way c.args.part c.args.script.now c.in-Ok.field-0.bus c.in-Ok.field-0.tables c.as_slice.result.now
     (made_through c.args.sink.now c.args.audit.now) (made_through c.tell_run.new.sink c.tell_run.new.audit)
-    run.limits run.table_limits run.apps run.table_apps run.history run.table_history
+    run.limits run.table_limits run.apps run.table_apps run.left
     (ap (map (λ list. list.receipts)) c.as_slice.ensures.value ∙ run.receipts) c.tell_run.ensures.end

@@ -8,4 +8,4 @@ returns-in-Whole-clause-end g c =
     let old = made_through c.args.sink.now c.args.audit.now in
     let new = made_through c.serve_text.new.sink c.serve_text.new.audit in
     Read c.in-Whole.text.items c.in-Whole.ensures.bytes
-    (subst (λ bytes. EndsInput c.serve_text.result (grammar bytes) old new) c.deref.ensures.value c.serve_text.ensures.end)
+    (subst (λ bytes. EndsInput c.serve_text.result c.args.way (grammar bytes) old new) c.deref.ensures.value c.serve_text.ensures.end)

@@ -12,7 +12,7 @@ returns-clause-there c =
     c.is_some.ensures
     ∙ sym (some-mapped _ c.buffer.result)
     ∙ ap is_some c.buffer.ensures
-    ∙ unsent_found c.self.inside.seat c.self.inside.app c.self.inside.left c.self.inside.bag c.self.invariant c.args.buf
+    ∙ unsent_found c.self.inside.seat c.self.inside.app c.self.inside.left c.self.inside.bag c.self.invariant.0 c.args.buf
     ∙ ap (λ (p : PortView). has_unsent (state_of p.seen).unsent p.app c.args.buf) c.self.view_is
 
 pub returns-clause-seen : goal.returns-clause-seen

@@ -5,7 +5,7 @@ use Rattle.bus_service.specs.Ports.{PortView}
 use Rattle.bus_service.proofs.ports.BusPort.recall.Goals as goal
 
 pub returns-clause-bag : goal.returns-clause-bag
-returns-clause-bag c = subst (λ (p : PortView). HasBag p.seen p.app p.bag) c.self.view_is c.self.invariant.holds
+returns-clause-bag c = subst (λ (p : PortView). HasBag p.seen p.app p.bag) c.self.view_is c.self.invariant.0.holds
 
 pub returns-clause-mine : goal.returns-clause-mine
-returns-clause-mine c = subst (λ (p : PortView). own_entries p.app p.seen.log.entries ≡ p.mine) c.self.view_is c.self.invariant.mine
+returns-clause-mine c = subst (λ (p : PortView). own_entries p.app p.seen.log.entries ≡ p.mine) c.self.view_is c.self.invariant.0.mine

@@ -15,6 +15,8 @@ write-requires g c =
     (subst (λ (p : PortView). g.W.Writer.fits c.args.writer (bytes_at p.bag c.args.buf)) (sym c.self.view_is) c.requires.fits)
 
 pub invariant_of-self : goal.invariant_of-self
-invariant_of-self g c =
-    with_bag c.self.inside.seat c.self.inside.app c.self.inside.left c.self.inside.bag c.self.invariant (with_bytes_at c.self.inside.bag c.args.buf c.write.new.bytes)
-    (c.bags_stay.ensures.written (seen_in c.self.inside.seat) c.self.inside.app c.args.buf c.self.inside.bag c.write.new.bytes c.self.invariant.holds)
+invariant_of-self g c = (
+  with_bag c.self.inside.seat c.self.inside.app c.self.inside.left c.self.inside.bag c.self.invariant.0 (with_bytes_at c.self.inside.bag c.args.buf c.write.new.bytes)
+      (c.bags_stay.ensures.written (seen_in c.self.inside.seat) c.self.inside.app c.args.buf c.self.inside.bag c.write.new.bytes c.self.invariant.0.holds),
+  c.self.invariant.1,
+)

@@ -1,0 +1,44 @@
+-- The core in its box may go to any thread, so that any thread may use the lock over it.
+use denote.Ref.{NamedLft}
+use denote.Param.Send.{IsSend, IsSync, owning_send, view_send, view_sync, sendable}
+use Rattle.std.proofs.Crossing as heap
+use Rattle.turn_lock.proofs.lock.TurnLock.TheSendSync as lock
+use Rattle.lend_block.specs.contracts.name.LoanName as name
+use Rattle.lend_block.specs.contracts.note.Note as note
+use Rattle.bus_words.proofs.journal.BusJournal.TheSendSync as journal
+use Rattle.sb_core.proofs.plain.SbCore.TheSendSync as plain
+use Rattle.sb_calls.specs.contracts.noted.NotedJournal as noted
+use Rattle.sb_calls.specs.contracts.bus_core.BusCore as core
+use Rattle.bus_service.specs.contracts.boxed.BoxedCore as boxed
+use Rattle.bus_service.specs.contracts.bus.Bus as bus
+
+-- a loan's name owns nothing
+name_send : IsSend name.the_row
+name_send = owning_send name.the_type tt (λ d. tt) (λ k x w. tt)
+
+note_send : IsSend note.the_row
+note_send = let n = name_send in search sendable depth 20
+
+noted_fields : IsSend noted.TheInside.the_row
+noted_fields = let j = journal.the_send in let v = heap.Vec-send note.the_row note_send in search sendable depth 20
+
+noted_send : IsSend noted.the_row
+noted_send = view_send noted.TheInside.the_row _ _ _ _ noted_fields
+
+core_fields : (r : NamedLft) → IsSend (core.TheInside.the_row r)
+core_fields r = let p = plain.the_send r in let n = noted_send in search sendable depth 20
+
+core_send : (r : NamedLft) → IsSend (core.the_row r)
+core_send r = view_send (core.TheInside.the_row r) _ _ _ _ (core_fields r)
+
+boxed_fields : (r : NamedLft) → IsSend (boxed.TheInside.the_row r)
+boxed_fields r = let c = heap.Box-send (core.the_row r) (core_send r) in search sendable depth 20
+
+boxed_send : (r : NamedLft) → IsSend (boxed.the_row r)
+boxed_send r = view_send (boxed.TheInside.the_row r) _ _ _ _ (boxed_fields r)
+
+lock_sync : (r : NamedLft) → IsSync (bus.TheInside.the_row r)
+lock_sync r = let b = boxed_send r in search (sendable, lock.the_sync) depth 20
+
+pub bus_sync : (r : NamedLft) → IsSync (bus.the_row r)
+bus_sync r = view_sync (bus.TheInside.the_row r) _ _ _ _ (lock_sync r)

@@ -1,0 +1,13 @@
+use Rattle.std.proofs.Common.{refl}
+use Rattle.port_calls.proofs.Buffers.{kept}
+use Rattle.port_calls.proofs.Answered.{port-may, port-answers, bus-answered}
+use Rattle.port_calls.proofs.port_calls.PortCallsCalls.bus_stats.Goals as goal
+
+pub bus_stats-requires-clause-may : goal.bus_stats-requires-clause-may
+bus_stats-requires-clause-may g c = port-may c.self.inside.port c.self.inside.tables_port c.args.self.now c.self.view_is _ c.requires
+
+pub invariant_of-self : goal.invariant_of-self
+invariant_of-self g c = bus-answered _ _ _ _ _ _ c.self.invariant c.bus_stats.new.self c.bus_stats.ensures.answers.lock c.bus_stats.ensures.answers.app
+
+pub returns : goal.returns
+returns g c = port-answers c.self.inside.port c.self.inside.tables_port c.args.self.now c.self.view_is c.bus_stats.new.self _ _ c.bus_stats.ensures.answers (kept c.self.inside.port c.bus_stats.new.self _ _ c.bus_stats.ensures.bag (λ number. refl))

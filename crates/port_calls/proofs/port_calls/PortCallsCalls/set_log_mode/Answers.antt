@@ -1,0 +1,13 @@
+use Rattle.std.proofs.Common.{refl}
+use Rattle.port_calls.proofs.Buffers.{kept}
+use Rattle.port_calls.proofs.Answered.{port-may, port-answers, bus-answered}
+use Rattle.port_calls.proofs.port_calls.PortCallsCalls.set_log_mode.Goals as goal
+
+pub set_log_mode-requires-clause-may : goal.set_log_mode-requires-clause-may
+set_log_mode-requires-clause-may g c = port-may c.self.inside.port c.self.inside.tables_port c.args.self.now c.self.view_is _ c.requires
+
+pub invariant_of-self : goal.invariant_of-self
+invariant_of-self g c = bus-answered _ _ _ _ _ _ c.self.invariant c.set_log_mode.new.self c.set_log_mode.ensures.answers.lock c.set_log_mode.ensures.answers.app
+
+pub returns : goal.returns
+returns g c = port-answers c.self.inside.port c.self.inside.tables_port c.args.self.now c.self.view_is c.set_log_mode.new.self _ _ c.set_log_mode.ensures.answers (kept c.self.inside.port c.set_log_mode.new.self _ _ c.set_log_mode.ensures.bag (λ number. refl))

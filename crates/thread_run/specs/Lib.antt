@@ -1,0 +1,4 @@
+pub mod Ways
+pub mod Works
+pub mod Kept
+pub mod Mains

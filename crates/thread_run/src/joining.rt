@@ -1,0 +1,106 @@
+//! Joins the ports of applications that are through, and closes both services.
+ghost use Rattle.std.specs.Prelude.{◌≡◌, ◌≤◌, ◌++◌, [], length, map, vec_capacity};
+ghost use Rattle.std.specs.List.{range_with_len};
+ghost use Rattle.app_run.specs.Runners.{histories_of};
+ghost use Rattle.sb_calls.specs.Core.{apps_of};
+ghost use Rattle.script_runs.specs.Runs.{IsRunOf};
+ghost use Rattle.script_runs.specs.Told.{receipts_told};
+ghost use Rattle.tbl_load.specs.Core.{apps_of as table_apps_of};
+ghost use Rattle.thread_run.specs.Mains.{IsOpen, AreOpen, IsJoined, AreJoined};
+ghost use Rattle.thread_run.specs.Works.{IsDone, Numbered};
+
+use crate::lists::take_last_done;
+use crate::opening::OpenServices;
+use crate::works::{Done, RunParts};
+use app_run::Finished;
+use app_script::Script;
+use bus_service::{Bus, BusMain};
+use bus_words::ReceiptList;
+use tbl_service::{Tables, TblMain};
+
+/// Joins what is left of all applications, and closes both services.
+pub(crate) fn close_all<'r>(
+    script: &Script,
+    opened: OpenServices<'r>,
+    dones: Vec<Done>,
+    receipts: Vec<ReceiptList>,
+) -> Finished<'r>
+    requires bus { IsOpen script.now opened.bus (length script.now.apps) opened.bus_main }
+    requires tables { AreOpen script.now opened.tables (length script.now.apps)
+        opened.tables_main }
+    requires dones { Numbered (IsDone script.now opened.bus opened.tables) 1 dones.items }
+    requires all { length dones.items ≡ length script.now.apps }
+    requires empty { receipts.items ≡ [] }
+    requires room { length script.now.apps ≤ vec_capacity receipts }
+    ensures limits { result.bus.limits ≡ script.now.limits }
+    ensures table_limits { result.tables.limits ≡ script.now.limits }
+    ensures apps { apps_of result.bus ≡ length script.now.apps }
+    ensures table_apps { table_apps_of result.tables ≡ length script.now.apps }
+    ensures run { IsRunOf script.now (histories_of result.bus result.tables) }
+    ensures receipts { map (λ list. list.receipts) result.receipts.items ≡
+        map (receipts_told script.now (histories_of result.bus result.tables))
+        (range_with_len 1 (length script.now.apps)) }
+{
+    let OpenServices {
+        bus,
+        mut bus_main,
+        tables,
+        mut tables_main,
+    } = opened;
+    let mut dones = dones;
+    let mut receipts = receipts;
+    let shared = RunParts {
+        script,
+        bus: &bus,
+        tables: &tables,
+    };
+    join_rest(
+        shared,
+        &mut bus_main,
+        &mut tables_main,
+        &mut dones,
+        &mut receipts,
+    );
+    Finished {
+        bus: bus.close(bus_main),
+        tables: tables.close(tables_main),
+        receipts,
+    }
+}
+
+// Joins those that are left, in order of number, and keeps their receipts.
+fn join_rest<'r>(
+    shared: RunParts<'_, 'r>,
+    bus_main: &mut BusMain,
+    tables_main: &mut TblMain,
+    dones: &mut Vec<Done>,
+    receipts: &mut Vec<ReceiptList>,
+)
+    requires bus { IsJoined shared.script.now shared.bus.now [] bus_main.old }
+    requires tables { AreJoined shared.script.now shared.tables.now [] tables_main.old }
+    requires dones { Numbered (IsDone shared.script.now shared.bus.now shared.tables.now) 1
+        dones.old.items }
+    requires empty { receipts.old.items ≡ [] }
+    requires room { length dones.old.items ≤ vec_capacity receipts.old }
+    ensures bus { IsJoined shared.entry.script.now shared.entry.bus.now dones.old.items
+        bus_main.new }
+    ensures tables { AreJoined shared.entry.script.now shared.entry.tables.now dones.old.items
+        tables_main.new }
+    ensures receipts { map (λ list. list.receipts) receipts.new.items ≡
+        map (λ done. done.receipts.receipts) dones.old.items }
+    ensures count { length receipts.new.items ≡ length dones.old.items }
+    ensures room { vec_capacity receipts.new ≡ vec_capacity receipts.old }
+{
+    let Some(done) = take_last_done(dones, shared) else {
+        return;
+    };
+    join_rest(shared, bus_main, tables_main, dones, receipts);
+    let Done {
+        port,
+        tables_port,
+        receipts: its_own,
+    } = done;
+    shared.bus.join(bus_main, port);
+    shared.tables.join(tables_main, tables_port);
+    receipts.push_reserved(its_own);
+}
