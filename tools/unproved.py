@@ -30,7 +30,7 @@ def given_input(words):
 def tell_what_runs():
     is_built = os.path.exists(PROGRAM)
     why = "the sources have changed since the build" if is_built else "nothing is built yet"
-    what = "this run is compiled and not proved, which takes about half a minute"
+    what = "this run is compiled and not proved, which takes a minute or two"
     tell(f"{why}: {what}; ./fsw build makes the proved program")
 
 
