@@ -1,5 +1,5 @@
 -- An application of which a history has no entry is active.
-use Rattle.std.proofs.Common.{◌≡◌, ◌≢◌, ℕ, ◌-◌, ◌≤◌, ◌==◌, cond, true≢false, eqb, eq-eqb, ne_eqb, true, false, List, [], ◌∷◌, ◌++◌, get_or, replicate, slice_index_or, slice_set, refl, ap, sym, ◌∙◌, arith}
+use Rattle.std.proofs.Common.{◌≡◌, ◌≢◌, ℕ, ◌-◌, ◌≤◌, ◌==◌, cond, true≢false, eqb, eq-eqb, ne_eqb, false, List, [], ◌∷◌, ◌++◌, get_or, replicate, slice_index_or, slice_set, ap, sym, ◌∙◌, arith}
 use Rattle.std.specs.List.{All}
 use Rattle.std.proofs.lemmas.Bool.Decides.{nat_tests}
 use Rattle.std.proofs.lemmas.List.{get_or-set_other, get_or-replicate}

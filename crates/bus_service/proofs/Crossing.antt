@@ -1,16 +1,24 @@
--- The core in its box may go to any thread, so that any thread may use the lock over it.
+-- The core in its box may go to any thread, so that any thread may use the lock over it; and an application's port may go to its thread.
+use denote.Builtin.{u8}
 use denote.Ref.{NamedLft}
+use denote.Slice.{MutSlice}
 use denote.Param.Send.{IsSend, IsSync, owning_send, view_send, view_sync, sendable}
 use Rattle.std.proofs.Crossing as heap
 use Rattle.turn_lock.proofs.lock.TurnLock.TheSendSync as lock
 use Rattle.lend_block.specs.contracts.name.LoanName as name
 use Rattle.lend_block.specs.contracts.note.Note as note
+use Rattle.lend_block.specs.contracts.view.View as view
+use Rattle.lend_block.proofs.view.View.TheSendSync as views
+use Rattle.buf_desc.specs.contracts.front.RefMutSliceU8Memory.TheImpl as memory
 use Rattle.bus_words.proofs.journal.BusJournal.TheSendSync as journal
 use Rattle.sb_core.proofs.plain.SbCore.TheSendSync as plain
 use Rattle.sb_calls.specs.contracts.noted.NotedJournal as noted
 use Rattle.sb_calls.specs.contracts.bus_core.BusCore as core
 use Rattle.bus_service.specs.contracts.boxed.BoxedCore as boxed
 use Rattle.bus_service.specs.contracts.bus.Bus as bus
+use Rattle.bus_service.specs.contracts.ports.PortOf as port
+use Rattle.bus_service.specs.contracts.unsent.ViewMessageView.TheImpl as shown
+use Rattle.bus_service.proofs.ports.PortOf.TheSendSync as ports
 
 -- a loan's name owns nothing
 name_send : IsSend name.the_row
@@ -42,3 +50,9 @@ lock_sync r = let b = boxed_send r in search (sendable, lock.the_sync) depth 20
 
 pub bus_sync : (r : NamedLft) → IsSync (bus.the_row r)
 bus_sync r = view_sync (bus.TheInside.the_row r) _ _ _ _ (lock_sync r)
+
+bytes_send : (r : NamedLft) → IsSend (MutSlice r.mir r.lft u8)
+bytes_send r = search sendable
+
+pub port_send : (r : NamedLft) → IsSend (port.the_row (MutSlice r.mir r.lft u8) (view.the_row r) memory.ghosts shown.ghosts)
+port_send r = ports.the_send (MutSlice r.mir r.lft u8) (view.the_row r) memory.ghosts shown.ghosts (bytes_send r) (views.the_send r)

@@ -1,5 +1,5 @@
 -- The main part: how it opens, the ports that it makes, what it is once a port was joined, and what the core is in the end.
-use Rattle.std.proofs.Common.{◌≡◌, ℕ, ◌-◌, ◌<◌, ◌≤◌, inl, inr, ⊎_elim, Bool, leb, List, [], ◌∷◌, ◌++◌, length, map, get_or, All, Contains, Option, Some, refl, ap, ap₂, sym, ◌∙◌, subst, true, IsTrue, arith}
+use Rattle.std.proofs.Common.{◌≡◌, ℕ, ◌-◌, ◌<◌, ◌≤◌, inl, inr, ⊎_elim, leb, List, [], ◌∷◌, ◌++◌, length, map, get_or, All, Contains, Option, Some, refl, ap, ap₂, sym, ◌∙◌, subst, true, IsTrue, arith}
 use Rattle.std.specs.List.{IsDistinct}
 use Rattle.std.proofs.Common.{eqb}
 use Rattle.std.proofs.lemmas.List.{get_or-map, map_push}

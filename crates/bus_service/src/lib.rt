@@ -49,5 +49,5 @@ mod unsent;
 
 pub use boxed::{NotedCall, Opening};
 pub use bus::{Bus, BusMain};
-pub use ports::{BusDone, BusPort};
-pub use unsent::Writer;
+pub use ports::{BusDone, BusPort, PortOf};
+pub use unsent::{MessageView, Writer};

@@ -16,10 +16,12 @@ use crate::bus::Bus;
 use crate::calls::PortCall;
 use crate::permits::Permits;
 use crate::turns::{begin, finish, pause};
+use crate::unsent::MessageView;
 use bucket_list::Blank;
-use buf_desc::Held;
+use buf_desc::{Bag, Memory};
 use bus_words::Allowance;
 use fsw_base::AppNo;
+use lend_block::View;
 use sb_calls::{Pended, bags_stay};
 use std::marker::{Brand, Model};
 use std::sync::Wait;
@@ -30,8 +32,11 @@ use turn_lock::Seat;
 ///
 /// Contracts see which lock it is of, its application, the core with the history that it has seen,
 /// the entries that it made, and what its application holds.
+///
+/// It is generic in what its bag holds so that proofs about a `&mut` out of it name no lifetime;
+/// [`BusPort`] is the one that is used.
 #[derive(Drop)]
-pub struct BusPort<'r> {
+pub struct PortOf<S: Memory + Drop, V: MessageView + Drop> {
     // The seat with which it takes turns.
     pub(crate) seat: Seat<Opening, NotedCall>,
     // Its application.
@@ -43,18 +48,21 @@ pub struct BusPort<'r> {
     // How many entries the history had when the application looked last, where that was in vain.
     pub(crate) looked: Option<u32>,
     // What its application holds.
-    pub(crate) bag: Held<'r>,
+    pub(crate) bag: Bag<S, V>,
 }
 
-impl<'r> Model for BusPort<'r> {
+/// The port of an application of a bus.
+pub type BusPort<'r> = PortOf<&'r mut [u8], View<'r>>;
+
+impl<S: Memory + Drop, V: MessageView + Drop> Model for PortOf<S, V> {
     ghost use Rattle.bus_service.specs.Ports.{PortView};
     ghost use Rattle.bus_service.specs.Inside.{port_in, seen_in, IsPort, Tells};
 
     ghost Value = { PortView };
 
-    ghost view = { λ p. port_in p.seat p.app p.bag };
+    ghost view = { λ p. port_in p.seat p.app (V.held p.bag) };
 
-    ghost invariant = { λ p. IsPort p.seat p.app p.left p.bag ×
+    ghost invariant = { λ p. IsPort p.seat p.app p.left (V.held p.bag) ×
         Tells (seen_in p.seat) p.app p.permits };
 }
 

@@ -6,8 +6,7 @@ use Rattle.app_run.specs.contracts.runner.Runner as runner
 use Rattle.app_run.proofs.runner.Runner.TheSendSync as its
 use Rattle.app_script.specs.contracts.script.Script as script
 use Rattle.app_script.proofs.script.Script.TheSendSync as lines
-use Rattle.bus_service.proofs.Crossing.{bus_sync}
-use Rattle.bus_service.proofs.ports.BusPort.TheSendSync as bus_port
+use Rattle.bus_service.proofs.Crossing.{bus_sync, port_send}
 use Rattle.tbl_service.proofs.Crossing.{tables_sync}
 use Rattle.tbl_service.proofs.ports.TblPort.TheSendSync as tables_port
 use Rattle.thread_run.specs.contracts.works.Job as job
@@ -24,7 +23,7 @@ pub parts_send : (e r : NamedLft) → IsSend (parts.the_row e r)
 parts_send e r = let s = script_sync in let b = bus_sync r in let t = tables_sync r in search sendable depth 20
 
 pub work_send : (s r : NamedLft) → IsSend (work.the_row s r)
-work_send s r = let a = runner_send s in let p = bus_port.the_send r in let t = tables_port.the_send r in search sendable depth 20
+work_send s r = let a = runner_send s in let p = port_send r in let t = tables_port.the_send r in search sendable depth 20
 
 -- and so may the two in one value
 pub job_send : (e r : NamedLft) → IsSend (job.the_row e r)

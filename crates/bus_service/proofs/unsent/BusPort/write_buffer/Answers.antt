@@ -4,7 +4,7 @@ use Rattle.buf_desc.specs.Held.{buffer_at, bytes_at, with_bytes_at}
 use Rattle.bus_service.specs.Inside.{seen_in}
 use Rattle.bus_service.specs.Ports.{PortView}
 use Rattle.bus_service.proofs.Lent.{with_bag}
-use Rattle.bus_service.proofs.ports.BusPort.write_buffer.Goals as goal
+use Rattle.bus_service.proofs.unsent.BusPort.write_buffer.Goals as goal
 
 pub bytes_of_mut-requires : goal.bytes_of_mut-requires
 bytes_of_mut-requires g c = subst (λ (p : PortView). is_some (buffer_at p.bag c.args.buf) ≡ true) (sym c.self.view_is) c.requires.there
