@@ -4,7 +4,7 @@
 use crate::audit::NoAudit;
 use crate::mem_audit::MemAudit;
 use crate::serve::serve;
-use crate::serve_tests::{REPORT, SCRIPT, calls, words_of};
+use crate::serve_tests::{REPORT, SCRIPT, Trial, fail_each_call, words_of};
 use crate::status::HostStatus;
 use fsw_base::{Budget, Gate, MemSink, MemSource, OpenGate};
 use std::alloc::{AllocError, Global};
@@ -200,76 +200,13 @@ fn one_application_has_the_same_report_on_a_thread(rt: HostRuntime) -> Result<()
     Ok(())
 }
 
-// How a run on threads of `MISSION` ends, and what it writes, where the source and the sink move at
-// most a piece at a time and fail at these calls.
-fn run_failing<'a, R: Threads + Wait + Sync>(
-    rt: &R,
-    alloc: Global,
-    piece: usize,
-    reads: &[u32],
-    writes: &'a [u32],
-) -> Result<(HostStatus, MemSink<'a>), AllocError> {
-    let mut source = MemSource::new(MISSION, piece.max(1), reads);
-    let mut sink = MemSink::new(alloc, 10_000, piece.max(1), writes)?;
-    let status = serve(
-        rt,
-        alloc,
-        &words_of(&["run"]),
-        &mut source,
-        &mut sink,
-        &OpenGate,
-        &mut NoAudit,
-    );
-    Ok((status, sink))
-}
-
-// Where the failing read is reached nothing is written; one call more than the pieces need tells
-// the end.
-fn fail_read<R: Threads + Wait + Sync + Abort>(
-    rt: &R,
-    alloc: Global,
-    piece: usize,
-    call: u32,
-) -> Result<(), AllocError> {
-    let (status, sink) = run_failing(rt, alloc, piece, &[call], &[])?;
-    if call as usize <= calls(MISSION.len(), piece).saturating_add(1) {
-        assert_eq!(rt; status, HostStatus::ReadFault);
-        assert!(rt; sink.written().is_empty());
-    } else {
-        assert_eq!(rt; status, HostStatus::Done);
-        assert_eq!(rt; sink.written(), MISSION_REPORT);
-    }
-    Ok(())
-}
-
-// Where the failing write is reached just the pieces before it are written.
-fn fail_write<R: Threads + Wait + Sync + Abort>(
-    rt: &R,
-    alloc: Global,
-    piece: usize,
-    call: u32,
-) -> Result<(), AllocError> {
-    let fails = [call];
-    let (status, sink) = run_failing(rt, alloc, piece, &[], &fails)?;
-    let before = (call as usize).saturating_sub(1).saturating_mul(piece);
-    if before < MISSION_REPORT.len() {
-        assert_eq!(rt; status, HostStatus::WriteFault);
-        assert_eq!(rt; sink.written().len(), before);
-        assert!(rt; MISSION_REPORT.starts_with(sink.written()));
-    } else {
-        assert_eq!(rt; status, HostStatus::Done);
-        assert_eq!(rt; sink.written(), MISSION_REPORT);
-    }
-    Ok(())
-}
-
 #[test]
 fn failures_round_a_run_on_threads_leave_nothing_or_a_front(rt: HostRuntime) -> Result<(), Fail> {
-    for piece in [1, 7, 1000] {
-        for call in 1..=CALLS {
-            fail_read(&rt, rt.alloc(), piece, call)?;
-            fail_write(&rt, rt.alloc(), piece, call)?;
-        }
-    }
+    let trial = Trial {
+        word: "run",
+        script: MISSION,
+        report: MISSION_REPORT,
+    };
+    fail_each_call(&rt, rt.alloc(), trial, [1, 7, 1000], CALLS)?;
     Ok(())
 }

@@ -69,12 +69,19 @@ pub(crate) fn words_of(words: &[&str]) -> Words {
     kept
 }
 
-// The words `lockstep`.
-fn lockstep() -> Words {
-    words_of(&["lockstep"])
+/// How the program ends on these words, where nobody holds a call and no run is copied.
+pub(crate) fn serve_plainly<R: Threads + Wait + Sync>(
+    rt: &R,
+    alloc: Global,
+    words: &[&str],
+    source: &mut MemSource<'_>,
+    sink: &mut MemSink<'_>,
+) -> HostStatus {
+    let words = words_of(words);
+    serve(rt, alloc, &words, source, sink, &OpenGate, &mut NoAudit)
 }
 
-// How a run over this input ends, and what it writes.
+// How a run in rotation over this input ends, and what it writes.
 fn run<R: Threads + Wait + Sync>(
     rt: &R,
     alloc: Global,
@@ -82,15 +89,7 @@ fn run<R: Threads + Wait + Sync>(
 ) -> Result<(HostStatus, MemSink<'static>), AllocError> {
     let mut source = MemSource::new(input, 1000, &[]);
     let mut sink = MemSink::new(alloc, 10_000, 1000, &[])?;
-    let status = serve(
-        rt,
-        alloc,
-        &lockstep(),
-        &mut source,
-        &mut sink,
-        &OpenGate,
-        &mut NoAudit,
-    );
+    let status = serve_plainly(rt, alloc, &["lockstep"], &mut source, &mut sink);
     Ok((status, sink))
 }
 
@@ -235,15 +234,7 @@ fn other_words_are_told_the_usage(rt: HostRuntime) -> Result<(), Fail> {
     for case in &cases {
         let mut source = MemSource::new(SCRIPT, 1000, &[]);
         let mut sink = MemSink::new(rt.alloc(), 100, 1000, &[])?;
-        let status = serve(
-            &rt,
-            rt.alloc(),
-            &words_of(case),
-            &mut source,
-            &mut sink,
-            &OpenGate,
-            &mut NoAudit,
-        );
+        let status = serve_plainly(&rt, rt.alloc(), case, &mut source, &mut sink);
         assert_eq!(rt; status.exit_status(), 2);
         assert_eq!(rt;
             sink.written(),
@@ -261,15 +252,7 @@ fn run_unread<R: Threads + Wait + Sync>(
 ) -> Result<(HostStatus, MemSink<'static>), AllocError> {
     let mut source = MemSource::new(SCRIPT, 1000, &[1]);
     let mut sink = MemSink::new(alloc, 100_000, 1000, &[])?;
-    let status = serve(
-        rt,
-        alloc,
-        &words_of(&words),
-        &mut source,
-        &mut sink,
-        &OpenGate,
-        &mut NoAudit,
-    );
+    let status = serve_plainly(rt, alloc, &words, &mut source, &mut sink);
     Ok((status, sink))
 }
 
@@ -294,113 +277,113 @@ fn soak_runs_tell_their_counters_alone(rt: HostRuntime) -> Result<(), Fail> {
     Ok(())
 }
 
-/// How many calls bring so many bytes over, a piece at a time.
-pub(crate) fn calls(bytes: usize, piece: usize) -> usize {
-    bytes.div_ceil(piece.max(1))
+/// A script that is run by this word, and its report.
+#[derive(Clone, Copy)]
+pub(crate) struct Trial {
+    /// The word.
+    pub(crate) word: &'static str,
+    /// The script.
+    pub(crate) script: &'static [u8],
+    /// What is printed for it.
+    pub(crate) report: &'static [u8],
 }
 
-// Runs with a source that fails at one call. Where the call is reached nothing is written; one call
-// more than the pieces need tells the end.
+// How a trial ends, and what it writes, where the source and the sink move at most a piece at a
+// time and fail at these calls.
+fn run_failing<'a, R: Threads + Wait + Sync>(
+    rt: &R,
+    alloc: Global,
+    trial: Trial,
+    piece: usize,
+    reads: &[u32],
+    writes: &'a [u32],
+) -> Result<(HostStatus, MemSink<'a>), AllocError> {
+    let mut source = MemSource::new(trial.script, piece.max(1), reads);
+    let mut sink = MemSink::new(alloc, 10_000, piece.max(1), writes)?;
+    let status = serve_plainly(rt, alloc, &[trial.word], &mut source, &mut sink);
+    Ok((status, sink))
+}
+
+// Where the failing read is reached nothing is written; one call more than the pieces need tells
+// the end.
 fn fail_read<R: Threads + Wait + Sync + Abort>(
     rt: &R,
     alloc: Global,
+    trial: Trial,
     piece: usize,
     call: u32,
 ) -> Result<(), AllocError> {
-    let fails = [call];
-    let mut source = MemSource::new(SCRIPT, piece.max(1), &fails);
-    let mut sink = MemSink::new(alloc, 10_000, 1000, &[])?;
-    let status = serve(
-        rt,
-        alloc,
-        &lockstep(),
-        &mut source,
-        &mut sink,
-        &OpenGate,
-        &mut NoAudit,
-    );
-    if call as usize <= calls(SCRIPT.len(), piece).saturating_add(1) {
+    let (status, sink) = run_failing(rt, alloc, trial, piece, &[call], &[])?;
+    let pieces = trial.script.len().div_ceil(piece.max(1));
+    if call as usize <= pieces.saturating_add(1) {
         assert_eq!(rt; status, HostStatus::ReadFault);
         assert!(rt; sink.written().is_empty());
     } else {
         assert_eq!(rt; status, HostStatus::Done);
-        assert_eq!(rt; sink.written(), REPORT);
+        assert_eq!(rt; sink.written(), trial.report);
     }
     Ok(())
 }
 
-// Runs with a sink that fails at one call. Where the call is reached just the pieces before it are
-// written.
+// Where the failing write is reached just the pieces before it are written, and else all.
 fn fail_write<R: Threads + Wait + Sync + Abort>(
     rt: &R,
     alloc: Global,
+    trial: Trial,
     piece: usize,
     call: u32,
 ) -> Result<(), AllocError> {
     let fails = [call];
-    let mut source = MemSource::new(SCRIPT, 1000, &[]);
-    let mut sink = MemSink::new(alloc, 10_000, piece.max(1), &fails)?;
-    let status = serve(
-        rt,
-        alloc,
-        &lockstep(),
-        &mut source,
-        &mut sink,
-        &OpenGate,
-        &mut NoAudit,
-    );
-    if call as usize <= calls(REPORT.len(), piece) {
+    let (status, sink) = run_failing(rt, alloc, trial, piece, &[], &fails)?;
+    let before = (call as usize).saturating_sub(1).saturating_mul(piece);
+    if before < trial.report.len() {
         assert_eq!(rt; status, HostStatus::WriteFault);
-        assert_eq!(rt;
-            calls(sink.written().len(), piece).saturating_add(1),
-            call as usize
-        );
-        assert!(rt; REPORT.starts_with(sink.written()));
     } else {
         assert_eq!(rt; status, HostStatus::Done);
-        assert_eq!(rt; sink.written(), REPORT);
     }
+    assert_eq!(rt; sink.written().len(), before.min(trial.report.len()));
+    assert!(rt; trial.report.starts_with(sink.written()));
     Ok(())
 }
 
-#[test]
-fn failures_in_mid_stream_leave_nothing_or_a_front(rt: HostRuntime) -> Result<(), Fail> {
-    for piece in [1, 16, 1000] {
-        for call in 1..=CALLS {
-            fail_read(&rt, rt.alloc(), piece, call)?;
-            fail_write(&rt, rt.alloc(), piece, call)?;
+/// Has each of the trial's first so many reads and writes fail in turn, in each of these pieces.
+pub(crate) fn fail_each_call<R: Threads + Wait + Sync + Abort>(
+    rt: &R,
+    alloc: Global,
+    trial: Trial,
+    pieces: [usize; 3],
+    calls: u32,
+) -> Result<(), AllocError> {
+    for piece in pieces {
+        for call in 1..=calls {
+            fail_read(rt, alloc, trial, piece, call)?;
+            fail_write(rt, alloc, trial, piece, call)?;
         }
     }
     Ok(())
 }
 
 #[test]
+fn failures_in_mid_stream_leave_nothing_or_a_front(rt: HostRuntime) -> Result<(), Fail> {
+    let trial = Trial {
+        word: "lockstep",
+        script: SCRIPT,
+        report: REPORT,
+    };
+    fail_each_call(&rt, rt.alloc(), trial, [1, 16, 1000], CALLS)?;
+    Ok(())
+}
+
+#[test]
 fn second_failing_call_ends_the_run(rt: HostRuntime) -> Result<(), Fail> {
     for word in ["lockstep", "run"] {
-        let words = words_of(&[word]);
         let mut source = MemSource::new(SCRIPT, 4, &[2]);
         let mut sink = MemSink::new(rt.alloc(), 10_000, 10, &[2])?;
-        let failed = serve(
-            &rt,
-            rt.alloc(),
-            &words,
-            &mut source,
-            &mut sink,
-            &OpenGate,
-            &mut NoAudit,
-        );
+        let failed = serve_plainly(&rt, rt.alloc(), &[word], &mut source, &mut sink);
         assert_eq!(rt; failed.exit_status(), 4);
         assert!(rt; sink.written().is_empty());
         let mut whole = MemSource::new(SCRIPT, 4, &[]);
-        let cut = serve(
-            &rt,
-            rt.alloc(),
-            &words,
-            &mut whole,
-            &mut sink,
-            &OpenGate,
-            &mut NoAudit,
-        );
+        let cut = serve_plainly(&rt, rt.alloc(), &[word], &mut whole, &mut sink);
         assert_eq!(rt; cut.exit_status(), 5);
         assert_eq!(rt; sink.written(), b"fsw 1\nbus\n".as_slice());
     }
@@ -420,7 +403,7 @@ fn audit_holds_the_entries_of_the_report(rt: HostRuntime) -> Result<(), Fail> {
     let status = serve(
         &rt,
         rt.alloc(),
-        &lockstep(),
+        &words_of(&["lockstep"]),
         &mut source,
         &mut sink,
         &OpenGate,
