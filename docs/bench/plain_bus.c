@@ -4,12 +4,13 @@
  * peaks, gives each id its own sequence count, and each subscription its limit. It writes no journal and tells no event.
  * Build with cc -O2 -pthread.
  *
- *     plain_bus WORD ROUNDS
+ *     plain_bus WORD ROUNDS [APPLICATIONS]
  *
  * send1, fan16    a message of 64 bytes is sent to 1 or 16 pipes, and received on each
  * big, fanbig     the same with 32768 bytes
  * zc              a buffer of 64 bytes is asked for, written, sent as it lies, and received on 1 pipe
  * table           16384 bytes are loaded into a table, its address is taken, a byte is read, and the address goes back
+ * port1, port16   as send1 and fan16, by 1 or 2 applications, each of two on a thread of its own and with ids of its own
  */
 #include <pthread.h>
 #include <stdbool.h>
@@ -17,6 +18,9 @@
 #include <stdio.h>
 #include <stdlib.h>
 #include <string.h>
+
+/* So that what is known of a share where it is made is known in its rounds. */
+#define ALWAYS_INLINE static inline __attribute__((always_inline))
 
 enum { IDS = 4, MOST_ROUTES = 256, MOST_PIPES = 64, MOST_DESTS = 16, DEPTH = 256, MOST_BUFFERS = 64, CLASSES = 17 };
 enum { MOST_MESSAGE = 32768, LEAST_MESSAGE = 7, TABLE_BYTES = 16384, POOL_BYTES = 524288, NONE = 0 };
@@ -194,7 +198,7 @@ static enum status refuse_send(enum status status)
     return status;
 }
 
-static enum status send_bytes(uint32_t app, const uint8_t *bytes, uint32_t size, bool counts, uint32_t *reached)
+ALWAYS_INLINE enum status send_bytes(uint32_t app, const uint8_t *bytes, uint32_t size, bool counts, uint32_t *reached)
 {
     if (!is_message(bytes, size))
         return refuse_send(BAD_ARGUMENT);
@@ -215,7 +219,7 @@ static enum status send_bytes(uint32_t app, const uint8_t *bytes, uint32_t size,
     return DONE;
 }
 
-static enum status transmit(uint32_t app, const uint8_t *bytes, uint32_t size, bool counts, uint32_t *reached)
+ALWAYS_INLINE enum status transmit(uint32_t app, const uint8_t *bytes, uint32_t size, bool counts, uint32_t *reached)
 {
     pthread_mutex_lock(&bus.mutex);
     enum status status = send_bytes(app, bytes, size, counts, reached);
@@ -224,7 +228,7 @@ static enum status transmit(uint32_t app, const uint8_t *bytes, uint32_t size, b
 }
 
 /* A buffer to write a message into; its number is that of its place. */
-static enum status allocate(uint32_t app, uint32_t size, uint32_t *number, uint8_t **bytes)
+ALWAYS_INLINE enum status allocate(uint32_t app, uint32_t size, uint32_t *number, uint8_t **bytes)
 {
     enum status status = DONE;
     pthread_mutex_lock(&bus.mutex);
@@ -249,7 +253,7 @@ static enum status allocate(uint32_t app, uint32_t size, uint32_t *number, uint8
     return status;
 }
 
-static enum status send_buffer(uint32_t app, uint32_t number, bool counts, uint32_t *reached)
+ALWAYS_INLINE enum status send_buffer(uint32_t app, uint32_t number, bool counts, uint32_t *reached)
 {
     if (number == 0 || number > MOST_BUFFERS || !bus.unsent[number - 1] || bus.unsent[number - 1]->owner != app)
         return refuse_send(BAD_ARGUMENT);
@@ -268,7 +272,7 @@ static enum status send_buffer(uint32_t app, uint32_t number, bool counts, uint3
     return DONE;
 }
 
-static enum status transmit_buffer(uint32_t app, uint32_t number, bool counts, uint32_t *reached)
+ALWAYS_INLINE enum status transmit_buffer(uint32_t app, uint32_t number, bool counts, uint32_t *reached)
 {
     pthread_mutex_lock(&bus.mutex);
     enum status status = send_buffer(app, number, counts, reached);
@@ -277,7 +281,7 @@ static enum status transmit_buffer(uint32_t app, uint32_t number, bool counts, u
 }
 
 /* The oldest message of the pipe; the one received from it before goes back. */
-static enum status take(uint32_t app, uint32_t number, const uint8_t **bytes, uint32_t *size)
+ALWAYS_INLINE enum status take(uint32_t app, uint32_t number, const uint8_t **bytes, uint32_t *size)
 {
     if (number == 0 || number > bus.pipes || bus.pipe[number - 1].owner != app) {
         bus.refused_receives++;
@@ -299,7 +303,7 @@ static enum status take(uint32_t app, uint32_t number, const uint8_t **bytes, ui
     return DONE;
 }
 
-static enum status receive(uint32_t app, uint32_t number, const uint8_t **bytes, uint32_t *size)
+ALWAYS_INLINE enum status receive(uint32_t app, uint32_t number, const uint8_t **bytes, uint32_t *size)
 {
     pthread_mutex_lock(&bus.mutex);
     enum status status = take(app, number, bytes, size);
@@ -382,13 +386,31 @@ static void write_header(uint8_t *bytes, uint16_t id, uint32_t size)
     bytes[5] = (uint8_t)(size - LEAST_MESSAGE);
 }
 
-static uint32_t receive_on(uint32_t place, uint32_t dests, volatile uint8_t *seen)
+/* What one application does: so many rounds, in each a message to the next of its ids, which it receives on the id's pipes. */
+struct share {
+    uint32_t number, ids, dests, size;
+    unsigned long rounds, received;
+};
+
+/* The applications count from 1; pipes have the numbers 1, 2, 3 and so on, those of the first application first. */
+static uint32_t app_of(struct share share)
+{
+    return share.number + 1;
+}
+
+static uint16_t id_of(struct share share, uint32_t place)
+{
+    return (uint16_t)(0x0801 + share.number * share.ids + place);
+}
+
+ALWAYS_INLINE uint32_t receive_on(struct share share, uint32_t place, volatile uint8_t *seen)
 {
     uint32_t received = 0;
-    for (uint32_t dest = 0; dest < dests; dest++) {
+    for (uint32_t dest = 0; dest < share.dests; dest++) {
         const uint8_t *bytes;
         uint32_t size;
-        if (receive(1, place + 1 + IDS * dest, &bytes, &size) == DONE) {
+        uint32_t pipe = 1 + share.number * share.ids * share.dests + place + share.ids * dest;
+        if (receive(app_of(share), pipe, &bytes, &size) == DONE) {
             *seen = bytes[0];
             received++;
         }
@@ -396,35 +418,42 @@ static uint32_t receive_on(uint32_t place, uint32_t dests, volatile uint8_t *see
     return received;
 }
 
-static unsigned long carry(unsigned long rounds, uint32_t size, uint32_t dests)
+ALWAYS_INLINE unsigned long carry_messages(struct share share)
 {
     unsigned long received = 0;
     volatile uint8_t seen;
-    uint8_t *message = calloc(1, size);
-    for (unsigned long round = 0; round < rounds; round++) {
-        uint32_t place = round % IDS;
+    uint8_t *message = calloc(1, share.size);
+    for (unsigned long round = 0; round < share.rounds; round++) {
+        uint32_t place = (uint32_t)round % share.ids;
         uint32_t reached;
-        write_header(message, (uint16_t)(0x0801 + place), size);
-        if (transmit(1, message, size, true, &reached) == DONE)
-            received += receive_on(place, dests, &seen);
+        write_header(message, id_of(share, place), share.size);
+        if (transmit(app_of(share), message, share.size, true, &reached) == DONE)
+            received += receive_on(share, place, &seen);
     }
     free(message);
     return received;
 }
 
-static unsigned long carry_buffers(unsigned long rounds, uint32_t size)
+static void *carry(void *of)
+{
+    struct share *share = of;
+    share->received = carry_messages(*share);
+    return NULL;
+}
+
+ALWAYS_INLINE unsigned long carry_buffers(struct share share)
 {
     unsigned long received = 0;
     volatile uint8_t seen;
-    for (unsigned long round = 0; round < rounds; round++) {
-        uint32_t place = round % IDS;
+    for (unsigned long round = 0; round < share.rounds; round++) {
+        uint32_t place = (uint32_t)round % share.ids;
         uint32_t number, reached;
         uint8_t *bytes;
-        if (allocate(1, size, &number, &bytes) != DONE)
+        if (allocate(app_of(share), share.size, &number, &bytes) != DONE)
             continue;
-        write_header(bytes, (uint16_t)(0x0801 + place), size);
-        if (transmit_buffer(1, number, true, &reached) == DONE)
-            received += receive_on(place, 1, &seen);
+        write_header(bytes, id_of(share, place), share.size);
+        if (transmit_buffer(app_of(share), number, true, &reached) == DONE)
+            received += receive_on(share, place, &seen);
     }
     return received;
 }
@@ -447,10 +476,37 @@ static unsigned long load_and_read(unsigned long rounds)
     return read;
 }
 
-static void open_pipes(uint32_t dests)
+static void open_pipes(struct share share)
 {
-    for (uint32_t place = 0; place < IDS * dests; place++)
-        subscribe((uint16_t)(0x0801 + place % IDS), create_pipe(1, DEPTH), DEPTH);
+    for (uint32_t place = 0; place < share.ids * share.dests; place++)
+        subscribe(id_of(share, place % share.ids), create_pipe(app_of(share), DEPTH), DEPTH);
+}
+
+/* The rounds of one application that has all ids. */
+static unsigned long carry_alone(struct share share)
+{
+    share.number = 0;
+    share.ids = IDS;
+    open_pipes(share);
+    return carry_messages(share);
+}
+
+/* The rounds of so many applications, each of two on a thread of its own. */
+static unsigned long carry_by(uint32_t apps, struct share share)
+{
+    struct share other = share;
+    pthread_t thread;
+    other.number = 1;
+    share.ids = other.ids = IDS / apps;
+    open_pipes(share);
+    if (apps == 2) {
+        open_pipes(other);
+        pthread_create(&thread, NULL, carry, &other);
+    }
+    carry(&share);
+    if (apps == 2)
+        pthread_join(thread, NULL);
+    return share.received + other.received;
 }
 
 static void open_bus(void)
@@ -467,21 +523,26 @@ int main(int argc, char **argv)
     static const struct {
         const char *word;
         uint32_t size, dests;
-    } sends[] = {{"send1", 64, 1}, {"fan16", 64, 16}, {"big", 32768, 1}, {"fanbig", 32768, 16}};
+    } sends[] = {{"send1", 64, 1},      {"fan16", 64, 16}, {"big", 32768, 1},
+                 {"fanbig", 32768, 16}, {"port1", 64, 1},  {"port16", 64, 16}};
     const char *word = argc > 1 ? argv[1] : "";
     unsigned long rounds = argc > 2 ? strtoul(argv[2], NULL, 10) : 0;
+    uint32_t apps = argc > 3 && strcmp(argv[3], "2") == 0 ? 2 : 1;
+    struct share share = {.rounds = rounds};
     unsigned long received = 0;
 
     open_bus();
     for (size_t i = 0; i < sizeof sends / sizeof sends[0]; i++) {
         if (strcmp(word, sends[i].word) == 0) {
-            open_pipes(sends[i].dests);
-            received = carry(rounds, sends[i].size, sends[i].dests);
+            share.size = sends[i].size;
+            share.dests = sends[i].dests;
+            received = word[0] == 'p' ? carry_by(apps, share) : carry_alone(share);
         }
     }
     if (strcmp(word, "zc") == 0) {
-        open_pipes(1);
-        received = carry_buffers(rounds, 64);
+        struct share buffers = {.ids = IDS, .dests = 1, .size = 64, .rounds = rounds};
+        open_pipes(buffers);
+        received = carry_buffers(buffers);
     }
     if (strcmp(word, "table") == 0)
         received = load_and_read(rounds);
