@@ -3,4 +3,6 @@
 #![tactic(auto)]
 
 #[cfg(test)]
+mod message_tests;
+#[cfg(test)]
 mod tbl_service_tests;
