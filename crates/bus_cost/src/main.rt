@@ -1,63 +1,71 @@
-//! Sends messages over a bus without a journal and receives them, so that what a send and a receive
-//! cost, and that they take no memory, can be measured from outside. The first argument is the
-//! number of turns, at most 100,000,000; the second the bytes of a message, 7 to 32768, or 64; the
-//! third how many pipes a message goes to, 1 to 16, or 1; the fourth on how many of these it is
-//! received, or on all. There are four message ids, each with pipes of its own; each turn sends one
-//! message, to the four ids in turn, and receives it. A pipe on which nothing is received has room
-//! for 256 messages, and misses those that come later. What it prints depends on no time.
+//! Makes calls of the bus, without a journal, again and again, so that what they cost, and that
+//! they take no memory, can be measured from outside. The first argument says what a round is; the
+//! second is the number of rounds, at most 100,000,000.
+//!
+//! ```text
+//! send1, fan16    a message of 64 bytes is sent to 1 or 16 pipes, and received on each
+//! big, fanbig     the same with 32768 bytes
+//! full            a message of 64 bytes is sent to 1 pipe, and not received: it is full after 256
+//! ```
+//!
+//! There are four message ids, each with pipes of its own, and the rounds take them in turn. What
+//! is printed depends on no time.
 #![tactic(auto)]
 
-ghost use Rattle.std.specs.Prelude.{◌≡◌, ◌<◌, ◌≤◌, length};
+ghost use Rattle.std.specs.Prelude.{◌≡◌, ◌<◌, ◌≤◌, ◌*◌, length};
 
 mod pipes;
+mod sends;
 mod turns;
 
 use bucket_list::{Blank, Ledger};
 use buf_desc::Held;
 use fsw_base::Config;
 use sb_core::SbCore;
+use sends::{Sends, sends_of};
 use std::alloc::{AllocError, Global};
 use std::marker::Brand;
 use std::{env, io};
 
-// The most turns: there are numbers for all their sends.
-const MOST_TURNS: u32 = 100_000_000;
-
-// The bytes of a message where the arguments don't say.
-const USUAL_SIZE: u32 = 64;
+// The most rounds: there are numbers for all their calls.
+const MOST_ROUNDS: u32 = 100_000_000;
 
 fn main(rt: HostRuntime) -> io::Result<()> {
     let mut words = env::args(&rt)?.skip(1);
-    let turns = number_in(words.next(), 0).min(MOST_TURNS);
-    let size = number_in(words.next(), USUAL_SIZE).clamp(7, 32768);
-    let dests = number_in(words.next(), 1).clamp(1, 16);
-    let reads = number_in(words.next(), dests).min(dests);
-    let cfg = Config::usual();
-    let mut region = Vec::new(rt.alloc());
-    region.resize(cfg.pool as usize, 0)?;
-    let mut message = Vec::new(rt.alloc());
-    message.resize(size as usize, 0)?;
-    let load = (turns, dests, reads);
-    let blank = Blank::new(1);
-    let (received, blocks) = run_load::<Brand>(
-        rt.alloc(),
-        &cfg,
-        &mut region,
-        &mut message,
-        load,
-        blank,
-    )?;
-    println!(rt; "turns={turns} received={received} blocks={blocks}")
+    let Some(word) = words.next() else {
+        return println!(rt; "a word and a number of rounds are wanted");
+    };
+    let rounds = number_in(words.next()).min(MOST_ROUNDS);
+    let Some(sends) = sends_of(&word) else {
+        return println!(rt; "{word} is none of the words");
+    };
+    let (received, blocks) = time_sends(rt.alloc(), sends, rounds)?;
+    println!(rt; "{word} rounds={rounds} received={received} blocks={blocks}")
 }
 
-// The number that a word is, or this one where there is none.
-fn number_in(word: Option<String>, usual: u32) -> u32 {
-    word.and_then(|word| word.parse().ok()).unwrap_or(usual)
+// The number that a word is, or 0 where there is none.
+fn number_in(word: Option<String>) -> u32 {
+    word.and_then(|word| word.parse().ok()).unwrap_or(0)
+}
+
+// Makes so many sends with their receives. Answers how many messages were received, and how many
+// blocks are in use then.
+fn time_sends(alloc: Global, sends: Sends, rounds: u32) -> Result<(u32, u32), AllocError>
+    requires size { (7 ≤ sends.size) × (sends.size ≤ 32768) }
+    requires dests { sends.dests ≤ 16 }
+    requires reads { sends.reads ≤ 16 }
+    requires rounds { rounds ≤ 100000000 }
+{
+    let cfg = Config::usual();
+    let mut region = vec![in alloc; 0; cfg.pool as usize]?;
+    let mut message = vec![in alloc; 0; sends.size as usize]?;
+    let load = (rounds, sends.dests, sends.reads);
+    let blank = Blank::new(1);
+    run_load::<Brand>(alloc, &cfg, &mut region, &mut message, load, blank)
 }
 
 // Makes a bus over the region, sends the message so many times, each to so many pipes, and receives
-// it on so many of them. Answers how many messages were received, and how many blocks are in use
-// then.
+// it on so many of them.
 fn run_load<L: Ledger>(
     alloc: Global,
     cfg: &Config,
