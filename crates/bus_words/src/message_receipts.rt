@@ -1,10 +1,11 @@
 //! Receipts of messages.
-ghost use Rattle.std.specs.Prelude.{◌≡◌, ◌≤◌, length, sum};
+ghost use Rattle.std.specs.Prelude.{◌≡◌};
 ghost use Rattle.ccsds_msg.specs.Message.{IsMessage};
 ghost use Rattle.bus_words.specs.Receipts.{message_receipt};
 
 use crate::receipts::{HEAD_BYTES, Head, Receipt};
 use ccsds_msg::{count_of, id_of};
+use fsw_base::sum_of;
 
 impl Receipt {
     /// The receipt of a message of these bytes, which was received from the pipe under this send
@@ -24,12 +25,4 @@ impl Receipt {
             head: Head::try_new(&message[..first]).unwrap(),
         }
     }
-}
-
-// The sum of the bytes.
-fn sum_of(bytes: &[u8]) -> u32
-    requires { length bytes.now ≤ 65542 }
-    ensures { result ≡ sum bytes.now }
-{
-    bytes.iter().map(|byte| *byte as u32).sum()
 }

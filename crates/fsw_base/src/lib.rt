@@ -26,6 +26,7 @@ mod sizes;
 mod standard;
 mod starts;
 mod statuses;
+mod sums;
 
 pub use application::{AppNo, MAX_APPS};
 pub use blocks::{BlockSizes, MAX_BLOCK_SIZE, MAX_BLOCK_SIZES};
@@ -43,3 +44,4 @@ pub use sizes::{
 pub use standard::{StdSink, StdSource};
 pub use starts::{CountStarts, MAX_COUNT, MAX_ID, MAX_STARTS};
 pub use statuses::{EsStatus, EvsStatus, SbStatus};
+pub use sums::sum_of;

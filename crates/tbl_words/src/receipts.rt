@@ -1,6 +1,8 @@
 //! What an application tells of a table that it holds.
-ghost use Rattle.std.specs.Prelude.{◌≡◌, ◌≤◌, ◌*◌, length, sum};
+ghost use Rattle.std.specs.Prelude.{◌≡◌, ◌≤◌, ◌*◌, length};
 ghost use Rattle.tbl_words.specs.Receipts.{receipt_of, table_receipt};
+
+use fsw_base::sum_of;
 
 /// How many of a table's first bytes a receipt has at most.
 pub const HEAD_BYTES: usize = 16;
@@ -35,12 +37,4 @@ impl<'a> TableReceipt<'a> {
             head: &bytes[..len],
         }
     }
-}
-
-// The sum of the bytes.
-fn sum_of(bytes: &[u8]) -> u32
-    requires { length bytes.now ≤ 65536 }
-    ensures { result ≡ sum bytes.now }
-{
-    bytes.iter().map(|byte| *byte as u32).sum()
 }

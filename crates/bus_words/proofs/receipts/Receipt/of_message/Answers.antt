@@ -15,4 +15,6 @@ overflow_cast-result c =
     omega (arith, short)
 
 pub sum_of-requires : goal.sum_of-requires
-sum_of-requires c = length-message c.args.message.now (λ i. Fits-lt-pow (c.type_inv.message i)) c.requires
+sum_of-requires c =
+    let short : length c.args.message.now ≤ 65542 = length-message c.args.message.now (λ i. Fits-lt-pow (c.type_inv.message i)) c.requires in
+    omega (arith, short)
