@@ -85,3 +85,17 @@ IsKept-push {R} rows bytes text app row row_room byte_room budgets left kept roo
       few = kept.few;
       apps = length-charged left app (length text) ∙ kept.apps;
     }
+
+-- and so with more room for bytes
+pub IsKept-wider : {R : Type 0} (rows : List (KeptRow R)) (bytes : List ℕ) (row_room byte_room more : ℕ) (budgets : List Budget) (left : List Allowance) →
+    IsKept rows bytes row_room byte_room budgets left → byte_room ≤ more → IsKept rows bytes row_room more budgets left
+IsKept-wider rows bytes row_room byte_room more budgets left kept wider = record {
+  there = kept.there;
+  remains = kept.remains;
+  rows_fit = kept.rows_fit;
+  bytes_fit = omega (arith, kept.bytes_fit, wider);
+  rows_few = kept.rows_few;
+  bytes_few = kept.bytes_few;
+  few = kept.few;
+  apps = kept.apps;
+}

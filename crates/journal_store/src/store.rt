@@ -5,7 +5,7 @@ ghost use Rattle.journal_store.specs.Budgets.{AreBudgets, HasRoom, allowance_of,
 ghost use Rattle.journal_store.specs.Store.{Store, Stored, left_of, with_row};
 
 use crate::allowance::Allowance;
-use fsw_base::{AppNo, Budget, extend_reserved};
+use fsw_base::{AppNo, Budget};
 use std::alloc::{AllocError, Global};
 use std::marker::Model;
 
@@ -139,7 +139,8 @@ impl<R: Drop> JournalStore<R> {
             with_row self.old (record { app = app; row = row; text = text.now }) }
     {
         let start = self.bytes.len() as u32;
-        extend_reserved(&mut self.bytes, text);
+        // There is room for them, so this takes no memory and doesn't fail.
+        let _ = self.bytes.extend_from_slice(text);
         charge(&mut self.left, app, text.len() as u32);
         self.rows.push_reserved(KeptRow {
             app,
