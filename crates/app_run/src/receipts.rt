@@ -175,7 +175,7 @@ fn newest_version(receipts: &ReceiptList, handle: u32) -> Option<u32>
     ensures { result ≡ newest_version receipts.now.receipts handle }
 {
     for place in (0..receipts.len()).rev() {
-        let version = version_from(&receipts.get(place), handle);
+        let version = version_from(receipts.get(place), handle);
         if version.is_some() {
             return version;
         }
@@ -219,7 +219,7 @@ fn newest_number(receipts: &ReceiptList, pipe: u32) -> Option<u32>
     ensures { result ≡ newest_number receipts.now.receipts pipe }
 {
     for place in (0..receipts.len()).rev() {
-        let number = number_from(&receipts.get(place), pipe);
+        let number = number_from(receipts.get(place), pipe);
         if number.is_some() {
             return number;
         }

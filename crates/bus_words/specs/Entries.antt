@@ -3,6 +3,7 @@ use Rattle.std.specs.Prelude.{ℕ, List, [], length}
 use Rattle.bus_words.specs.declared.calls.BusCall.{BusCall}
 use Rattle.bus_words.specs.declared.calls.BusCall.TheVariants as borrowed
 use Rattle.bus_words.specs.declared.calls.BusEntry.{BusEntry}
+use Rattle.bus_words.specs.declared.calls.LentEntry.{LentEntry}
 use Rattle.bus_words.specs.declared.history.Call.{Call}
 use Rattle.bus_words.specs.declared.history.Call.TheVariants.{Create, Delete, SetOpts, GetOpts, Find, PipeName, Subscribe, Unsubscribe, Transmit, Receive, Pend, Look, Allocate, TransmitBuffer, Release, PoolCreate, PoolGet, PoolPut, PoolFigures, Register, SendEvent, ResetFilter, LogMode, ClearLog, Housekeeping, Figures, End}
 use Rattle.bus_words.specs.declared.history.Entry.{Entry}
@@ -40,6 +41,10 @@ call_of borrowed.End = End
 -- the entry with its bytes
 abbrev pub entry_of : BusEntry → Entry
 entry_of e = record { app = e.app; call = call_of e.call; answer = e.answer }
+
+-- the entry that lies in a journal, with its bytes
+abbrev pub lent_of : LentEntry → Entry
+lent_of e = record { app = e.app; call = call_of e.call; answer = e.answer.now }
 
 -- the bytes that a call brings: its name, its message, its buffer or its event's text
 abbrev pub call_text : Call → List ℕ

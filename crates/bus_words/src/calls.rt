@@ -232,3 +232,14 @@ pub struct BusEntry<'a> {
     /// What it was answered.
     pub answer: BusAnswer,
 }
+
+/// One call with its answer, which lies in a journal.
+#[derive(Debug, Drop)]
+pub struct LentEntry<'a> {
+    /// Who called.
+    pub app: AppNo,
+    /// The call.
+    pub call: BusCall<'a>,
+    /// What it was answered.
+    pub answer: &'a BusAnswer,
+}

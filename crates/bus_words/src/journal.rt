@@ -3,10 +3,10 @@ ghost use Rattle.std.specs.Prelude.{◌≡◌, ◌+◌, ◌^◌, ◌<◌, ◌≤
 ghost use Rattle.journal_store.specs.Budgets.{AreBudgets, HasRoom, allowance_of, entries_left};
 ghost use Rattle.bus_words.specs.declared.history.Entry.{Entry};
 ghost use Rattle.bus_words.specs.Log.{Log, with_entry, left_of};
-ghost use Rattle.bus_words.specs.Entries.{call_of, entry_of, call_text, call_bytes};
+ghost use Rattle.bus_words.specs.Entries.{call_of, entry_of, lent_of, call_text, call_bytes};
 ghost use Rattle.bus_words.specs.Inside.{call_in};
 
-use crate::calls::{BusAnswer, BusCall, BusEntry};
+use crate::calls::{BusAnswer, BusCall, BusEntry, LentEntry};
 use fsw_base::{AppNo, Budget, EventKind, FilterList, Scope};
 use journal_store::{Allowance, JournalStore};
 use std::alloc::{AllocError, Global};
@@ -235,11 +235,24 @@ impl BusJournal {
         requires { i < length self.now.entries }
         ensures { slice_get self.now.entries i ≡ Some (entry_of result) }
     {
-        let row = self.store.row(i);
+        let LentEntry { app, call, answer } = self.lent(i);
         BusEntry {
+            app,
+            call,
+            answer: answer.again(),
+        }
+    }
+
+    /// The entry at a place, its answer as it lies here.
+    pub fn lent(&self, i: u32) -> LentEntry<'_>
+        requires { i < length self.now.entries }
+        ensures { slice_get self.now.entries i ≡ Some (lent_of result) }
+    {
+        let row = self.store.row(i);
+        LentEntry {
             app: self.store.app(i),
             call: call_with(&row.call, self.store.text(i)),
-            answer: row.answer.again(),
+            answer: &row.answer,
         }
     }
 

@@ -20,7 +20,7 @@ mod message_receipts;
 mod pipe_text;
 mod receipts;
 
-pub use calls::{BusAnswer, BusCall, BusEntry};
+pub use calls::{BusAnswer, BusCall, BusEntry, LentEntry};
 pub use history::{Call, Entry};
 pub use journal::BusJournal;
 pub use journal_store::Allowance;

@@ -186,10 +186,10 @@ impl ReceiptList {
     }
 
     /// The receipt at a place; places count from 0.
-    pub fn get(&self, i: u32) -> Receipt
+    pub fn get(&self, i: u32) -> &Receipt
         requires { i < length self.now.receipts }
-        ensures { slice_get self.now.receipts i ≡ Some result }
+        ensures { slice_get self.now.receipts i ≡ Some result.now }
     {
-        self.receipts[i as usize].again()
+        &self.receipts[i as usize]
     }
 }

@@ -27,7 +27,7 @@ fn put_application<K: Sink>(
     ensures { Puts sink.old sink.new page.old page.new (application_text app list.now.receipts) }
 {
     for i in 0..list.len() {
-        put_receipt(sink, page, app, &list.get(i));
+        put_receipt(sink, page, app, list.get(i));
     }
 }
 

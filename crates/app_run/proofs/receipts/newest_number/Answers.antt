@@ -12,7 +12,7 @@ returns-then-is_some c =
     let receipts = c.args.receipts.now.receipts in
     let one : c.loop-place.place ≡ suc (c.loop-place.place - 1) = omega (arith, c.loop-place-test.true) in
     let none = subst (λ n. newest_number (drop n receipts) c.args.pipe ≡ None) one c.loop-place.invariant in
-    newest-found receipts (c.loop-place.place - 1) c.get.result c.args.pipe c.number_from-number.result c.get.ensures none c.number_from-number.ensures
+    newest-found receipts (c.loop-place.place - 1) c.get.result.now c.args.pipe c.number_from-number.result c.get.ensures none c.number_from-number.ensures
     (sym c.is_some.ensures ∙ c.if-is_some.true)
 
 pub loop-place-preserved : goal.loop-place-preserved
@@ -20,7 +20,7 @@ loop-place-preserved c =
     let receipts = c.args.receipts.now.receipts in
     let one : c.loop-place.place ≡ suc (c.loop-place.place - 1) = omega (arith, c.loop-place-test.true) in
     let none = subst (λ n. newest_number (drop n receipts) c.args.pipe ≡ None) one c.loop-place.invariant in
-    newest-passed receipts (c.loop-place.place - 1) c.get.result c.args.pipe c.number_from-number.result c.get.ensures none c.number_from-number.ensures
+    newest-passed receipts (c.loop-place.place - 1) c.get.result.now c.args.pipe c.number_from-number.result c.get.ensures none c.number_from-number.ensures
     (sym c.is_some.ensures ∙ c.if-is_some.false)
 
 pub returns : goal.returns

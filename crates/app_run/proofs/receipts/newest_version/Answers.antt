@@ -12,7 +12,7 @@ returns-then-is_some c =
     let receipts = c.args.receipts.now.receipts in
     let one : c.loop-place.place ≡ suc (c.loop-place.place - 1) = omega (arith, c.loop-place-test.true) in
     let none = subst (λ n. newest_version (drop n receipts) c.args.handle ≡ None) one c.loop-place.invariant in
-    version-found receipts (c.loop-place.place - 1) c.get.result c.args.handle c.version_from-version.result c.get.ensures none c.version_from-version.ensures
+    version-found receipts (c.loop-place.place - 1) c.get.result.now c.args.handle c.version_from-version.result c.get.ensures none c.version_from-version.ensures
     (sym c.is_some.ensures ∙ c.if-is_some.true)
 
 pub loop-place-preserved : goal.loop-place-preserved
@@ -20,7 +20,7 @@ loop-place-preserved c =
     let receipts = c.args.receipts.now.receipts in
     let one : c.loop-place.place ≡ suc (c.loop-place.place - 1) = omega (arith, c.loop-place-test.true) in
     let none = subst (λ n. newest_version (drop n receipts) c.args.handle ≡ None) one c.loop-place.invariant in
-    version-passed receipts (c.loop-place.place - 1) c.get.result c.args.handle c.version_from-version.result c.get.ensures none c.version_from-version.ensures
+    version-passed receipts (c.loop-place.place - 1) c.get.result.now c.args.handle c.version_from-version.result c.get.ensures none c.version_from-version.ensures
     (sym c.is_some.ensures ∙ c.if-is_some.false)
 
 pub returns : goal.returns
