@@ -1,5 +1,5 @@
 -- Before the first rotation and after the last one.
-use Rattle.std.proofs.Common.{◌≡◌, ℕ, zero, suc, ◌+◌, ◌-◌, ◌*◌, ◌<◌, ◌≤◌, Bool, true, false, cond, List, [], ◌∷◌, ◌++◌, length, map, take, fold, sum_by, replicate, slice_index, slice_index_or, refl, ap, sym, ◌∙◌, subst, append-nil, add-one, ne_eqb, arith}
+use Rattle.std.proofs.Common.{◌≡◌, ℕ, zero, suc, ◌+◌, ◌-◌, ◌*◌, ◌<◌, ◌≤◌, Bool, true, false, cond, if◌then◌else◌, List, [], ◌∷◌, ◌++◌, length, map, take, fold, sum_by, replicate, slice_index, slice_index_or, refl, ap, sym, ◌∙◌, subst, append-nil, add-one, ne_eqb, arith}
 use Rattle.std.specs.List.{All, range_with_len}
 use Rattle.std.proofs.lemmas.List.{length-map}
 use Rattle.std.proofs.lemmas.List.Elements.{All-nil, All-cons, All-head, All-tail}
@@ -63,6 +63,34 @@ times-more n before first mid some after all t r = record {
   count = r.count ∙ t.count;
   same = same-more before mid after t.same r.same;
 }
+
+-- the applications that have all ended go on no more
+pub going-none : (runners : List Progress) (bags : List (Holding LentBytes)) (helds : List HeldViews) →
+    All (λ p. p.ended ≡ true) runners → all_going (equipped runners bags helds) ≡ []
+going-none [] bags helds ended = refl
+going-none (p ∷ others) [] helds ended = refl
+going-none (p ∷ others) (bag ∷ bags) [] ended = refl
+going-none (p ∷ others) (bag ∷ bags) (held ∷ helds) ended =
+    ap (λ (is : Bool). (if is then [] else running_of (record { progress = p; bag = bag; held = held }) ∷ []) ++ all_going (equipped others bags helds)) (All-head (λ (p : Progress). p.ended ≡ true) p others ended)
+    ∙ going-none others bags helds (All-tail (λ (p : Progress). p.ended ≡ true) p others ended)
+
+-- a rotation in which nobody goes on changes nothing
+rotates-nobody : (services : Services) (all : List Equipped) → AllStand services all → all_going all ≡ [] → Rotates services all services all
+rotates-nobody services all stand none = record {
+  stand = stand;
+  turns = ap (λ (l : List Running). (so_far services, l)) none ∙ ap (λ (l : List Running). rotated services.bus.limits (so_far services) l) (sym none);
+  told = λ script told. told;
+  count = refl;
+  same = same-none services;
+}
+
+-- nor do more of them
+pub times-nobody : (k n : ℕ) (before : Services) (first : List Equipped) (after : Services) (all : List Equipped) →
+    RotatesTimes n before first after all → all_going all ≡ [] → RotatesTimes (n + k) before first after all
+times-nobody zero n before first after all t none = subst (λ m. RotatesTimes m before first after all) (omega arith) t
+times-nobody (suc k) n before first after all t none =
+    subst (λ m. RotatesTimes m before first after all) (omega arith)
+    (times-more (n + k) before first after all after all (times-nobody k n before first after all t none) (rotates-nobody after all t.stand none))
 
 -- Budgets. --
 

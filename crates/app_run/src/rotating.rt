@@ -1,5 +1,5 @@
 //! A whole script in strict rotation, on one thread.
-ghost use Rattle.std.specs.Prelude.{◌≡◌, ◌+◌, ◌*◌, ◌<◌, ◌≤◌, ◌-◌, length, map, replicate, sum_by, All, IfOk, false, true, vec_len, vec_capacity, [], ◌++◌};
+ghost use Rattle.std.specs.Prelude.{◌≡◌, ◌+◌, ◌*◌, ◌<◌, ◌≤◌, ◌-◌, ◌↔◌, length, map, replicate, sum_by, All, IfOk, IsTrue, false, true, vec_len, vec_capacity, [], ◌++◌};
 ghost use Rattle.std.specs.List.{range_with_len};
 ghost use Rattle.sb_calls.specs.Bags.{HasBag};
 ghost use Rattle.sb_calls.specs.Core.{apps_of};
@@ -282,7 +282,8 @@ fn run_counted<'r, L: Ledger>(
     run_all(bus, tables, runners, bags, held, turns, &mut steps);
 }
 
-// So many rotations.
+// So many rotations; those in which no application is left to take a turn change nothing, and are
+// left out.
 fn run_all<'r, L: Ledger>(
     bus: &mut BusCore<'r>,
     tables: &mut TblCore<'r>,
@@ -307,8 +308,18 @@ fn run_all<'r, L: Ledger>(
     ensures runners { length runners.new.items ≡ length runners.old.items }
 {
     for _round in 0..turns {
+        if have_ended(runners) {
+            return;
+        }
         rotate(bus, tables, runners, bags, held, steps);
     }
+}
+
+// Whether all applications have ended.
+fn have_ended(runners: &[Runner<'_>]) -> bool
+    ensures { IsTrue result ↔ All (λ runner. runner.ended ≡ true) runners.now }
+{
+    runners.iter().all(|runner| runner.has_ended())
 }
 
 // One rotation: a turn of each application that has not ended, in order of number.
