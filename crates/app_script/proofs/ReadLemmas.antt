@@ -1,9 +1,10 @@
 -- Laws of reading line by line.
-use Rattle.std.proofs.Common.{◌≡◌, ℕ, ◌+◌, List, [], ◌∷◌, length, Result, Ok, refl, sym, ap, ◌∙◌, arith}
+use Rattle.std.proofs.Common.{◌≡◌, ℕ, ◌+◌, Bool, true, false, ◌&&◌, List, [], ◌∷◌, length, Result, Ok, refl, sym, ap, ◌∙◌, arith}
+use Rattle.std.specs.List.{list_all}
 use Rattle.fsw_base.specs.declared.script_faults.ScriptFault.{ScriptFault}
 use Rattle.script_words.specs.declared.fail.LineFail.{LineFail}
 use Rattle.script_words.specs.declared.fail.LineFail.TheVariants.{Memory, Fault}
-use Rattle.script_words.specs.Text.{lines_of}
+use Rattle.script_words.specs.Text.{is_text, lines_of}
 use Rattle.script_words.specs.Readings.{Fails}
 use Rattle.app_script.specs.Whole.{located, FailsAs}
 use Rattle.app_script.specs.Grammar.{Progress, after_line, after_lines, at_line, ◌>=>◌}
@@ -29,3 +30,17 @@ pub lines_end : (number : ℕ) (s : Progress) (rest : List ℕ) (total : Result 
 unfolding after_lines
 lines_end number s [] total none so_far = sym so_far ∙ ap (after_lines number s) no_lines
 lines_end number s (byte ∷ rest) total none so_far = absurd (omega arith)
+
+-- of lines that are text the first one is, and so are those behind it
+text_and : (line : List ℕ) (after : List (List ℕ)) → list_all (list_all is_text) (line ∷ after) ≡ true → (list_all is_text line ≡ true) × (list_all (list_all is_text) after ≡ true)
+text_and line after all =
+    elim (list_all is_text line) as (λ b. (b && list_all (list_all is_text) after) ≡ true → (b ≡ true) × (list_all (list_all is_text) after ≡ true)) [
+      | true ↦ λ h. (refl, h)
+      | false ↦ λ h. absurd cc
+    ] all
+
+pub first_text : (lines after : List (List ℕ)) (line : List ℕ) → lines ≡ line ∷ after → list_all (list_all is_text) lines ≡ true → list_all is_text line ≡ true
+first_text lines after line cut all = (text_and line after (ap (list_all (list_all is_text)) (sym cut) ∙ all)).0
+
+pub others_text : (lines after : List (List ℕ)) (line : List ℕ) → lines ≡ line ∷ after → list_all (list_all is_text) lines ≡ true → list_all (list_all is_text) after ≡ true
+others_text lines after line cut all = (text_and line after (ap (list_all (list_all is_text)) (sym cut) ∙ all)).1

@@ -1,8 +1,8 @@
 //! Reading a script line by line.
 ghost use Rattle.std.specs.Prelude.{◌≡◌, ◌+◌, ◌<◌, ◌≤◌, ◌++◌, ◌∷◌, [], length, IsTrue, IfOk};
-ghost use Rattle.std.specs.List.{list_any};
+ghost use Rattle.std.specs.List.{list_all, list_any};
 ghost use Rattle.std.specs.Prelude.{◌==◌};
-ghost use Rattle.script_words.specs.Text.{is_same};
+ghost use Rattle.script_words.specs.Text.{is_same, is_text};
 ghost use Rattle.fsw_base.specs.Starts.{are_count_starts};
 ghost use Rattle.app_script.specs.Forms.{is_misplaced};
 ghost use Rattle.app_script.specs.ScriptRanges.{IsScript};
@@ -285,15 +285,16 @@ impl Reading {
         }
     }
 
-    /// The next line.
+    /// The next line; `plain` says that its bytes are known to be text.
     #[tactic(auto, unfolding(crate::specs::Grammar::after_line))]
-    pub(crate) fn line(&mut self, alloc: Global, line: &[u8]) -> Result<(), LineFail>
+    pub(crate) fn line(&mut self, alloc: Global, line: &[u8], plain: bool) -> Result<(), LineFail>
+        requires { IsTrue plain → IsTrue (list_all is_text line.now) }
         ensures { Moves result self.new (after_line self.old line.now) }
     {
         if line.len() > MAX_LINE {
             return Err(LineFail::Fault(FaultKind::LineTooLong));
         }
-        if !is_text(line) {
+        if !(plain || is_text(line)) {
             return Err(LineFail::Fault(FaultKind::BadByte));
         }
         self.words(alloc, line)

@@ -12,7 +12,7 @@ use crate::fail::ReadFail;
 use crate::reading::Reading;
 use fsw_base::{AppNo, Budget, Config, FaultKind, MAX_SCRIPT_BYTES, ScriptFault};
 use script_lines::Line;
-use script_words::text::first_line;
+use script_words::text::{are_plain, first_line};
 use script_words::{ByteText, LineFail};
 use std::alloc::Global;
 use std::marker::Model;
@@ -138,11 +138,12 @@ fn read_lines(alloc: Global, reading: &mut Reading, bytes: &[u8]) -> Result<(), 
     requires { length bytes.now ≤ 1048576 }
     ensures { MovesScript result reading.new (after_lines 1 reading.old (lines_of bytes.now)) }
 {
+    let plain = are_plain(bytes);
     let mut rest = bytes;
     let mut number = 1;
     while !rest.is_empty() {
         let (line, behind) = first_line(rest);
-        match reading.line(alloc, line) {
+        match reading.line(alloc, line, plain) {
             Ok(()) => {}
             Err(failure) => return Err(located_failure(number, failure)),
         }

@@ -1,12 +1,14 @@
 -- Laws of lines and words.
-use Rattle.std.proofs.Common.{◌≡◌, ℕ, suc, ◌+◌, ◌<◌, ◌≤◌, Bool, true, false, cond, not, List, [], ◌∷◌, length, map, take, drop, Some, None, refl, sym, ap, ◌∙◌, arith, inl, inr}
-use Rattle.std.specs.Prelude.{filter, position}
-use Rattle.std.specs.List.{slice_split, position_or_len, onto_first}
-use Rattle.std.proofs.lemmas.Bool.{cases_lt, lt-ltb, le-ltb}
+use Rattle.std.proofs.Common.{◌≡◌, ℕ, zero, suc, ◌+◌, ◌-◌, ◌<◌, ◌≤◌, Bool, true, false, cond, not, ◌&&◌, List, [], ◌∷◌, length, map, take, drop, get_or, Option, Some, None, refl, sym, ap, ◌∙◌, arith, inl, inr}
+use Rattle.std.specs.Prelude.{filter, position, ◌==◌, ◌||◌}
+use Rattle.std.specs.List.{slice_split, position_or_len, onto_first, list_all, ends_with}
+use Rattle.std.proofs.lemmas.Bool.{cases_lt, lt-ltb, le-ltb, eq-eqb, ne_eqb}
 use Rattle.std.proofs.lemmas.List.{drop_all, length-drop}
-use Rattle.std.proofs.lemmas.List.Sums.{prefix_len-le-length}
+use Rattle.std.proofs.lemmas.List.Sums.{prefix_len-le-length, position_or_len_is}
 use Rattle.std.proofs.lemmas.List.Splits.{slice_split_first}
-use Rattle.script_words.specs.Text.{is_feed, is_blank, is_no_blank, without_return, has_bytes, without_empty_last, lines_of, words_of, from_word}
+use Rattle.memchr.specs.Find.{IsFirstByte}
+use Rattle.script_words.proofs.ListLemmas.{drop_cut}
+use Rattle.script_words.specs.Text.{is_feed, is_blank, is_no_blank, is_text, is_same, without_return, has_bytes, without_empty_last, lines_of, words_of, from_word}
 
 -- the place where a test passes first, or the length
 pub place_some : {X : Type 0} (p : X → Bool) (xs : List X) (i : ℕ) → position p xs ≡ Some i → (position_or_len p xs ≡ i) × (i < length xs)
@@ -159,3 +161,108 @@ behind_is_shorter line start behind n from some len after =
     let begins : position_or_len is_no_blank start ≡ 0 = rw from (from_word-begins line) in
     let one = word_some start some begins in
     omega (arith, ap length from, ap length after, length-drop n start, length-drop (position_or_len is_no_blank line) line)
+
+-- ---- where the first line feed stands
+
+is_false : (b : Bool) → ¬ (b ≡ true) → b ≡ false
+is_false true wrong = absurd (wrong refl)
+is_false false wrong = refl
+
+-- the first place that a search gives is the place that the list's words name
+pub first_is_place : (test : ℕ → Bool) (bytes : List ℕ) (found : Option ℕ) → IsFirstByte test bytes found → found ≡ position test bytes
+first_is_place test bytes None nowhere =
+    let place : position_or_len test bytes ≡ length bytes = position_or_len_is test bytes (length bytes) 0 (omega arith) (λ k lt. is_false (test (get_or bytes k 0)) (nowhere k (omega arith) lt)) (λ lt. absurd (omega (arith, lt))) in
+    ap (λ b. cond b (Some (position_or_len test bytes)) None) (sym (le-ltb (position_or_len test bytes) (length bytes) (omega (arith, place))))
+first_is_place test bytes (Some i) first =
+    let place : position_or_len test bytes ≡ i = position_or_len_is test bytes i 0 (omega (arith, first.0.high)) (λ k lt. is_false (test (get_or bytes k 0)) (first.0.before k (omega arith) lt)) (λ lt. first.1) in
+    let some : Some (position_or_len test bytes) ≡ Some i = ap Some place in
+    sym some ∙ ap (λ b. cond b (Some (position_or_len test bytes)) None) (sym (lt-ltb (position_or_len test bytes) (length bytes) (omega (arith, place, first.0.high))))
+
+-- ---- words that differ
+
+pub differ_by_length : (word other : List ℕ) → ¬ (length word ≡ length other) → is_same word other ≡ false
+differ_by_length [] [] ne = absurd (ne refl)
+differ_by_length [] (b ∷ other) ne = refl
+differ_by_length (a ∷ word) [] ne = refl
+differ_by_length (a ∷ word) (b ∷ other) ne =
+    elim (a == b) as (λ x. (x && is_same word other) ≡ false) [
+      | true ↦ differ_by_length word other (λ e. ne (omega (arith, e)))
+      | false ↦ refl
+    ]
+
+-- two words from a place on: of the same byte there, of different ones, and where both have ended
+pub same_more : (word other : List ℕ) (i : ℕ) → i < length word → i < length other → get_or word i 0 ≡ get_or other i 0 → is_same (drop (i + 1) word) (drop (i + 1) other) ≡ is_same (drop i word) (drop i other)
+same_more word other i lt lt_other e =
+    let cut : is_same (drop i word) (drop i other) ≡ ((get_or word i 0 == get_or other i 0) && is_same (drop (i + 1) word) (drop (i + 1) other)) = rw (drop_cut word i 0 lt, drop_cut other i 0 lt_other) refl in
+    sym (cut ∙ ap (λ b. b && is_same (drop (i + 1) word) (drop (i + 1) other)) (eq-eqb (get_or word i 0) (get_or other i 0) e))
+
+pub same_not : (word other : List ℕ) (i : ℕ) → i < length word → i < length other → ¬ (get_or word i 0 ≡ get_or other i 0) → is_same (drop i word) (drop i other) ≡ false
+same_not word other i lt lt_other ne =
+    let cut : is_same (drop i word) (drop i other) ≡ ((get_or word i 0 == get_or other i 0) && is_same (drop (i + 1) word) (drop (i + 1) other)) = rw (drop_cut word i 0 lt, drop_cut other i 0 lt_other) refl in
+    cut ∙ ap (λ b. b && is_same (drop (i + 1) word) (drop (i + 1) other)) (ne_eqb (get_or word i 0) (get_or other i 0) ne)
+
+pub same_end : (word other : List ℕ) (i : ℕ) → length word ≤ i → length other ≤ i → is_same (drop i word) (drop i other) ≡ true
+same_end word other i le le_other = rw (drop_all i word le, drop_all i other le_other) refl
+
+-- ---- the lines of plain bytes
+
+and_first : (a b : Bool) → (a && b) ≡ true → a ≡ true
+and_first true b h = refl
+and_first false b h = absurd cc
+
+and_second : (a b : Bool) → (a && b) ≡ true → b ≡ true
+and_second true b h = h
+and_second false b h = absurd cc
+
+both : {a b : Bool} → a ≡ true → b ≡ true → (a && b) ≡ true
+both {a} {b} one other = ap (λ x. x && b) one ∙ other
+
+or_false : (a : Bool) → (a || false) ≡ true → a ≡ true
+or_false true h = refl
+or_false false h = h
+
+text_onto : (byte : ℕ) (parts : List (List ℕ)) → is_text byte ≡ true → list_all (list_all is_text) parts ≡ true → list_all (list_all is_text) (onto_first byte parts) ≡ true
+text_onto byte [] text all = both (both text refl) refl
+text_onto byte (part ∷ parts) text all =
+    both (both text (and_first (list_all is_text part) (list_all (list_all is_text) parts) all)) (and_second (list_all is_text part) (list_all (list_all is_text) parts) all)
+
+plain_parts : (bytes : List ℕ) → list_all (λ byte. is_text byte || is_feed byte) bytes ≡ true → list_all (list_all is_text) (slice_split is_feed bytes) ≡ true
+plain_parts [] plain = refl
+plain_parts (byte ∷ bytes) plain =
+    let more = plain_parts bytes (and_second (is_text byte || is_feed byte) (list_all (λ b. is_text b || is_feed b) bytes) plain) in
+    elim (is_feed byte) as (λ b. (is_text byte || b) ≡ true → list_all (list_all is_text) (cond b ([] ∷ slice_split is_feed bytes) (onto_first byte (slice_split is_feed bytes))) ≡ true) [
+      | true ↦ λ h. more
+      | false ↦ λ h. text_onto byte (slice_split is_feed bytes) (or_false (is_text byte) h) more
+    ] (and_first (is_text byte || is_feed byte) (list_all (λ b. is_text b || is_feed b) bytes) plain)
+
+kept_parts : (parts : List (List ℕ)) → list_all (list_all is_text) parts ≡ true → list_all (list_all is_text) (without_empty_last parts) ≡ true
+kept_parts [] all = refl
+kept_parts (line ∷ []) all =
+    elim (has_bytes line) as (λ b. list_all (list_all is_text) (cond b (line ∷ []) []) ≡ true) [
+      | true ↦ all
+      | false ↦ refl
+    ]
+kept_parts (line ∷ next ∷ lines) all =
+    both (and_first (list_all is_text line) (list_all (list_all is_text) (next ∷ lines)) all) (kept_parts (next ∷ lines) (and_second (list_all is_text line) (list_all (list_all is_text) (next ∷ lines)) all))
+
+text_taken : (n : ℕ) (line : List ℕ) → list_all is_text line ≡ true → list_all is_text (take n line) ≡ true
+text_taken zero line all = refl
+text_taken (suc n) [] all = refl
+text_taken (suc n) (byte ∷ line) all = both (and_first (is_text byte) (list_all is_text line) all) (text_taken n line (and_second (is_text byte) (list_all is_text line) all))
+
+text_stripped : (line : List ℕ) → list_all is_text line ≡ true → list_all is_text (without_return line) ≡ true
+text_stripped line all =
+    elim (ends_with (λ a b. a == b) line (13 ∷ [])) as (λ b. list_all is_text (cond b (take (length line - 1) line) line) ≡ true) [
+      | true ↦ text_taken (length line - 1) line all
+      | false ↦ all
+    ]
+
+lines_stripped : (lines : List (List ℕ)) → list_all (list_all is_text) lines ≡ true → list_all (list_all is_text) (map without_return lines) ≡ true
+lines_stripped [] all = refl
+lines_stripped (line ∷ lines) all =
+    both (text_stripped line (and_first (list_all is_text line) (list_all (list_all is_text) lines) all)) (lines_stripped lines (and_second (list_all is_text line) (list_all (list_all is_text) lines) all))
+
+-- where each byte is text or a line feed, each line is text
+pub plain_lines : (bytes : List ℕ) → list_all (λ byte. is_text byte || is_feed byte) bytes ≡ true → list_all (list_all is_text) (lines_of bytes) ≡ true
+unfolding lines_of
+plain_lines bytes plain = lines_stripped (without_empty_last (slice_split is_feed bytes)) (kept_parts (slice_split is_feed bytes) (plain_parts bytes plain))

@@ -8,7 +8,7 @@ ghost use Rattle.script_words.specs.Numbers.{is_decimal, is_hexadecimal, number_
 ghost use Rattle.script_words.specs.Numbers.{within, is_hex, is_colon, parts_of, numbers_2};
 ghost use Rattle.script_words.specs.Numbers.{number_and_2, numbers_3, small, pipe_of, buffer_of};
 ghost use Rattle.script_words.specs.Numbers.{pool_of, grant_of, table_of};
-ghost use Rattle.std.specs.Prelude.{if◌then◌else◌, Err};
+ghost use Rattle.std.specs.Prelude.{if◌then◌else◌, Err, true, false};
 ghost use Rattle.fsw_base.specs.declared.script_faults.FaultKind.TheVariants.{BadWord};
 
 use fsw_base::FaultKind;
@@ -61,10 +61,20 @@ fn value_in(base: u64, digits: &[u8]) -> u64
     value
 }
 
-fn are_digits(word: &[u8]) -> bool
-    ensures { result ≡ list_all is_digit word.now }
+// The number that decimal digits spell, as far as it is below the cap; None where one is no digit.
+#[tactic(auto, using(std::proofs::lemmas::List::Folds::list_all_at, std::proofs::lemmas::List::Folds::list_all_more))]
+fn digits_value(digits: &[u8]) -> Option<u64>
+    ensures { MatchOption result (list_all is_digit digits.now ≡ false)
+        (λ n. (list_all is_digit digits.now ≡ true) × (n ≡ min (value_in 10 digits.now) CAP)) }
 {
-    word.iter().all(|&byte| is_digit(byte))
+    let mut value = 0;
+    for &digit in digits {
+        if !is_digit(digit) {
+            return None;
+        }
+        value = (value * 10 + digit_value(digit) as u64).min(CAP);
+    }
+    Some(value)
 }
 
 fn are_hex_digits(word: &[u8]) -> bool
@@ -73,14 +83,22 @@ fn are_hex_digits(word: &[u8]) -> bool
     word.iter().all(|&byte| is_hex_digit(byte))
 }
 
-// Whether these are decimal digits without a needless 0 at the front.
+// The number that these decimal digits spell, as far as it is below the cap; None where they aren't
+// such digits, or have a needless 0 at the front.
 #[tactic(auto, unfolding(crate::specs::Numbers::is_decimal))]
-fn is_decimal(word: &[u8]) -> bool
-    ensures { result ≡ is_decimal word.now }
+fn decimal_value(word: &[u8]) -> Option<u64>
+    ensures { MatchOption result (is_decimal word.now ≡ false)
+        (λ n. (is_decimal word.now ≡ true) × (n ≡ min (value_in 10 word.now) CAP)) }
 {
     match word {
-        [] => false,
-        [first, digits @ ..] => are_digits(word) && (*first != 48 || digits.is_empty()),
+        [] => None,
+        [first, digits @ ..] => {
+            if *first == 48 && !digits.is_empty() {
+                None
+            } else {
+                digits_value(word)
+            }
+        }
     }
 }
 
@@ -110,10 +128,9 @@ fn decimal(digits: &[u8]) -> Result<u32, FaultKind>
     ensures { Reads (λ n. n) result
         (if is_decimal digits.now then small (value_in 10 digits.now) else Err BadWord) }
 {
-    if is_decimal(digits) {
-        small(value_in(10, digits))
-    } else {
-        Err(FaultKind::BadWord)
+    match decimal_value(digits) {
+        Some(value) => small(value),
+        None => Err(FaultKind::BadWord),
     }
 }
 
@@ -142,10 +159,12 @@ fn register(letter: u8, count: u32, word: &[u8]) -> Result<u32, FaultKind>
     match word {
         [] => Err(FaultKind::BadWord),
         [first, digits @ ..] => {
-            if *first == letter && is_decimal(digits) && value_in(10, digits) < count as u64 {
-                Ok(value_in(10, digits) as u32)
-            } else {
-                Err(FaultKind::BadWord)
+            if *first != letter {
+                return Err(FaultKind::BadWord);
+            }
+            match decimal_value(digits) {
+                Some(number) if number < count as u64 => Ok(number as u32),
+                _ => Err(FaultKind::BadWord),
             }
         }
     }

@@ -1,10 +1,12 @@
 //! Lines and words.
 ghost use Rattle.std.specs.Prelude.{◌≡◌, ◌<◌, ◌∷◌, [], length, MatchOption, IfSome, position};
-ghost use Rattle.std.specs.Prelude.{reverse, ◌≤◌};
+ghost use Rattle.std.specs.Prelude.{reverse, ◌≤◌, ◌||◌, IsTrue};
 ghost use Rattle.std.specs.List.{list_all, position_or_len};
 ghost use Rattle.script_words.specs.Text.{is_feed, is_blank, is_no_blank, is_text, is_same};
 ghost use Rattle.script_words.specs.Text.{without_return, lines_of, words_of, from_word};
 ghost use Rattle.script_words.specs.Text.{behind_word, without_blanks_behind, trimmed};
+
+use memchr::memchr;
 
 /// The first line of bytes that aren't empty, without its line feed and one carriage return before
 /// that, and what follows the line feed.
@@ -30,7 +32,7 @@ pub fn first_line(bytes: &[u8]) -> (&[u8], &[u8])
 fn feed_in(bytes: &[u8]) -> Option<usize>
     ensures { result ≡ position is_feed bytes.now }
 {
-    bytes.iter().position(|&byte| byte == b'\n')
+    memchr(b'\n', bytes)
 }
 
 // The line without one carriage return at its end.
@@ -45,10 +47,20 @@ fn without_return(line: &[u8]) -> &[u8]
 }
 
 /// Whether two words are the same, byte by byte.
+#[tactic(auto, using(crate::proofs::TextLemmas::differ_by_length, crate::proofs::TextLemmas::same_more, crate::proofs::TextLemmas::same_not, crate::proofs::TextLemmas::same_end))]
 pub fn is_same(word: &[u8], other: &[u8]) -> bool
     ensures { result ≡ is_same word.now other.now }
 {
-    word == other
+    if word.len() != other.len() {
+        return false;
+    }
+    // For words of a few bytes, one of them known, this is far less code than `==` of slices runs.
+    for i in 0..other.len() {
+        if word[i] != other[i] {
+            return false;
+        }
+    }
+    true
 }
 
 /// Whether each byte is printable ASCII (0x20 to 0x7E) or a tab.
@@ -57,6 +69,32 @@ pub fn is_text(line: &[u8]) -> bool
 {
     line.iter()
         .all(|&byte| (32 <= byte && byte <= 126) || byte == b'\t')
+}
+
+// Whether a byte is text or a line feed.
+fn is_plain_byte(byte: u8) -> bool
+    ensures { result ≡ (is_text byte || is_feed byte) }
+{
+    (32 <= byte && byte <= 126) || byte == b'\t' || byte == b'\n'
+}
+
+// The same of all bytes. The loop never ends early, so that many bytes are taken at a time.
+fn are_plain_bytes(bytes: &[u8]) -> bool
+    ensures { result ≡ list_all (λ byte. is_text byte || is_feed byte) bytes.now }
+{
+    let mut plain = true;
+    for &byte in bytes {
+        plain &= is_plain_byte(byte);
+    }
+    plain
+}
+
+/// Whether each byte is text or a line feed; if so, each line is text.
+pub fn are_plain(bytes: &[u8]) -> bool
+    ensures bytes { result ≡ list_all (λ byte. is_text byte || is_feed byte) bytes.now }
+    ensures lines { IsTrue result → IsTrue (list_all (list_all is_text) (lines_of bytes.now)) }
+{
+    are_plain_bytes(bytes)
 }
 
 fn is_blank(byte: u8) -> bool

@@ -4,7 +4,7 @@ use Rattle.app_script.specs.declared.fail.ReadFail.{ReadFail}
 use Rattle.script_words.specs.Text.{lines_of}
 use Rattle.app_script.specs.Grammar.{after_lines}
 use Rattle.app_script.specs.Whole.{FailsAs}
-use Rattle.app_script.proofs.ReadLemmas.{lines_more, lines_fault, lines_end}
+use Rattle.app_script.proofs.ReadLemmas.{lines_more, lines_fault, lines_end, first_text, others_text}
 use Rattle.app_script.proofs.script.read_lines.Goals as goal
 
 pub returns-in-Err : goal.returns-in-Err
@@ -13,11 +13,15 @@ returns-in-Err c =
     (lines_fault c.loop-rest.number c.loop-rest.reading (lines_of c.loop-rest.rest.now) (lines_of c.first_line.result.1.now) c.first_line.result.0.now c.in-Err.failure
     (after_lines 1 c.args.reading.now (lines_of c.args.bytes.now)) c.in-Err.ensures c.first_line.ensures.lines c.loop-rest.invariant.read)
 
+pub line-requires : goal.line-requires
+line-requires c = λ plain. first_text (lines_of c.loop-rest.rest.now) (lines_of c.first_line.result.1.now) c.first_line.result.0.now c.first_line.ensures.lines (c.loop-rest.invariant.text plain)
+
 pub loop-rest-preserved : goal.loop-rest-preserved
 loop-rest-preserved c = record {
   read = lines_more c.loop-rest.number c.loop-rest.reading c.line.new.self (lines_of c.loop-rest.rest.now) (lines_of c.first_line.result.1.now) c.first_line.result.0.now
       (after_lines 1 c.args.reading.now (lines_of c.args.bytes.now)) c.in-Ok.ensures c.first_line.ensures.lines c.loop-rest.invariant.read;
   count = omega (arith, c.first_line.ensures.shorter, c.loop-rest.invariant.count);
+  text = λ plain. others_text (lines_of c.loop-rest.rest.now) (lines_of c.first_line.result.1.now) c.first_line.result.0.now c.first_line.ensures.lines (c.loop-rest.invariant.text plain);
 }
 
 pub returns : goal.returns
