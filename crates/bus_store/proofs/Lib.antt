@@ -7,6 +7,7 @@ pub mod Changes
 pub mod Counted
 pub mod Created
 pub mod Emptied
+pub mod Exchanged
 pub mod FirstReceives
 pub mod Freed
 pub mod Given

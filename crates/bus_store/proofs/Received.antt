@@ -13,18 +13,19 @@ use Rattle.bus_words.specs.Bus.{Item, Pipe, Buffer, owns, with_pipe, after_recei
 use Rattle.bus_tables.specs.declared.tables.ItemRow.{ItemRow}
 use Rattle.bus_tables.specs.Rows.{Row, row_of, with_row, after_take, oldest_item, last_item, owns_row}
 use Rattle.bus_tables.specs.Tables.{Tables, IsRising}
+use Rattle.bus_tables.specs.Uses.{item_use}
 use Rattle.bus_store.specs.declared.store.BusStore.TheInside.{Inside}
 use Rattle.bus_store.specs.Bag.{view_due, views_due}
 use Rattle.bus_store.specs.Store.{Store, LastLoan, BufferDesc}
 use Rattle.bus_store.specs.Words.{oldest_of, last_of, loan_of, with_held}
-use Rattle.bus_store.specs.Inside.{store_of, Keeps, account_in, item_in, pipes_in, descs_in, loan_in, loan_at, view_in, IsNamed, let_go, shown, after_release}
+use Rattle.bus_store.specs.Inside.{store_of, Keeps, account_in, item_in, pipes_in, descs_in, loan_in, loan_at, view_in, IsNamed, lasts_of, let_go, shown, after_release}
 use Rattle.bus_store.proofs.Bags.{due, due-rows, loan-rows, view_alike, last_item-taken, last_item-other, owns-changed, has_view, views-rows, views-taken, views-few, views-others, own_found}
 use Rattle.bus_store.proofs.Accounts.{held_law, held_now, alone_as, released_alone}
-use Rattle.bus_store.proofs.Items.{last_found, lasts_few, lasts_most}
+use Rattle.bus_store.proofs.Items.{last_found, oldest_found, lasts_few, lasts_most, lasts_unlasted}
 use Rattle.bus_store.proofs.Lasts.{HasDue, holds_same}
 use Rattle.bus_store.proofs.Listed.{listed_kept, unsent_kept, descs_kept}
 use Rattle.bus_store.proofs.Meaning.{owns-rows, oldest_of-rows, last_of-rows, pipes_with_row, pipe_by-after_take}
-use Rattle.bus_store.proofs.Receives.{IsReleased, IsReceived, released, received, front_named}
+use Rattle.bus_store.proofs.Receives.{IsReleased, IsReceived, item_use-here, released, received, front_named}
 use Rattle.bus_store.proofs.Stores.{length-with_row}
 use Rattle.bus_store.proofs.Tied.{Stays, pipes_stay}
 
@@ -68,6 +69,21 @@ module _ (a : Inside) (old : Store) (app pipe : ℕ) (before front : Option Item
   last_viewed = for_last (λ item. (sealed_at a.desk.slots item.desc).views ≤ (sealed_at a.desk.slots item.desc).uses)
       (λ i is. omega (arith, keeps.backed.tied.uses i.desc is.sealed, keeps.backed.tied.views i.desc is.sealed, lasts_few (sealed_at a.desk.slots i.desc).number rows))
 
+  pub last_lent : IfSome before (λ item. 1 ≤ (sealed_at a.desk.slots item.desc).views)
+  last_lent = at before named_last before_is
+    where
+      at : (o : Option ItemRow) → IfSome o (IsNamed a.desk.slots) → o ≡ last_item rows pipe → IfSome o (λ item. 1 ≤ (sealed_at a.desk.slots item.desc).views)
+      at None is same = tt
+      at (Some i) is same =
+          omega (arith, keeps.backed.tied.views i.desc is.sealed, ap (λ n. lasts_of n rows) is.number, lasts_unlasted i.number pipe rows rises, ap (item_use i.number) same, item_use-here i)
+
+  pub next_few : IfSome front (λ i. (sealed_at a.desk.slots i.desc).views < 4294967295)
+  next_few = at front (subst (λ o. IfSome o (IsNamed a.desk.slots)) (sym front_is) (oldest_found (IsNamed a.desk.slots) rows pipe keeps.backed.tied.items))
+    where
+      at : (o : Option ItemRow) → IfSome o (IsNamed a.desk.slots) → IfSome o (λ i. (sealed_at a.desk.slots i.desc).views < 4294967295)
+      at None is = tt
+      at (Some i) is = omega (arith, keeps.backed.tied.views i.desc is.sealed, lasts_most (sealed_at a.desk.slots i.desc).number rows, keeps.pipes_live, keeps.pipes_few)
+
   -- what is due, before
   due_was : (number : ℕ) → view_due old.pipes old.loans app number ≡ due a.desk.slots rows app number
   due_was number = due-rows old a.desk.slots rows app number (ap (λ (o : Store). o.pipes) (sym viewed)) (ap (λ (o : Store). o.loans) (sym viewed))
@@ -82,13 +98,13 @@ module _ (a : Inside) (old : Store) (app pipe : ℕ) (before front : Option Item
         ∙ ap (λ c. cond {A = Option LentBytes} c (option_map (view_in a.desk.slots) (last_item rows pipe)) None) own_row
         ∙ ap (option_map (view_in a.desk.slots)) (sym before_is)
 
-    pub room_left : (held now : Holding LentBytes) → HasDue old app held → length now.views + cond {A = ℕ} (is_some before) 1 0 ≡ length held.views → now.view_room ≡ held.view_room → length now.views < now.view_room
-    room_left held now holds fewer same =
+    pub room_left : (held : Holding LentBytes) → HasDue old app held → length held.views < held.view_room + cond {A = ℕ} (is_some before) 1 0
+    room_left held holds =
         let few = views-few rows app pipe rises own_row in
         let due = holds.counted ∙ ap (λ (o : Store). views_due o.pipes app) (sym viewed) ∙ views-rows a.desk.slots rows app in
         let room : a.tables.room.pipes ≤ held.view_room = subst (λ (o : Store). o.room.pipes ≤ held.view_room) (sym viewed) holds.room in
         let one = ap (λ o. cond {A = ℕ} (is_some o) 1 0) before_is in
-        omega (arith, few, due, fewer, room, one, same, keeps.pipes_live)
+        omega (arith, few, due, room, one, keeps.pipes_live)
 
   -- Between. --
 
@@ -105,10 +121,6 @@ module _ (a : Inside) (old : Store) (app pipe : ℕ) (before front : Option Item
 
     pub front_sealed : IfSome front (λ i. is_sealed (slot_at mid.slots i.desc) ≡ true)
     front_sealed = for_front (λ i. is_sealed (slot_at mid.slots i.desc) ≡ true) (λ i is. is.sealed)
-
-    pub front_few : IfSome front (λ i. (sealed_at mid.slots i.desc).views < 4294967295)
-    front_few = for_front (λ i. (sealed_at mid.slots i.desc).views < 4294967295)
-        (λ i is. omega (arith, was.tied.views i.desc is.sealed, lasts_most (sealed_at mid.slots i.desc).number rows, keeps.pipes_live, keeps.pipes_few))
 
     -- After it. --
 
@@ -248,17 +260,15 @@ module _ (a : Inside) (old : Store) (app pipe : ℕ) (before front : Option Item
             (ap (λ (o : Store). views_due o.pipes user) after_is ∙ views-rows final.slots rows' user ∙ views_same ∙ sym (views-rows a.desk.slots rows user) ∙ ap (λ (o : Store). views_due o.pipes user) viewed)
             (ap (λ (o : Store). o.room) after_is ∙ ap (λ (o : Store). o.room) viewed)
 
-      module _ (own : owns old.pipes app pipe ≡ true) (held between bag : Holding LentBytes) (holds : HasDue old app held)
-          (out : (other : ℕ) → view_at between other ≡ cond {A = Option LentBytes} (eqb pipe other) None (view_at held other))
-          (put : (other : ℕ) → view_at bag other ≡ cond {A = Option LentBytes} (eqb pipe other) (option_map (view_in mid.slots) front) (view_at between other))
-          (fewer : length between.views + cond {A = ℕ} (is_some before) 1 0 ≡ length held.views)
-          (more : length bag.views ≡ length between.views + cond {A = ℕ} (is_some front) 1 0)
-          (same : between.view_room ≡ held.view_room) (still : bag.view_room ≡ between.view_room) where
+      module _ (own : owns old.pipes app pipe ≡ true) (held bag : Holding LentBytes) (holds : HasDue old app held)
+          (put : (other : ℕ) → view_at bag other ≡ cond {A = Option LentBytes} (eqb pipe other) (option_map (view_in mid.slots) front) (view_at held other))
+          (changed : length bag.views + cond {A = ℕ} (is_some before) 1 0 ≡ length held.views + cond {A = ℕ} (is_some front) 1 0)
+          (same : bag.view_room ≡ held.view_room) where
         seen : (number : ℕ) → (pipe ≡ number) ⊎ (pipe ≡ number → ⊥) → view_at bag number ≡ due final.slots rows' app number
         seen number (inl here) =
             subst (λ n. view_at bag n ≡ due final.slots rows' app n) here
             (put pipe
-            ∙ ap (λ c. cond {A = Option LentBytes} c (option_map (view_in mid.slots) front) (view_at between pipe)) (eqb_same pipe)
+            ∙ ap (λ c. cond {A = Option LentBytes} c (option_map (view_in mid.slots) front) (view_at held pipe)) (eqb_same pipe)
             ∙ ap (option_map (view_in mid.slots)) (front_is ∙ sym (last_item-taken rows pipe))
             ∙ sym (alike mid.slots (last_item rows' pipe) (last_found (Stays mid.slots final.slots) rows' pipe now.since))
             ∙ sym (ap (λ c. cond {A = Option LentBytes} c (option_map (view_in final.slots) (last_item rows' pipe)) None) (owns-changed after_take (λ row. refl) (λ row. refl) rows pipe app pipe ∙ own_row own)))
@@ -267,9 +277,7 @@ module _ (a : Inside) (old : Store) (app pipe : ℕ) (before front : Option Item
             eqb_same n = grind (arith, nat_tests)
         seen number (inr apart) =
             put number
-            ∙ ap (λ c. cond {A = Option LentBytes} c (option_map (view_in mid.slots) front) (view_at between number)) (off (eqb pipe number) refl)
-            ∙ out number
-            ∙ ap (λ c. cond {A = Option LentBytes} c None (view_at held number)) (off (eqb pipe number) refl)
+            ∙ ap (λ c. cond {A = Option LentBytes} c (option_map (view_in mid.slots) front) (view_at held number)) (off (eqb pipe number) refl)
             ∙ holds.seen number ∙ due_was number
             ∙ sym
             (ap (λ c. cond {A = Option LentBytes} c (option_map (view_in final.slots) (last_item rows' number)) None) (owns-changed after_take (λ row. refl) (λ row. refl) rows pipe app number)
@@ -290,10 +298,10 @@ module _ (a : Inside) (old : Store) (app pipe : ℕ) (before front : Option Item
               let moved = views-taken rows app pipe rises (own_row own) in
               let one = ap (λ o. cond {A = ℕ} (is_some o) 1 0) before_is in
               let other = ap (λ o. cond {A = ℕ} (is_some o) 1 0) front_is in
-              omega (arith, due, then, moved, one, other, fewer, more);
+              omega (arith, due, then, moved, one, other, changed);
           room =
               let room : a.tables.room.pipes ≤ held.view_room = subst (λ (o : Store). o.room.pipes ≤ held.view_room) (sym viewed) holds.room in
-              subst (λ (o : Store). o.room.pipes ≤ bag.view_room) (sym after_is) (omega (arith, room, same, still));
+              subst (λ (o : Store). o.room.pipes ≤ bag.view_room) (sym after_is) (omega (arith, room, same));
         }
 
   -- the number of what is received

@@ -13,6 +13,7 @@ use bucket_list::{Ledger, Steps};
 use buf_desc::{Block, Desk, Held};
 use bus_tables::ItemRow;
 use ccsds_msg::{set_count, size_of};
+use lend_block::View;
 
 // The block with this sequence count in its message.
 fn with_count<'r>(block: Block<'r>, count: u16) -> Block<'r>
@@ -134,35 +135,47 @@ pub(crate) fn settle_message<L: Ledger>(
     desk.settle(desc, steps);
 }
 
-/// Gives the view of a pipe's last message back, and then drops that use of its block; no effect
-/// where there is none. At most 8 steps.
-pub(crate) fn put_back<'r, L: Ledger>(
+// Gives the view of an item's message back, and then drops that use of its block. At most 8 steps.
+fn hand_back<'r, L: Ledger>(
+    desk: &mut Desk<'r>,
+    item: ItemRow,
+    view: View<'r>,
+    steps: &mut Steps<L>,
+)
+    requires sealed { is_sealed (slot_at desk.old.slots item.desc) ≡ true }
+    requires of_this_loan { view.loan ≡ (sealed_at desk.old.slots item.desc).loan }
+    requires used { 1 ≤ (sealed_at desk.old.slots item.desc).uses }
+    requires viewed { (sealed_at desk.old.slots item.desc).uses ≡ 1 →
+        (sealed_at desk.old.slots item.desc).views ≤ 1 }
+    ensures desk { desk.new ≡ let_go desk.old (Some item) }
+    ensures cost { steps.new ≤ steps.old + 8 }
+{
+    desk.give_back(item.desc, view);
+    desk.drop_use(item.desc, steps);
+}
+
+// Takes the view of a pipe's last message out of the bag, and hands it back. At most 8 steps.
+fn put_back<'r, L: Ledger>(
     desk: &mut Desk<'r>,
     held: &mut Held<'r>,
     pipe: u32,
-    last: Option<ItemRow>,
+    last: ItemRow,
     steps: &mut Steps<L>,
 )
-    requires seen { view_at held.old pipe ≡ option_map (view_in desk.old.slots) last }
-    requires sealed { IfSome last (λ item. is_sealed (slot_at desk.old.slots item.desc) ≡ true) }
-    requires used { IfSome last (λ item. 1 ≤ (sealed_at desk.old.slots item.desc).uses) }
-    requires viewed { IfSome last
-        (λ item. (sealed_at desk.old.slots item.desc).views ≤
-        (sealed_at desk.old.slots item.desc).uses) }
-    ensures desk { desk.new ≡ let_go desk.old last }
+    requires seen { view_at held.old pipe ≡ Some (view_in desk.old.slots last) }
+    requires sealed { is_sealed (slot_at desk.old.slots last.desc) ≡ true }
+    requires used { 1 ≤ (sealed_at desk.old.slots last.desc).uses }
+    requires viewed { (sealed_at desk.old.slots last.desc).views ≤
+        (sealed_at desk.old.slots last.desc).uses }
+    ensures desk { desk.new ≡ let_go desk.old (Some last) }
     ensures gone { (other : ℕ) →
         view_at held.new other ≡ (if pipe == other then None else view_at held.old other) }
-    ensures fewer { length held.new.views + (if is_some last then 1 else 0) ≡
-        length held.old.views }
+    ensures fewer { length held.new.views + 1 ≡ length held.old.views }
     ensures same { held.new ≡ record held.old { views = held.new.views } }
     ensures cost { steps.new ≤ steps.old + 8 }
 {
-    let Some(item) = last else {
-        return;
-    };
     let view = held.take_view(pipe).unwrap();
-    desk.give_back(item.desc, view);
-    desk.drop_use(item.desc, steps);
+    hand_back(desk, last, view, steps);
 }
 
 /// Puts a view of the item's message into the bag, for a pipe that has none there, and answers the
@@ -194,5 +207,84 @@ pub(crate) fn show<'r>(
             Some(item.number)
         }
         None => None,
+    }
+}
+
+// Puts a view of the next item's message in the place of that of a pipe's last one, and hands that
+// one back. At most 8 steps.
+fn exchange<'r, L: Ledger>(
+    desk: &mut Desk<'r>,
+    held: &mut Held<'r>,
+    pipe: u32,
+    last: ItemRow,
+    next: ItemRow,
+    steps: &mut Steps<L>,
+)
+    requires seen { view_at held.old pipe ≡ Some (view_in desk.old.slots last) }
+    requires sealed { is_sealed (slot_at desk.old.slots last.desc) ≡ true }
+    requires used { 1 ≤ (sealed_at desk.old.slots last.desc).uses }
+    requires viewed { (sealed_at desk.old.slots last.desc).views ≤
+        (sealed_at desk.old.slots last.desc).uses }
+    requires lent { 1 ≤ (sealed_at desk.old.slots last.desc).views }
+    requires next_sealed { is_sealed (slot_at (let_go desk.old (Some last)).slots next.desc) ≡
+        true }
+    requires few { (sealed_at desk.old.slots next.desc).views < 4294967295 }
+    ensures desk { desk.new ≡ shown (let_go desk.old (Some last)) (Some next) }
+    ensures seen { (other : ℕ) →
+        view_at held.new other ≡
+        (if pipe == other then Some (view_in (let_go desk.old (Some last)).slots next)
+        else view_at held.old other) }
+    ensures as_many { length held.new.views ≡ length held.old.views }
+    ensures same { held.new ≡ record held.old { views = held.new.views } }
+    ensures cost { steps.new ≤ steps.old + 8 }
+{
+    let view = desk.view(next.desc);
+    let old = held.exchange_view(pipe, view);
+    hand_back(desk, last, old, steps);
+}
+
+/// Lets a pipe's last message go, if any, and shows the next one, if any, in its place; answers
+/// the next one's number. At most 8 steps.
+pub(crate) fn show_next<'r, L: Ledger>(
+    desk: &mut Desk<'r>,
+    held: &mut Held<'r>,
+    pipe: u32,
+    last: Option<ItemRow>,
+    next: Option<ItemRow>,
+    steps: &mut Steps<L>,
+) -> Option<u32>
+    requires seen { view_at held.old pipe ≡ option_map (view_in desk.old.slots) last }
+    requires room { length held.old.views < held.old.view_room + (if is_some last then 1 else 0) }
+    requires sealed { IfSome last (λ item. is_sealed (slot_at desk.old.slots item.desc) ≡ true) }
+    requires used { IfSome last (λ item. 1 ≤ (sealed_at desk.old.slots item.desc).uses) }
+    requires viewed { IfSome last
+        (λ item. (sealed_at desk.old.slots item.desc).views ≤
+        (sealed_at desk.old.slots item.desc).uses) }
+    requires lent { IfSome last (λ item. 1 ≤ (sealed_at desk.old.slots item.desc).views) }
+    requires next_sealed { IfSome next
+        (λ item. is_sealed (slot_at (let_go desk.old last).slots item.desc) ≡ true) }
+    requires few { IfSome next
+        (λ item. (sealed_at desk.old.slots item.desc).views < 4294967295) }
+    ensures number { result ≡ option_map (λ item. item.number) next }
+    ensures desk { desk.new ≡ shown (let_go desk.old last) next }
+    ensures seen { (other : ℕ) →
+        view_at held.new other ≡
+        (if pipe == other then option_map (view_in (let_go desk.old last).slots) next
+        else view_at held.old other) }
+    ensures counted { length held.new.views + (if is_some last then 1 else 0) ≡
+        length held.old.views + (if is_some next then 1 else 0) }
+    ensures same { held.new ≡ record held.old { views = held.new.views } }
+    ensures cost { steps.new ≤ steps.old + 8 }
+{
+    match (last, next) {
+        (Some(last), Some(next)) => {
+            exchange(desk, held, pipe, last, next, steps);
+            Some(next.number)
+        }
+        (Some(last), None) => {
+            put_back(desk, held, pipe, last, steps);
+            None
+        }
+        (None, next) => show(desk, held, pipe, next),
     }
 }

@@ -7,7 +7,7 @@ ghost use Rattle.lend_block.specs.Loan.{LentBytes};
 ghost use Rattle.bus_store.specs.Bag.{HoldsViews};
 ghost use Rattle.bus_store.specs.Words.{oldest_of, last_of, loan_of, with_held};
 
-use crate::blocks::{put_back, show};
+use crate::blocks::{show, show_next};
 use crate::store::BusStore;
 use bucket_list::{Ledger, Steps};
 use buf_desc::Held;
@@ -49,8 +49,7 @@ impl<'r> BusStore<'r> {
         self.tables.recall_order();
         self.desk.recall_live();
         let items = self.tables.take(pipe);
-        put_back(&mut self.desk, held, pipe, items.before, steps);
-        let number = show(&mut self.desk, held, pipe, items.after);
+        let number = show_next(&mut self.desk, held, pipe, items.before, items.after, steps);
         self.desk.recall_live();
         number
     }

@@ -1,14 +1,17 @@
-use Rattle.std.proofs.Common.{length, None, refl, ap, add-zero}
+use Rattle.std.proofs.Common.{length, None, refl, ap, ◌∙◌, add-zero, arith}
 use Rattle.lend_block.specs.Loan.{LentBytes}
 use Rattle.buf_desc.specs.Held.{Holding}
-use Rattle.bus_store.proofs.FirstReceives.{nothing_last, still_seen}
-use Rattle.bus_store.proofs.Received.{room_left, front_sealed, front_few, received_keeps, received_held, received_loans, received_bag, received_others, received_number}
+use Rattle.bus_store.proofs.FirstReceives.{nothing_last}
+use Rattle.bus_store.proofs.Received.{room_left, front_sealed, next_few, received_keeps, received_held, received_loans, received_bag, received_others, received_number}
 use Rattle.bus_store.proofs.store.BusStore.receive_first.Goals as goal
 
 pub show-number-requires-clause-room : goal.show-number-requires-clause-room
 show-number-requires-clause-room c =
-    room_left c.self.inside c.args.self.now c.args.app c.args.pipe None c.take-oldest.result.after c.take-oldest.new.self c.self.inside.desk c.self.inside.desk
-    c.self.view_is c.self.invariant c.recall_order.ensures c.recall_live.ensures.live (nothing_last c.self.inside c.args.self.now c.args.app c.args.pipe c.self.view_is c.requires.none) c.take-oldest.ensures.oldest c.take-oldest.ensures.rows c.requires.own c.args.held.now c.args.held.now c.requires.bag (add-zero (length c.args.held.now.views)) refl
+    omega (
+      arith,
+      room_left c.self.inside c.args.self.now c.args.app c.args.pipe None c.take-oldest.result.after c.take-oldest.new.self c.self.inside.desk c.self.inside.desk
+          c.self.view_is c.self.invariant c.recall_order.ensures c.recall_live.ensures.live (nothing_last c.self.inside c.args.self.now c.args.app c.args.pipe c.self.view_is c.requires.none) c.take-oldest.ensures.oldest c.take-oldest.ensures.rows c.requires.own c.args.held.now c.requires.bag,
+    )
 
 pub show-number-requires-clause-sealed : goal.show-number-requires-clause-sealed
 show-number-requires-clause-sealed c =
@@ -17,8 +20,8 @@ show-number-requires-clause-sealed c =
 
 pub show-number-requires-clause-few : goal.show-number-requires-clause-few
 show-number-requires-clause-few c =
-    front_few c.self.inside c.args.self.now c.args.app c.args.pipe None c.take-oldest.result.after c.take-oldest.new.self c.self.inside.desk c.self.inside.desk
-    c.self.view_is c.self.invariant c.recall_order.ensures c.recall_live.ensures.live (nothing_last c.self.inside c.args.self.now c.args.app c.args.pipe c.self.view_is c.requires.none) c.take-oldest.ensures.oldest c.take-oldest.ensures.rows refl
+    next_few c.self.inside c.args.self.now c.args.app c.args.pipe None c.take-oldest.result.after c.take-oldest.new.self c.self.inside.desk c.self.inside.desk
+    c.self.view_is c.self.invariant c.recall_order.ensures c.recall_live.ensures.live (nothing_last c.self.inside c.args.self.now c.args.app c.args.pipe c.self.view_is c.requires.none) c.take-oldest.ensures.oldest c.take-oldest.ensures.rows
 
 pub invariant_of-self : goal.invariant_of-self
 invariant_of-self c =
@@ -43,8 +46,8 @@ returns-clause-loans c =
 pub returns-clause-bag : goal.returns-clause-bag
 returns-clause-bag c =
     received_bag c.self.inside c.args.self.now c.args.app c.args.pipe None c.take-oldest.result.after c.take-oldest.new.self c.self.inside.desk c.show-number.new.desk
-    c.self.view_is c.self.invariant c.recall_order.ensures c.recall_live.ensures.live (nothing_last c.self.inside c.args.self.now c.args.app c.args.pipe c.self.view_is c.requires.none) c.take-oldest.ensures.oldest c.take-oldest.ensures.rows refl c.show-number.ensures.desk c.requires.own c.args.held.now c.args.held.now c.show-number.new.held c.requires.bag
-    (still_seen c.self.inside c.args.self.now c.args.app c.args.pipe c.self.view_is c.requires.none c.args.held.now c.requires.bag) c.show-number.ensures.seen (add-zero (length c.args.held.now.views)) c.show-number.ensures.more refl (ap (λ (h : Holding LentBytes). h.view_room) c.show-number.ensures.same)
+    c.self.view_is c.self.invariant c.recall_order.ensures c.recall_live.ensures.live (nothing_last c.self.inside c.args.self.now c.args.app c.args.pipe c.self.view_is c.requires.none) c.take-oldest.ensures.oldest c.take-oldest.ensures.rows refl c.show-number.ensures.desk c.requires.own c.args.held.now c.show-number.new.held c.requires.bag
+    c.show-number.ensures.seen (add-zero (length c.show-number.new.held.views) ∙ c.show-number.ensures.more) (ap (λ (h : Holding LentBytes). h.view_room) c.show-number.ensures.same)
 
 pub returns-clause-other_bags : goal.returns-clause-other_bags
 returns-clause-other_bags c = λ other bag not_own.
