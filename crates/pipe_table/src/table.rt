@@ -281,8 +281,24 @@ impl PipeTable {
     }
 }
 
-// Where a number stands among those of the live pipes.
+// Where a number stands among those of the live pipes. It is looked for at the place where it
+// stands while no pipe was deleted, and by halves where it isn't there.
 fn index_of(live: &Vec<u32>, number: u32) -> Option<usize>
+    requires { AreRising 0 live.now.items }
+    ensures some { IfSome result
+        (λ i. (i < length live.now.items) × (slice_index live.now.items i ≡ number)) }
+    ensures none { result ≡ None → (k : ℕ) → k < length live.now.items →
+        slice_index live.now.items k ≡ number → ⊥ }
+{
+    let likely = (number as usize).saturating_sub(1);
+    if likely < live.len() && live[likely] == number {
+        return Some(likely);
+    }
+    index_by_halves(live, number)
+}
+
+// Where a number stands, searched by halves.
+fn index_by_halves(live: &Vec<u32>, number: u32) -> Option<usize>
     requires { AreRising 0 live.now.items }
     ensures some { IfSome result
         (λ i. (i < length live.now.items) × (slice_index live.now.items i ≡ number)) }

@@ -5,7 +5,7 @@ use Rattle.std.proofs.lemmas.Bool.{cases_lt}
 use Rattle.std.proofs.lemmas.List.Sorted.{searched}
 use Rattle.pipe_table.specs.Inside.{AreRising}
 use Rattle.pipe_table.proofs.Filing.{rising_all}
-use Rattle.pipe_table.proofs.table.index_of.Goals as goal
+use Rattle.pipe_table.proofs.table.index_by_halves.Goals as goal
 
 pub returns-in-Ok-clause-some : goal.returns-in-Ok-clause-some
 returns-in-Ok-clause-some c =
