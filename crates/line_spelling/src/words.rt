@@ -5,9 +5,8 @@ ghost use Rattle.text_page.specs.Texts.{hex_id, hex_bytes, name_text};
 ghost use Rattle.line_spelling.specs.Spelling.{spaced, scope_text, mode_text, content_text, filter_text, rule_text};
 
 use fsw_base::{Scope, Sink, SinkGuard};
-use itoa::Integer;
 use script_lines::{Content, Rule};
-use text_page::{Page, put, put_hex_bytes, put_hex_id, put_name, put_number};
+use text_page::{Number, Page, put, put_hex_bytes, put_hex_id, put_name, put_number};
 
 /// Puts a word.
 pub(crate) fn put_word<K: Sink>(sink: &mut SinkGuard<'_, K>, page: &mut Page, word: &[u8])
@@ -46,7 +45,7 @@ pub(crate) fn put_alone<K: Sink>(
 }
 
 /// Puts a number in decimal.
-pub(crate) fn put_figure<K: Sink, N: Integer>(
+pub(crate) fn put_figure<K: Sink, N: Number>(
     sink: &mut SinkGuard<'_, K>,
     page: &mut Page,
     number: N,

@@ -1,2 +1,3 @@
+pub mod Digits
 pub mod Following
 pub mod Putting

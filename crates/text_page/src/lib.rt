@@ -12,10 +12,12 @@
 //! ```
 #![tactic(auto)]
 
+mod numbers;
 mod pages;
 mod pieces;
 mod writes;
 
+pub use numbers::{Number, put_number};
 pub use pages::{Page, finish, put};
-pub use pieces::{hex_id, put_hex_bytes, put_hex_id, put_name, put_number};
+pub use pieces::{hex_id, put_hex_bytes, put_hex_id, put_name};
 pub use writes::write_text;

@@ -35,26 +35,44 @@ impl Page {
         }
     }
 
+    // How many more bytes have room.
+    pub(crate) fn room(&self) -> usize
+        ensures { result + length self.now ≡ PAGE_BYTES }
+    {
+        self.text.remaining_capacity()
+    }
+
+    // Takes a text that has room.
+    pub(crate) fn append(&mut self, text: &[u8])
+        requires { length self.old + length text.now ≤ PAGE_BYTES }
+        ensures { self.new ≡ self.old ++ text.now }
+    {
+        let _ = self.text.try_extend_from_slice(text);
+    }
+
     // Takes as much of the text as has room, and answers how many bytes that is.
-    fn append(&mut self, text: &[u8]) -> usize
+    fn append_front(&mut self, text: &[u8]) -> usize
         requires { length self.old < PAGE_BYTES }
         ensures count { 0 < length text.now → IsCountOf result (length text.now) }
         ensures text { self.new ≡ self.old ++ take result text.now }
     {
-        let count = text.len().min(PAGE_BYTES - self.text.len());
-        let _ = self.text.try_extend_from_slice(&text[..count]);
+        let count = text.len().min(self.room());
+        self.append(&text[..count]);
         count
     }
 }
 
 /// Puts a piece of text on the page. A full page is written out first. After a failed write nothing
 /// is written any more, and what is put is lost.
+#[inline]
+#[tactic(auto, using(crate::proofs::Putting::waits_behind))]
 pub fn put<K: Sink>(sink: &mut SinkGuard<'_, K>, page: &mut Page, text: &[u8])
     ensures { Puts sink.old sink.new page.old page.new text.now }
 {
-    let mut taken = 0;
-    while taken < text.len() {
-        taken += put_front(sink, page, &text[taken..]);
+    if text.len() <= page.room() {
+        page.append(text);
+    } else {
+        put_over(sink, page, text);
     }
 }
 
@@ -75,6 +93,18 @@ pub fn finish<K: Sink>(sink: &mut SinkGuard<'_, K>, page: &mut Page) -> Result<(
     Ok(())
 }
 
+// Puts a text that goes over the end of the page, so that few callers of `put` have the loop.
+#[cold]
+#[inline(never)]
+fn put_over<K: Sink>(sink: &mut SinkGuard<'_, K>, page: &mut Page, text: &[u8])
+    ensures { Puts sink.old sink.new page.old page.new text.now }
+{
+    let mut taken = 0;
+    while taken < text.len() {
+        taken += put_front(sink, page, &text[taken..]);
+    }
+}
+
 // Puts a front of the text, at least one byte of it, and answers how many bytes that is.
 fn put_front<K: Sink>(sink: &mut SinkGuard<'_, K>, page: &mut Page, text: &[u8]) -> usize
     requires { 0 < length text.now }
@@ -82,7 +112,7 @@ fn put_front<K: Sink>(sink: &mut SinkGuard<'_, K>, page: &mut Page, text: &[u8])
     ensures count { IsCountOf result (length text.now) }
 {
     make_room(sink, page);
-    page.append(text)
+    page.append_front(text)
 }
 
 // Writes the page out where it is full.

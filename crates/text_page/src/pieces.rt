@@ -1,19 +1,13 @@
 //! Numbers, ids, names and bytes as pieces of a text.
-ghost use Rattle.std.specs.Prelude.{◌≡◌, ℕ, ◌<◌, decimal};
+ghost use Rattle.std.specs.Prelude.{◌≡◌, ◌<◌, ◌≤◌, length};
 ghost use Rattle.text_page.specs.Pieces.{Puts};
-ghost use Rattle.text_page.specs.Texts.{hex_digit, hex_byte, hex_bytes, hex_id, name_text};
+ghost use Rattle.text_page.specs.Texts.{hex_digit, hex_bytes, hex_id, name_text};
 
 use crate::pages::{Page, put};
 use fsw_base::{Sink, SinkGuard};
-use itoa::{Buffer, Integer};
 
-/// Puts a number in decimal.
-pub fn put_number<K: Sink, N: Integer>(sink: &mut SinkGuard<'_, K>, page: &mut Page, number: N)
-    ensures { Puts sink.old sink.new page.old page.new (N.text number) }
-{
-    let mut buffer = Buffer::new();
-    put(sink, page, buffer.format(number).as_bytes());
-}
+// So many bytes are put at a time as hexadecimal digits.
+const PIECE: usize = 16;
 
 /// Puts a name, or `-` for the empty one.
 pub fn put_name<K: Sink>(sink: &mut SinkGuard<'_, K>, page: &mut Page, name: &[u8])
@@ -53,16 +47,22 @@ pub fn hex_id(id: u16) -> [u8; 6]
 pub fn put_hex_bytes<K: Sink>(sink: &mut SinkGuard<'_, K>, page: &mut Page, bytes: &[u8])
     ensures { Puts sink.old sink.new page.old page.new (hex_bytes bytes.now) }
 {
-    for byte in bytes {
-        put(sink, page, &hex_byte(*byte));
+    for piece in bytes.chunks(PIECE) {
+        put_hex_piece(sink, page, piece);
     }
 }
 
-// The byte's two hexadecimal digits.
-fn hex_byte(byte: u8) -> [u8; 2]
-    ensures { result ≡ hex_byte byte }
+// Puts a few bytes as two hexadecimal digits each.
+fn put_hex_piece<K: Sink>(sink: &mut SinkGuard<'_, K>, page: &mut Page, bytes: &[u8])
+    requires { length bytes.now ≤ 16 }
+    ensures { Puts sink.old sink.new page.old page.new (hex_bytes bytes.now) }
 {
-    [hex_digit(byte / 16), hex_digit(byte % 16)]
+    let mut digits = [0; 2 * PIECE];
+    for (i, byte) in bytes.iter().enumerate() {
+        digits[2 * i] = hex_digit(*byte / 16);
+        digits[2 * i + 1] = hex_digit(*byte % 16);
+    }
+    put(sink, page, &digits[..2 * bytes.len()]);
 }
 
 // The hexadecimal digit of a number below 16.

@@ -1,6 +1,6 @@
 use Rattle.std.proofs.Common.{length, take, ◌-◌, ◌≤◌}
 use Rattle.text_page.specs.Pieces.{Puts}
-use Rattle.text_page.proofs.pages.put.Given as goal
+use Rattle.text_page.proofs.pages.put_over.Given as goal
 
 abbrev pub invariant-loop-taken : goal.invariant-loop-taken
 invariant-loop-taken g l = record {
