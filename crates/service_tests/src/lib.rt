@@ -5,4 +5,6 @@
 #[cfg(test)]
 mod message_tests;
 #[cfg(test)]
+mod sixteen_tests;
+#[cfg(test)]
 mod tbl_service_tests;
