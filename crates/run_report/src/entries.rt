@@ -1,12 +1,12 @@
 //! The lines on the calls of the software bus.
 ghost use Rattle.std.specs.Prelude.{◌≡◌, ℕ, ◌++◌, codes, decimal};
 ghost use Rattle.bus_words.specs.declared.history.Call.TheVariants.{Create, Find, Subscribe, Unsubscribe, Transmit, TransmitBuffer, SendEvent};
-ghost use Rattle.bus_words.specs.Entries.{call_of, entry_of};
+ghost use Rattle.bus_words.specs.Entries.{call_of, lent_of};
 ghost use Rattle.text_page.specs.Pieces.{Puts};
 ghost use Rattle.run_report.specs.BusText.{scope_text, mode_text, call_text, figures_text, stats_text, answer_text, entry_text, entries_text};
 
 use crate::sums::sum_of;
-use bus_words::{BusAnswer, BusCall, BusEntry, BusJournal};
+use bus_words::{BusAnswer, BusCall, BusJournal, LentEntry};
 use fsw_base::{BusStats, EventKind, PoolStats, Scope, Sink, SinkGuard};
 use text_page::{Page, put, put_hex_id, put_name, put_number};
 
@@ -15,7 +15,7 @@ pub fn put_entries<K: Sink>(sink: &mut SinkGuard<'_, K>, page: &mut Page, journa
     ensures { Puts sink.old sink.new page.old page.new (entries_text journal.now.entries) }
 {
     for i in 0..journal.len() {
-        put_entry(sink, page, i + 1, &journal.get(i));
+        put_entry(sink, page, i + 1, &journal.lent(i));
     }
 }
 
@@ -24,9 +24,9 @@ fn put_entry<K: Sink>(
     sink: &mut SinkGuard<'_, K>,
     page: &mut Page,
     number: u32,
-    entry: &BusEntry<'_>,
+    entry: &LentEntry<'_>,
 )
-    ensures { Puts sink.old sink.new page.old page.new (entry_text number (entry_of entry.now)) }
+    ensures { Puts sink.old sink.new page.old page.new (entry_text number (lent_of entry.now)) }
 {
     put_number(sink, page, number);
     put(sink, page, b" a");
@@ -34,7 +34,7 @@ fn put_entry<K: Sink>(
     put(sink, page, b" ");
     put_call(sink, page, &entry.call);
     put(sink, page, b" -> ");
-    put_answer(sink, page, &entry.answer);
+    put_answer(sink, page, entry.answer);
     put(sink, page, b"\n");
 }
 

@@ -1,4 +1,4 @@
-use Rattle.bus_words.specs.Entries.{entry_of}
+use Rattle.bus_words.specs.Entries.{lent_of}
 use Rattle.run_report.specs.BusText.{entry_text}
 use Rattle.text_page.proofs.Following.{numbered-next}
 use Rattle.text_page.proofs.Putting.{◌▸◌, puts_as}
@@ -6,4 +6,4 @@ use Rattle.run_report.proofs.entries.put_entries.Goals as goal
 
 pub loop-i-preserved : goal.loop-i-preserved
 loop-i-preserved g c =
-    puts_as _ (numbered-next entry_text c.args.journal.now.entries c.loop-i.i (entry_of c.get.result) c.get.ensures) (c.loop-i.invariant ▸ c.put_entry.ensures)
+    puts_as _ (numbered-next entry_text c.args.journal.now.entries c.loop-i.i (lent_of c.lent.result) c.lent.ensures) (c.loop-i.invariant ▸ c.put_entry.ensures)
