@@ -98,10 +98,12 @@ fn four_digits(number: u32) -> [u8; 4]
     ensures { result ≡ (48 + number / 1000) ∷ (48 + number / 100 % 10) ∷ (48 + number / 10 % 10)
         ∷ (48 + number % 10) ∷ [] }
 {
+    let front = (number / 100) as u8;
+    let back = (number % 100) as u8;
     [
-        b'0' + (number / 1000) as u8,
-        b'0' + (number / 100 % 10) as u8,
-        b'0' + (number / 10 % 10) as u8,
-        b'0' + (number % 10) as u8,
+        b'0' + front / 10,
+        b'0' + front % 10,
+        b'0' + back / 10,
+        b'0' + back % 10,
     ]
 }

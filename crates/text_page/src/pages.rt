@@ -35,14 +35,14 @@ impl Page {
         }
     }
 
-    // How many more bytes have room.
+    /// How many more bytes have room.
     pub(crate) fn room(&self) -> usize
         ensures { result + length self.now ≡ PAGE_BYTES }
     {
         self.text.remaining_capacity()
     }
 
-    // Takes a text that has room.
+    /// Takes a text that has room.
     pub(crate) fn append(&mut self, text: &[u8])
         requires { length self.old + length text.now ≤ PAGE_BYTES }
         ensures { self.new ≡ self.old ++ text.now }
@@ -64,7 +64,7 @@ impl Page {
 
 /// Puts a piece of text on the page. A full page is written out first. After a failed write nothing
 /// is written any more, and what is put is lost.
-#[inline]
+#[inline(always)]
 #[tactic(auto, using(crate::proofs::Putting::waits_behind))]
 pub fn put<K: Sink>(sink: &mut SinkGuard<'_, K>, page: &mut Page, text: &[u8])
     ensures { Puts sink.old sink.new page.old page.new text.now }
