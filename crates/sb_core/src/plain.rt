@@ -63,12 +63,13 @@ impl<'r> SbCore<'r> {
               descs = [];
             }) }
     {
+        // The store is made last: every way out behind it lets it go, which is proved each time.
         Ok(SbCore {
             config: cfg.again(),
             activities: all_active(alloc, apps)?,
-            store: BusStore::new(alloc, cfg, apps as u32, region)?,
             pools: AppPools::new(alloc, cfg)?,
             records: Records::new(alloc)?,
+            store: BusStore::new(alloc, cfg, apps as u32, region)?,
         })
     }
 }
