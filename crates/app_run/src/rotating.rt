@@ -99,8 +99,9 @@ fn open_services<'r>(
     script.recall_ranges();
     let budgets = budgets_of(alloc, script)?;
     let Blocks { pool, tables, work } = regions.blocks_mut();
-    let bus = BusCore::new(alloc, script.config(), &budgets, pool)?;
     let tables = TblCore::new(alloc, script.config(), &budgets, tables, work)?;
+    // Made last: every way out behind it lets the bus go, which is proved each time.
+    let bus = BusCore::new(alloc, script.config(), &budgets, pool)?;
     Ok(OpenedServices { bus, tables })
 }
 
