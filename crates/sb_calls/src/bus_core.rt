@@ -66,9 +66,10 @@ impl<'r> BusCore<'r> {
               notes = [];
             }) }
     {
+        // The core is made last: every way out behind it lets it go, which is proved each time.
         Ok(BusCore {
-            core: SbCore::new(alloc, cfg, budgets.len(), region)?,
             noted: NotedJournal::new(alloc, budgets)?,
+            core: SbCore::new(alloc, cfg, budgets.len(), region)?,
         })
     }
 

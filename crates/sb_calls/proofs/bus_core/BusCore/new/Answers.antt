@@ -15,19 +15,19 @@ use Rattle.sb_calls.proofs.bus_core.BusCore.new.Goals as goal
 pub invariant_of-result : goal.invariant_of-result
 invariant_of-result c =
     let budgets = c.args.budgets.now in
-    let core = c.in_ok-new.field-0 in
-    let noted = c.in_ok-new-2.field-0 in
-    let log = c.in_ok-new-2.ensures in
+    let core = c.in_ok-new-2.field-0 in
+    let noted = c.in_ok-new.field-0 in
+    let log = c.in_ok-new.ensures in
     let apps : length noted.log.budgets ≡ length budgets = ap (λ (n : NotedLog). length n.log.budgets) log in
     let no_entry = ap (λ (n : NotedLog). length n.log.entries) log in
     let entries = ap (λ (n : NotedLog). entries_left (left_of n.log)) log ∙ entries_left-allowances budgets in
     record {
       legal = subst (λ (n : NotedLog). IsLegalCore (record { limits = core.limits; log = n.log; notes = n.notes })) (sym log) tt;
       due = subst (λ (n : NotedLog). AreDue n.log.entries n.notes) (sym log) tt;
-      whole = ap (λ (p : Plain). p.whole) c.in_ok-new.ensures ∙ ap (opening_whole (limits_of c.args.cfg.now)) (sym apps)
-          ∙ ap (λ limits. opening_whole limits (length noted.log.budgets)) (sym (ap (λ (p : Plain). p.limits) c.in_ok-new.ensures))
+      whole = ap (λ (p : Plain). p.whole) c.in_ok-new-2.ensures ∙ ap (opening_whole (limits_of c.args.cfg.now)) (sym apps)
+          ∙ ap (λ limits. opening_whole limits (length noted.log.budgets)) (sym (ap (λ (p : Plain). p.limits) c.in_ok-new-2.ensures))
           ∙ ap (λ (n : NotedLog). whole_after core.limits (length noted.log.budgets) n.log.entries) (sym log);
-      loans = λ pipe some. absurd (true≢false (sym some ∙ ap (λ (p : Plain). is_some (last_of p.whole.bus.pipes pipe)) c.in_ok-new.ensures));
-      descs = λ number is. absurd (true≢false (sym is ∙ ap (λ (p : Plain). is_unsent p.whole.bus.unsent number) c.in_ok-new.ensures ∙ none-first (length budgets) number));
+      loans = λ pipe some. absurd (true≢false (sym some ∙ ap (λ (p : Plain). is_some (last_of p.whole.bus.pipes pipe)) c.in_ok-new-2.ensures));
+      descs = λ number is. absurd (true≢false (sym is ∙ ap (λ (p : Plain). is_unsent p.whole.bus.unsent number) c.in_ok-new-2.ensures ∙ none-first (length budgets) number));
       few = omega (arith, no_entry, entries, c.requires.budgets.entries);
     }
