@@ -1,2 +1,4 @@
+pub mod Loading
 pub mod Making
 pub mod Opening
+pub mod Written

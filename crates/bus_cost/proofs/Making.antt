@@ -1,18 +1,18 @@
 -- Each call takes at most one number of each kind and leaves the standings, and so many calls after one another as much.
-use Rattle.std.proofs.Common.{◌≡◌, ℕ, ◌+◌, ◌^◌, ◌<◌, ◌≤◌, Bool, true, false, cond, List, [], ◌∷◌, length, Option, Some, None, IsTrue, refl, ap, sym, ◌∙◌, subst, arith}
+use Rattle.std.proofs.Common.{◌≡◌, ℕ, suc, ◌+◌, ◌-◌, ◌==◌, if◌then◌else◌, slice_index_or, ◌^◌, ◌<◌, ◌≤◌, Bool, true, false, cond, List, [], ◌∷◌, length, Option, Some, None, IsTrue, refl, ap, sym, ◌∙◌, subst, arith}
 use Rattle.fsw_base.specs.declared.config.Scope.{Scope}
 use Rattle.fsw_base.specs.Limits.{Limits}
 use Rattle.ccsds_msg.specs.Message.{message_id}
 use Rattle.bus_words.specs.declared.calls.BusAnswer.{BusAnswer}
 use Rattle.bus_words.specs.declared.history.Call.{Call}
-use Rattle.bus_words.specs.declared.history.Call.TheVariants.{Create, Subscribe, Transmit, Receive}
-use Rattle.bus_words.specs.Bus.{State, Subscription, Sending, Active, Standing, standing_of, is_subscribed, route}
+use Rattle.bus_words.specs.declared.history.Call.TheVariants.{Create, Subscribe, Transmit, Receive, Allocate, TransmitBuffer}
+use Rattle.bus_words.specs.Bus.{State, Subscription, Sending, Active, Ended, Standing, standing_of, is_subscribed, route}
 use Rattle.bus_words.specs.Refusals.{Refusal}
-use Rattle.bus_words.specs.Machine.{Reads, sent_along, stamped, accept_with, decided_with, cause_with}
+use Rattle.bus_words.specs.Machine.{Reads, sent_along, passed_along, sending_in, buffer_gone, stamped, accept_with, decided_with, cause_with, may_call}
 use Rattle.bus_words.specs.Acts.{Whole, act, reads_in}
 use Rattle.bus_words.proofs.Steps.{with_subscription, after_refusal}
-use Rattle.sb_core.specs.Core.{Plain, Acts}
-use Rattle.bus_cost.specs.Calls.{Made}
+use Rattle.sb_core.specs.Core.{Plain, MayAct, Acts, is_within, has_grant_numbers}
+use Rattle.bus_cost.specs.Calls.{MayMake, Made}
 
 -- One call, at the state. --
 
@@ -41,6 +41,10 @@ goes_subscribed s next false goes = goes
 goes_sent : (limits : Limits) (subs : List Subscription) (sending : Sending) (s : State) → sending.number ≡ s.numbers_given + 1 → Goes s ((sent_along limits subs sending s).1)
 goes_sent limits [] sending s number = stays s
 goes_sent limits (sub ∷ subs) sending s number = record { standings = refl; pipes = omega arith; subscriptions = omega arith; sends = omega (arith, number) }
+
+goes_passed : (subs : List Subscription) (sending : Sending) (s gone : State) → Goes s gone → Goes s ((passed_along subs sending gone).1)
+goes_passed [] sending s gone goes = goes
+goes_passed (sub ∷ subs) sending s gone goes = record { standings = goes.standings; pipes = goes.pipes; subscriptions = goes.subscriptions; sends = goes.sends }
 
 -- One call, at the core. --
 
@@ -73,6 +77,18 @@ made_transmit old new app bytes inc answer acts =
     (goes_sent old.limits (route s.subscriptions (message_id bytes))
     (record { sender = app; number = s.numbers_given + 1; asked = length bytes; message = stamped (reads_in old.whole) bytes inc }) s refl)
 
+pub made_allocate : (old new : Plain) (app size : ℕ) (answer : BusAnswer) → Acts old new app (Allocate size) answer → Made old new 1
+made_allocate old new app size answer acts =
+    made_one old new app (Allocate size) answer acts
+    (record { standings = refl; pipes = omega arith; subscriptions = omega arith; sends = omega arith })
+
+pub made_transmit_buffer : (old new : Plain) (app buf : ℕ) (bytes : List ℕ) (inc : Bool) (answer : BusAnswer) → Acts old new app (TransmitBuffer buf bytes inc) answer → Made old new 1
+made_transmit_buffer old new app buf bytes inc answer acts =
+    let s = old.whole.bus in
+    made_one old new app (TransmitBuffer buf bytes inc) answer acts
+    (goes_passed (route s.subscriptions (message_id bytes)) (sending_in (reads_in old.whole) s app buf bytes inc) s (buffer_gone s app buf)
+    (record { standings = refl; pipes = omega arith; subscriptions = omega arith; sends = omega arith }))
+
 pub made_receive : (old new : Plain) (app pipe : ℕ) (answer : BusAnswer) → Acts old new app (Receive pipe) answer → Made old new 1
 made_receive old new app pipe answer acts =
     made_one old new app (Receive pipe) answer acts
@@ -89,4 +105,28 @@ made_more old mid new first second all within one two = record {
   pipes = omega (arith, within, one.pipes, two.pipes);
   subscriptions = omega (arith, within, one.subscriptions, two.subscriptions);
   sends = omega (arith, within, one.sends, two.sends);
+}
+
+-- What is left. --
+
+pub left_after : (old mid : Plain) (app first left : ℕ) → MayMake old app (first + left) → Made old mid first → MayMake mid app left
+left_after old mid app first left may made = record {
+  known = omega (arith, may.known, ap length made.standings);
+  active = ap (λ (standings : List Standing). if app == 0 then Ended else slice_index_or standings (app - 1) Ended) made.standings ∙ may.active;
+  pipes = omega (arith, may.pipes, made.pipes);
+  subscriptions = omega (arith, may.subscriptions, made.subscriptions);
+  sends = omega (arith, may.sends, made.sends);
+}
+
+-- what an active application may call, and asks no pool for a grant
+pub may_act : (core : Plain) (app left : ℕ) (call : Call) → ((standing : Standing) → standing ≡ Active → IsTrue (may_call standing call)) → IsTrue (is_within call) →
+    IsTrue (has_grant_numbers core.whole.bus.pools call) → MayMake core app (suc left) → MayAct core app call
+may_act core app left call active within grants may = record {
+  known = may.known;
+  standing = active (standing_of core.whole.bus app) may.active;
+  within = within;
+  pipes = omega (arith, may.pipes);
+  subscriptions = omega (arith, may.subscriptions);
+  sends = omega (arith, may.sends);
+  grants = grants;
 }

@@ -6,21 +6,28 @@
 //! send1, fan16    a message of 64 bytes is sent to 1 or 16 pipes, and received on each
 //! big, fanbig     the same with 32768 bytes
 //! full            a message of 64 bytes is sent to 1 pipe, and not received: it is full after 256
+//! zc              a buffer of 64 bytes is asked for, written, sent as it lies, and received
+//! table           16384 bytes are loaded, the address is taken, a byte is read, and it goes back
 //! ```
 //!
 //! There are four message ids, each with pipes of its own, and the rounds take them in turn. What
-//! is printed depends on no time.
+//! is printed depends on no time: how many messages were received, or how often the table was read,
+//! and how many blocks are in use then.
 #![tactic(auto)]
 
 ghost use Rattle.std.specs.Prelude.{◌≡◌, ◌<◌, ◌≤◌, ◌*◌, length};
 
+mod buffers;
+mod loads;
 mod pipes;
 mod sends;
 mod turns;
 
 use bucket_list::{Blank, Ledger};
 use buf_desc::Held;
+use buffers::time_buffers;
 use fsw_base::Config;
+use loads::time_loads;
 use sb_core::SbCore;
 use sends::{Sends, sends_of};
 use std::alloc::{AllocError, Global};
@@ -36,10 +43,15 @@ fn main(rt: HostRuntime) -> io::Result<()> {
         return println!(rt; "a word and a number of rounds are wanted");
     };
     let rounds = number_in(words.next()).min(MOST_ROUNDS);
-    let Some(sends) = sends_of(&word) else {
+    let (received, blocks) = if let Some(sends) = sends_of(&word) {
+        time_sends(rt.alloc(), sends, rounds)?
+    } else if word.as_str() == "zc" {
+        time_buffers(rt.alloc(), rounds)?
+    } else if word.as_str() == "table" {
+        time_loads(rt.alloc(), rounds)?
+    } else {
         return println!(rt; "{word} is none of the words");
     };
-    let (received, blocks) = time_sends(rt.alloc(), sends, rounds)?;
     println!(rt; "{word} rounds={rounds} received={received} blocks={blocks}")
 }
 
