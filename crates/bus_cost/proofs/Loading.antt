@@ -1,5 +1,5 @@
 -- Each call of the tables that ends nobody takes at most one number of each kind, and a table's version at most one further.
-use Rattle.std.proofs.Common.{◌≡◌, ◌≢◌, ℕ, ◌+◌, ◌^◌, ◌<◌, ◌≤◌, ◌==◌, suc, Bool, true, false, true≢false, cond, if◌then◌else◌, List, [], length, map, All, IsTrue, Option, Some, None, refl, ap, sym, subst, arith}
+use Rattle.std.proofs.Common.{◌≡◌, ℕ, ◌+◌, ◌^◌, ◌<◌, ◌≤◌, ◌==◌, suc, true, false, cond, if◌then◌else◌, List, [], length, All, IsTrue, Option, Some, None, refl, ap, sym, subst, arith}
 use Rattle.std.proofs.lemmas.Bool.Decides.{nat_tests}
 use Rattle.std.proofs.lemmas.List.Elements.{All-push, All-weaker, All-map}
 use Rattle.std.specs.Option.{option_map_or}
@@ -13,7 +13,7 @@ use Rattle.tbl_words.specs.declared.history.Call.TheVariants.{Register, Load, Ge
 use Rattle.tbl_words.specs.Tables.{Table, State, opening, table_of, table_named, with_handle, with_table}
 use Rattle.tbl_words.specs.Machine.{cause, accept, outcome, step, new_table, with_new_table, with_hold, with_value, with_update, with_range}
 use Rattle.tbl_blocks.specs.Held.{HeldViews}
-use Rattle.tbl_core.specs.Core.{Plain, Holds, MayAct, Acts, is_within, changes_bag}
+use Rattle.tbl_core.specs.Core.{Plain, Holds, MayAct, Acts, is_within}
 use Rattle.bus_cost.specs.TableCalls.{MayCallTables}
 
 -- One call, at the state. --

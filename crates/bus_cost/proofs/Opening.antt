@@ -1,5 +1,5 @@
 -- A bag without anything in it is that of the one application of a bus on which no call was made.
-use Rattle.std.proofs.Common.{◌≡◌, ℕ, ◌≤◌, ◌==◌, List, [], length, Option, find, ap, arith}
+use Rattle.std.proofs.Common.{◌≡◌, ℕ, ◌≤◌, ◌==◌, List, [], length, find, ap, arith}
 use Rattle.std.specs.Option.{option_map}
 use Rattle.fsw_base.specs.Limits.{Limits}
 use Rattle.lend_block.specs.Loan.{LentBytes}

@@ -1,4 +1,4 @@
-use Rattle.std.proofs.Common.{◌≡◌, List, [], ap, sym, ◌∙◌, subst, arith}
+use Rattle.std.proofs.Common.{ap, sym, subst, arith}
 use Rattle.buf_desc.specs.Held.{Holding}
 use Rattle.lend_block.specs.Loan.{LentBytes}
 use Rattle.sb_core.specs.Core.{Plain}

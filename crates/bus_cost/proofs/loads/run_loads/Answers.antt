@@ -1,4 +1,4 @@
-use Rattle.std.proofs.Common.{◌≡◌, ℕ, ◌+◌, ◌*◌, suc, Option, IfSome, refl, sym, subst, true≢false, arith}
+use Rattle.std.proofs.Common.{◌≡◌, ℕ, ◌*◌, suc, Option, IfSome, refl, sym, subst, true≢false, arith}
 use Rattle.fsw_base.specs.Limits.{limits_of}
 use Rattle.bus_cost.proofs.Loading.{left_by_register, may_act, opened_may, opened_holds}
 use Rattle.bus_cost.proofs.loads.run_loads.Goals as goal
