@@ -1,5 +1,7 @@
 //! Buffers that are written where they are sent from.
-ghost use Rattle.std.specs.Prelude.{◌≡◌, ◌*◌, ◌+◌, ◌<◌, ◌≤◌, length};
+ghost use Rattle.std.specs.Prelude.{◌≡◌, ◌*◌, ◌+◌, ◌<◌, ◌≤◌, [], length};
+ghost use Rattle.fsw_base.specs.Limits.{limits_of};
+ghost use Rattle.bus_words.specs.Acts.{opening_whole};
 ghost use Rattle.buf_desc.specs.Held.{bytes_at};
 ghost use Rattle.sb_core.specs.Bags.{HasBag};
 ghost use Rattle.bus_cost.specs.Calls.{MayMake, Made};
@@ -45,8 +47,32 @@ fn run_buffers<L: Ledger>(
     requires rounds { rounds ≤ 100000000 }
 {
     let mut core = SbCore::new(alloc, cfg, 1, region)?;
+    carry_buffers::<L>(alloc, cfg, &mut core, rounds, blank)
+}
+
+// Sends the buffers on a bus on which no call was made. It is apart from the making of the bus,
+// since every way out behind that lets the bus go, and each is proved.
+fn carry_buffers<'r, L: Ledger>(
+    alloc: Global,
+    cfg: &Config,
+    core: &mut SbCore<'r>,
+    rounds: u32,
+    blank: Blank,
+) -> Result<(u32, u32), AllocError>
+    requires name { blank.name ≡ L.name }
+    requires parts { blank.parts ≡ L.parts }
+    requires some_part { 0 < blank.parts }
+    requires unused { core.old ≡
+        record {
+          limits = limits_of cfg.now;
+          whole = opening_whole (limits_of cfg.now) 1;
+          loans = [];
+          descs = [];
+        } }
+    requires rounds { rounds ≤ 100000000 }
+{
     let mut held = Held::new(alloc, cfg.pipes, 1)?;
-    let received = carry::<L>(&mut core, &mut held, rounds, blank);
+    let received = carry::<L>(core, &mut held, rounds, blank);
     Ok((received, core.pool().blocks_in_use()))
 }
 

@@ -1,5 +1,7 @@
 //! A table that is loaded and read.
-ghost use Rattle.std.specs.Prelude.{◌≡◌, ℕ, ◌*◌, ◌+◌, ◌<◌, ◌≤◌, length};
+ghost use Rattle.std.specs.Prelude.{◌≡◌, ℕ, ◌*◌, ◌+◌, ◌<◌, ◌≤◌, [], length};
+ghost use Rattle.fsw_base.specs.Limits.{limits_of};
+ghost use Rattle.tbl_words.specs.Tables.{opening};
 ghost use Rattle.tbl_core.specs.Core.{Holds};
 ghost use Rattle.bus_cost.specs.TableCalls.{MayCallTables};
 
@@ -52,8 +54,33 @@ fn run_loads<L: Ledger>(
     requires value { (1 ≤ length value.now) × (length value.now ≤ 65536) }
     requires rounds { rounds ≤ 100000000 }
 {
-    let mut steps = Steps::<L>::new(blank);
     let mut core = PlainTables::new(alloc, cfg, 1, region, work)?;
+    load_and_read::<L>(alloc, cfg, &mut core, value, rounds, blank)
+}
+
+// Registers the table at Table Services on which no call was made, and loads and reads it. It is
+// apart from the making of these, since every way out behind that lets them go, and each is proved.
+fn load_and_read<'r, L: Ledger>(
+    alloc: Global,
+    cfg: &Config,
+    core: &mut PlainTables<'r>,
+    value: &[u8],
+    rounds: u32,
+    blank: Blank,
+) -> Result<(u32, u32), AllocError>
+    requires name { blank.name ≡ L.name }
+    requires parts { blank.parts ≡ L.parts }
+    requires some_part { 0 < blank.parts }
+    requires unused { core.old ≡
+        record {
+          limits = limits_of cfg.now;
+          state = opening (limits_of cfg.now) 1;
+          lent = [];
+        } }
+    requires value { (1 ≤ length value.now) × (length value.now ≤ 65536) }
+    requires rounds { rounds ≤ 100000000 }
+{
+    let mut steps = Steps::<L>::new(blank);
     let mut held = HeldTables::new(alloc, cfg.handles)?;
     let app = AppNo::try_new(1).unwrap();
     let _ = core.register(
@@ -64,7 +91,7 @@ fn run_loads<L: Ledger>(
         &RuleList::new(),
         &mut steps,
     );
-    let read = read_all(&mut core, app, &mut held, value, rounds);
+    let read = read_all(core, app, &mut held, value, rounds);
     Ok((read, core.pool().blocks_in_use()))
 }
 

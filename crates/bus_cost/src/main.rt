@@ -15,7 +15,9 @@
 //! and how many blocks are in use then.
 #![tactic(auto)]
 
-ghost use Rattle.std.specs.Prelude.{◌≡◌, ◌<◌, ◌≤◌, ◌*◌, length};
+ghost use Rattle.std.specs.Prelude.{◌≡◌, ◌<◌, ◌≤◌, ◌*◌, [], length};
+ghost use Rattle.fsw_base.specs.Limits.{limits_of};
+ghost use Rattle.bus_words.specs.Acts.{opening_whole};
 
 mod buffers;
 mod loads;
@@ -94,7 +96,33 @@ fn run_load<L: Ledger>(
     requires load { (load.0 ≤ 100000000) × (load.1 ≤ 16) × (load.2 ≤ 16) }
 {
     let mut core = SbCore::new(alloc, cfg, 1, region)?;
+    carry_load::<L>(alloc, cfg, &mut core, message, load, blank)
+}
+
+// Sends the message on a bus on which no call was made, and receives it. It is apart from the
+// making of the bus, since every way out behind that lets the bus go, and each is proved.
+fn carry_load<'r, L: Ledger>(
+    alloc: Global,
+    cfg: &Config,
+    core: &mut SbCore<'r>,
+    message: &mut [u8],
+    load: (u32, u32, u32),
+    blank: Blank,
+) -> Result<(u32, u32), AllocError>
+    requires name { blank.name ≡ L.name }
+    requires parts { blank.parts ≡ L.parts }
+    requires some_part { 0 < blank.parts }
+    requires unused { core.old ≡
+        record {
+          limits = limits_of cfg.now;
+          whole = opening_whole (limits_of cfg.now) 1;
+          loans = [];
+          descs = [];
+        } }
+    requires message { (7 ≤ length message.old) × (length message.old ≤ 65542) }
+    requires load { (load.0 ≤ 100000000) × (load.1 ≤ 16) × (load.2 ≤ 16) }
+{
     let mut held = Held::new(alloc, cfg.pipes, 0)?;
-    let received = turns::carry::<L>(&mut core, &mut held, message, load, blank);
+    let received = turns::carry::<L>(core, &mut held, message, load, blank);
     Ok((received, core.pool().blocks_in_use()))
 }

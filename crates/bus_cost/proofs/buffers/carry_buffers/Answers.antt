@@ -5,12 +5,12 @@ use Rattle.sb_core.specs.Core.{Plain}
 use Rattle.sb_core.specs.Bags.{HasBag}
 use Rattle.fsw_base.specs.Limits.{limits_of}
 use Rattle.bus_cost.proofs.Opening.{opening_bag}
-use Rattle.bus_cost.proofs.run_load.Goals as goal
+use Rattle.bus_cost.proofs.buffers.carry_buffers.Goals as goal
 
 pub carry-received-requires-clause-bag : goal.carry-received-requires-clause-bag
 carry-received-requires-clause-bag g c =
     let held = c.in_ok-held.ensures in
-    subst (λ (core : Plain). HasBag core 1 c.in_ok-held.held) (sym c.in_ok-core.ensures)
+    subst (λ (core : Plain). HasBag core 1 c.in_ok-held.held) (sym c.requires.unused)
     (opening_bag (limits_of c.args.cfg.now) c.in_ok-held.held
     (ap (λ (bag : Holding LentBytes). bag.views) held)
     (ap (λ (bag : Holding LentBytes). bag.buffers) held)
