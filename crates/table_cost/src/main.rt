@@ -5,7 +5,8 @@
 //! given. What it prints depends on no time.
 #![tactic(auto)]
 
-ghost use Rattle.std.specs.Prelude.{◌≡◌, ◌<◌, ◌≤◌, ◌*◌, length};
+ghost use Rattle.std.specs.Prelude.{◌≡◌, ◌<◌, ◌≤◌, ◌*◌, [], length};
+ghost use Rattle.fsw_base.specs.Limits.{limits_of};
 
 mod turns;
 
@@ -73,13 +74,34 @@ fn run_turns<L: Ledger>(
     requires work { 4 * cfg.now.tablemax ≤ length work.old }
     requires value { length value.now ≤ 65536 }
 {
-    let mut steps = Steps::<L>::new(blank);
     let mut core = TblCore::new(alloc, cfg, &BUDGETS, region, work)?;
+    load_and_address::<L>(alloc, cfg, &mut core, value, turns, blank)
+}
+
+// Registers the table at Table Services on which no call was made, loads it and takes its address.
+// It is apart from the making of these, since every way out behind that lets them go, and each is
+// proved. Answers how many calls were made.
+fn load_and_address<'r, L: Ledger>(
+    alloc: Global,
+    cfg: &Config,
+    core: &mut TblCore<'r>,
+    value: &[u8],
+    turns: (u32, u32),
+    blank: Blank,
+) -> Result<u32, AllocError>
+    requires name { blank.name ≡ L.name }
+    requires parts { blank.parts ≡ L.parts }
+    requires some_part { 0 < blank.parts }
+    requires limits { core.old.limits ≡ limits_of cfg.now }
+    requires unused { core.old.log.entries ≡ [] }
+    requires value { length value.now ≤ 65536 }
+{
+    let mut steps = Steps::<L>::new(blank);
     let mut held = HeldTables::new(alloc, cfg.handles)?;
     let app = AppNo::try_new(1).unwrap();
-    register(&mut core, app, value.len() as u32, &mut steps);
+    register(core, app, value.len() as u32, &mut steps);
     let (loads, addresses) = turns;
-    load_all(&mut core, app, value, loads);
-    address_all(&mut core, app, &mut held, addresses);
+    load_all(core, app, value, loads);
+    address_all(core, app, &mut held, addresses);
     Ok(core.journal().len())
 }
