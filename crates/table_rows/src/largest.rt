@@ -49,18 +49,29 @@ pub fn print_largest<L: Ledger, K: Sink>(
     let mut region = vec![in alloc; 0u8; config.tablepool as usize]?;
     let mut work = vec![in alloc; 0u8; 4 * config.tablemax as usize]?;
     let mut played = PlayedTables::new(alloc, &config, 16, &mut region, &mut work)?;
+    print_filled(&mut played, sink, &mut steps)
+}
+
+// Fills these tables, and prints what was given and what is in use.
+fn print_filled<L: Ledger, K: Sink>(
+    played: &mut PlayedTables<'_>,
+    sink: &mut SinkGuard<'_, K>,
+    steps: &mut Steps<L>,
+) -> Result<(), Fail>
+    ensures { OnOk result (sink.new.failed ≡ false) }
+{
     let mut page = Page::new();
     put(sink, &mut page, b"the largest configuration\n");
-    let tables = fill(&mut played, Filling::Tables, 257, &mut steps);
+    let tables = fill(played, Filling::Tables, 257, steps);
     put_counted(sink, &mut page, b"tables ", tables);
-    let shared = fill(&mut played, Filling::Handles, 769, &mut steps);
+    let shared = fill(played, Filling::Handles, 769, steps);
     put_counted(sink, &mut page, b"shared ", shared);
-    let addresses = fill(&mut played, Filling::Addresses, 1025, &mut steps);
+    let addresses = fill(played, Filling::Addresses, 1025, steps);
     put_counted(sink, &mut page, b"addresses ", addresses);
-    put_use(sink, &mut page, &played);
-    let ended = fill(&mut played, Filling::Ends, 16, &mut steps);
+    put_use(sink, &mut page, played);
+    let ended = fill(played, Filling::Ends, 16, steps);
     put_counted(sink, &mut page, b"ended ", ended);
-    put_use(sink, &mut page, &played);
+    put_use(sink, &mut page, played);
     finish(sink, &mut page)?;
     Ok(())
 }

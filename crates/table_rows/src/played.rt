@@ -50,8 +50,8 @@ impl<'r> PlayedTables<'r> {
         requires region { config.now.tablepool ≤ length region.old }
         requires work { 4 * config.now.tablemax ≤ length work.old }
     {
+        let bags = empty_bags(alloc, apps.clamp(1, 16), config.handles)?;
         let core = TblCore::new(alloc, config, budgets(apps), region, work)?;
-        let bags = empty_bags(alloc, core.apps(), config.handles)?;
         Ok(PlayedTables { core, bags })
     }
 

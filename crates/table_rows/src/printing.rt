@@ -34,20 +34,33 @@ pub fn print_example<L: Ledger, K: Sink>(
     let mut region = vec![in alloc; 0u8; config.tablepool as usize]?;
     let mut work = vec![in alloc; 0u8; 4 * config.tablemax as usize]?;
     let mut played = PlayedTables::new(alloc, &config, example.apps, &mut region, &mut work)?;
+    print_played(example, &mut played, sink, &mut steps)
+}
+
+// Plays an example on these tables, and prints its title, its calls with their answers, and the
+// numbers in use.
+fn print_played<L: Ledger, K: Sink>(
+    example: &Example,
+    played: &mut PlayedTables<'_>,
+    sink: &mut SinkGuard<'_, K>,
+    steps: &mut Steps<L>,
+) -> Result<(), Fail>
+    ensures { OnOk result (sink.new.failed ≡ false) }
+{
     let mut page = Page::new();
     put(sink, &mut page, example.title.as_bytes());
     put(sink, &mut page, b"\n");
     for step in example.steps {
         let (number, act) = step;
         if let Some(app) = AppNo::try_new(*number) {
-            if play(&mut played, app, act, &mut steps) {
-                put_newest(sink, &mut page, &played);
+            if play(played, app, act, steps) {
+                put_newest(sink, &mut page, played);
             } else {
                 put(sink, &mut page, b"not allowed\n");
             }
         }
     }
-    put_use(sink, &mut page, &played);
+    put_use(sink, &mut page, played);
     finish(sink, &mut page)?;
     Ok(())
 }

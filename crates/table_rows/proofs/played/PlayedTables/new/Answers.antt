@@ -7,4 +7,4 @@ use Rattle.table_rows.proofs.played.PlayedTables.new.Goals as goal
 pub invariant_of-result : goal.invariant_of-result
 invariant_of-result c =
     subst (λ bags. HaveBags c.in_ok-core.core bags) (sym c.in_ok-bags.ensures)
-    (have-empty c.in_ok-core.core (limits_of c.args.config.now) c.budgets.result.now c.args.config.now.handles c.apps.result c.in_ok-core.ensures (no-more c.args.config.now.handles))
+    (have-empty c.in_ok-core.core (limits_of c.args.config.now) c.budgets.result.now c.args.config.now.handles c.clamp.result c.in_ok-core.ensures (no-more c.args.config.now.handles))
