@@ -1,5 +1,5 @@
 -- Before the first call an empty bag is anyone's.
-use Rattle.std.proofs.Common.{◌≡◌, ℕ, ◌≤◌, List, [], refl, ap, sym, subst, arith}
+use Rattle.std.proofs.Common.{◌≡◌, ℕ, List, [], refl, ap, sym, subst, arith}
 use Rattle.fsw_base.specs.Limits.{Limits}
 use Rattle.tbl_blocks.specs.Held.{HeldViews}
 use Rattle.tbl_words.specs.declared.history.Entry.{Entry}
