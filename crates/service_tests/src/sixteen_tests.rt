@@ -25,7 +25,7 @@ const PAUSES: u32 = 10_000_000;
 // How many calls it makes while it works, and how often it lets them run before each.
 const STEPS: u32 = 100;
 
-const PACE: u32 = 1_000;
+const PACE: u32 = 100;
 
 // How often one that waits looks at most. Behind a look in vain it sleeps until there is an entry
 // more, or a little less long; until the message is sent there are three entries of each that waits
