@@ -107,6 +107,19 @@ def imports(text):
     return names
 
 
+PASSED_ON = re.compile(r'^pub use Rattle\.(\w+)\.specs\.([\w.]+)\.\{([^}]*)\}', re.M)
+
+
+def origin(crate, name, word):
+    """Where a word is defined that a file of specs/ may only pass on, by a `pub use` line: crate, file, word."""
+    path = TOP / 'crates' / crate / 'specs' / f'{name}.antt'
+    if path.is_file():
+        for other, where, listed in PASSED_ON.findall(path.read_text()):
+            if word in [item.strip() for item in listed.split(',')]:
+                return origin(other, where.replace('.', '/'), word)
+    return crate, name, word
+
+
 def cited(crate):
     """What the crate's public clauses cite: ((crate, file, name), where, function, clause)."""
     ours = set(crates())
@@ -122,10 +135,10 @@ def cited(crate):
             for word in re.finditer(r"(\w+)\.(" + WORD + ")", content):
                 where = aliases.get(word.group(1))
                 if where and where[0] in ours and where[1] == 'specs' and 'declared' not in where:
-                    yield (where[0], '/'.join(where[2:]), word.group(2)), f'{path.relative_to(TOP)}:{line}', function, clause
+                    yield origin(where[0], '/'.join(where[2:]), word.group(2)), f'{path.relative_to(TOP)}:{line}', function, clause
             for word in re.finditer(r"(?<![\w'.])(" + WORD + ")", content):
                 if word.group(1) in names:
-                    yield names[word.group(1)], f'{path.relative_to(TOP)}:{line}', function, clause
+                    yield origin(*names[word.group(1)]), f'{path.relative_to(TOP)}:{line}', function, clause
 
         for found in re.finditer(r'(pub\s+)?(?:const\s+)?(?:unsafe\s+)?\bfn\s+(\w+)', text):
             inside = any(begin < found.start() < end for begin, end in public_blocks)

@@ -7,7 +7,9 @@ use Rattle.std.proofs.lemmas.List.Sums.{fold-append}
 use Rattle.housekeeping.specs.Counters.{Counts, ticked}
 use Rattle.service_events.specs.declared.event.ServiceEvent.{ServiceEvent}
 use Rattle.service_events.specs.Events.{served_event, served_all}
-use Rattle.bus_words.specs.Bus.{Pipe, Subscription, Sending, Verdict, Skip, OverLimit, Full, In, verdict, pipe_at, with_pipe, offered}
+use Rattle.bus_words.specs.Bus.{Pipe, Subscription, Sending, verdict, pipe_at, with_pipe, offered}
+use Rattle.bus_words.specs.declared.verdict.Verdict.{Verdict}
+use Rattle.bus_words.specs.declared.verdict.Verdict.TheVariants.{Skip, OverLimit, Full, In}
 use Rattle.bus_words.specs.Counters.{event_counter}
 use Rattle.bus_words.specs.Events.{verdict_events, destination_events, delivery_events, send_events}
 use Rattle.bus_tables.specs.Missed.{cause_of, missed_by, missed}

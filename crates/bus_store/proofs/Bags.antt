@@ -11,39 +11,39 @@ use Rattle.buf_desc.specs.Slots.{sealed_at}
 use Rattle.buf_desc.specs.declared.slot.Slot.{Slot}
 use Rattle.bus_words.specs.Bus.{Item, Pipe, owns}
 use Rattle.bus_tables.specs.declared.tables.ItemRow.{ItemRow}
-use Rattle.bus_tables.specs.Rows.{Row, row_of, with_row, owns_row, after_take, first_item, oldest_item, last_item}
-use Rattle.bus_tables.specs.Tables.{IsRising}
+use Rattle.bus_words.specs.Pipes.{pipe_at, with_pipe, after_receive, oldest, oldest_on, last_on, IsRising, pipe_by}
+use Rattle.bus_tables.specs.Rows.{Row}
 use Rattle.bus_tables.proofs.UsesCounted.{with_row_sum}
 use Rattle.bus_store.specs.Store.{Store, LastLoan}
-use Rattle.bus_store.specs.Words.{last_of, loan_of}
+use Rattle.bus_store.specs.Words.{loan_of}
 use Rattle.bus_store.specs.Bag.{view_due, views_due}
-use Rattle.bus_store.specs.Inside.{item_in, pipe_by, pipes_in, loan_at, loan_in, view_in}
-use Rattle.bus_store.proofs.Meaning.{owns-rows, last_of-rows}
+use Rattle.bus_store.specs.Inside.{item_in, pipes_in, loan_at, loan_in, view_in}
+use Rattle.bus_words.proofs.PipeItems.{owns-map, last_on-map}
 
 -- What is due, over the rows. --
 
 -- the loan of a pipe's last message
 pub loan-rows : (slots : List Slot) (rows : List Row) (number : ℕ) →
     option_map_or {U = ℕ} (λ (one : LastLoan). one.loan) (find (λ (one : LastLoan). eqb one.pipe number) (map (loan_in slots) rows)) 0
-    ≡ loan_at slots (last_item rows number)
+    ≡ loan_at slots (last_on rows number)
 loan-rows slots rows number =
-    ap (λ o. option_map_or {U = ℕ} (λ (one : LastLoan). one.loan) o 0) (find-map (λ (one : LastLoan). eqb one.pipe number) (loan_in slots) rows) ∙ by_row (row_of rows number)
+    ap (λ o. option_map_or {U = ℕ} (λ (one : LastLoan). one.loan) o 0) (find-map (λ (one : LastLoan). eqb one.pipe number) (loan_in slots) rows) ∙ by_row (pipe_at rows number)
   where
     by_row : (o : Option Row) → option_map_or {U = ℕ} (λ (one : LastLoan). one.loan) (option_map (loan_in slots) o) 0 ≡ loan_at slots (option_and_then (λ (row : Row). row.last) o)
     by_row None = refl
     by_row (Some row) = refl
 
 abbrev pub due : List Slot → List Row → ℕ → ℕ → Option LentBytes
-due slots rows app number = cond (owns_row rows app number) (option_map (view_in slots) (last_item rows number)) None
+due slots rows app number = cond (owns rows app number) (option_map (view_in slots) (last_on rows number)) None
 
 pub due-rows : (o : Store) (slots : List Slot) (rows : List Row) (app number : ℕ) → o.pipes ≡ pipes_in slots rows → o.loans ≡ map (loan_in slots) rows → view_due o.pipes o.loans app number ≡ due slots rows app number
 due-rows o slots rows app number pipes loans =
-    ap (λ (l : List Pipe). cond {A = Option LentBytes} (owns l app number) (viewed (loan_of o.loans number) (last_of l number)) None) pipes
-    ∙ ap (λ n. cond {A = Option LentBytes} (owns (pipes_in slots rows) app number) (viewed n (last_of (pipes_in slots rows) number)) None)
+    ap (λ (l : List Pipe). cond {A = Option LentBytes} (owns l app number) (viewed (loan_of o.loans number) (last_on l number)) None) pipes
+    ∙ ap (λ n. cond {A = Option LentBytes} (owns (pipes_in slots rows) app number) (viewed n (last_on (pipes_in slots rows) number)) None)
     (ap (λ (l : List LastLoan). option_map_or {U = ℕ} (λ (one : LastLoan). one.loan) (find (λ (one : LastLoan). eqb one.pipe number) l) 0) loans ∙ loan-rows slots rows number)
-    ∙ ap (λ (l : Option Item). cond {A = Option LentBytes} (owns (pipes_in slots rows) app number) (viewed (loan_at slots (last_item rows number)) l) None) (last_of-rows (item_in slots) rows number)
-    ∙ ap (λ b. cond {A = Option LentBytes} b (viewed (loan_at slots (last_item rows number)) (option_map (item_in slots) (last_item rows number))) None) (owns-rows (item_in slots) rows app number)
-    ∙ ap (λ l. cond {A = Option LentBytes} (owns_row rows app number) l None) (by_last (last_item rows number))
+    ∙ ap (λ (l : Option Item). cond {A = Option LentBytes} (owns (pipes_in slots rows) app number) (viewed (loan_at slots (last_on rows number)) l) None) (last_on-map (item_in slots) rows number)
+    ∙ ap (λ b. cond {A = Option LentBytes} b (viewed (loan_at slots (last_on rows number)) (option_map (item_in slots) (last_on rows number))) None) (owns-map (item_in slots) rows app number)
+    ∙ ap (λ l. cond {A = Option LentBytes} (owns rows app number) l None) (by_last (last_on rows number))
   where
     viewed : ℕ → Option Item → Option LentBytes
     viewed n l = option_map (λ (item : Item). record { loan = n; bytes = item.message }) l
@@ -63,47 +63,47 @@ view_alike slots after (Some i) same =
 -- A receive. --
 
 -- the last item of the pipe is then the one that waited longest
-pub last_item-taken : (rows : List Row) (number : ℕ) → last_item (with_row after_take number rows) number ≡ oldest_item rows number
+pub last_item-taken : (rows : List Row) (number : ℕ) → last_on (with_pipe after_receive number rows) number ≡ oldest_on rows number
 last_item-taken [] number = refl
 last_item-taken (row ∷ rows) number = by_test (eqb row.number number) refl (last_item-taken rows number)
   where
     rest : List Row
-    rest = with_row after_take number rows
+    rest = with_pipe after_receive number rows
 
-    by_test : (b : Bool) → eqb row.number number ≡ b → last_item rest number ≡ oldest_item rows number →
-        option_and_then (λ (r : Row). r.last) (cond {A = Option Row} (eqb (cond {A = Row} b (after_take row) row).number number) (Some (cond {A = Row} b (after_take row) row)) (row_of rest number))
-        ≡ option_and_then (λ (r : Row). first_item r.queue) (cond {A = Option Row} b (Some row) (row_of rows number))
-    by_test true e ih = ap (λ c. option_and_then (λ (r : Row). r.last) (cond {A = Option Row} c (Some (after_take row)) (row_of rest number))) e
-    by_test false e ih = ap (λ c. option_and_then (λ (r : Row). r.last) (cond {A = Option Row} c (Some row) (row_of rest number))) e ∙ ih
+    by_test : (b : Bool) → eqb row.number number ≡ b → last_on rest number ≡ oldest_on rows number →
+        option_and_then (λ (r : Row). r.last) (cond {A = Option Row} (eqb (cond {A = Row} b (after_receive row) row).number number) (Some (cond {A = Row} b (after_receive row) row)) (pipe_at rest number))
+        ≡ option_and_then (λ (r : Row). oldest r.queue) (cond {A = Option Row} b (Some row) (pipe_at rows number))
+    by_test true e ih = ap (λ c. option_and_then (λ (r : Row). r.last) (cond {A = Option Row} c (Some (after_receive row)) (pipe_at rest number))) e
+    by_test false e ih = ap (λ c. option_and_then (λ (r : Row). r.last) (cond {A = Option Row} c (Some row) (pipe_at rest number))) e ∙ ih
 
 -- and those of the others stay
 pub last_item-other : (change : Row → Row) → ((row : Row) → (change row).number ≡ row.number) → (rows : List Row) (number other : ℕ) → (number ≡ other → ⊥) →
-    last_item (with_row change number rows) other ≡ last_item rows other
+    last_on (with_pipe change number rows) other ≡ last_on rows other
 last_item-other change kept [] number other apart = refl
 last_item-other change kept (row ∷ rows) number other apart = by_test (eqb row.number number) refl (eqb row.number other) refl (last_item-other change kept rows number other apart)
   where
     rest : List Row
-    rest = with_row change number rows
+    rest = with_pipe change number rows
 
-    by_test : (b : Bool) → eqb row.number number ≡ b → (c : Bool) → eqb row.number other ≡ c → last_item rest other ≡ last_item rows other →
-        option_and_then (λ (r : Row). r.last) (cond {A = Option Row} (eqb (cond {A = Row} b (change row) row).number other) (Some (cond {A = Row} b (change row) row)) (row_of rest other))
-        ≡ option_and_then (λ (r : Row). r.last) (cond {A = Option Row} c (Some row) (row_of rows other))
+    by_test : (b : Bool) → eqb row.number number ≡ b → (c : Bool) → eqb row.number other ≡ c → last_on rest other ≡ last_on rows other →
+        option_and_then (λ (r : Row). r.last) (cond {A = Option Row} (eqb (cond {A = Row} b (change row) row).number other) (Some (cond {A = Row} b (change row) row)) (pipe_at rest other))
+        ≡ option_and_then (λ (r : Row). r.last) (cond {A = Option Row} c (Some row) (pipe_at rows other))
     by_test true e true f ih = absurd (apart (sym (eqb-true row.number number e) ∙ eqb-true row.number other f))
-    by_test true e false f ih = ap (λ x. option_and_then (λ (r : Row). r.last) (cond {A = Option Row} x (Some (change row)) (row_of rest other))) (ap (λ n. eqb n other) (kept row) ∙ f) ∙ ih
+    by_test true e false f ih = ap (λ x. option_and_then (λ (r : Row). r.last) (cond {A = Option Row} x (Some (change row)) (pipe_at rest other))) (ap (λ n. eqb n other) (kept row) ∙ f) ∙ ih
     by_test false e c f ih = at c f
       where
         at : (c : Bool) → eqb row.number other ≡ c →
-            option_and_then (λ (r : Row). r.last) (cond {A = Option Row} (eqb row.number other) (Some row) (row_of rest other))
-            ≡ option_and_then (λ (r : Row). r.last) (cond {A = Option Row} c (Some row) (row_of rows other))
-        at true f = ap (λ x. option_and_then (λ (r : Row). r.last) (cond {A = Option Row} x (Some row) (row_of rest other))) f
-        at false f = ap (λ x. option_and_then (λ (r : Row). r.last) (cond {A = Option Row} x (Some row) (row_of rest other))) f ∙ ih
+            option_and_then (λ (r : Row). r.last) (cond {A = Option Row} (eqb row.number other) (Some row) (pipe_at rest other))
+            ≡ option_and_then (λ (r : Row). r.last) (cond {A = Option Row} c (Some row) (pipe_at rows other))
+        at true f = ap (λ x. option_and_then (λ (r : Row). r.last) (cond {A = Option Row} x (Some row) (pipe_at rest other))) f
+        at false f = ap (λ x. option_and_then (λ (r : Row). r.last) (cond {A = Option Row} x (Some row) (pipe_at rest other))) f ∙ ih
 
 -- whose pipes they are
 pub owns-changed : (change : Row → Row) → ((row : Row) → (change row).number ≡ row.number) → ((row : Row) → (change row).owner ≡ row.owner) →
-    (rows : List Row) (number app other : ℕ) → owns_row (with_row change number rows) app other ≡ owns_row rows app other
+    (rows : List Row) (number app other : ℕ) → owns (with_pipe change number rows) app other ≡ owns rows app other
 owns-changed change kept mine [] number app other = refl
 owns-changed change kept mine (row ∷ rows) number app other =
-    ap (λ b. b || owns_row (with_row change number rows) app other) (by_test (eqb row.number number))
+    ap (λ b. b || owns (with_pipe change number rows) app other) (by_test (eqb row.number number))
     ∙ ap (λ b. (eqb row.number other && eqb row.owner app) || b) (owns-changed change kept mine rows number app other)
   where
     by_test : (b : Bool) → (eqb (cond {A = Row} b (change row) row).number other && eqb (cond {A = Row} b (change row) row).owner app) ≡ (eqb row.number other && eqb row.owner app)
@@ -134,19 +134,19 @@ views-rows slots rows app = count_by-map (λ (p : Pipe). eqb p.owner app && is_s
 -- the pipe of a number that is the application's
 pub record IsOwn (rows : List Row) (app number : ℕ) : Type 0 where
   pub row : Row
-  pub is : row_of rows number ≡ Some row
+  pub is : pipe_at rows number ≡ Some row
   pub own : eqb row.owner app ≡ true
 
-none_above : (below : ℕ) (rows : List Row) (app number : ℕ) → IsRising below rows → number ≤ below → owns_row rows app number ≡ false
+none_above : (below : ℕ) (rows : List Row) (app number : ℕ) → IsRising below rows → number ≤ below → owns rows app number ≡ false
 none_above below [] app number rises low = refl
 none_above below (row ∷ rows) app number rises low =
-    ap (λ b. (b && eqb row.owner app) || owns_row rows app number) (off row.number number (omega (arith, rises.0, low)))
+    ap (λ b. (b && eqb row.owner app) || owns rows app number) (off row.number number (omega (arith, rises.0, low)))
     ∙ none_above row.number rows app number rises.1 (omega (arith, rises.0, low))
   where
     off : (a b : ℕ) → b < a → eqb a b ≡ false
     off a b l = grind (arith, nat_tests)
 
-pub own_found : (below : ℕ) (rows : List Row) (app number : ℕ) → IsRising below rows → owns_row rows app number ≡ true → IsOwn rows app number
+pub own_found : (below : ℕ) (rows : List Row) (app number : ℕ) → IsRising below rows → owns rows app number ≡ true → IsOwn rows app number
 own_found below [] app number rises own = absurd (cc (own))
 own_found below (row ∷ rows) app number rises own = by_test (eqb row.number number) refl (eqb row.owner app) refl (own_found row.number rows app number rises.1) own
   where
@@ -156,39 +156,39 @@ own_found below (row ∷ rows) app number rises own = by_test (eqb row.number nu
     off : (c : Bool) → c ≡ false → c ≡ true → ⊥
     off c x y = cc
 
-    by_test : (b : Bool) → eqb row.number number ≡ b → (c : Bool) → eqb row.owner app ≡ c → (owns_row rows app number ≡ true → IsOwn rows app number) →
-        ((b && c) || owns_row rows app number) ≡ true → IsOwn (row ∷ rows) app number
-    by_test true e true f later is = record { row = row; is = ap (λ x. cond {A = Option Row} x (Some row) (row_of rows number)) e; own = f }
-    by_test true e false f later is = absurd (off (owns_row rows app number) (none_above row.number rows app number rises.1 (at_most row.number number e)) is)
+    by_test : (b : Bool) → eqb row.number number ≡ b → (c : Bool) → eqb row.owner app ≡ c → (owns rows app number ≡ true → IsOwn rows app number) →
+        ((b && c) || owns rows app number) ≡ true → IsOwn (row ∷ rows) app number
+    by_test true e true f later is = record { row = row; is = ap (λ x. cond {A = Option Row} x (Some row) (pipe_at rows number)) e; own = f }
+    by_test true e false f later is = absurd (off (owns rows app number) (none_above row.number rows app number rises.1 (at_most row.number number e)) is)
     by_test false e c f later is =
         let rest = later is in
-        record { row = rest.row; is = ap (λ x. cond {A = Option Row} x (Some row) (row_of rows number)) e ∙ rest.is; own = rest.own }
+        record { row = rest.row; is = ap (λ x. cond {A = Option Row} x (Some row) (pipe_at rows number)) e ∙ rest.is; own = rest.own }
 
 -- a receive takes one view out and puts one in
-pub views-taken : (rows : List Row) (app number : ℕ) → IsRising 0 rows → owns_row rows app number ≡ true →
-    count_by (has_view app) (with_row after_take number rows) + cond {A = ℕ} (is_some (last_item rows number)) 1 0 ≡ count_by (has_view app) rows + cond {A = ℕ} (is_some (oldest_item rows number)) 1 0
+pub views-taken : (rows : List Row) (app number : ℕ) → IsRising 0 rows → owns rows app number ≡ true →
+    count_by (has_view app) (with_pipe after_receive number rows) + cond {A = ℕ} (is_some (last_on rows number)) 1 0 ≡ count_by (has_view app) rows + cond {A = ℕ} (is_some (oldest_on rows number)) 1 0
 views-taken rows app number rises own =
     let one = own_found 0 rows app number rises own in
-    at one.row one.is one.own (with_row_sum (λ (r : Row). cond {A = ℕ} (has_view app r) 1 0) after_take number 0 rows rises)
+    at one.row one.is one.own (with_row_sum (λ (r : Row). cond {A = ℕ} (has_view app r) 1 0) after_receive number 0 rows rises)
   where
-    at : (row : Row) → row_of rows number ≡ Some row → eqb row.owner app ≡ true →
-        count_by (has_view app) (with_row after_take number rows) + option_map_or (λ (r : Row). cond {A = ℕ} (has_view app r) 1 0) (row_of rows number) 0
-        ≡ count_by (has_view app) rows + option_map_or (λ (r : Row). cond {A = ℕ} (has_view app (after_take r)) 1 0) (row_of rows number) 0 →
-        count_by (has_view app) (with_row after_take number rows) + cond {A = ℕ} (is_some (last_item rows number)) 1 0 ≡ count_by (has_view app) rows + cond {A = ℕ} (is_some (oldest_item rows number)) 1 0
+    at : (row : Row) → pipe_at rows number ≡ Some row → eqb row.owner app ≡ true →
+        count_by (has_view app) (with_pipe after_receive number rows) + option_map_or (λ (r : Row). cond {A = ℕ} (has_view app r) 1 0) (pipe_at rows number) 0
+        ≡ count_by (has_view app) rows + option_map_or (λ (r : Row). cond {A = ℕ} (has_view app (after_receive r)) 1 0) (pipe_at rows number) 0 →
+        count_by (has_view app) (with_pipe after_receive number rows) + cond {A = ℕ} (is_some (last_on rows number)) 1 0 ≡ count_by (has_view app) rows + cond {A = ℕ} (is_some (oldest_on rows number)) 1 0
     at row is mine sum =
-        let was : option_map_or (λ (r : Row). cond {A = ℕ} (has_view app r) 1 0) (row_of rows number) 0 ≡ cond {A = ℕ} (is_some (last_item rows number)) 1 0 =
+        let was : option_map_or (λ (r : Row). cond {A = ℕ} (has_view app r) 1 0) (pipe_at rows number) 0 ≡ cond {A = ℕ} (is_some (last_on rows number)) 1 0 =
         ap (λ o. option_map_or (λ (r : Row). cond {A = ℕ} (has_view app r) 1 0) o 0) is
         ∙ ap (λ b. cond {A = ℕ} (b && is_some row.last) 1 0) mine
         ∙ sym (ap (λ o. cond {A = ℕ} (is_some (option_and_then (λ (r : Row). r.last) o)) 1 0) is) in
-        let now : option_map_or (λ (r : Row). cond {A = ℕ} (has_view app (after_take r)) 1 0) (row_of rows number) 0 ≡ cond {A = ℕ} (is_some (oldest_item rows number)) 1 0 =
-        ap (λ o. option_map_or (λ (r : Row). cond {A = ℕ} (has_view app (after_take r)) 1 0) o 0) is
-        ∙ ap (λ b. cond {A = ℕ} (b && is_some (first_item row.queue)) 1 0) mine
-        ∙ sym (ap (λ o. cond {A = ℕ} (is_some (option_and_then (λ (r : Row). first_item r.queue) o)) 1 0) is) in
+        let now : option_map_or (λ (r : Row). cond {A = ℕ} (has_view app (after_receive r)) 1 0) (pipe_at rows number) 0 ≡ cond {A = ℕ} (is_some (oldest_on rows number)) 1 0 =
+        ap (λ o. option_map_or (λ (r : Row). cond {A = ℕ} (has_view app (after_receive r)) 1 0) o 0) is
+        ∙ ap (λ b. cond {A = ℕ} (b && is_some (oldest row.queue)) 1 0) mine
+        ∙ sym (ap (λ o. cond {A = ℕ} (is_some (option_and_then (λ (r : Row). oldest r.queue) o)) 1 0) is) in
         omega (arith, sum, was, now)
 
 -- beside the view of one pipe there are fewer than pipes
-pub views-few : (rows : List Row) (app number : ℕ) → IsRising 0 rows → owns_row rows app number ≡ true →
-    count_by (has_view app) rows + 1 ≤ length rows + cond {A = ℕ} (is_some (last_item rows number)) 1 0
+pub views-few : (rows : List Row) (app number : ℕ) → IsRising 0 rows → owns rows app number ≡ true →
+    count_by (has_view app) rows + 1 ≤ length rows + cond {A = ℕ} (is_some (last_on rows number)) 1 0
 views-few rows app number rises own =
     let one = own_found 0 rows app number rises own in
     at one.row one.is one.own (with_row_sum (λ (r : Row). cond {A = ℕ} (has_view app r) 1 0) filled number 0 rows rises)
@@ -196,29 +196,29 @@ views-few rows app number rises own =
     filled : Row → Row
     filled row = record row { last = Some (record { number = 0; desc = 0; subscription = 0 }) }
 
-    at : (row : Row) → row_of rows number ≡ Some row → eqb row.owner app ≡ true →
-        count_by (has_view app) (with_row filled number rows) + option_map_or (λ (r : Row). cond {A = ℕ} (has_view app r) 1 0) (row_of rows number) 0
-        ≡ count_by (has_view app) rows + option_map_or (λ (r : Row). cond {A = ℕ} (has_view app (filled r)) 1 0) (row_of rows number) 0 →
-        count_by (has_view app) rows + 1 ≤ length rows + cond {A = ℕ} (is_some (last_item rows number)) 1 0
+    at : (row : Row) → pipe_at rows number ≡ Some row → eqb row.owner app ≡ true →
+        count_by (has_view app) (with_pipe filled number rows) + option_map_or (λ (r : Row). cond {A = ℕ} (has_view app r) 1 0) (pipe_at rows number) 0
+        ≡ count_by (has_view app) rows + option_map_or (λ (r : Row). cond {A = ℕ} (has_view app (filled r)) 1 0) (pipe_at rows number) 0 →
+        count_by (has_view app) rows + 1 ≤ length rows + cond {A = ℕ} (is_some (last_on rows number)) 1 0
     at row is mine sum =
-        let was : option_map_or (λ (r : Row). cond {A = ℕ} (has_view app r) 1 0) (row_of rows number) 0 ≡ cond {A = ℕ} (is_some (last_item rows number)) 1 0 =
+        let was : option_map_or (λ (r : Row). cond {A = ℕ} (has_view app r) 1 0) (pipe_at rows number) 0 ≡ cond {A = ℕ} (is_some (last_on rows number)) 1 0 =
         ap (λ o. option_map_or (λ (r : Row). cond {A = ℕ} (has_view app r) 1 0) o 0) is
         ∙ ap (λ b. cond {A = ℕ} (b && is_some row.last) 1 0) mine
         ∙ sym (ap (λ o. cond {A = ℕ} (is_some (option_and_then (λ (r : Row). r.last) o)) 1 0) is) in
-        let now : option_map_or (λ (r : Row). cond {A = ℕ} (has_view app (filled r)) 1 0) (row_of rows number) 0 ≡ 1 =
+        let now : option_map_or (λ (r : Row). cond {A = ℕ} (has_view app (filled r)) 1 0) (pipe_at rows number) 0 ≡ 1 =
         ap (λ o. option_map_or (λ (r : Row). cond {A = ℕ} (has_view app (filled r)) 1 0) o 0) is
         ∙ ap (λ b. cond {A = ℕ} (b && true) 1 0) mine in
-        let most = count_by-le-length (has_view app) (with_row filled number rows) in
+        let most = count_by-le-length (has_view app) (with_pipe filled number rows) in
         let long = length-map rows (λ (r : Row). cond {A = Row} (eqb r.number number) (filled r) r) in
         omega (arith, sum, was, now, most, long)
 
 -- a receive leaves the views due to an application that doesn't own the pipe
-pub views-others : (rows : List Row) (app number : ℕ) → IsRising 0 rows → (row : Row) → row_of rows number ≡ Some row → (eqb row.owner app ≡ true → ⊥) →
-    count_by (has_view app) (with_row after_take number rows) ≡ count_by (has_view app) rows
+pub views-others : (rows : List Row) (app number : ℕ) → IsRising 0 rows → (row : Row) → pipe_at rows number ≡ Some row → (eqb row.owner app ≡ true → ⊥) →
+    count_by (has_view app) (with_pipe after_receive number rows) ≡ count_by (has_view app) rows
 views-others rows app number rises row is not_own =
-    let sum = with_row_sum (λ (r : Row). cond {A = ℕ} (has_view app r) 1 0) after_take number 0 rows rises in
+    let sum = with_row_sum (λ (r : Row). cond {A = ℕ} (has_view app r) 1 0) after_receive number 0 rows rises in
     let was = ap (λ o. option_map_or {U = ℕ} (λ (r : Row). cond {A = ℕ} (has_view app r) 1 0) o 0) is ∙ ap (λ b. cond {A = ℕ} (b && is_some row.last) 1 0) (off (eqb row.owner app) refl) in
-    let now = ap (λ o. option_map_or {U = ℕ} (λ (r : Row). cond {A = ℕ} (has_view app (after_take r)) 1 0) o 0) is ∙ ap (λ b. cond {A = ℕ} (b && is_some (first_item row.queue)) 1 0) (off (eqb row.owner app) refl) in
+    let now = ap (λ o. option_map_or {U = ℕ} (λ (r : Row). cond {A = ℕ} (has_view app (after_receive r)) 1 0) o 0) is ∙ ap (λ b. cond {A = ℕ} (b && is_some (oldest row.queue)) 1 0) (off (eqb row.owner app) refl) in
     omega (arith, sum, was, now)
   where
     off : (c : Bool) → eqb row.owner app ≡ c → eqb row.owner app ≡ false
@@ -227,7 +227,7 @@ views-others rows app number rises row is not_own =
 
 -- A new pipe. --
 
-owns-push : (rows : List Row) (row : Row) (app number : ℕ) → owns_row (rows ++ row ∷ []) app number ≡ (owns_row rows app number || (eqb row.number number && eqb row.owner app))
+owns-push : (rows : List Row) (row : Row) (app number : ℕ) → owns (rows ++ row ∷ []) app number ≡ (owns rows app number || (eqb row.number number && eqb row.owner app))
 owns-push [] row app number = or_false (eqb row.number number && eqb row.owner app)
   where
     or_false : (b : Bool) → (b || false) ≡ b
@@ -235,13 +235,13 @@ owns-push [] row app number = or_false (eqb row.number number && eqb row.owner a
     or_false false = refl
 owns-push (first ∷ rows) row app number =
     ap (λ b. (eqb first.number number && eqb first.owner app) || b) (owns-push rows row app number)
-    ∙ or_assoc (eqb first.number number && eqb first.owner app) (owns_row rows app number) (eqb row.number number && eqb row.owner app)
+    ∙ or_assoc (eqb first.number number && eqb first.owner app) (owns rows app number) (eqb row.number number && eqb row.owner app)
   where
     or_assoc : (a b c : Bool) → (a || (b || c)) ≡ ((a || b) || c)
     or_assoc true b c = refl
     or_assoc false b c = refl
 
-last-push : (rows : List Row) (row : Row) (number : ℕ) → row.last ≡ None → last_item (rows ++ row ∷ []) number ≡ last_item rows number
+last-push : (rows : List Row) (row : Row) (number : ℕ) → row.last ≡ None → last_on (rows ++ row ∷ []) number ≡ last_on rows number
 last-push [] row number none = by_test (eqb row.number number)
   where
     by_test : (b : Bool) → option_and_then (λ (r : Row). r.last) (cond {A = Option Row} b (Some row) None) ≡ None
@@ -249,15 +249,15 @@ last-push [] row number none = by_test (eqb row.number number)
     by_test false = refl
 last-push (first ∷ rows) row number none = by_test (eqb first.number number) (last-push rows row number none)
   where
-    by_test : (b : Bool) → last_item (rows ++ row ∷ []) number ≡ last_item rows number →
-        option_and_then (λ (r : Row). r.last) (cond {A = Option Row} b (Some first) (row_of (rows ++ row ∷ []) number)) ≡ option_and_then (λ (r : Row). r.last) (cond {A = Option Row} b (Some first) (row_of rows number))
+    by_test : (b : Bool) → last_on (rows ++ row ∷ []) number ≡ last_on rows number →
+        option_and_then (λ (r : Row). r.last) (cond {A = Option Row} b (Some first) (pipe_at (rows ++ row ∷ []) number)) ≡ option_and_then (λ (r : Row). r.last) (cond {A = Option Row} b (Some first) (pipe_at rows number))
     by_test true ih = refl
     by_test false ih = ih
 
-absent_last : (rows : List Row) (row : Row) (below : ℕ) → IsRising below (rows ++ row ∷ []) → last_item rows row.number ≡ None
+absent_last : (rows : List Row) (row : Row) (below : ℕ) → IsRising below (rows ++ row ∷ []) → last_on rows row.number ≡ None
 absent_last [] row below rises = refl
 absent_last (first ∷ rows) row below rises =
-    ap (λ b. option_and_then (λ (r : Row). r.last) (cond {A = Option Row} b (Some first) (row_of rows row.number))) (off first.number row.number (above first.number rows row rises.1))
+    ap (λ b. option_and_then (λ (r : Row). r.last) (cond {A = Option Row} b (Some first) (pipe_at rows row.number))) (off first.number row.number (above first.number rows row rises.1))
     ∙ absent_last rows row first.number rises.1
   where
     off : (a b : ℕ) → a < b → eqb a b ≡ false
@@ -270,19 +270,19 @@ absent_last (first ∷ rows) row below rises =
 -- nothing more is due
 pub due-push : (slots : List Slot) (rows : List Row) (row : Row) (app number : ℕ) → IsRising 0 (rows ++ row ∷ []) → row.last ≡ None → due slots (rows ++ row ∷ []) app number ≡ due slots rows app number
 due-push slots rows row app number rises none =
-    ap (λ l. cond {A = Option LentBytes} (owns_row (rows ++ row ∷ []) app number) (option_map (view_in slots) l) None) (last-push rows row number none)
-    ∙ ap (λ b. cond {A = Option LentBytes} b (option_map (view_in slots) (last_item rows number)) None) (owns-push rows row app number)
-    ∙ by_test (eqb row.number number) refl (owns_row rows app number)
+    ap (λ l. cond {A = Option LentBytes} (owns (rows ++ row ∷ []) app number) (option_map (view_in slots) l) None) (last-push rows row number none)
+    ∙ ap (λ b. cond {A = Option LentBytes} b (option_map (view_in slots) (last_on rows number)) None) (owns-push rows row app number)
+    ∙ by_test (eqb row.number number) refl (owns rows app number)
   where
     nothing : (b : Bool) → cond {A = Option LentBytes} b None None ≡ None
     nothing true = refl
     nothing false = refl
 
-    empty : eqb row.number number ≡ true → last_item rows number ≡ None
-    empty e = ap (last_item rows) (sym (eqb-true row.number number e)) ∙ absent_last rows row 0 rises
+    empty : eqb row.number number ≡ true → last_on rows number ≡ None
+    empty e = ap (last_on rows) (sym (eqb-true row.number number e)) ∙ absent_last rows row 0 rises
 
     by_test : (b : Bool) → eqb row.number number ≡ b → (c : Bool) →
-        cond {A = Option LentBytes} (c || (b && eqb row.owner app)) (option_map (view_in slots) (last_item rows number)) None ≡ cond {A = Option LentBytes} c (option_map (view_in slots) (last_item rows number)) None
+        cond {A = Option LentBytes} (c || (b && eqb row.owner app)) (option_map (view_in slots) (last_on rows number)) None ≡ cond {A = Option LentBytes} c (option_map (view_in slots) (last_on rows number)) None
     by_test true e c =
         ap (λ l. cond {A = Option LentBytes} (c || eqb row.owner app) (option_map (view_in slots) l) None) (empty e)
         ∙ nothing (c || eqb row.owner app)

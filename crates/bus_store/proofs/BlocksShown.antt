@@ -12,17 +12,18 @@ use Rattle.buf_desc.specs.declared.slot.Slot.{Slot}
 use Rattle.bus_words.specs.Bus.{Item, Pipe}
 use Rattle.bus_words.specs.Held.{items_of}
 use Rattle.bus_tables.specs.declared.tables.ItemRow.{ItemRow}
-use Rattle.bus_tables.specs.Rows.{Row, last_item}
+use Rattle.bus_words.specs.Pipes.{last_on, pipe_by}
+use Rattle.bus_tables.specs.Rows.{Row}
 use Rattle.bus_tables.specs.Uses.{item_use}
-use Rattle.bus_store.specs.Words.{last_of, loan_of}
+use Rattle.bus_store.specs.Words.{loan_of}
 use Rattle.bus_store.specs.Blocks.{IsGiven, AreOfOneSend, last_by, AreBlocks}
-use Rattle.bus_store.specs.Inside.{item_in, pipe_by, pipes_in, unsent_in, descs_in, loan_at, loan_in, AllItems, IsNamed, lasts_of, Backed, AreListed}
+use Rattle.bus_store.specs.Inside.{item_in, pipes_in, unsent_in, descs_in, loan_at, loan_in, AllItems, IsNamed, lasts_of, Backed, AreListed}
 use Rattle.bus_store.proofs.Bags.{loan-rows}
 use Rattle.bus_store.proofs.Blocked.{lies, item_found, block_named}
 use Rattle.bus_store.proofs.Counted.{names-row, named-rows}
 use Rattle.bus_store.proofs.Items.{items_weaker, last_found, of_items}
 use Rattle.bus_store.proofs.Listed.{is_unsent_here, unsent_block, member_open, desc_told, size_told}
-use Rattle.bus_store.proofs.Meaning.{last_of-rows}
+use Rattle.bus_words.proofs.PipeItems.{last_on-map}
 use Rattle.bus_store.proofs.OneLoan.{one_block}
 use Rattle.bus_store.proofs.Tied.{sealed_live, sealed_number, sealed_asked, open_live}
 
@@ -78,10 +79,10 @@ module _ (b : Buffers) (rows : List Row) (lists : List (List ℕ)) (given : ℕ)
         ∙ ap (λ d. (sealed_at b.slots d).asked) (lies_here read.row read.named (sym (ap (λ (i : Item). i.number) read.is) ∙ same)))
         (items_of pipes) all_read
 
-    block_loan : (pipe : ℕ) (item : Item) → last_of pipes pipe ≡ Some item → item.number ≡ number → loan_of (map (loan_in b.slots) rows) pipe ≡ (sealed_at b.slots desc).loan
+    block_loan : (pipe : ℕ) (item : Item) → last_on pipes pipe ≡ Some item → item.number ≡ number → loan_of (map (loan_in b.slots) rows) pipe ≡ (sealed_at b.slots desc).loan
     block_loan pipe item e same =
         loan-rows b.slots rows pipe
-        ∙ by_last (last_item rows pipe) (last_found (IsNamed b.slots) rows pipe backed.tied.items) (sym (last_of-rows (item_in b.slots) rows pipe) ∙ e)
+        ∙ by_last (last_on rows pipe) (last_found (IsNamed b.slots) rows pipe backed.tied.items) (sym (last_on-map (item_in b.slots) rows pipe) ∙ e)
       where
         by_last : (o : Option ItemRow) → IfSome o (IsNamed b.slots) → option_map (item_in b.slots) o ≡ Some item → loan_at b.slots o ≡ (sealed_at b.slots desc).loan
         by_last None named f = absurd (cc (f))

@@ -8,7 +8,8 @@ use Rattle.bus_words.specs.Bus.{Item}
 use Rattle.bus_tables.specs.declared.tables.ItemRow.{ItemRow}
 use Rattle.bus_tables.specs.Rows.{Row}
 use Rattle.bus_tables.specs.Uses.{item_use, uses_in, uses_of}
-use Rattle.bus_store.specs.Inside.{item_in, pipe_by, pipes_in}
+use Rattle.bus_words.specs.Pipes.{pipe_by}
+use Rattle.bus_store.specs.Inside.{item_in, pipes_in}
 use Rattle.bus_words.specs.Held.{names, named_by, is_on_pipes}
 
 pub names-row : (slots : List Slot) (n : ℕ) (o : Option ItemRow) → names n (option_map (item_in slots) o) ≡ item_use n o

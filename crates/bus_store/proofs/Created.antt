@@ -2,8 +2,9 @@
 use Rattle.std.proofs.Common.{◌≡◌, ℕ, ◌+◌, List, [], ◌∷◌, ◌++◌, count_by, refl, ap, sym, ◌∙◌, subst}
 use Rattle.lend_block.specs.Loan.{LentBytes}
 use Rattle.buf_desc.specs.Held.{Holding}
-use Rattle.bus_tables.specs.Rows.{Row, new_row}
-use Rattle.bus_tables.specs.Tables.{Tables, IsRising}
+use Rattle.bus_words.specs.Pipes.{new_pipe, IsRising}
+use Rattle.bus_tables.specs.Rows.{Row}
+use Rattle.bus_tables.specs.Tables.{Tables}
 use Rattle.bus_store.specs.declared.store.BusStore.TheInside.{Inside}
 use Rattle.bus_store.specs.Store.{Store}
 use Rattle.bus_store.specs.Bag.{views_due}
@@ -13,11 +14,11 @@ use Rattle.bus_store.proofs.Lasts.{HasDue, holds_same}
 
 -- no more views are due
 pub created_bags : (a : Inside) (old : Store) (next : Tables) (name : List ℕ) (owner depth : ℕ) → store_of a ≡ old →
-    next ≡ record a.tables { pipes = a.tables.pipes ++ new_row (a.tables.pipes_created + 1) name owner depth ∷ []; pipes_created = a.tables.pipes_created + 1 } → IsRising 0 next.pipes →
+    next ≡ record a.tables { pipes = a.tables.pipes ++ new_pipe (a.tables.pipes_created + 1) name owner depth ∷ []; pipes_created = a.tables.pipes_created + 1 } → IsRising 0 next.pipes →
     (app : ℕ) (bag : Holding LentBytes) → HasDue old app bag → HasDue (store_of (record a { tables = next })) app bag
 created_bags a old next name owner depth viewed is rises app bag =
     let new : Store = store_of (record a { tables = next }) in
-    let row : Row = new_row (a.tables.pipes_created + 1) name owner depth in
+    let row : Row = new_pipe (a.tables.pipes_created + 1) name owner depth in
     let there = ap (λ (t : Tables). t.pipes) is in
     let in_order = subst (IsRising 0) there rises in
     holds_same old new app bag

@@ -5,7 +5,8 @@ use Rattle.fsw_base.specs.PoolAccounts.{Account}
 use Rattle.bus_words.specs.Bus.{Item, Pipe, pipe_at, owns, with_pipe, oldest, after_receive}
 use Rattle.bus_store.specs.Store.{Store}
 use Rattle.bus_store.proofs.Accounts.{OutAlone, alone_as}
-use Rattle.bus_store.specs.Words.{oldest_of, last_of, waiting_on, with_held}
+use Rattle.bus_words.specs.Pipes.{oldest_on, last_on}
+use Rattle.bus_store.specs.Words.{waiting_on, with_held}
 
 -- The pipes. --
 
@@ -54,7 +55,7 @@ owns-received number (pipe ∷ pipes) app other =
 -- What waits. --
 
 -- one fewer waits, where one did
-fewer_wait : (pipes : List Pipe) (number n : ℕ) → option_map (λ (i : Item). i.number) (oldest_of pipes number) ≡ Some n → waiting_on (with_pipe after_receive number pipes) number + 1 ≡ waiting_on pipes number
+fewer_wait : (pipes : List Pipe) (number n : ℕ) → option_map (λ (i : Item). i.number) (oldest_on pipes number) ≡ Some n → waiting_on (with_pipe after_receive number pipes) number + 1 ≡ waiting_on pipes number
 fewer_wait pipes number n is = ap (λ o. option_map_or {U = ℕ} (λ (p : Pipe). length p.queue) o 0 + 1) (pipe_at-received number pipes) ∙ by_pipe (pipe_at pipes number) is
   where
     by_queue : (queue : List Item) → option_map (λ (i : Item). i.number) (oldest queue) ≡ Some n → length (drop 1 queue) + 1 ≡ length queue
@@ -67,7 +68,7 @@ fewer_wait pipes number n is = ap (λ o. option_map_or {U = ℕ} (λ (p : Pipe).
     by_pipe (Some p) e = by_queue p.queue e
 
 -- none waits, where none did
-none_waits : (pipes : List Pipe) (number : ℕ) → option_map (λ (i : Item). i.number) (oldest_of pipes number) ≡ None → oldest_of (with_pipe after_receive number pipes) number ≡ None
+none_waits : (pipes : List Pipe) (number : ℕ) → option_map (λ (i : Item). i.number) (oldest_on pipes number) ≡ None → oldest_on (with_pipe after_receive number pipes) number ≡ None
 none_waits pipes number none = ap (option_and_then (λ (p : Pipe). oldest p.queue)) (pipe_at-received number pipes) ∙ by_pipe (pipe_at pipes number) none
   where
     by_queue : (queue : List Item) → option_map (λ (i : Item). i.number) (oldest queue) ≡ None → oldest (drop 1 queue) ≡ None
@@ -79,7 +80,7 @@ none_waits pipes number none = ap (option_and_then (λ (p : Pipe). oldest p.queu
     by_pipe (Some p) e = by_queue p.queue e
 
 -- and then none was received last
-none_last : (pipes : List Pipe) (number : ℕ) → option_map (λ (i : Item). i.number) (oldest_of pipes number) ≡ None → last_of (with_pipe after_receive number pipes) number ≡ None
+none_last : (pipes : List Pipe) (number : ℕ) → option_map (λ (i : Item). i.number) (oldest_on pipes number) ≡ None → last_on (with_pipe after_receive number pipes) number ≡ None
 none_last pipes number none = ap (option_and_then (λ (p : Pipe). p.last)) (pipe_at-received number pipes) ∙ by_pipe (pipe_at pipes number) none
   where
     by_item : (o : Option Item) → option_map (λ (i : Item). i.number) o ≡ None → o ≡ None
@@ -129,11 +130,11 @@ module _ (first before after : Store) (pipe : ℕ)
   pub round_owns : (app : ℕ) → owns before.pipes app pipe ≡ true → owns after.pipes app pipe ≡ true
   round_owns app own = ap (λ l. owns l app pipe) pipes_are ∙ owns-received pipe before.pipes app pipe ∙ own
 
-  pub round_fewer : (n : ℕ) → option_map (λ (i : Item). i.number) (oldest_of before.pipes pipe) ≡ Some n → waiting_on after.pipes pipe + 1 ≡ waiting_on before.pipes pipe
+  pub round_fewer : (n : ℕ) → option_map (λ (i : Item). i.number) (oldest_on before.pipes pipe) ≡ Some n → waiting_on after.pipes pipe + 1 ≡ waiting_on before.pipes pipe
   round_fewer n some = ap (λ l. waiting_on l pipe + 1) pipes_are ∙ fewer_wait before.pipes pipe n some
 
-  pub round_waits : option_map (λ (i : Item). i.number) (oldest_of before.pipes pipe) ≡ None → oldest_of after.pipes pipe ≡ None
-  round_waits none = ap (λ l. oldest_of l pipe) pipes_are ∙ none_waits before.pipes pipe none
+  pub round_waits : option_map (λ (i : Item). i.number) (oldest_on before.pipes pipe) ≡ None → oldest_on after.pipes pipe ≡ None
+  round_waits none = ap (λ l. oldest_on l pipe) pipes_are ∙ none_waits before.pipes pipe none
 
-  pub round_last : option_map (λ (i : Item). i.number) (oldest_of before.pipes pipe) ≡ None → last_of after.pipes pipe ≡ None
-  round_last none = ap (λ l. last_of l pipe) pipes_are ∙ none_last before.pipes pipe none
+  pub round_last : option_map (λ (i : Item). i.number) (oldest_on before.pipes pipe) ≡ None → last_on after.pipes pipe ≡ None
+  round_last none = ap (λ l. last_on l pipe) pipes_are ∙ none_last before.pipes pipe none

@@ -11,8 +11,8 @@ use Rattle.bus_words.specs.Bus.{Item, Subscription}
 use Rattle.bus_words.specs.Held.{items_of}
 use Rattle.bus_tables.specs.declared.message.Message.{Message}
 use Rattle.bus_tables.specs.declared.tables.ItemRow.{ItemRow}
-use Rattle.bus_tables.specs.Rows.{Row, row_of, with_row, after_take, without_front, without_last, first_item, oldest_item, last_item, takes, item_of, offered_row, deliver_rows}
-use Rattle.bus_tables.specs.Tables.{IsRising}
+use Rattle.bus_words.specs.Pipes.{pipe_at, with_pipe, after_receive, without_front, without_last, oldest, oldest_on, last_on, IsRising}
+use Rattle.bus_tables.specs.Rows.{Row, takes, item_of, offered_row, deliver_rows}
 use Rattle.bus_tables.specs.Uses.{item_use, uses_in, uses_of}
 use Rattle.bus_tables.proofs.UsesCounted.{with_row_sum}
 use Rattle.bus_store.specs.Inside.{item_in, pipes_in, OfItems, AllItems, lasts_of}
@@ -47,10 +47,10 @@ items_both P Q rows p q = λ k d within.
 
 -- where one pipe changes
 pub items_with_row : (P : ItemRow → Type 0) (change : Row → Row) (number : ℕ) → ((row : Row) → OfItems P row → OfItems P (change row)) →
-    (rows : List Row) → AllItems P rows → AllItems P (with_row change number rows)
+    (rows : List Row) → AllItems P rows → AllItems P (with_pipe change number rows)
 items_with_row P change number keeps [] all = All-nil (OfItems P)
 items_with_row P change number keeps (row ∷ rows) all =
-    All-cons (OfItems P) (cond {A = Row} (eqb row.number number) (change row) row) (with_row change number rows)
+    All-cons (OfItems P) (cond {A = Row} (eqb row.number number) (change row) row) (with_pipe change number rows)
     (by_test (eqb row.number number) (All-head (OfItems P) row rows all))
     (items_with_row P change number keeps rows (All-tail (OfItems P) row rows all))
   where
@@ -59,51 +59,51 @@ items_with_row P change number keeps (row ∷ rows) all =
     by_test false one = one
 
 -- a pipe among them
-pub items_found : (P : ItemRow → Type 0) (rows : List Row) (number : ℕ) → AllItems P rows → IfSome (row_of rows number) (OfItems P)
+pub items_found : (P : ItemRow → Type 0) (rows : List Row) (number : ℕ) → AllItems P rows → IfSome (pipe_at rows number) (OfItems P)
 items_found P [] number all = tt
 items_found P (row ∷ rows) number all = by_test (eqb row.number number) (All-head (OfItems P) row rows all) (items_found P rows number (All-tail (OfItems P) row rows all))
   where
-    by_test : (b : Bool) → OfItems P row → IfSome (row_of rows number) (OfItems P) → IfSome (cond {A = Option Row} b (Some row) (row_of rows number)) (OfItems P)
+    by_test : (b : Bool) → OfItems P row → IfSome (pipe_at rows number) (OfItems P) → IfSome (cond {A = Option Row} b (Some row) (pipe_at rows number)) (OfItems P)
     by_test true one rest = one
     by_test false one rest = rest
 
-first_of : (P : ItemRow → Type 0) (queue : List ItemRow) → All P queue → IfSome (first_item queue) P
+first_of : (P : ItemRow → Type 0) (queue : List ItemRow) → All P queue → IfSome (oldest queue) P
 first_of P [] all = tt
 first_of P (i ∷ queue) all = All-head P i queue all
 
 -- the item received last, and the one that waits longest
-pub last_found : (P : ItemRow → Type 0) (rows : List Row) (number : ℕ) → AllItems P rows → IfSome (last_item rows number) P
-last_found P rows number all = at (row_of rows number) (items_found P rows number all)
+pub last_found : (P : ItemRow → Type 0) (rows : List Row) (number : ℕ) → AllItems P rows → IfSome (last_on rows number) P
+last_found P rows number all = at (pipe_at rows number) (items_found P rows number all)
   where
     at : (o : Option Row) → IfSome o (OfItems P) → IfSome (option_and_then (λ (row : Row). row.last) o) P
     at None one = tt
     at (Some row) one = one.last
 
-pub oldest_found : (P : ItemRow → Type 0) (rows : List Row) (number : ℕ) → AllItems P rows → IfSome (oldest_item rows number) P
-oldest_found P rows number all = at (row_of rows number) (items_found P rows number all)
+pub oldest_found : (P : ItemRow → Type 0) (rows : List Row) (number : ℕ) → AllItems P rows → IfSome (oldest_on rows number) P
+oldest_found P rows number all = at (pipe_at rows number) (items_found P rows number all)
   where
-    at : (o : Option Row) → IfSome o (OfItems P) → IfSome (option_and_then (λ (row : Row). first_item row.queue) o) P
+    at : (o : Option Row) → IfSome o (OfItems P) → IfSome (option_and_then (λ (row : Row). oldest row.queue) o) P
     at None one = tt
     at (Some row) one = first_of P row.queue one.queue
 
 -- Changes. --
 
-pub items_taken : (P : ItemRow → Type 0) (number : ℕ) (rows : List Row) → AllItems P rows → AllItems P (with_row after_take number rows)
+pub items_taken : (P : ItemRow → Type 0) (number : ℕ) (rows : List Row) → AllItems P rows → AllItems P (with_pipe after_receive number rows)
 items_taken P number rows all =
-    items_with_row P after_take number (λ row one. record { queue = All-drop P 1 row.queue one.queue; last = first_of P row.queue one.queue }) rows all
+    items_with_row P after_receive number (λ row one. record { queue = All-drop P 1 row.queue one.queue; last = first_of P row.queue one.queue }) rows all
 
-pub items_fronted : (P : ItemRow → Type 0) (number : ℕ) (rows : List Row) → AllItems P rows → AllItems P (with_row without_front number rows)
+pub items_fronted : (P : ItemRow → Type 0) (number : ℕ) (rows : List Row) → AllItems P rows → AllItems P (with_pipe without_front number rows)
 items_fronted P number rows all =
     items_with_row P without_front number (λ row one. record { queue = All-drop P 1 row.queue one.queue; last = one.last }) rows all
 
-pub items_unlasted : (P : ItemRow → Type 0) (number : ℕ) (rows : List Row) → AllItems P rows → AllItems P (with_row without_last number rows)
+pub items_unlasted : (P : ItemRow → Type 0) (number : ℕ) (rows : List Row) → AllItems P rows → AllItems P (with_pipe without_last number rows)
 items_unlasted P number rows all = items_with_row P without_last number (λ row one. record { queue = one.queue; last = tt }) rows all
 
 pub items_delivered : (P : ItemRow → Type 0) (message : Message) → ((sub : Subscription) → P (item_of message sub)) →
     (subs : List Subscription) (rows : List Row) → AllItems P rows → AllItems P (deliver_rows message subs rows)
 items_delivered P message new [] rows all = all
 items_delivered P message new (sub ∷ subs) rows all =
-    items_delivered P message new subs (with_row (offered_row message sub) sub.pipe rows)
+    items_delivered P message new subs (with_pipe (offered_row message sub) sub.pipe rows)
     (items_with_row P (offered_row message sub) sub.pipe (λ row one. offered row (takes row sub message.sender) one) rows all)
   where
     offered : (row : Row) (b : Bool) → OfItems P row → OfItems P (cond {A = Row} b (record row { queue = row.queue ++ item_of message sub ∷ [] }) row)
@@ -183,13 +183,13 @@ lasts_most n (row ∷ rows) = omega (arith, sum_by-cons (λ (r : Row). item_use 
 -- Lasts. --
 
 -- a change that keeps the last item keeps the counts
-lasts_kept : (n : ℕ) (change : Row → Row) (number : ℕ) → ((row : Row) → (change row).last ≡ row.last) → (rows : List Row) → lasts_of n (with_row change number rows) ≡ lasts_of n rows
+lasts_kept : (n : ℕ) (change : Row → Row) (number : ℕ) → ((row : Row) → (change row).last ≡ row.last) → (rows : List Row) → lasts_of n (with_pipe change number rows) ≡ lasts_of n rows
 lasts_kept n change number keeps [] = refl
 lasts_kept n change number keeps (row ∷ rows) =
     let next : Row = cond {A = Row} (eqb row.number number) (change row) row in
     omega (
       arith,
-      sum_by-cons (λ (r : Row). item_use n r.last) next (with_row change number rows),
+      sum_by-cons (λ (r : Row). item_use n r.last) next (with_pipe change number rows),
       sum_by-cons (λ (r : Row). item_use n r.last) row rows,
       ap (item_use n) (by_test (eqb row.number number)),
       lasts_kept n change number keeps rows,
@@ -202,34 +202,34 @@ lasts_kept n change number keeps (row ∷ rows) =
 pub lasts_delivered : (n : ℕ) (message : Message) (subs : List Subscription) (rows : List Row) → lasts_of n (deliver_rows message subs rows) ≡ lasts_of n rows
 lasts_delivered n message [] rows = refl
 lasts_delivered n message (sub ∷ subs) rows =
-    lasts_delivered n message subs (with_row (offered_row message sub) sub.pipe rows)
+    lasts_delivered n message subs (with_pipe (offered_row message sub) sub.pipe rows)
     ∙ lasts_kept n (offered_row message sub) sub.pipe (λ row. by_test row (takes row sub message.sender)) rows
   where
     by_test : (row : Row) (b : Bool) → (cond {A = Row} b (record row { queue = row.queue ++ item_of message sub ∷ [] }) row).last ≡ row.last
     by_test row true = refl
     by_test row false = refl
 
-pub lasts_fronted : (n number : ℕ) (rows : List Row) → lasts_of n (with_row without_front number rows) ≡ lasts_of n rows
+pub lasts_fronted : (n number : ℕ) (rows : List Row) → lasts_of n (with_pipe without_front number rows) ≡ lasts_of n rows
 lasts_fronted n number rows = lasts_kept n without_front number (λ row. refl) rows
 
 -- a receive: the send received last before loses one, and the oldest gets one
 pub lasts_taken : (n number : ℕ) (rows : List Row) → IsRising 0 rows →
-    lasts_of n (with_row after_take number rows) + item_use n (last_item rows number) ≡ lasts_of n rows + item_use n (oldest_item rows number)
-lasts_taken n number rows rises = at (row_of rows number) (with_row_sum (λ (r : Row). item_use n r.last) after_take number 0 rows rises)
+    lasts_of n (with_pipe after_receive number rows) + item_use n (last_on rows number) ≡ lasts_of n rows + item_use n (oldest_on rows number)
+lasts_taken n number rows rises = at (pipe_at rows number) (with_row_sum (λ (r : Row). item_use n r.last) after_receive number 0 rows rises)
   where
     at : (o : Option Row) →
-        lasts_of n (with_row after_take number rows) + option_map_or (λ (r : Row). item_use n r.last) o 0 ≡ lasts_of n rows + option_map_or (λ (r : Row). item_use n (after_take r).last) o 0 →
-        lasts_of n (with_row after_take number rows) + item_use n (option_and_then (λ (row : Row). row.last) o) ≡ lasts_of n rows + item_use n (option_and_then (λ (row : Row). first_item row.queue) o)
+        lasts_of n (with_pipe after_receive number rows) + option_map_or (λ (r : Row). item_use n r.last) o 0 ≡ lasts_of n rows + option_map_or (λ (r : Row). item_use n (after_receive r).last) o 0 →
+        lasts_of n (with_pipe after_receive number rows) + item_use n (option_and_then (λ (row : Row). row.last) o) ≡ lasts_of n rows + item_use n (option_and_then (λ (row : Row). oldest row.queue) o)
     at None e = e
     at (Some row) e = e
 
 pub lasts_unlasted : (n number : ℕ) (rows : List Row) → IsRising 0 rows →
-    lasts_of n (with_row without_last number rows) + item_use n (last_item rows number) ≡ lasts_of n rows
-lasts_unlasted n number rows rises = at (row_of rows number) (with_row_sum (λ (r : Row). item_use n r.last) without_last number 0 rows rises)
+    lasts_of n (with_pipe without_last number rows) + item_use n (last_on rows number) ≡ lasts_of n rows
+lasts_unlasted n number rows rises = at (pipe_at rows number) (with_row_sum (λ (r : Row). item_use n r.last) without_last number 0 rows rises)
   where
     at : (o : Option Row) →
-        lasts_of n (with_row without_last number rows) + option_map_or (λ (r : Row). item_use n r.last) o 0 ≡ lasts_of n rows + option_map_or (λ (r : Row). item_use n (without_last r).last) o 0 →
-        lasts_of n (with_row without_last number rows) + item_use n (option_and_then (λ (row : Row). row.last) o) ≡ lasts_of n rows
+        lasts_of n (with_pipe without_last number rows) + option_map_or (λ (r : Row). item_use n r.last) o 0 ≡ lasts_of n rows + option_map_or (λ (r : Row). item_use n (without_last r).last) o 0 →
+        lasts_of n (with_pipe without_last number rows) + item_use n (option_and_then (λ (row : Row). row.last) o) ≡ lasts_of n rows
     at None e = omega (arith, e)
     at (Some row) e = omega (arith, e)
 

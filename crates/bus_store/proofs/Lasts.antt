@@ -7,7 +7,8 @@ use Rattle.buf_desc.specs.Held.{Holding}
 use Rattle.bus_words.specs.Bus.{Item, Pipe, Subscription, Sending, pipe_at, owns, with_pipe, offered, verdict, is_in, deliver, item_for}
 use Rattle.bus_tables.specs.Tables.{Room}
 use Rattle.bus_store.specs.Store.{Store, LastLoan}
-use Rattle.bus_store.specs.Words.{last_of, loan_of}
+use Rattle.bus_words.specs.Pipes.{last_on}
+use Rattle.bus_store.specs.Words.{loan_of}
 use Rattle.bus_store.specs.Bag.{HoldsViews, view_due, views_due}
 
 -- a change of a pipe that keeps its number, its owner and its last message
@@ -46,7 +47,7 @@ module _ (change : Pipe → Pipe) (keeps : Keeping change) (number : ℕ) where
       by_test true = ap (λ n. eqb n other && eqb (change pipe).owner app) (keeps.number pipe) ∙ ap (λ n. eqb pipe.number other && eqb n app) (keeps.owner pipe)
       by_test false = refl
 
-  last_of-kept : (pipes : List Pipe) (other : ℕ) → last_of (with_pipe change number pipes) other ≡ last_of pipes other
+  last_of-kept : (pipes : List Pipe) (other : ℕ) → last_on (with_pipe change number pipes) other ≡ last_on pipes other
   last_of-kept [] other = refl
   last_of-kept (pipe ∷ pipes) other =
       ap (λ n. option_and_then (λ (p : Pipe). p.last) (cond {A = Option Pipe} (eqb n other) (Some next) (pipe_at (with_pipe change number pipes) other))) (same_number (eqb pipe.number number))
@@ -63,7 +64,7 @@ module _ (change : Pipe → Pipe) (keeps : Keeping change) (number : ℕ) where
       same_last true = keeps.last pipe
       same_last false = refl
 
-      by_test : (b : Bool) → last_of (with_pipe change number pipes) other ≡ last_of pipes other →
+      by_test : (b : Bool) → last_on (with_pipe change number pipes) other ≡ last_on pipes other →
           option_and_then (λ (p : Pipe). p.last) (cond {A = Option Pipe} b (Some next) (pipe_at (with_pipe change number pipes) other))
           ≡ option_and_then (λ (p : Pipe). p.last) (cond {A = Option Pipe} b (Some pipe) (pipe_at pipes other))
       by_test true ih = same_last (eqb pipe.number number)
@@ -84,7 +85,7 @@ module _ (change : Pipe → Pipe) (keeps : Keeping change) (number : ℕ) where
 -- pipes with the same owners and last messages
 pub record AreLike (pipes others : List Pipe) : Type 0 where
   pub owns : (app number : ℕ) → owns others app number ≡ owns pipes app number
-  pub last : (number : ℕ) → last_of others number ≡ last_of pipes number
+  pub last : (number : ℕ) → last_on others number ≡ last_on pipes number
   pub views : (app : ℕ) → views_due others app ≡ views_due pipes app
 
 pub like_kept : (change : Pipe → Pipe) → Keeping change → (number : ℕ) (pipes : List Pipe) → AreLike pipes (with_pipe change number pipes)
@@ -122,9 +123,9 @@ pub holds_like : (old new : Store) (app : ℕ) (bag : Holding LentBytes) → Are
 holds_like old new app bag like loans room =
     holds_same old new app bag
     (λ number.
-    ap (λ b. cond {A = Option LentBytes} b (option_map (λ (i : Item). record { loan = loan_of new.loans number; bytes = i.message }) (last_of new.pipes number)) None) (like.owns app number)
+    ap (λ b. cond {A = Option LentBytes} b (option_map (λ (i : Item). record { loan = loan_of new.loans number; bytes = i.message }) (last_on new.pipes number)) None) (like.owns app number)
     ∙ ap (λ l. cond {A = Option LentBytes} (owns old.pipes app number) (option_map (λ (i : Item). record { loan = loan_of new.loans number; bytes = i.message }) l) None) (like.last number)
-    ∙ ap (λ ls. cond {A = Option LentBytes} (owns old.pipes app number) (option_map (λ (i : Item). record { loan = option_map_or {U = ℕ} (λ (one : LastLoan). one.loan) (find (λ (one : LastLoan). eqb one.pipe number) ls) 0; bytes = i.message }) (last_of old.pipes number)) None) loans)
+    ∙ ap (λ ls. cond {A = Option LentBytes} (owns old.pipes app number) (option_map (λ (i : Item). record { loan = option_map_or {U = ℕ} (λ (one : LastLoan). one.loan) (find (λ (one : LastLoan). eqb one.pipe number) ls) 0; bytes = i.message }) (last_on old.pipes number)) None) loans)
     (like.views app) room
 
 -- where the pipes stay

@@ -5,14 +5,14 @@ use Rattle.buf_desc.specs.Slots.{slot_at, sealed_at, HaveOwnNumbers}
 use Rattle.buf_desc.specs.declared.slot.Slot.{Slot}
 use Rattle.bus_words.specs.Bus.{Item}
 use Rattle.bus_tables.specs.declared.tables.ItemRow.{ItemRow}
-use Rattle.bus_tables.specs.Rows.{last_item}
+use Rattle.bus_words.specs.Pipes.{last_on}
 use Rattle.bus_store.specs.Store.{Store}
-use Rattle.bus_store.specs.Words.{last_of, loan_of}
+use Rattle.bus_store.specs.Words.{loan_of}
 use Rattle.bus_store.specs.Inside.{store_of, Keeps, item_in, loan_at, IsNamed}
 use Rattle.bus_store.specs.declared.store.BusStore.TheInside.{Inside}
 use Rattle.bus_store.proofs.Bags.{loan-rows}
 use Rattle.bus_store.proofs.Items.{last_found}
-use Rattle.bus_store.proofs.Meaning.{last_of-rows}
+use Rattle.bus_words.proofs.PipeItems.{last_on-map}
 use Rattle.bus_store.proofs.Tied.{sealed_live, sealed_number}
 
 module _ (slots : List Slot) (numbers : HaveOwnNumbers slots) where
@@ -33,19 +33,19 @@ module _ (slots : List Slot) (numbers : HaveOwnNumbers slots) where
       number_of a b g = ap (λ o. option_map_or {U = ℕ} (λ (i : Item). i.number) o 0) g
 
 module _ (a : Inside) (keeps : Keeps a) where
-  abbrev named : (number : ℕ) → IfSome (last_item a.tables.pipes number) (IsNamed a.desk.slots)
+  abbrev named : (number : ℕ) → IfSome (last_on a.tables.pipes number) (IsNamed a.desk.slots)
   named number = last_found (IsNamed a.desk.slots) a.tables.pipes number keeps.backed.tied.items
 
-  last_is : (number : ℕ) (item : Item) → last_of (store_of a).pipes number ≡ Some item → option_map (item_in a.desk.slots) (last_item a.tables.pipes number) ≡ Some item
-  last_is number item e = sym (last_of-rows (item_in a.desk.slots) a.tables.pipes number) ∙ e
+  last_is : (number : ℕ) (item : Item) → last_on (store_of a).pipes number ≡ Some item → option_map (item_in a.desk.slots) (last_on a.tables.pipes number) ≡ Some item
+  last_is number item e = sym (last_on-map (item_in a.desk.slots) a.tables.pipes number) ∙ e
 
-  loans_agree : (pipe other : ℕ) (item its : Item) → last_of (store_of a).pipes pipe ≡ Some item → last_of (store_of a).pipes other ≡ Some its → item.number ≡ its.number → loan_of (store_of a).loans pipe ≡ loan_of (store_of a).loans other
+  loans_agree : (pipe other : ℕ) (item its : Item) → last_on (store_of a).pipes pipe ≡ Some item → last_on (store_of a).pipes other ≡ Some its → item.number ≡ its.number → loan_of (store_of a).loans pipe ≡ loan_of (store_of a).loans other
   loans_agree pipe other item its e f same =
       loan-rows a.desk.slots a.tables.pipes pipe
-      ∙ one_loan a.desk.slots keeps.backed.tied.numbers (last_item a.tables.pipes pipe) (last_item a.tables.pipes other) item its (named pipe) (named other)
+      ∙ one_loan a.desk.slots keeps.backed.tied.numbers (last_on a.tables.pipes pipe) (last_on a.tables.pipes other) item its (named pipe) (named other)
       (last_is pipe item e) (last_is other its f) same
       ∙ sym (loan-rows a.desk.slots a.tables.pipes other)
 
-  pub loans_told : (o : Store) → store_of a ≡ o → (pipe other : ℕ) (item its : Item) → last_of o.pipes pipe ≡ Some item → last_of o.pipes other ≡ Some its → item.number ≡ its.number → loan_of o.loans pipe ≡ loan_of o.loans other
+  pub loans_told : (o : Store) → store_of a ≡ o → (pipe other : ℕ) (item its : Item) → last_on o.pipes pipe ≡ Some item → last_on o.pipes other ≡ Some its → item.number ≡ its.number → loan_of o.loans pipe ≡ loan_of o.loans other
   loans_told o viewed =
-      subst (λ (x : Store). (pipe other : ℕ) (item its : Item) → last_of x.pipes pipe ≡ Some item → last_of x.pipes other ≡ Some its → item.number ≡ its.number → loan_of x.loans pipe ≡ loan_of x.loans other) viewed loans_agree
+      subst (λ (x : Store). (pipe other : ℕ) (item its : Item) → last_on x.pipes pipe ≡ Some item → last_on x.pipes other ≡ Some its → item.number ≡ its.number → loan_of x.loans pipe ≡ loan_of x.loans other) viewed loans_agree

@@ -23,7 +23,8 @@ use Rattle.bus_words.specs.Acts.{next_in}
 use Rattle.bus_tables.specs.declared.misses.Miss.{Miss}
 use Rattle.bus_tables.specs.Missed.{Missed}
 use Rattle.bus_tables.specs.Rows.{Row, deliver_rows, reached_rows, missed_rows}
-use Rattle.bus_tables.specs.Tables.{Tables, IsRising}
+use Rattle.bus_words.specs.Pipes.{IsRising}
+use Rattle.bus_tables.specs.Tables.{Tables}
 use Rattle.bus_store.specs.declared.store.BusStore.TheInside.{Inside}
 use Rattle.bus_store.specs.Bag.{HoldsBuffers}
 use Rattle.bus_store.specs.Blocks.{IsGiven}

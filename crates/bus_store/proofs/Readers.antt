@@ -1,17 +1,15 @@
 -- What is asked of one pipe.
-use Rattle.std.proofs.Common.{◌≡◌, ℕ, Bool, true, false, cond, eqb, List, [], ◌∷◌, map, find, Option, Some, None, refl, ap, ◌∙◌}
+use Rattle.std.proofs.Common.{◌≡◌, ℕ, Bool, true, false, cond, eqb, List, map, find, Option, Some, None, refl, ap, ◌∙◌}
 use Rattle.std.specs.Option.{option_map}
 use Rattle.std.specs.Str.{bytes_eq}
 use Rattle.fsw_base.proofs.Lists.{find-map}
 use Rattle.bus_words.specs.Bus.{Item, Pipe, pipe_at, pipe_named, owns}
 use Rattle.bus_tables.specs.declared.tables.ItemRow.{ItemRow}
 use Rattle.buf_desc.specs.declared.slot.Slot.{Slot}
-use Rattle.bus_tables.specs.Rows.{Row, row_of, oldest_item, last_item, last_row_item, owns_row}
-use Rattle.bus_store.specs.Inside.{item_in, pipe_by, pipes_in}
-use Rattle.bus_tables.specs.Tables.{IsRising}
-use Rattle.bus_store.specs.Words.{oldest_of, last_of}
-use Rattle.bus_store.specs.Words as words
-use Rattle.bus_store.proofs.Meaning.{oldest_of-rows, last_of-rows, owns-rows}
+use Rattle.bus_words.specs.Pipes.{oldest_on, last_on, pipe_by}
+use Rattle.bus_tables.specs.Rows.{Row, last_row_item}
+use Rattle.bus_store.specs.Inside.{item_in, pipes_in}
+use Rattle.bus_words.proofs.PipeItems.{oldest_on-map, last_on-map, owns-map}
 
 twice : {X : Type 0} (read : ItemRow → Item) (f : Pipe → X) (o : Option Row) → option_map f (option_map (pipe_by read) o) ≡ option_map (λ row. f (pipe_by read row)) o
 twice read f None = refl
@@ -19,8 +17,8 @@ twice read f (Some row) = refl
 
 -- of the one of a number
 pub at_number : {X : Type 0} (read : ItemRow → Item) (f : Pipe → X) (rows : List Row) (number : ℕ) →
-    option_map f (pipe_at (map (pipe_by read) rows) number) ≡ option_map (λ row. f (pipe_by read row)) (row_of rows number)
-at_number read f rows number = ap (option_map f) (find-map (λ (pipe : Pipe). eqb pipe.number number) (pipe_by read) rows) ∙ twice read f (row_of rows number)
+    option_map f (pipe_at (map (pipe_by read) rows) number) ≡ option_map (λ row. f (pipe_by read row)) (pipe_at rows number)
+at_number read f rows number = ap (option_map f) (find-map (λ (pipe : Pipe). eqb pipe.number number) (pipe_by read) rows) ∙ twice read f (pipe_at rows number)
 
 -- of the one of a name
 pub at_name : {X : Type 0} (read : ItemRow → Item) (f : Pipe → X) (rows : List Row) (name : List ℕ) →
@@ -29,8 +27,8 @@ at_name read f rows name = ap (option_map f) (find-map (λ (pipe : Pipe). bytes_
 
 -- the number of the oldest message
 pub oldest_number : (slots : List Slot) (rows : List Row) (number : ℕ) →
-    option_map (λ (i : Item). i.number) (oldest_of (pipes_in slots rows) number) ≡ option_map (λ (i : ItemRow). i.number) (oldest_item rows number)
-oldest_number slots rows number = ap (option_map (λ (i : Item). i.number)) (oldest_of-rows (item_in slots) rows number) ∙ by_item (oldest_item rows number)
+    option_map (λ (i : Item). i.number) (oldest_on (pipes_in slots rows) number) ≡ option_map (λ (i : ItemRow). i.number) (oldest_on rows number)
+oldest_number slots rows number = ap (option_map (λ (i : Item). i.number)) (oldest_on-map (item_in slots) rows number) ∙ by_item (oldest_on rows number)
   where
     by_item : (o : Option ItemRow) → option_map (λ (i : Item). i.number) (option_map (item_in slots) o) ≡ option_map (λ (i : ItemRow). i.number) o
     by_item None = refl
@@ -43,20 +41,15 @@ at_owner read f rows owner = ap (option_map f) (find-map (λ (pipe : Pipe). eqb 
 
 -- the number of the last message, told to the pipe's owner
 pub last_number : (slots : List Slot) (rows : List Row) (app number : ℕ) →
-    cond {A = Option ℕ} (owns (pipes_in slots rows) app number) (option_map (λ (i : Item). i.number) (last_of (pipes_in slots rows) number)) None
+    cond {A = Option ℕ} (owns (pipes_in slots rows) app number) (option_map (λ (i : Item). i.number) (last_on (pipes_in slots rows) number)) None
     ≡ option_map (λ (i : ItemRow). i.number) (last_row_item rows app number)
 last_number slots rows app number =
-    ap (λ b. cond {A = Option ℕ} b (option_map (λ (i : Item). i.number) (last_of (pipes_in slots rows) number)) None) (owns-rows (item_in slots) rows app number)
-    ∙ ap (λ o. cond {A = Option ℕ} (owns_row rows app number) (option_map (λ (i : Item). i.number) o) None) (last_of-rows (item_in slots) rows number)
-    ∙ by_test (owns_row rows app number) (last_item rows number)
+    ap (λ b. cond {A = Option ℕ} b (option_map (λ (i : Item). i.number) (last_on (pipes_in slots rows) number)) None) (owns-map (item_in slots) rows app number)
+    ∙ ap (λ o. cond {A = Option ℕ} (owns rows app number) (option_map (λ (i : Item). i.number) o) None) (last_on-map (item_in slots) rows number)
+    ∙ by_test (owns rows app number) (last_on rows number)
   where
     by_test : (b : Bool) (o : Option ItemRow) →
         cond {A = Option ℕ} b (option_map (λ (i : Item). i.number) (option_map (item_in slots) o)) None ≡ option_map (λ (i : ItemRow). i.number) (cond {A = Option ItemRow} b o None)
     by_test true None = refl
     by_test true (Some i) = refl
     by_test false o = refl
-
--- the pipes stand in order as their rows do
-pub rising-rows : (read : ItemRow → Item) (below : ℕ) (rows : List Row) → IsRising below rows → words.IsRising below (map (pipe_by read) rows)
-rising-rows read below [] rises = tt
-rising-rows read below (row ∷ rows) rises = (rises.0, rising-rows read row.number rows rises.1)

@@ -11,20 +11,21 @@ use Rattle.buf_desc.specs.Desk.{Buffers}
 use Rattle.buf_desc.specs.Held.{Holding, view_at}
 use Rattle.bus_words.specs.Bus.{Item, Pipe, Buffer, owns, with_pipe, after_receive}
 use Rattle.bus_tables.specs.declared.tables.ItemRow.{ItemRow}
-use Rattle.bus_tables.specs.Rows.{Row, row_of, with_row, after_take, oldest_item, last_item, owns_row}
-use Rattle.bus_tables.specs.Tables.{Tables, IsRising}
+use Rattle.bus_words.specs.Pipes.{pipe_at, oldest_on, last_on, IsRising}
+use Rattle.bus_tables.specs.Rows.{Row}
+use Rattle.bus_tables.specs.Tables.{Tables}
 use Rattle.bus_tables.specs.Uses.{item_use}
 use Rattle.bus_store.specs.declared.store.BusStore.TheInside.{Inside}
 use Rattle.bus_store.specs.Bag.{view_due, views_due}
 use Rattle.bus_store.specs.Store.{Store, LastLoan, BufferDesc}
-use Rattle.bus_store.specs.Words.{oldest_of, last_of, loan_of, with_held}
+use Rattle.bus_store.specs.Words.{loan_of, with_held}
 use Rattle.bus_store.specs.Inside.{store_of, Keeps, account_in, item_in, pipes_in, descs_in, loan_in, loan_at, view_in, IsNamed, lasts_of, let_go, shown, after_release}
 use Rattle.bus_store.proofs.Bags.{due, due-rows, loan-rows, view_alike, last_item-taken, last_item-other, owns-changed, has_view, views-rows, views-taken, views-few, views-others, own_found}
 use Rattle.bus_store.proofs.Accounts.{held_law, held_now, alone_as, released_alone}
 use Rattle.bus_store.proofs.Items.{last_found, oldest_found, lasts_few, lasts_most, lasts_unlasted}
 use Rattle.bus_store.proofs.Lasts.{HasDue, holds_same}
 use Rattle.bus_store.proofs.Listed.{listed_kept, unsent_kept, descs_kept}
-use Rattle.bus_store.proofs.Meaning.{owns-rows, oldest_of-rows, last_of-rows, pipes_with_row, pipe_by-after_take}
+use Rattle.bus_words.proofs.PipeItems.{owns-map, oldest_on-map, last_on-map, with_pipe-map, after_receive-map}
 use Rattle.bus_store.proofs.Receives.{IsReleased, IsReceived, item_use-here, released, received, front_named}
 use Rattle.bus_store.proofs.Stores.{length-with_row}
 use Rattle.bus_store.proofs.Tied.{Stays, pipes_stay}
@@ -39,13 +40,13 @@ one_owner (Some found) row other is also = sym (ap owner is) ∙ ap owner also
 
 module _ (a : Inside) (old : Store) (app pipe : ℕ) (before front : Option ItemRow) (next : Tables) (mid final : Buffers)
     (viewed : store_of a ≡ old) (keeps : Keeps a) (rises : IsRising 0 a.tables.pipes) (live_out : (d : ℕ) → is_live (slot_at a.desk.slots d) ≡ is_out a.desk.pool d)
-    (before_is : before ≡ last_item a.tables.pipes pipe) (front_is : front ≡ oldest_item a.tables.pipes pipe)
-    (taken : next ≡ record a.tables { pipes = with_row after_take pipe a.tables.pipes }) where
+    (before_is : before ≡ last_on a.tables.pipes pipe) (front_is : front ≡ oldest_on a.tables.pipes pipe)
+    (taken : next ≡ record a.tables { pipes = with_pipe after_receive pipe a.tables.pipes }) where
   abbrev rows : List Row
   rows = a.tables.pipes
 
   abbrev rows' : List Row
-  rows' = with_row after_take pipe rows
+  rows' = with_pipe after_receive pipe rows
 
   -- Before the view comes back. --
 
@@ -72,7 +73,7 @@ module _ (a : Inside) (old : Store) (app pipe : ℕ) (before front : Option Item
   pub last_lent : IfSome before (λ item. 1 ≤ (sealed_at a.desk.slots item.desc).views)
   last_lent = at before named_last before_is
     where
-      at : (o : Option ItemRow) → IfSome o (IsNamed a.desk.slots) → o ≡ last_item rows pipe → IfSome o (λ item. 1 ≤ (sealed_at a.desk.slots item.desc).views)
+      at : (o : Option ItemRow) → IfSome o (IsNamed a.desk.slots) → o ≡ last_on rows pipe → IfSome o (λ item. 1 ≤ (sealed_at a.desk.slots item.desc).views)
       at None is same = tt
       at (Some i) is same =
           omega (arith, keeps.backed.tied.views i.desc is.sealed, ap (λ n. lasts_of n rows) is.number, lasts_unlasted i.number pipe rows rises, ap (item_use i.number) same, item_use-here i)
@@ -89,13 +90,13 @@ module _ (a : Inside) (old : Store) (app pipe : ℕ) (before front : Option Item
   due_was number = due-rows old a.desk.slots rows app number (ap (λ (o : Store). o.pipes) (sym viewed)) (ap (λ (o : Store). o.loans) (sym viewed))
 
   module _ (own : owns old.pipes app pipe ≡ true) where
-    own_row : owns_row rows app pipe ≡ true
-    own_row = sym (owns-rows (item_in a.desk.slots) rows app pipe) ∙ ap (λ (o : Store). owns o.pipes app pipe) viewed ∙ own
+    own_row : owns rows app pipe ≡ true
+    own_row = sym (owns-map (item_in a.desk.slots) rows app pipe) ∙ ap (λ (o : Store). owns o.pipes app pipe) viewed ∙ own
 
     pub last_seen : (held : Holding LentBytes) → HasDue old app held → view_at held pipe ≡ option_map (view_in a.desk.slots) before
     last_seen held holds =
         holds.seen pipe ∙ due_was pipe
-        ∙ ap (λ c. cond {A = Option LentBytes} c (option_map (view_in a.desk.slots) (last_item rows pipe)) None) own_row
+        ∙ ap (λ c. cond {A = Option LentBytes} c (option_map (view_in a.desk.slots) (last_on rows pipe)) None) own_row
         ∙ ap (option_map (view_in a.desk.slots)) (sym before_is)
 
     pub room_left : (held : Holding LentBytes) → HasDue old app held → length held.views < held.view_room + cond {A = ℕ} (is_some before) 1 0
@@ -136,7 +137,7 @@ module _ (a : Inside) (old : Store) (app pipe : ℕ) (before front : Option Item
             listed = listed_kept a.desk.slots a.lists.lists keeps.listed final.slots now.opened;
             places = ap most_cut now.pool ∙ was.most ∙ keeps.places;
             misses = keeps.misses;
-            pipes_live = omega (arith, length-with_row after_take pipe rows, keeps.pipes_live);
+            pipes_live = omega (arith, length-with_row after_receive pipe rows, keeps.pipes_live);
             pipes_few = keeps.pipes_few;
             subscriptions_live = keeps.subscriptions_live;
             subscriptions_made = keeps.subscriptions_made;
@@ -151,16 +152,16 @@ module _ (a : Inside) (old : Store) (app pipe : ℕ) (before front : Option Item
       pipes_are : pipes_in final.slots rows' ≡ with_pipe after_receive pipe (pipes_in a.desk.slots rows)
       pipes_are =
           pipes_stay a.desk.slots final.slots rows' now.stay
-          ∙ pipes_with_row (item_in a.desk.slots) after_take after_receive (pipe_by-after_take (item_in a.desk.slots)) pipe rows
+          ∙ with_pipe-map (item_in a.desk.slots) after_receive after_receive (after_receive-map (item_in a.desk.slots)) pipe rows
 
-      account_is : account_in final.pool ≡ after_release (account_in a.desk.pool) (last_of (pipes_in a.desk.slots rows) pipe) (pipes_in final.slots rows')
+      account_is : account_in final.pool ≡ after_release (account_in a.desk.pool) (last_on (pipes_in a.desk.slots rows) pipe) (pipes_in final.slots rows')
       account_is =
           ap account_in now.pool ∙ was.account final.slots
-          ∙ ap (λ o. after_release (account_in a.desk.pool) o (pipes_in final.slots rows')) (sym (last_of-rows (item_in a.desk.slots) rows pipe))
+          ∙ ap (λ o. after_release (account_in a.desk.pool) o (pipes_in final.slots rows')) (sym (last_on-map (item_in a.desk.slots) rows pipe))
 
       received_store : after ≡ record old {
         pipes = with_pipe after_receive pipe old.pipes;
-        account = after_release old.account (last_of old.pipes pipe) after.pipes;
+        account = after_release old.account (last_on old.pipes pipe) after.pipes;
         loans = after.loans;
       }
       received_store =
@@ -171,11 +172,11 @@ module _ (a : Inside) (old : Store) (app pipe : ℕ) (before front : Option Item
           ∙ ap (λ (l : List BufferDesc). let v : Store = record (store_of a) { pipes = pipes_in final.slots rows'; account = account_in final.pool; loans = map (loan_in final.slots) rows'; descs = l } in v)
           (descs_kept a.desk.slots a.lists.lists keeps.listed final.slots now.opened)
           ∙ ap (λ (l : List LastLoan). let v : Store = record (store_of a) { pipes = pipes_in final.slots rows'; account = account_in final.pool; loans = l } in v) (sym (ap (λ (o : Store). o.loans) after_is))
-          ∙ ap (λ c. to (pipes_in final.slots rows') c) (account_is ∙ ap (λ l. after_release (account_in a.desk.pool) (last_of (pipes_in a.desk.slots rows) pipe) l) (sym (ap (λ (o : Store). o.pipes) after_is)))
-          ∙ ap (λ l. to l (after_release (account_in a.desk.pool) (last_of (pipes_in a.desk.slots rows) pipe) after.pipes)) pipes_are
+          ∙ ap (λ c. to (pipes_in final.slots rows') c) (account_is ∙ ap (λ l. after_release (account_in a.desk.pool) (last_on (pipes_in a.desk.slots rows) pipe) l) (sym (ap (λ (o : Store). o.pipes) after_is)))
+          ∙ ap (λ l. to l (after_release (account_in a.desk.pool) (last_on (pipes_in a.desk.slots rows) pipe) after.pipes)) pipes_are
           ∙ ap (λ (o : Store). let v : Store = record o {
             pipes = with_pipe after_receive pipe o.pipes;
-            account = after_release o.account (last_of o.pipes pipe) after.pipes;
+            account = after_release o.account (last_on o.pipes pipe) after.pipes;
             loans = after.loans;
           } in v) viewed
 
@@ -186,7 +187,7 @@ module _ (a : Inside) (old : Store) (app pipe : ℕ) (before front : Option Item
       }
       received_held still_out =
           let is = ap (λ (o : Store). o.account) received_store in
-          let alone = alone_as old.account (after_release old.account (last_of old.pipes pipe) after.pipes) after.account (released_alone old.account (last_of old.pipes pipe) after.pipes) is in
+          let alone = alone_as old.account (after_release old.account (last_on old.pipes pipe) after.pipes) after.account (released_alone old.account (last_on old.pipes pipe) after.pipes) is in
           let law =
           held_law (record a { tables = next; desk = final }) received_keeps still_out
           ∙ ap (λ l. with_held after.account after.pipes l a.given) (ap (λ (o : Store). o.unsent) received_store)
@@ -199,8 +200,8 @@ module _ (a : Inside) (old : Store) (app pipe : ℕ) (before front : Option Item
       received_loans other apart =
           ap (λ (o : Store). loan_of o.loans other) after_is
           ∙ loan-rows final.slots rows' other
-          ∙ same (last_item rows' other) (last_found (Stays a.desk.slots final.slots) rows' other now.stay)
-          ∙ ap (loan_at a.desk.slots) (last_item-other after_take (λ row. refl) rows pipe other apart)
+          ∙ same (last_on rows' other) (last_found (Stays a.desk.slots final.slots) rows' other now.stay)
+          ∙ ap (loan_at a.desk.slots) (last_item-other after_receive (λ row. refl) rows pipe other apart)
           ∙ sym (loan-rows a.desk.slots rows other)
           ∙ ap (λ (o : Store). loan_of o.loans other) viewed
         where
@@ -221,29 +222,29 @@ module _ (a : Inside) (old : Store) (app pipe : ℕ) (before front : Option Item
 
       -- an application that doesn't own the pipe
       module _ (own : owns old.pipes app pipe ≡ true) (user : ℕ) (not_own : user ≡ app → ⊥) where
-        not_owned : owns_row rows user pipe ≡ false
-        not_owned = at (owns_row rows user pipe) refl
+        not_owned : owns rows user pipe ≡ false
+        not_owned = at (owns rows user pipe) refl
           where
-            at : (c : Bool) → owns_row rows user pipe ≡ c → owns_row rows user pipe ≡ false
+            at : (c : Bool) → owns rows user pipe ≡ c → owns rows user pipe ≡ false
             at false e = e
             at true e =
                 let mine = own_found 0 rows app pipe rises (own_row own) in
                 let its = own_found 0 rows user pipe rises e in
-                let same : its.row.owner ≡ mine.row.owner = one_owner (row_of rows pipe) its.row mine.row its.is mine.is in
+                let same : its.row.owner ≡ mine.row.owner = one_owner (pipe_at rows pipe) its.row mine.row its.is mine.is in
                 absurd (not_own (sym (eqb-true its.row.owner user its.own) ∙ same ∙ eqb-true mine.row.owner app mine.own))
 
         due_same : (number : ℕ) → (pipe ≡ number) ⊎ (pipe ≡ number → ⊥) → due final.slots rows' user number ≡ due a.desk.slots rows user number
         due_same number (inl here) =
-            ap (λ c. cond {A = Option LentBytes} c (option_map (view_in final.slots) (last_item rows' number)) None) (owns-changed after_take (λ row. refl) (λ row. refl) rows pipe user number ∙ none)
-            ∙ sym (ap (λ c. cond {A = Option LentBytes} c (option_map (view_in a.desk.slots) (last_item rows number)) None) none)
+            ap (λ c. cond {A = Option LentBytes} c (option_map (view_in final.slots) (last_on rows' number)) None) (owns-changed after_receive (λ row. refl) (λ row. refl) rows pipe user number ∙ none)
+            ∙ sym (ap (λ c. cond {A = Option LentBytes} c (option_map (view_in a.desk.slots) (last_on rows number)) None) none)
           where
-            none : owns_row rows user number ≡ false
-            none = ap (owns_row rows user) (sym here) ∙ not_owned
+            none : owns rows user number ≡ false
+            none = ap (owns rows user) (sym here) ∙ not_owned
         due_same number (inr apart) =
-            ap (λ c. cond {A = Option LentBytes} c (option_map (view_in final.slots) (last_item rows' number)) None) (owns-changed after_take (λ row. refl) (λ row. refl) rows pipe user number)
-            ∙ ap (λ l. cond {A = Option LentBytes} (owns_row rows user number) l None)
-            (alike a.desk.slots (last_item rows' number) (last_found (Stays a.desk.slots final.slots) rows' number now.stay)
-            ∙ ap (option_map (view_in a.desk.slots)) (last_item-other after_take (λ row. refl) rows pipe number apart))
+            ap (λ c. cond {A = Option LentBytes} c (option_map (view_in final.slots) (last_on rows' number)) None) (owns-changed after_receive (λ row. refl) (λ row. refl) rows pipe user number)
+            ∙ ap (λ l. cond {A = Option LentBytes} (owns rows user number) l None)
+            (alike a.desk.slots (last_on rows' number) (last_found (Stays a.desk.slots final.slots) rows' number now.stay)
+            ∙ ap (option_map (view_in a.desk.slots)) (last_item-other after_receive (λ row. refl) rows pipe number apart))
 
         views_same : count_by (has_view user) rows' ≡ count_by (has_view user) rows
         views_same =
@@ -270,8 +271,8 @@ module _ (a : Inside) (old : Store) (app pipe : ℕ) (before front : Option Item
             (put pipe
             ∙ ap (λ c. cond {A = Option LentBytes} c (option_map (view_in mid.slots) front) (view_at held pipe)) (eqb_same pipe)
             ∙ ap (option_map (view_in mid.slots)) (front_is ∙ sym (last_item-taken rows pipe))
-            ∙ sym (alike mid.slots (last_item rows' pipe) (last_found (Stays mid.slots final.slots) rows' pipe now.since))
-            ∙ sym (ap (λ c. cond {A = Option LentBytes} c (option_map (view_in final.slots) (last_item rows' pipe)) None) (owns-changed after_take (λ row. refl) (λ row. refl) rows pipe app pipe ∙ own_row own)))
+            ∙ sym (alike mid.slots (last_on rows' pipe) (last_found (Stays mid.slots final.slots) rows' pipe now.since))
+            ∙ sym (ap (λ c. cond {A = Option LentBytes} c (option_map (view_in final.slots) (last_on rows' pipe)) None) (owns-changed after_receive (λ row. refl) (λ row. refl) rows pipe app pipe ∙ own_row own)))
           where
             eqb_same : (n : ℕ) → eqb n n ≡ true
             eqb_same n = grind (arith, nat_tests)
@@ -280,10 +281,10 @@ module _ (a : Inside) (old : Store) (app pipe : ℕ) (before front : Option Item
             ∙ ap (λ c. cond {A = Option LentBytes} c (option_map (view_in mid.slots) front) (view_at held number)) (off (eqb pipe number) refl)
             ∙ holds.seen number ∙ due_was number
             ∙ sym
-            (ap (λ c. cond {A = Option LentBytes} c (option_map (view_in final.slots) (last_item rows' number)) None) (owns-changed after_take (λ row. refl) (λ row. refl) rows pipe app number)
-            ∙ ap (λ l. cond {A = Option LentBytes} (owns_row rows app number) l None)
-            (alike a.desk.slots (last_item rows' number) (last_found (Stays a.desk.slots final.slots) rows' number now.stay)
-            ∙ ap (option_map (view_in a.desk.slots)) (last_item-other after_take (λ row. refl) rows pipe number apart)))
+            (ap (λ c. cond {A = Option LentBytes} c (option_map (view_in final.slots) (last_on rows' number)) None) (owns-changed after_receive (λ row. refl) (λ row. refl) rows pipe app number)
+            ∙ ap (λ l. cond {A = Option LentBytes} (owns rows app number) l None)
+            (alike a.desk.slots (last_on rows' number) (last_found (Stays a.desk.slots final.slots) rows' number now.stay)
+            ∙ ap (option_map (view_in a.desk.slots)) (last_item-other after_receive (λ row. refl) rows pipe number apart)))
           where
             off : (c : Bool) → eqb pipe number ≡ c → eqb pipe number ≡ false
             off false e = e
@@ -305,10 +306,10 @@ module _ (a : Inside) (old : Store) (app pipe : ℕ) (before front : Option Item
         }
 
   -- the number of what is received
-  pub received_number : (result : Option ℕ) → result ≡ option_map (λ (i : ItemRow). i.number) front → result ≡ option_map (λ (i : Item). i.number) (oldest_of old.pipes pipe)
+  pub received_number : (result : Option ℕ) → result ≡ option_map (λ (i : ItemRow). i.number) front → result ≡ option_map (λ (i : Item). i.number) (oldest_on old.pipes pipe)
   received_number result is =
-      is ∙ ap (option_map (λ (i : ItemRow). i.number)) front_is ∙ by_item (oldest_item rows pipe)
-      ∙ ap (option_map (λ (i : Item). i.number)) (sym (oldest_of-rows (item_in a.desk.slots) rows pipe) ∙ ap (λ (o : Store). oldest_of o.pipes pipe) viewed)
+      is ∙ ap (option_map (λ (i : ItemRow). i.number)) front_is ∙ by_item (oldest_on rows pipe)
+      ∙ ap (option_map (λ (i : Item). i.number)) (sym (oldest_on-map (item_in a.desk.slots) rows pipe) ∙ ap (λ (o : Store). oldest_on o.pipes pipe) viewed)
     where
       by_item : (o : Option ItemRow) → option_map (λ (i : ItemRow). i.number) o ≡ option_map (λ (i : Item). i.number) (option_map (item_in a.desk.slots) o)
       by_item None = refl

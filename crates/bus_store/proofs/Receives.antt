@@ -12,8 +12,8 @@ use Rattle.buf_desc.specs.Desk.{Buffers, resealed, freed}
 use Rattle.buf_desc.specs.declared.slot.Slot.{Slot}
 use Rattle.buf_desc.specs.declared.slot.Slot.TheVariants.{Free, Sealed}
 use Rattle.bus_tables.specs.declared.tables.ItemRow.{ItemRow}
-use Rattle.bus_tables.specs.Rows.{Row, row_of, with_row, after_take, oldest_item, last_item}
-use Rattle.bus_tables.specs.Tables.{IsRising}
+use Rattle.bus_words.specs.Pipes.{pipe_at, with_pipe, after_receive, oldest_on, last_on, IsRising}
+use Rattle.bus_tables.specs.Rows.{Row}
 use Rattle.bus_tables.specs.Uses.{item_use, uses_of}
 use Rattle.bus_tables.proofs.UsesCounted.{taken_uses}
 use Rattle.bus_store.specs.Inside.{item_in, pipes_in, account_in, AllItems, IsNamed, lasts_of, AreTied, Backed, let_go, shown, returned, after_release}
@@ -225,8 +225,8 @@ module _ (b : Buffers) (item : ItemRow) (rows rows' : List Row) (uses views uses
 
 -- A receive. --
 
-last_use : (n number : ℕ) (rows : List Row) → option_map_or {U = ℕ} (λ (row : Row). item_use n row.last) (row_of rows number) 0 ≡ item_use n (last_item rows number)
-last_use n number rows = by_row (row_of rows number)
+last_use : (n number : ℕ) (rows : List Row) → option_map_or {U = ℕ} (λ (row : Row). item_use n row.last) (pipe_at rows number) 0 ≡ item_use n (last_on rows number)
+last_use n number rows = by_row (pipe_at rows number)
   where
     by_row : (o : Option Row) → option_map_or {U = ℕ} (λ (row : Row). item_use n row.last) o 0 ≡ item_use n (option_and_then (λ (row : Row). row.last) o)
     by_row None = refl
@@ -234,19 +234,19 @@ last_use n number rows = by_row (row_of rows number)
 
 module _ (b : Buffers) (rows : List Row) (given pipe : ℕ) (backed : Backed b rows given) (rises : IsRising 0 rows) (live_out : (d : ℕ) → is_live (slot_at b.slots d) ≡ is_out b.pool d) where
   abbrev rows' : List Row
-  rows' = with_row after_take pipe rows
+  rows' = with_pipe after_receive pipe rows
 
   -- the views once the last one came back
   abbrev views_left : ℕ → ℕ
-  views_left n = lasts_of n rows - item_use n (last_item rows pipe)
+  views_left n = lasts_of n rows - item_use n (last_on rows pipe)
 
-  fewer_uses : (n : ℕ) → uses_of n rows' + item_use n (last_item rows pipe) ≡ uses_of n rows
+  fewer_uses : (n : ℕ) → uses_of n rows' + item_use n (last_on rows pipe) ≡ uses_of n rows
   fewer_uses n = omega (arith, taken_uses n pipe 0 rows rises, last_use n pipe rows)
 
-  fewer_views : (n : ℕ) → views_left n + item_use n (last_item rows pipe) ≡ lasts_of n rows
+  fewer_views : (n : ℕ) → views_left n + item_use n (last_on rows pipe) ≡ lasts_of n rows
   fewer_views n = omega (arith, lasts_unlasted n pipe rows rises)
 
-  more_views : (n : ℕ) → lasts_of n rows' ≡ views_left n + item_use n (oldest_item rows pipe)
+  more_views : (n : ℕ) → lasts_of n rows' ≡ views_left n + item_use n (oldest_on rows pipe)
   more_views n = omega (arith, lasts_taken n pipe rows rises, fewer_views n)
 
   items' : AllItems (IsNamed b.slots) rows'
@@ -259,11 +259,11 @@ module _ (b : Buffers) (rows : List Row) (given pipe : ℕ) (backed : Backed b r
     pub stay : AllItems (Stays b.slots after.slots) rows'
     pub opened : KeepsOpen b.slots after.slots
     pub most : most_cut after.pool ≡ most_cut b.pool
-    pub account : (slots : List Slot) → account_in after.pool ≡ after_release (account_in b.pool) (option_map (item_in b.slots) (last_item rows pipe)) (pipes_in slots rows')
+    pub account : (slots : List Slot) → account_in after.pool ≡ after_release (account_in b.pool) (option_map (item_in b.slots) (last_on rows pipe)) (pipes_in slots rows')
 
-  released_none : last_item rows pipe ≡ None → IsReleased b
+  released_none : last_on rows pipe ≡ None → IsReleased b
   released_none none =
-      let no_use : (n : ℕ) → item_use n (last_item rows pipe) ≡ 0 = λ n. ap (item_use n) none in
+      let no_use : (n : ℕ) → item_use n (last_on rows pipe) ≡ 0 = λ n. ap (item_use n) none in
       record {
         tied = retied b rows rows' (λ n. uses_of n rows) (λ n. lasts_of n rows) (λ n. uses_of n rows') views_left given backed.tied
             (λ n. omega (arith, fewer_uses n, no_use n)) (λ n. omega (arith, fewer_views n, no_use n)) items';
@@ -274,10 +274,10 @@ module _ (b : Buffers) (rows : List Row) (given pipe : ℕ) (backed : Backed b r
         account = λ slots. sym (ap (λ o. after_release (account_in b.pool) (option_map (item_in b.slots) o) (pipes_in slots rows')) none);
       }
 
-  released_some : (item : ItemRow) → last_item rows pipe ≡ Some item → IsReleased (let_go b (Some item))
+  released_some : (item : ItemRow) → last_on rows pipe ≡ Some item → IsReleased (let_go b (Some item))
   released_some item is =
       let named : IsNamed b.slots item = subst (λ o. IfSome o (IsNamed b.slots)) is (last_found (IsNamed b.slots) rows pipe backed.tied.items) in
-      let one : (n : ℕ) → item_use n (last_item rows pipe) ≡ item_use n (Some item) = λ n. ap (item_use n) is in
+      let one : (n : ℕ) → item_use n (last_on rows pipe) ≡ item_use n (Some item) = λ n. ap (item_use n) is in
       let went =
       is_let_go b item rows rows' (λ n. uses_of n rows) (λ n. lasts_of n rows) (λ n. uses_of n rows') views_left given backed.tied backed.used named
       (sym (live_out item.desc) ∙ sealed_live (slot_at b.slots item.desc) named.sealed)
@@ -295,10 +295,10 @@ module _ (b : Buffers) (rows : List Row) (given pipe : ℕ) (backed : Backed b r
             ∙ sym (ap (λ o. after_release (account_in b.pool) (option_map (item_in b.slots) o) (pipes_in slots rows')) is);
       }
 
-  pub released : (after : Buffers) → after ≡ let_go b (last_item rows pipe) → IsReleased after
-  released after is = at (last_item rows pipe) refl
+  pub released : (after : Buffers) → after ≡ let_go b (last_on rows pipe) → IsReleased after
+  released after is = at (last_on rows pipe) refl
     where
-      at : (o : Option ItemRow) → last_item rows pipe ≡ o → IsReleased after
+      at : (o : Option ItemRow) → last_on rows pipe ≡ o → IsReleased after
       at None e = subst IsReleased (sym (is ∙ ap (let_go b) e)) (released_none e)
       at (Some item) e = subst IsReleased (sym (is ∙ ap (let_go b) e)) (released_some item e)
 
@@ -310,7 +310,7 @@ module _ (b : Buffers) (rows : List Row) (given pipe : ℕ) (backed : Backed b r
     pub opened : KeepsOpen b.slots after.slots
     pub pool : after.pool ≡ mid.pool
 
-  received_none : (mid : Buffers) → IsReleased mid → oldest_item rows pipe ≡ None → IsReceived mid mid
+  received_none : (mid : Buffers) → IsReleased mid → oldest_on rows pipe ≡ None → IsReceived mid mid
   received_none mid was none = record {
     kept = record {
       tied = retied mid rows' rows' (λ n. uses_of n rows') views_left (λ n. uses_of n rows') (λ n. lasts_of n rows') given was.tied (λ n. refl)
@@ -323,7 +323,7 @@ module _ (b : Buffers) (rows : List Row) (given pipe : ℕ) (backed : Backed b r
     pool = refl;
   }
 
-  received_some : (mid : Buffers) → IsReleased mid → (item : ItemRow) → oldest_item rows pipe ≡ Some item → IsNamed mid.slots item → IsReceived mid (shown mid (Some item))
+  received_some : (mid : Buffers) → IsReleased mid → (item : ItemRow) → oldest_on rows pipe ≡ Some item → IsNamed mid.slots item → IsReceived mid (shown mid (Some item))
   received_some mid was item is named =
       let d = item.desc in
       let sent : SealedBlock = record (sealed_at mid.slots d) { views = (sealed_at mid.slots d).views + 1 } in
@@ -350,12 +350,12 @@ module _ (b : Buffers) (rows : List Row) (given pipe : ℕ) (backed : Backed b r
       }
 
   -- the oldest item's block is there
-  pub front_named : (P : ItemRow → Type 0) → AllItems P rows' → IfSome (oldest_item rows pipe) P
+  pub front_named : (P : ItemRow → Type 0) → AllItems P rows' → IfSome (oldest_on rows pipe) P
   front_named P all = subst (λ o. IfSome o P) (last_item-taken rows pipe) (last_found P rows' pipe all)
 
-  pub received : (mid after : Buffers) → IsReleased mid → after ≡ shown mid (oldest_item rows pipe) → IsReceived mid after
-  received mid after was is = at (oldest_item rows pipe) refl (front_named (IsNamed mid.slots) was.tied.items)
+  pub received : (mid after : Buffers) → IsReleased mid → after ≡ shown mid (oldest_on rows pipe) → IsReceived mid after
+  received mid after was is = at (oldest_on rows pipe) refl (front_named (IsNamed mid.slots) was.tied.items)
     where
-      at : (o : Option ItemRow) → oldest_item rows pipe ≡ o → IfSome (oldest_item rows pipe) (IsNamed mid.slots) → IsReceived mid after
+      at : (o : Option ItemRow) → oldest_on rows pipe ≡ o → IfSome (oldest_on rows pipe) (IsNamed mid.slots) → IsReceived mid after
       at None e named = subst (IsReceived mid) (sym (is ∙ ap (shown mid) e)) (received_none mid was e)
       at (Some item) e named = subst (IsReceived mid) (sym (is ∙ ap (shown mid) e)) (received_some mid was item e (subst (λ o. IfSome o (IsNamed mid.slots)) e named))

@@ -12,20 +12,21 @@ use Rattle.lend_block.specs.Loan.{LentBytes}
 use Rattle.buf_desc.specs.Held.{Holding}
 use Rattle.bus_words.specs.Bus.{Item, Pipe, Subscription, owns}
 use Rattle.bus_tables.specs.declared.tables.ItemRow.{ItemRow}
-use Rattle.bus_tables.specs.Rows.{Row, row_of, first_item, oldest_item, last_item}
-use Rattle.bus_tables.specs.Tables.{Tables, IsRising}
+use Rattle.bus_words.specs.Pipes.{pipe_at, oldest, oldest_on, last_on, IsRising, pipe_by}
+use Rattle.bus_tables.specs.Rows.{Row}
+use Rattle.bus_tables.specs.Tables.{Tables}
 use Rattle.bus_tables.specs.Uses.{item_use, uses_in, uses_of}
 use Rattle.bus_tables.proofs.EndingsLists.{find_within}
 use Rattle.bus_store.specs.declared.store.BusStore.TheInside.{Inside}
 use Rattle.bus_store.specs.Bag.{view_due, views_due}
 use Rattle.bus_store.specs.Store.{Store, LastLoan}
-use Rattle.bus_store.specs.Words.{oldest_of, last_of, loan_of, with_held}
-use Rattle.bus_store.specs.Inside.{store_of, Keeps, item_in, pipe_by, pipes_in, loan_in, OfItems, IsNamed, lasts_of}
+use Rattle.bus_store.specs.Words.{loan_of, with_held}
+use Rattle.bus_store.specs.Inside.{store_of, Keeps, item_in, pipes_in, loan_in, OfItems, IsNamed, lasts_of}
 use Rattle.bus_store.proofs.Bags.{has_view, views-rows}
 use Rattle.bus_store.proofs.Emptied.{Alone}
 use Rattle.bus_store.proofs.Accounts.{OutAlone, alone_as, held_now}
 use Rattle.bus_store.proofs.Lasts.{HasDue, holds_same}
-use Rattle.bus_store.proofs.Meaning.{oldest_of-rows, last_of-rows}
+use Rattle.bus_words.proofs.PipeItems.{oldest_on-map, last_on-map}
 use Rattle.bus_store.proofs.Receives.{retied}
 
 -- Sums. --
@@ -44,15 +45,15 @@ absent number below (row ∷ rows) rises h =
     off a b l = grind (arith, nat_tests)
 
 -- a sum over the rows loses what the one row has in it
-sum_without : (w : Row → ℕ) (number below : ℕ) (rows : List Row) → IsRising below rows → sum_by w (filter (stays number) rows) + option_map_or {U = ℕ} w (row_of rows number) 0 ≡ sum_by w rows
+sum_without : (w : Row → ℕ) (number below : ℕ) (rows : List Row) → IsRising below rows → sum_by w (filter (stays number) rows) + option_map_or {U = ℕ} w (pipe_at rows number) 0 ≡ sum_by w rows
 sum_without w number below [] rises = refl
 sum_without w number below (row ∷ rows) rises = by_test (eqb row.number number) refl (sum_without w number row.number rows rises.1)
   where
     same : (a b : ℕ) → eqb a b ≡ true → b ≤ a
     same a b t = grind (arith, nat_tests)
 
-    by_test : (b : Bool) → eqb row.number number ≡ b → sum_by w (filter (stays number) rows) + option_map_or {U = ℕ} w (row_of rows number) 0 ≡ sum_by w rows →
-        sum_by w (cond {A = List Row} (not b) (row ∷ filter (stays number) rows) (filter (stays number) rows)) + option_map_or {U = ℕ} w (cond {A = Option Row} b (Some row) (row_of rows number)) 0
+    by_test : (b : Bool) → eqb row.number number ≡ b → sum_by w (filter (stays number) rows) + option_map_or {U = ℕ} w (pipe_at rows number) 0 ≡ sum_by w rows →
+        sum_by w (cond {A = List Row} (not b) (row ∷ filter (stays number) rows) (filter (stays number) rows)) + option_map_or {U = ℕ} w (cond {A = Option Row} b (Some row) (pipe_at rows number)) 0
         ≡ sum_by w (row ∷ rows)
     by_test true e later =
         let rest = ap (sum_by w) (absent number row.number rows rises.1 (same row.number number e)) in
@@ -60,18 +61,18 @@ sum_without w number below (row ∷ rows) rises = by_test (eqb row.number number
     by_test false e later = omega (arith, later, sum_by-cons w row rows, sum_by-cons w row (filter (stays number) rows))
 
 -- and stays where that is nothing
-sum_stays : (w : Row → ℕ) (number : ℕ) (rows : List Row) → IsRising 0 rows → oldest_item rows number ≡ None → last_item rows number ≡ None →
-    ((row : Row) → first_item row.queue ≡ None → row.last ≡ None → w row ≡ 0) → sum_by w (filter (stays number) rows) ≡ sum_by w rows
-sum_stays w number rows rises waits last none = let sum = sum_without w number 0 rows rises in omega (arith, sum, by_row (row_of rows number) waits last)
+sum_stays : (w : Row → ℕ) (number : ℕ) (rows : List Row) → IsRising 0 rows → oldest_on rows number ≡ None → last_on rows number ≡ None →
+    ((row : Row) → oldest row.queue ≡ None → row.last ≡ None → w row ≡ 0) → sum_by w (filter (stays number) rows) ≡ sum_by w rows
+sum_stays w number rows rises waits last none = let sum = sum_without w number 0 rows rises in omega (arith, sum, by_row (pipe_at rows number) waits last)
   where
-    by_row : (o : Option Row) → option_and_then (λ (row : Row). first_item row.queue) o ≡ None → option_and_then (λ (row : Row). row.last) o ≡ None → option_map_or {U = ℕ} w o 0 ≡ 0
+    by_row : (o : Option Row) → option_and_then (λ (row : Row). oldest row.queue) o ≡ None → option_and_then (λ (row : Row). row.last) o ≡ None → option_map_or {U = ℕ} w o 0 ≡ 0
     by_row None e f = refl
     by_row (Some row) e f = none row e f
 
-no_uses : (n : ℕ) (row : Row) → first_item row.queue ≡ None → row.last ≡ None → uses_in n row ≡ 0
+no_uses : (n : ℕ) (row : Row) → oldest row.queue ≡ None → row.last ≡ None → uses_in n row ≡ 0
 no_uses n row waits last = omega (arith, by_queue row.queue waits, ap (item_use n) last)
   where
-    by_queue : (queue : List ItemRow) → first_item queue ≡ None → count_by (λ (i : ItemRow). eqb i.number n) queue ≡ 0
+    by_queue : (queue : List ItemRow) → oldest queue ≡ None → count_by (λ (i : ItemRow). eqb i.number n) queue ≡ 0
     by_queue [] e = refl
     by_queue (i ∷ queue) e = absurd (cc (e))
 
@@ -118,7 +119,7 @@ owns_other number app other apart (pipe ∷ pipes) = by_test (eqb pipe.number nu
     by_test true e ih = ih ∙ sym (ap (λ c. (c && eqb pipe.owner app) || owns pipes app other) (off e (eqb pipe.number other) refl))
     by_test false e ih = ap (λ c. (eqb pipe.number other && eqb pipe.owner app) || c) ih
 
-last_other : (number other : ℕ) → (number ≡ other → ⊥) → (pipes : List Pipe) → last_of (filter (λ (p : Pipe). not (eqb p.number number)) pipes) other ≡ last_of pipes other
+last_other : (number other : ℕ) → (number ≡ other → ⊥) → (pipes : List Pipe) → last_on (filter (λ (p : Pipe). not (eqb p.number number)) pipes) other ≡ last_on pipes other
 last_other number other apart pipes =
     ap (option_and_then (λ (p : Pipe). p.last)) (find_within (λ (p : Pipe). eqb p.number other) (λ (p : Pipe). not (eqb p.number number)) (λ p. keeps p.number number other apart) pipes)
 
@@ -129,7 +130,7 @@ loan_other number other apart new old loans =
     (find_within (λ (one : LastLoan). eqb one.pipe other) (λ (one : LastLoan). not (eqb one.pipe number)) (λ one. keeps one.pipe number other apart) old.loans)
 
 -- what is due of pipes stays, where the one that leaves has no last message
-due_stays : (old new : Store) (number : ℕ) → last_of old.pipes number ≡ None → new.pipes ≡ filter (λ (p : Pipe). not (eqb p.number number)) old.pipes →
+due_stays : (old new : Store) (number : ℕ) → last_on old.pipes number ≡ None → new.pipes ≡ filter (λ (p : Pipe). not (eqb p.number number)) old.pipes →
     new.loans ≡ filter (λ (one : LastLoan). not (eqb one.pipe number)) old.loans → (app other : ℕ) → view_due new.pipes new.loans app other ≡ view_due old.pipes old.loans app other
 due_stays old new number last pipes loans app other = at (cases_eq number other)
   where
@@ -140,17 +141,17 @@ due_stays old new number last pipes loans app other = at (cases_eq number other)
     nothing true = refl
     nothing false = refl
 
-    at : (number ≡ other) ⊎ (number ≡ other → ⊥) → cond {A = Option LentBytes} (owns new.pipes app other) (view (loan_of new.loans other) (last_of new.pipes other)) None ≡ cond {A = Option LentBytes} (owns old.pipes app other) (view (loan_of old.loans other) (last_of old.pipes other)) None
+    at : (number ≡ other) ⊎ (number ≡ other → ⊥) → cond {A = Option LentBytes} (owns new.pipes app other) (view (loan_of new.loans other) (last_on new.pipes other)) None ≡ cond {A = Option LentBytes} (owns old.pipes app other) (view (loan_of old.loans other) (last_on old.pipes other)) None
     at (inl same) =
-        ap (λ b. cond {A = Option LentBytes} b (view (loan_of new.loans other) (last_of new.pipes other)) None)
+        ap (λ b. cond {A = Option LentBytes} b (view (loan_of new.loans other) (last_on new.pipes other)) None)
         (ap (λ l. owns l app other) pipes ∙ ap (owns (filter (λ (p : Pipe). not (eqb p.number number)) old.pipes) app) (sym same) ∙ owns_gone number app old.pipes)
         ∙ sym
-        (ap (λ o. cond {A = Option LentBytes} (owns old.pipes app other) (view (loan_of old.loans other) o) None) (ap (last_of old.pipes) (sym same) ∙ last)
+        (ap (λ o. cond {A = Option LentBytes} (owns old.pipes app other) (view (loan_of old.loans other) o) None) (ap (last_on old.pipes) (sym same) ∙ last)
         ∙ nothing (owns old.pipes app other))
     at (inr apart) =
-        ap (λ b. cond {A = Option LentBytes} b (view (loan_of new.loans other) (last_of new.pipes other)) None) (ap (λ l. owns l app other) pipes ∙ owns_other number app other apart old.pipes)
-        ∙ ap (λ o. cond {A = Option LentBytes} (owns old.pipes app other) (view (loan_of new.loans other) o) None) (ap (λ l. last_of l other) pipes ∙ last_other number other apart old.pipes)
-        ∙ ap (λ n. cond {A = Option LentBytes} (owns old.pipes app other) (view n (last_of old.pipes other)) None) (loan_other number other apart new old loans)
+        ap (λ b. cond {A = Option LentBytes} b (view (loan_of new.loans other) (last_on new.pipes other)) None) (ap (λ l. owns l app other) pipes ∙ owns_other number app other apart old.pipes)
+        ∙ ap (λ o. cond {A = Option LentBytes} (owns old.pipes app other) (view (loan_of new.loans other) o) None) (ap (λ l. last_on l other) pipes ∙ last_other number other apart old.pipes)
+        ∙ ap (λ n. cond {A = Option LentBytes} (owns old.pipes app other) (view n (last_on old.pipes other)) None) (loan_other number other apart new old loans)
 
 -- The store. --
 
@@ -162,15 +163,15 @@ module _ (a : Inside) (old : Store) (viewed : store_of a ≡ old) where
   no_item None e = refl
   no_item (Some i) e = absurd (cc (e))
 
-  pub rows_wait : (number : ℕ) → oldest_of old.pipes number ≡ None → oldest_item rows number ≡ None
-  rows_wait number waits = no_item (oldest_item rows number) (sym (oldest_of-rows (item_in a.desk.slots) rows number) ∙ ap (λ (o : Store). oldest_of o.pipes number) viewed ∙ waits)
+  pub rows_wait : (number : ℕ) → oldest_on old.pipes number ≡ None → oldest_on rows number ≡ None
+  rows_wait number waits = no_item (oldest_on rows number) (sym (oldest_on-map (item_in a.desk.slots) rows number) ∙ ap (λ (o : Store). oldest_on o.pipes number) viewed ∙ waits)
 
-  pub rows_last : (number : ℕ) → last_of old.pipes number ≡ None → last_item rows number ≡ None
-  rows_last number last = no_item (last_item rows number) (sym (last_of-rows (item_in a.desk.slots) rows number) ∙ ap (λ (o : Store). last_of o.pipes number) viewed ∙ last)
+  pub rows_last : (number : ℕ) → last_on old.pipes number ≡ None → last_on rows number ≡ None
+  rows_last number last = no_item (last_on rows number) (sym (last_on-map (item_in a.desk.slots) rows number) ∙ ap (λ (o : Store). last_on o.pipes number) viewed ∙ last)
 
 module _ (a : Inside) (old : Store) (next : Tables) (number : ℕ)
     (is : next ≡ record a.tables { pipes = filter (λ (r : Row). not (eqb r.number number)) a.tables.pipes; subscriptions = filter (λ (s : Subscription). not (eqb s.pipe number)) a.tables.subscriptions })
-    (viewed : store_of a ≡ old) (rises : IsRising 0 a.tables.pipes) (waits : oldest_of old.pipes number ≡ None) (last : last_of old.pipes number ≡ None) where
+    (viewed : store_of a ≡ old) (rises : IsRising 0 a.tables.pipes) (waits : oldest_on old.pipes number ≡ None) (last : last_on old.pipes number ≡ None) where
   abbrev rows' : List Row
   rows' = filter (λ (r : Row). not (eqb r.number number)) a.tables.pipes
 

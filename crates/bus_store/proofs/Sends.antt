@@ -15,8 +15,8 @@ use Rattle.buf_desc.proofs.Others.{numbers_changed}
 use Rattle.bus_words.specs.Bus.{Subscription, Sending, deliver, reached}
 use Rattle.bus_tables.specs.declared.message.Message.{Message}
 use Rattle.bus_tables.specs.declared.tables.ItemRow.{ItemRow}
-use Rattle.bus_tables.specs.Rows.{Row, with_row, takes, item_of, offered_row, deliver_rows, reached_rows, missed_rows}
-use Rattle.bus_tables.specs.Tables.{IsRising}
+use Rattle.bus_words.specs.Pipes.{with_pipe, IsRising}
+use Rattle.bus_tables.specs.Rows.{Row, takes, item_of, offered_row, deliver_rows, reached_rows, missed_rows}
 use Rattle.bus_tables.specs.Uses.{uses_of}
 use Rattle.bus_tables.proofs.UsesCounted.{delivered_uses}
 use Rattle.bus_store.specs.Store.{LastLoan}
@@ -32,17 +32,17 @@ use Rattle.bus_store.proofs.Tied.{Stays, Moves, sealed_live, sealed_number, here
 loans_delivered : (slots : List Slot) (message : Message) (subs : List Subscription) (rows : List Row) → map (loan_in slots) (deliver_rows message subs rows) ≡ map (loan_in slots) rows
 loans_delivered slots message [] rows = refl
 loans_delivered slots message (sub ∷ subs) rows =
-    loans_delivered slots message subs (with_row (offered_row message sub) sub.pipe rows) ∙ one_offer rows
+    loans_delivered slots message subs (with_pipe (offered_row message sub) sub.pipe rows) ∙ one_offer rows
   where
     offer : (row : Row) (mine take : Bool) → loan_in slots (cond {A = Row} mine (cond {A = Row} take (record row { queue = row.queue ++ item_of message sub ∷ [] }) row) row) ≡ loan_in slots row
     offer row true true = refl
     offer row true false = refl
     offer row false take = refl
 
-    one_offer : (xs : List Row) → map (loan_in slots) (with_row (offered_row message sub) sub.pipe xs) ≡ map (loan_in slots) xs
+    one_offer : (xs : List Row) → map (loan_in slots) (with_pipe (offered_row message sub) sub.pipe xs) ≡ map (loan_in slots) xs
     one_offer [] = refl
     one_offer (row ∷ xs) =
-        ap (λ (l : LastLoan). l ∷ map (loan_in slots) (with_row (offered_row message sub) sub.pipe xs)) (offer row (eqb row.number sub.pipe) (takes row sub message.sender))
+        ap (λ (l : LastLoan). l ∷ map (loan_in slots) (with_pipe (offered_row message sub) sub.pipe xs)) (offer row (eqb row.number sub.pipe) (takes row sub message.sender))
         ∙ ap (λ (l : List LastLoan). loan_in slots row ∷ l) (one_offer xs)
 
 -- what is known once a message's block was sealed, for a number that no item has

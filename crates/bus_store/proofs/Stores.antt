@@ -13,8 +13,9 @@ use Rattle.bus_words.specs.Acts.{next_in}
 use Rattle.bus_tables.specs.declared.message.Message.{Message}
 use Rattle.bus_tables.specs.declared.misses.Miss.{Miss}
 use Rattle.bus_tables.specs.Missed.{Missed}
-use Rattle.bus_tables.specs.Rows.{Row, with_row, offered_row, deliver_rows, reached_rows, missed_rows}
-use Rattle.bus_tables.specs.Tables.{Tables, IsRising}
+use Rattle.bus_words.specs.Pipes.{with_pipe, IsRising}
+use Rattle.bus_tables.specs.Rows.{Row, offered_row, deliver_rows, reached_rows, missed_rows}
+use Rattle.bus_tables.specs.Tables.{Tables}
 use Rattle.bus_store.specs.declared.store.BusStore.TheInside.{Inside}
 use Rattle.bus_store.specs.Store.{Store, LastLoan, BufferDesc}
 use Rattle.bus_store.specs.Words.{next_of, reads_of, sending_of, missed, counted_up, with_held}
@@ -32,13 +33,13 @@ use Rattle.bus_store.proofs.Tied.{KeepsOpen, sealed_live, sealed_number, dead_cl
 
 -- Lengths. --
 
-pub length-with_row : (change : Row → Row) (number : ℕ) (rows : List Row) → length (with_row change number rows) ≡ length rows
+pub length-with_row : (change : Row → Row) (number : ℕ) (rows : List Row) → length (with_pipe change number rows) ≡ length rows
 length-with_row change number rows = length-map rows (λ row. cond {A = Row} (eqb row.number number) (change row) row)
 
 pub length-deliver : (message : Message) (subs : List Subscription) (rows : List Row) → length (deliver_rows message subs rows) ≡ length rows
 length-deliver message [] rows = refl
 length-deliver message (sub ∷ subs) rows =
-    length-deliver message subs (with_row (offered_row message sub) sub.pipe rows) ∙ length-with_row (offered_row message sub) sub.pipe rows
+    length-deliver message subs (with_pipe (offered_row message sub) sub.pipe rows) ∙ length-with_row (offered_row message sub) sub.pipe rows
 
 -- A send. --
 

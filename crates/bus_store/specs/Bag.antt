@@ -6,13 +6,14 @@ use Rattle.bus_words.specs.Bus.{Pipe, Buffer, owns, unsent_at}
 use Rattle.buf_desc.specs.Block.{Unsent}
 use Rattle.buf_desc.specs.Held.{Holding, view_at, buffer_at}
 use Rattle.bus_store.specs.Store.{LastLoan, BufferDesc}
-use Rattle.bus_store.specs.Words.{last_of, loan_of, desc_of, size_for}
+use Rattle.bus_words.specs.Pipes.{last_on}
+use Rattle.bus_store.specs.Words.{loan_of, desc_of, size_for}
 
 -- Views. --
 
 -- the view of the last message of the pipe of this number, where it has one
 abbrev pub last_view : List Pipe → List LastLoan → ℕ → Option LentBytes
-last_view pipes loans number = option_map (λ item. record { loan = loan_of loans number; bytes = item.message }) (last_of pipes number)
+last_view pipes loans number = option_map (λ item. record { loan = loan_of loans number; bytes = item.message }) (last_on pipes number)
 
 -- the view that the application has of the pipe of this number: of its last message, where the pipe is its own
 abbrev pub view_due : List Pipe → List LastLoan → ℕ → ℕ → Option LentBytes

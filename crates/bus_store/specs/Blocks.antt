@@ -10,7 +10,8 @@ use Rattle.buf_desc.specs.declared.slot.Slot.{Slot}
 use Rattle.bus_words.specs.Bus.{Item, Pipe, Buffer}
 use Rattle.bus_words.specs.Held.{names, named_by, is_on_pipes, is_unsent, items_of, size_in}
 use Rattle.bus_store.specs.Store.{LastLoan, BufferDesc}
-use Rattle.bus_store.specs.Words.{last_of, loan_of, desc_of, size_for}
+use Rattle.bus_words.specs.Pipes.{last_on}
+use Rattle.bus_store.specs.Words.{loan_of, desc_of, size_for}
 
 -- Sends. --
 
@@ -39,7 +40,7 @@ pub record IsBlockOf (sizes : List ℕ) (pipes : List Pipe) (loans : List LastLo
   pub bytes : All (λ item. item.number ≡ block.number → item.message ≡ block.bytes) (items_of pipes)
   pub uses : block.uses ≡ sum_by (named_by block.number) pipes
   pub views : block.views ≡ sum_by (last_by block.number) pipes
-  pub loan : (pipe : ℕ) (item : Item) → last_of pipes pipe ≡ Some item → item.number ≡ block.number → loan_of loans pipe ≡ block.loan
+  pub loan : (pipe : ℕ) (item : Item) → last_on pipes pipe ≡ Some item → item.number ≡ block.number → loan_of loans pipe ≡ block.loan
 
 -- An unsent block is that of an unsent buffer: it has the buffer's descriptor, what was asked for is the buffer's size, and it has
 -- the smallest size for that.

@@ -1,7 +1,7 @@
 -- How the pipes' items and the blocks belong together, and what the fields stand for.
 use Rattle.std.specs.Prelude.{◌≡◌, ℕ, ◌+◌, ◌-◌, ◌^◌, ◌<◌, ◌≤◌, nat_le, true, false, List, length, map, flat_map, sum_by, Option, Some, None, IfSome, if◌then◌else◌}
 use Rattle.std.specs.List.{All}
-use Rattle.std.specs.Option.{option_map, option_map_or}
+use Rattle.std.specs.Option.{option_map_or}
 use Rattle.fsw_base.specs.Blocks.{class_of}
 use Rattle.fsw_base.specs.PoolAccounts.{Account, after_return}
 use Rattle.bucket_list.specs.Lists.{times}
@@ -12,6 +12,7 @@ use Rattle.buf_desc.specs.Slots.{slot_at, sealed_at, is_sealed, is_open, is_live
 use Rattle.buf_desc.specs.Desk.{Buffers, resealed, after_drop}
 use Rattle.buf_desc.specs.declared.slot.Slot.{Slot}
 use Rattle.bus_words.specs.Bus.{Item, Pipe, Buffer}
+use Rattle.bus_words.specs.Pipes.{pipe_by}
 use Rattle.bus_tables.specs.declared.tables.ItemRow.{ItemRow}
 use Rattle.bus_tables.specs.Rows.{Row}
 use Rattle.bus_tables.specs.Uses.{item_use, uses_of}
@@ -29,18 +30,6 @@ item_in slots item = record {
   asked = (sealed_at slots item.desc).asked;
   subscription = item.subscription;
   message = (sealed_at slots item.desc).bytes;
-}
-
--- a row as a pipe, its items read in this way
-abbrev pub pipe_by : (ItemRow → Item) → Row → Pipe
-pipe_by read row = record {
-  number = row.number;
-  name = row.name;
-  owner = row.owner;
-  depth = row.depth;
-  bits = row.bits;
-  queue = map read row.queue;
-  last = option_map read row.last;
 }
 
 abbrev pub pipes_in : List Slot → List Row → List Pipe

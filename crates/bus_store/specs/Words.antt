@@ -1,10 +1,10 @@
 -- What is sent, who misses it, which buffer has which block, and what the numbers that are held do to the pool.
-use Rattle.std.specs.Prelude.{ℕ, ◌+◌, ◌%◌, ◌<◌, ◌==◌, Bool, List, [], ◌∷◌, length, map, find, slice_index, Option, if◌then◌else◌}
-use Rattle.std.specs.Option.{option_map_or, option_and_then}
+use Rattle.std.specs.Prelude.{ℕ, ◌+◌, ◌%◌, ◌==◌, Bool, List, length, map, find, slice_index, if◌then◌else◌}
+use Rattle.std.specs.Option.{option_map_or}
 use Rattle.fsw_base.specs.Blocks.{class_of}
 use Rattle.fsw_base.specs.Starts.{start_of}
 use Rattle.fsw_base.specs.PoolAccounts.{Account}
-use Rattle.bus_words.specs.Bus.{Item, Pipe, Buffer, Sending, pipe_at, oldest, unsent_size}
+use Rattle.bus_words.specs.Bus.{Pipe, Buffer, Sending, pipe_at, unsent_size}
 use Rattle.bus_words.specs.Held.{blocks_held}
 use Rattle.bus_words.specs.Machine.{Reads, stamped, front_of}
 use Rattle.bus_words.specs.Acts.{NextCount, next_in}
@@ -13,19 +13,6 @@ use Rattle.bus_tables.specs.Rows.{RouteRow, counted_on}
 use Rattle.bus_store.specs.Store.{Store, LastLoan, BufferDesc}
 
 -- Pipes. --
-
--- the item that waits longest on the pipe of this number
-abbrev pub oldest_of : List Pipe → ℕ → Option Item
-oldest_of pipes number = option_and_then (λ pipe. oldest pipe.queue) (pipe_at pipes number)
-
--- the last item of the pipe of this number
-abbrev pub last_of : List Pipe → ℕ → Option Item
-last_of pipes number = option_and_then (λ pipe. pipe.last) (pipe_at pipes number)
-
--- the pipes' numbers rise, all of them above this one
-abbrev pub IsRising : ℕ → List Pipe → Type 0
-IsRising below [] = Unit {0}
-IsRising below (pipe ∷ pipes) = (below < pipe.number) × IsRising pipe.number pipes
 
 -- how many messages wait on the pipe of this number
 abbrev pub waiting_on : List Pipe → ℕ → ℕ

@@ -4,7 +4,8 @@ ghost use Rattle.bus_words.specs.Bus.{owns};
 ghost use Rattle.buf_desc.specs.Held.{Holding};
 ghost use Rattle.lend_block.specs.Loan.{LentBytes};
 ghost use Rattle.bus_store.specs.Bag.{HoldsViews};
-ghost use Rattle.bus_store.specs.Words.{oldest_of, last_of, loan_of, waiting_on, with_held};
+ghost use Rattle.bus_words.specs.Pipes.{oldest_on, last_on};
+ghost use Rattle.bus_store.specs.Words.{loan_of, waiting_on, with_held};
 
 use crate::store::BusStore;
 use bucket_list::{Ledger, Steps};
@@ -21,8 +22,8 @@ fn empty_pipe<'r, L: Ledger>(
 )
     requires own { owns store.old.pipes app pipe ≡ true }
     requires bag { HoldsViews store.old.pipes store.old.loans store.old.room.pipes app held.old }
-    ensures waits { oldest_of store.new.pipes pipe ≡ None }
-    ensures last { last_of store.new.pipes pipe ≡ None }
+    ensures waits { oldest_on store.new.pipes pipe ≡ None }
+    ensures last { last_on store.new.pipes pipe ≡ None }
     ensures others { filter (λ one. not (one.number == pipe)) store.new.pipes ≡
         filter (λ one. not (one.number == pipe)) store.old.pipes }
     ensures same { store.new ≡ record store.old {
@@ -47,8 +48,8 @@ fn empty_pipe<'r, L: Ledger>(
 impl<'r> BusStore<'r> {
     // Ends the live pipe of this number, on which there are no messages, with its subscriptions.
     fn remove<L: Ledger>(&mut self, pipe: u32, steps: &mut Steps<L>)
-        requires waits { oldest_of self.old.pipes pipe ≡ None }
-        requires last { last_of self.old.pipes pipe ≡ None }
+        requires waits { oldest_on self.old.pipes pipe ≡ None }
+        requires last { last_on self.old.pipes pipe ≡ None }
         ensures after { self.new ≡ record self.old {
           pipes = filter (λ one. not (one.number == pipe)) self.old.pipes;
           subscriptions = filter (λ sub. not (sub.pipe == pipe)) self.old.subscriptions;

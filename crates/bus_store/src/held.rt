@@ -10,7 +10,8 @@ ghost use Rattle.buf_desc.specs.Held.{Holding, view_at};
 ghost use Rattle.bus_store.specs.Bag.{HoldsViews};
 ghost use Rattle.bus_store.specs.Store.{LastLoan, BufferDesc};
 ghost use Rattle.bus_store.specs.Blocks.{IsGiven, AreOfOneSend, AreBlocks};
-ghost use Rattle.bus_store.specs.Words.{last_of, loan_of, with_held};
+ghost use Rattle.bus_words.specs.Pipes.{last_on};
+ghost use Rattle.bus_store.specs.Words.{loan_of, with_held};
 
 use crate::store::BusStore;
 use buf_desc::Desk;
@@ -24,8 +25,8 @@ pub fn receivers_share_views()
         (bag another : Holding LentBytes) (item same : Item) →
         AreBlocks buffers pipes loans unsent descs → HoldsViews pipes loans most app bag →
         HoldsViews pipes loans most other another → owns pipes app pipe ≡ true →
-        owns pipes other its ≡ true → last_of pipes pipe ≡ Some item →
-        last_of pipes its ≡ Some same → item.number ≡ same.number →
+        owns pipes other its ≡ true → last_on pipes pipe ≡ Some item →
+        last_on pipes its ≡ Some same → item.number ≡ same.number →
         view_at bag pipe ≡ view_at another its }
 {}
 
@@ -63,8 +64,8 @@ impl<'r> BusStore<'r> {
     /// The last messages of two pipes have one loan where they are of one send: there is one block
     /// for it, which both lend. Does nothing.
     pub fn recall_loans(&self)
-        ensures { (pipe other : ℕ) (item its : Item) → last_of self.now.pipes pipe ≡ Some item →
-            last_of self.now.pipes other ≡ Some its → item.number ≡ its.number →
+        ensures { (pipe other : ℕ) (item its : Item) → last_on self.now.pipes pipe ≡ Some item →
+            last_on self.now.pipes other ≡ Some its → item.number ≡ its.number →
             loan_of self.now.loans pipe ≡ loan_of self.now.loans other }
     {
         let _ = &self.desk;

@@ -5,7 +5,7 @@ ghost use Rattle.bus_words.specs.Bus.{owns, pipe_at, pipe_named, with_pipe, with
 ghost use Rattle.buf_desc.specs.Held.{Holding};
 ghost use Rattle.lend_block.specs.Loan.{LentBytes};
 ghost use Rattle.bus_store.specs.Bag.{HoldsViews};
-ghost use Rattle.bus_store.specs.Words.{IsRising, oldest_of, last_of};
+ghost use Rattle.bus_words.specs.Pipes.{IsRising, oldest_on, last_on};
 
 use crate::store::BusStore;
 use bus_words::PipeText;
@@ -50,7 +50,7 @@ impl<'r> BusStore<'r> {
 
     /// The send number of the message that waits longest on the live pipe of this number.
     pub fn oldest(&self, number: u32) -> Option<u32>
-        ensures { result ≡ option_map (λ item. item.number) (oldest_of self.now.pipes number) }
+        ensures { result ≡ option_map (λ item. item.number) (oldest_on self.now.pipes number) }
     {
         let item = self.tables.oldest(number)?;
         Some(item.number)
@@ -61,7 +61,7 @@ impl<'r> BusStore<'r> {
     pub fn last(&self, app: AppNo, number: u32) -> Option<u32>
         ensures { result ≡
             (if owns self.now.pipes app number
-            then option_map (λ item. item.number) (last_of self.now.pipes number)
+            then option_map (λ item. item.number) (last_on self.now.pipes number)
             else None) }
     {
         let item = self.tables.last(app, number)?;

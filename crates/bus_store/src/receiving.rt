@@ -5,7 +5,8 @@ ghost use Rattle.bus_words.specs.Bus.{owns, with_pipe, after_receive};
 ghost use Rattle.buf_desc.specs.Held.{Holding};
 ghost use Rattle.lend_block.specs.Loan.{LentBytes};
 ghost use Rattle.bus_store.specs.Bag.{HoldsViews};
-ghost use Rattle.bus_store.specs.Words.{oldest_of, last_of, loan_of, with_held};
+ghost use Rattle.bus_words.specs.Pipes.{oldest_on, last_on};
+ghost use Rattle.bus_store.specs.Words.{loan_of, with_held};
 
 use crate::blocks::{show, show_next};
 use crate::store::BusStore;
@@ -28,7 +29,7 @@ impl<'r> BusStore<'r> {
         requires own { owns self.old.pipes app pipe ≡ true }
         requires bag { HoldsViews self.old.pipes self.old.loans self.old.room.pipes app held.old }
         ensures number { result ≡
-            option_map (λ item. item.number) (oldest_of self.old.pipes pipe) }
+            option_map (λ item. item.number) (oldest_on self.old.pipes pipe) }
         ensures after { self.new ≡ record self.old {
           pipes = with_pipe after_receive pipe self.old.pipes;
           account = with_held self.old.account self.new.pipes self.old.unsent
@@ -58,10 +59,10 @@ impl<'r> BusStore<'r> {
     /// if any: answers its number, and puts a view of it into the application's bag.
     pub fn receive_first(&mut self, app: AppNo, pipe: u32, held: &mut Held<'r>) -> Option<u32>
         requires own { owns self.old.pipes app pipe ≡ true }
-        requires none { last_of self.old.pipes pipe ≡ None }
+        requires none { last_on self.old.pipes pipe ≡ None }
         requires bag { HoldsViews self.old.pipes self.old.loans self.old.room.pipes app held.old }
         ensures number { result ≡
-            option_map (λ item. item.number) (oldest_of self.old.pipes pipe) }
+            option_map (λ item. item.number) (oldest_on self.old.pipes pipe) }
         ensures after { self.new ≡ record self.old {
           pipes = with_pipe after_receive pipe self.old.pipes;
           account = with_held self.old.account self.new.pipes self.old.unsent

@@ -14,10 +14,12 @@ use Rattle.subscriptions.specs.Subs.{Subscribed, Subscription, number_of, goes_b
 use Rattle.routing.specs.Dests.{Dest, first_dest}
 use Rattle.routing.specs.Routing.{Route, Routing, route_from, route_of, dests_at}
 use Rattle.bus_tables.specs.declared.message.Message.{Message}
-use Rattle.bus_tables.specs.Missed.{Missed}
+use Rattle.bus_tables.specs.Missed.{Missed, cause_of}
 use Rattle.bus_tables.specs.declared.misses.Miss.{Miss}
 use Rattle.bus_tables.specs.declared.misses.MissCause.{MissCause}
-use Rattle.bus_tables.specs.Rows.{Row, with_row, offered_row, row_takes, deliver_rows, reached_rows, miss_cause, row_misses, missed_rows}
+use Rattle.bus_words.specs.Pipes.{with_pipe, pipe_at, verdict}
+use Rattle.bus_tables.specs.declared.tables.ItemRow.{ItemRow}
+use Rattle.bus_tables.specs.Rows.{Row, offered_row, row_takes, deliver_rows, reached_rows, row_misses, missed_rows}
 use Rattle.bus_tables.specs.Inside.{row_in, sub_in, uncounted, still, frame, of_id, AreQueued, AreRouted}
 use Rattle.bus_tables.proofs.OffersLists.{all_both, Rises, all_above}
 use Rattle.bus_tables.proofs.OffersSubs.{subs_rise, live_still}
@@ -125,7 +127,7 @@ pub record Told (old : Pipes) (first : Subscribed) (id : ℕ) (message : Message
 
 -- of one pipe at most one thing is told
 pub one_told : (message : Message) (sub : bus.Subscription) (rows : List Row) → length (row_misses message sub rows) ≤ 1
-one_told message sub rows = by_cause (option_and_then (λ row. miss_cause row sub message.sender) (find (λ row. eqb row.number sub.pipe) rows))
+one_told message sub rows = by_cause (option_and_then (λ (row : Row). cause_of (verdict (λ (i : ItemRow). i.subscription) row sub message.sender)) (pipe_at rows sub.pipe))
   where
     by_cause : (o : Option MissCause) → length (option_map_or {U = List Miss} (λ cause. record { pipe = sub.pipe; cause = cause } ∷ []) o []) ≤ 1
     by_cause None = omega arith
@@ -196,7 +198,7 @@ module _ (old : Pipes) (first : Subscribed) (routing : Routing) (id way : ℕ) (
 
     -- after one more
     pub walked_more : (at : Option Dest) (after : Pipes) (left_subs : Subscribed) (got : ℕ) →
-        ((s : Subscription) → live_at subs sub ≡ Some s → map row_in after.live ≡ with_row (offered_row message (sub_in s)) s.pipe (map row_in pipes.live)) →
+        ((s : Subscription) → live_at subs sub ≡ Some s → map row_in after.live ≡ with_pipe (offered_row message (sub_in s)) s.pipe (map row_in pipes.live)) →
         ((s : Subscription) → live_at subs sub ≡ Some s → got ≡ row_takes message (sub_in s) (map row_in pipes.live)) →
         got ≤ 1 → frame after ≡ frame pipes → still left_subs ≡ still subs → AreQueued after.live left_subs →
         at ≡ first_dest (drop (k + 1) (dests_at routing way)) → IfSome at (λ dest. dest.0 < routing.msgids * routing.dests) →
@@ -205,8 +207,8 @@ module _ (old : Pipes) (first : Subscribed) (routing : Routing) (id way : ℕ) (
         let s = due.0 in
         let rest = map sub_in (drop (k + 1) (of_id id first)) in
         let here : map sub_in (drop k (of_id id first)) ≡ sub_in s ∷ rest = ap (map sub_in) due.1 in
-        let changed : map row_in after.live ≡ with_row (offered_row message (sub_in s)) s.pipe (map row_in pipes.live) =
-        rows now.0 now.1 ∙ ap (λ t. with_row (offered_row message t) t.pipe (map row_in pipes.live)) now.2 in
+        let changed : map row_in after.live ≡ with_pipe (offered_row message (sub_in s)) s.pipe (map row_in pipes.live) =
+        rows now.0 now.1 ∙ ap (λ t. with_pipe (offered_row message t) t.pipe (map row_in pipes.live)) now.2 in
         let one : got ≡ row_takes message (sub_in s) (map row_in pipes.live) =
         taken now.0 now.1 ∙ ap (λ t. row_takes message t (map row_in pipes.live)) now.2 in
         record {
@@ -228,14 +230,14 @@ module _ (old : Pipes) (first : Subscribed) (routing : Routing) (id way : ℕ) (
     -- what is told after one more
     pub told_more : (start misses after_misses : Missed) (after : Pipes) → Told old first id message start k pipes misses →
         ((s : Subscription) → live_at subs sub ≡ Some s → after_misses ≡ record misses { items = misses.items ++ row_misses message (sub_in s) (map row_in pipes.live) }) →
-        ((s : Subscription) → live_at subs sub ≡ Some s → map row_in after.live ≡ with_row (offered_row message (sub_in s)) s.pipe (map row_in pipes.live)) →
+        ((s : Subscription) → live_at subs sub ≡ Some s → map row_in after.live ≡ with_pipe (offered_row message (sub_in s)) s.pipe (map row_in pipes.live)) →
         Told old first id message start (k + 1) after after_misses
     told_more start misses after_misses after told missed rows =
         let s = due.0 in
         let rest = map sub_in (drop (k + 1) (of_id id first)) in
         let here : map sub_in (drop k (of_id id first)) ≡ sub_in s ∷ rest = ap (map sub_in) due.1 in
-        let changed : map row_in after.live ≡ with_row (offered_row message (sub_in s)) s.pipe (map row_in pipes.live) =
-        rows now.0 now.1 ∙ ap (λ t. with_row (offered_row message t) t.pipe (map row_in pipes.live)) now.2 in
+        let changed : map row_in after.live ≡ with_pipe (offered_row message (sub_in s)) s.pipe (map row_in pipes.live) =
+        rows now.0 now.1 ∙ ap (λ t. with_pipe (offered_row message t) t.pipe (map row_in pipes.live)) now.2 in
         let one : List Miss = row_misses message (sub_in s) (map row_in pipes.live) in
         let is : after_misses ≡ record misses { items = misses.items ++ one } =
         missed now.0 now.1 ∙ ap (λ t. let m : Missed = record misses { items = misses.items ++ row_misses message t (map row_in pipes.live) } in m) now.2 in

@@ -7,11 +7,12 @@ mod Takings
 pub mod Endings
 pub mod EndingsLists
 pub mod Removals
+mod Placed
 mod Ties
-mod Told
 mod Counting
 mod Makings
 mod MakingsRouted
 mod Readers
+pub mod MissedItems
 pub mod UsesCounted
 mod FirstOf

@@ -4,66 +4,63 @@ use Rattle.std.specs.List.{All}
 use Rattle.std.specs.Option.{option_map}
 use Rattle.std.proofs.lemmas.List.Elements.{All-nil, All-cons, All-append, All-map, All-weaker}
 use Rattle.pipe_queue.specs.declared.item.Item.{Item}
-use Rattle.pipe_table.specs.Table as pipes
-use Rattle.pipe_table.specs.Table.{PipeRow, pipe_row, with_bits}
 use Rattle.subscriptions.specs.Subs.{Subscribed}
-use Rattle.bus_tables.specs.Rows.{Row, with_row}
-use Rattle.bus_tables.specs.Inside.{row_in, waiting_at, IsCounted, IsPlaced, IsQueued, AreQueued}
-use Rattle.bus_tables.proofs.OffersRows.{of_row_kept}
+use Rattle.bus_words.specs.Pipes.{with_pipe, PipeOf, pipe_at, with_bits, new_pipe}
+use Rattle.bus_tables.specs.Rows.{Row}
+use Rattle.bus_tables.specs.Inside.{item_in, row_in, waiting_at, IsCounted, IsQueued, AreQueued}
+use Rattle.bus_words.proofs.PipeItems.{with_pipe-map}
 
 -- A change that keeps number and queue. --
 
 -- a change of a row that leaves its number and what waits on it
-pub record Keeps (change : PipeRow → PipeRow) : Type 0 where
-  pub number : (row : PipeRow) → (change row).number ≡ row.number
-  pub place : (row : PipeRow) → (change row).place ≡ row.place
-  pub queue : (row : PipeRow) → (change row).queue ≡ row.queue
+pub record Keeps (change : PipeOf Item → PipeOf Item) : Type 0 where
+  pub number : (row : PipeOf Item) → (change row).number ≡ row.number
+  pub queue : (row : PipeOf Item) → (change row).queue ≡ row.queue
 
 -- a row, changed where it has the number
-abbrev pub changed : (PipeRow → PipeRow) → ℕ → PipeRow → PipeRow
-changed change number row = cond {A = PipeRow} (eqb row.number number) (change row) row
+abbrev pub changed : (PipeOf Item → PipeOf Item) → ℕ → PipeOf Item → PipeOf Item
+changed change number row = cond {A = PipeOf Item} (eqb row.number number) (change row) row
 
-module _ (change : PipeRow → PipeRow) (number : ℕ) (keeps : Keeps change) where
-  number_changed : (row : PipeRow) → (changed change number row).number ≡ row.number
+module _ (change : PipeOf Item → PipeOf Item) (number : ℕ) (keeps : Keeps change) where
+  number_changed : (row : PipeOf Item) → (changed change number row).number ≡ row.number
   number_changed row = by_test (eqb row.number number)
     where
-      by_test : (b : Bool) → (cond {A = PipeRow} b (change row) row).number ≡ row.number
+      by_test : (b : Bool) → (cond {A = PipeOf Item} b (change row) row).number ≡ row.number
       by_test true = keeps.number row
       by_test false = refl
 
-  queue_changed : (row : PipeRow) → (changed change number row).queue ≡ row.queue
+  queue_changed : (row : PipeOf Item) → (changed change number row).queue ≡ row.queue
   queue_changed row = by_test (eqb row.number number)
     where
-      by_test : (b : Bool) → (cond {A = PipeRow} b (change row) row).queue ≡ row.queue
+      by_test : (b : Bool) → (cond {A = PipeOf Item} b (change row) row).queue ≡ row.queue
       by_test true = keeps.queue row
       by_test false = refl
 
   -- as many items of a subscription wait on the pipe of each number
-  waiting_changed : (rows : List PipeRow) (pipe sub : ℕ) →
-      ◌≡◌ {A = Option ℕ} (option_map (λ row. waiting_at row sub) (pipe_row (pipes.with_row change number rows) pipe)) (option_map (λ row. waiting_at row sub) (pipe_row rows pipe))
+  waiting_changed : (rows : List (PipeOf Item)) (pipe sub : ℕ) →
+      ◌≡◌ {A = Option ℕ} (option_map (λ row. waiting_at row sub) (pipe_at (with_pipe change number rows) pipe)) (option_map (λ row. waiting_at row sub) (pipe_at rows pipe))
   waiting_changed [] pipe sub = refl
   waiting_changed (row ∷ rows) pipe sub =
-      ap (λ n. option_map {U = ℕ} (λ (r : PipeRow). waiting_at r sub) (cond {A = Option PipeRow} (eqb n pipe) (Some (changed change number row)) (pipe_row (pipes.with_row change number rows) pipe))) (number_changed row)
+      ap (λ n. option_map {U = ℕ} (λ (r : PipeOf Item). waiting_at r sub) (cond {A = Option (PipeOf Item)} (eqb n pipe) (Some (changed change number row)) (pipe_at (with_pipe change number rows) pipe))) (number_changed row)
       ∙ by_test (eqb row.number pipe) (waiting_changed rows pipe sub)
     where
       by_test : (b : Bool) →
-          ◌≡◌ {A = Option ℕ} (option_map (λ r. waiting_at r sub) (pipe_row (pipes.with_row change number rows) pipe)) (option_map (λ r. waiting_at r sub) (pipe_row rows pipe)) →
-          option_map {U = ℕ} (λ (r : PipeRow). waiting_at r sub) (cond {A = Option PipeRow} b (Some (changed change number row)) (pipe_row (pipes.with_row change number rows) pipe))
-          ≡ option_map {U = ℕ} (λ (r : PipeRow). waiting_at r sub) (cond {A = Option PipeRow} b (Some row) (pipe_row rows pipe))
+          ◌≡◌ {A = Option ℕ} (option_map (λ r. waiting_at r sub) (pipe_at (with_pipe change number rows) pipe)) (option_map (λ r. waiting_at r sub) (pipe_at rows pipe)) →
+          option_map {U = ℕ} (λ (r : PipeOf Item). waiting_at r sub) (cond {A = Option (PipeOf Item)} b (Some (changed change number row)) (pipe_at (with_pipe change number rows) pipe))
+          ≡ option_map {U = ℕ} (λ (r : PipeOf Item). waiting_at r sub) (cond {A = Option (PipeOf Item)} b (Some row) (pipe_at rows pipe))
       by_test true ih = ap (λ (queue : List Item). Some (count_by (λ item. eqb item.sub.number sub) queue)) (queue_changed row)
       by_test false ih = ih
 
   -- what waits stays counted
-  pub queued_changed : (rows : List PipeRow) (subscribed : Subscribed) → AreQueued rows subscribed → AreQueued (pipes.with_row change number rows) subscribed
+  pub queued_changed : (rows : List (PipeOf Item)) (subscribed : Subscribed) → AreQueued rows subscribed → AreQueued (with_pipe change number rows) subscribed
   queued_changed rows subscribed queued =
-      let Are : PipeRow → Type 0 = λ row. All (IsQueued subscribed row.number) row.queue in
+      let Are : PipeOf Item → Type 0 = λ row. All (IsQueued subscribed row.number) row.queue in
       record {
-        counted = All-weaker (IsCounted rows) (IsCounted (pipes.with_row change number rows)) (λ s is. waiting_changed rows s.pipe s.number ∙ is) subscribed.live queued.counted;
-        placed = All-weaker (IsPlaced rows) (IsPlaced (pipes.with_row change number rows)) (λ s is. of_row_kept (λ (r : PipeRow). r.place) change number s.pipe rows keeps.number keeps.place ∙ is) subscribed.live queued.placed;
+        counted = All-weaker (IsCounted rows) (IsCounted (with_pipe change number rows)) (λ s is. waiting_changed rows s.pipe s.number ∙ is) subscribed.live queued.counted;
         items = All-map Are (changed change number) rows (All-weaker Are (λ row. Are (changed change number row)) same rows queued.items);
       }
     where
-      same : (row : PipeRow) → All (IsQueued subscribed row.number) row.queue → All (IsQueued subscribed (changed change number row).number) (changed change number row).queue
+      same : (row : PipeOf Item) → All (IsQueued subscribed row.number) row.queue → All (IsQueued subscribed (changed change number row).number) (changed change number row).queue
       same row are =
           let P : ℕ → Type 0 = λ n. All (IsQueued subscribed n) row.queue in
           let Q : List Item → Type 0 = λ queue. All (IsQueued subscribed (changed change number row).number) queue in
@@ -71,42 +68,33 @@ module _ (change : PipeRow → PipeRow) (number : ℕ) (keeps : Keeps change) wh
 
 -- option bits are no part of either
 pub bits_keep : (bits : ℕ) → Keeps (with_bits bits)
-bits_keep bits = record { number = λ row. refl; place = λ row. refl; queue = λ row. refl }
+bits_keep bits = record { number = λ row. refl; queue = λ row. refl }
 
 -- a change of one row is that change of the row that contracts see
-pub rows_changed : (change : PipeRow → PipeRow) (next : Row → Row) → ((row : PipeRow) → row_in (change row) ≡ next (row_in row)) →
-    (number : ℕ) (rows : List PipeRow) → map row_in (pipes.with_row change number rows) ≡ with_row next number (map row_in rows)
-rows_changed change next same number [] = refl
-rows_changed change next same number (row ∷ rows) =
-    ap (λ r. r ∷ map row_in (pipes.with_row change number rows)) (by_test (eqb row.number number))
-    ∙ ap (λ rs. cond {A = Row} (eqb row.number number) (next (row_in row)) (row_in row) ∷ rs) (rows_changed change next same number rows)
-  where
-    by_test : (b : Bool) → row_in (cond {A = PipeRow} b (change row) row) ≡ cond {A = Row} b (next (row_in row)) (row_in row)
-    by_test true = same row
-    by_test false = refl
+pub rows_changed : (change : PipeOf Item → PipeOf Item) (next : Row → Row) → ((row : PipeOf Item) → row_in (change row) ≡ next (row_in row)) →
+    (number : ℕ) (rows : List (PipeOf Item)) → map row_in (with_pipe change number rows) ≡ with_pipe next number (map row_in rows)
+rows_changed change next same number rows = with_pipe-map item_in change next same number rows
 
 -- A pipe more. --
 
 -- what is found is found among more rows
-found_more : {U : Type 0} (f : PipeRow → U) (p : PipeRow → Bool) (rows more : List PipeRow) (u : U) → option_map f (find p rows) ≡ Some u → option_map f (find p (rows ++ more)) ≡ Some u
+found_more : {U : Type 0} (f : PipeOf Item → U) (p : PipeOf Item → Bool) (rows more : List (PipeOf Item)) (u : U) → option_map f (find p rows) ≡ Some u → option_map f (find p (rows ++ more)) ≡ Some u
 found_more f p [] more u is = absurd (cc (is))
 found_more {U} f p (row ∷ rows) more u is = by_test (p row) (found_more f p rows more u) is
   where
     by_test : (b : Bool) → (option_map f (find p rows) ≡ Some u → option_map f (find p (rows ++ more)) ≡ Some u) →
-        option_map f (cond {A = Option PipeRow} b (Some row) (find p rows)) ≡ Some u → option_map f (cond {A = Option PipeRow} b (Some row) (find p (rows ++ more))) ≡ Some u
+        option_map f (cond {A = Option (PipeOf Item)} b (Some row) (find p rows)) ≡ Some u → option_map f (cond {A = Option (PipeOf Item)} b (Some row) (find p (rows ++ more))) ≡ Some u
     by_test true ih here = here
     by_test false ih here = ih here
 
 -- what waits stays counted where an empty pipe is added
-pub queued_more : (rows : List PipeRow) (subscribed : Subscribed) (number place : ℕ) (name : List ℕ) (owner depth : ℕ) → AreQueued rows subscribed →
-    AreQueued (rows ++ pipes.new_row number place name owner depth ∷ []) subscribed
-queued_more rows subscribed number place name owner depth queued =
-    let row = pipes.new_row number place name owner depth in
-    let Are : PipeRow → Type 0 = λ r. All (IsQueued subscribed r.number) r.queue in
+pub queued_more : (rows : List (PipeOf Item)) (subscribed : Subscribed) (number : ℕ) (name : List ℕ) (owner depth : ℕ) → AreQueued rows subscribed →
+    AreQueued (rows ++ new_pipe number name owner depth ∷ []) subscribed
+queued_more rows subscribed number name owner depth queued =
+    let row = new_pipe number name owner depth in
+    let Are : PipeOf Item → Type 0 = λ r. All (IsQueued subscribed r.number) r.queue in
     record {
       counted = All-weaker (IsCounted rows) (IsCounted (rows ++ row ∷ []))
           (λ s is. found_more (λ r. waiting_at r s.number) (λ r. eqb r.number s.pipe) rows (row ∷ []) s.waiting is) subscribed.live queued.counted;
-      placed = All-weaker (IsPlaced rows) (IsPlaced (rows ++ row ∷ []))
-          (λ s is. found_more (λ (r : PipeRow). r.place) (λ r. eqb r.number s.pipe) rows (row ∷ []) s.place is) subscribed.live queued.placed;
       items = All-append Are rows (row ∷ []) queued.items (All-cons Are row [] (All-nil (IsQueued subscribed number)) (All-nil Are));
     }

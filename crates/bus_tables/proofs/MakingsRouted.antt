@@ -16,12 +16,13 @@ use Rattle.fsw_base.specs.declared.statuses.SbStatus.{SbStatus}
 use Rattle.fsw_base.specs.declared.statuses.SbStatus.TheVariants.{MaxDestsMet}
 use Rattle.bus_words.specs.Bus as bus
 use Rattle.pipe_queue.specs.declared.item.Item.{Item}
-use Rattle.pipe_table.specs.Table.{Pipes, PipeRow, pipe_row}
+use Rattle.bus_words.specs.Pipes.{PipeOf, pipe_at}
+use Rattle.pipe_table.specs.Table.{Pipes}
 use Rattle.subscriptions.specs.Subs.{Subscription, Subscribed, number_of}
 use Rattle.routing.specs.Dests.{Dest}
 use Rattle.routing.specs.Routing.{Route, Routing, fresh_route, route_at, dests_at, route_from, route_of, with_dests}
 use Rattle.bus_tables.specs.Rows.{Row, RouteRow, with_route}
-use Rattle.bus_tables.specs.Inside.{row_in, sub_in, way_in, tables_in, of_id, waiting_at, IsCounted, IsPlaced, IsOf, IsQueued, AreQueued, AreRouted, ties}
+use Rattle.bus_tables.specs.Inside.{row_in, sub_in, way_in, tables_in, of_id, waiting_at, IsCounted, IsOf, IsQueued, AreQueued, AreRouted, ties}
 use Rattle.bus_tables.proofs.Readers.{way_there}
 use Rattle.bus_tables.proofs.Counting.{found, route_from-set}
 
@@ -354,11 +355,11 @@ routed_more subscribed r route node made s routed way none =
 -- Nothing of it waits. --
 
 -- what is found among rows that all have a property has it
-found_has : (P : PipeRow → Type 0) (p : PipeRow → Bool) (rows : List PipeRow) (row : PipeRow) → All P rows → find p rows ≡ Some row → P row
+found_has : (P : PipeOf Item → Type 0) (p : PipeOf Item → Bool) (rows : List (PipeOf Item)) (row : PipeOf Item) → All P rows → find p rows ≡ Some row → P row
 found_has P p [] row all is = absurd (cc (is))
 found_has P p (r ∷ rows) row all is = by_test (p r) is (found_has P p rows row (All-tail P r rows all))
   where
-    by_test : (b : Bool) → cond {A = Option PipeRow} b (Some r) (find p rows) ≡ Some row → (find p rows ≡ Some row → P row) → P row
+    by_test : (b : Bool) → cond {A = Option (PipeOf Item)} b (Some r) (find p rows) ≡ Some row → (find p rows ≡ Some row → P row) → P row
     by_test true here ih =
         let same : r ≡ row = cc (here) in
         subst P same (All-head P r rows all)
@@ -376,18 +377,17 @@ none_waits subscribed pipe number (item ∷ queue) above all =
     other a b less = grind (arith, nat_tests)
 
 -- what waits stays counted where a subscription is made of which nothing waits
-pub queued_more : (rows : List PipeRow) (subscribed : Subscribed) (s : Subscription) → AreQueued rows subscribed → is_some (pipe_row rows s.pipe) ≡ true → IsPlaced rows s →
+pub queued_more : (rows : List (PipeOf Item)) (subscribed : Subscribed) (s : Subscription) → AreQueued rows subscribed → is_some (pipe_at rows s.pipe) ≡ true →
     s.number ≡ subscribed.made + 1 → s.waiting ≡ 0 → AreQueued rows (record subscribed { made = s.number; live = subscribed.live ++ s ∷ [] })
-queued_more rows subscribed s queued live place number nothing =
-    let Are : Subscribed → PipeRow → Type 0 = λ b row. All (IsQueued b row.number) row.queue in
+queued_more rows subscribed s queued live number nothing =
+    let Are : Subscribed → PipeOf Item → Type 0 = λ b row. All (IsQueued b row.number) row.queue in
     let next : Subscribed = record subscribed { made = s.number; live = subscribed.live ++ s ∷ [] } in
     record {
-      counted = All-append (IsCounted rows) subscribed.live (s ∷ []) queued.counted (All-cons (IsCounted rows) s [] (by_row (pipe_row rows s.pipe) refl live) (All-nil (IsCounted rows)));
-      placed = All-append (IsPlaced rows) subscribed.live (s ∷ []) queued.placed (All-cons (IsPlaced rows) s [] place (All-nil (IsPlaced rows)));
+      counted = All-append (IsCounted rows) subscribed.live (s ∷ []) queued.counted (All-cons (IsCounted rows) s [] (by_row (pipe_at rows s.pipe) refl live) (All-nil (IsCounted rows)));
       items = All-weaker (Are subscribed) (Are next) (λ row are. All-weaker (IsQueued subscribed row.number) (IsQueued next row.number) (each row.number) row.queue are) rows queued.items;
     }
   where
-    by_row : (o : Option PipeRow) → pipe_row rows s.pipe ≡ o → is_some o ≡ true → option_map (λ row. waiting_at row s.number) (pipe_row rows s.pipe) ≡ Some s.waiting
+    by_row : (o : Option (PipeOf Item)) → pipe_at rows s.pipe ≡ o → is_some o ≡ true → option_map (λ row. waiting_at row s.number) (pipe_at rows s.pipe) ≡ Some s.waiting
     by_row None is some = absurd (cc (some))
     by_row (Some row) is some =
         let are : All (IsQueued subscribed row.number) row.queue = found_has (λ r. All (IsQueued subscribed r.number) r.queue) (λ r. eqb r.number s.pipe) rows row queued.items is in
@@ -402,15 +402,15 @@ queued_more rows subscribed s queued live place number nothing =
     }
 
 -- a live pipe is found
-pub live_found : (rows : List PipeRow) (pipe : ℕ) → list_any (λ (row : Row). eqb row.number pipe) (map row_in rows) ≡ true → is_some (pipe_row rows pipe) ≡ true
+pub live_found : (rows : List (PipeOf Item)) (pipe : ℕ) → list_any (λ (row : Row). eqb row.number pipe) (map row_in rows) ≡ true → is_some (pipe_at rows pipe) ≡ true
 live_found rows pipe live = sym (any_some rows) ∙ (sym (list_any-map (λ (row : Row). eqb row.number pipe) row_in rows) ∙ live)
   where
-    any_some : (rs : List PipeRow) → list_any (λ row. eqb row.number pipe) rs ≡ is_some (pipe_row rs pipe)
+    any_some : (rs : List (PipeOf Item)) → list_any (λ row. eqb row.number pipe) rs ≡ is_some (pipe_at rs pipe)
     any_some [] = refl
     any_some (r ∷ rs) = by_test (eqb r.number pipe) (any_some rs)
       where
-        by_test : (b : Bool) → list_any (λ row. eqb row.number pipe) rs ≡ is_some (pipe_row rs pipe) →
-            (b || list_any (λ row. eqb row.number pipe) rs) ≡ is_some (cond {A = Option PipeRow} b (Some r) (pipe_row rs pipe))
+        by_test : (b : Bool) → list_any (λ row. eqb row.number pipe) rs ≡ is_some (pipe_at rs pipe) →
+            (b || list_any (λ row. eqb row.number pipe) rs) ≡ is_some (cond {A = Option (PipeOf Item)} b (Some r) (pipe_at rs pipe))
         by_test true ih = refl
         by_test false ih = ih
 

@@ -1,91 +1,68 @@
 -- What is read off the three tables is what contracts see of them.
-use Rattle.std.proofs.Common.{◌≡◌, ℕ, ◌+◌, Bool, true, false, ◌&&◌, ◌||◌, cond, eqb, List, [], ◌∷◌, map, find, slice_get, Option, Some, None, is_some, refl, ap, sym, ◌∙◌}
+use Rattle.std.proofs.Common.{◌≡◌, ℕ, ◌+◌, Bool, true, false, ◌&&◌, ◌||◌, cond, eqb, List, [], ◌∷◌, map, find, Option, Some, None, is_some, refl, ap, sym, ◌∙◌}
 use Rattle.std.specs.List.{list_any}
 use Rattle.std.specs.Option.{option_map, option_and_then}
 use Rattle.std.specs.Str.{bytes_eq}
 use Rattle.fsw_base.proofs.Lists.{find-map, list_any-map}
 use Rattle.pipe_queue.specs.declared.item.Item.{Item}
-use Rattle.pipe_table.specs.Table as pipes
-use Rattle.pipe_table.specs.Table.{PipeRow, pipe_row, named_row, first_owned, oldest_on}
 use Rattle.routing.specs.Routing.{Route, route_from, route_of}
 use Rattle.bus_tables.specs.declared.tables.ItemRow.{ItemRow}
-use Rattle.bus_tables.specs.Rows.{Row, row_of, owns_row, first_item, oldest_item, last_row_item, has_way}
-use Rattle.bus_tables.specs.Tables.{IsRising}
+use Rattle.bus_words.specs.Pipes.{pipe_at, owns, oldest_on, last_on, PipeOf, pipe_named, first_owned}
+use Rattle.bus_words.proofs.PipeItems.{oldest_on-map, last_on-map}
+use Rattle.bus_tables.specs.Rows.{Row, last_row_item, has_way}
 use Rattle.bus_tables.specs.Inside.{item_in, row_in, way_in}
 
 -- whether a pipe is the application's
-pub owns_there : (rows : List PipeRow) (app number : ℕ) → pipes.owns_row rows app number ≡ owns_row (map row_in rows) app number
+pub owns_there : (rows : List (PipeOf Item)) (app number : ℕ) → owns rows app number ≡ owns (map row_in rows) app number
 owns_there rows app number = sym (list_any-map (λ (row : Row). eqb row.number number && eqb row.owner app) row_in rows)
 
 -- what the first row that passes tells
-told_there : {U : Type 0} (p : Row → Bool) (f : PipeRow → U) (g : Row → U) → ((row : PipeRow) → f row ≡ g (row_in row)) → (rows : List PipeRow) →
+told_there : {U : Type 0} (p : Row → Bool) (f : PipeOf Item → U) (g : Row → U) → ((row : PipeOf Item) → f row ≡ g (row_in row)) → (rows : List (PipeOf Item)) →
     option_map f (find (λ row. p (row_in row)) rows) ≡ option_map g (find p (map row_in rows))
 told_there {U} p f g same rows = by_row (find (λ row. p (row_in row)) rows) ∙ ap (λ o. option_map g o) (sym (find-map p row_in rows))
   where
-    by_row : (o : Option PipeRow) → option_map f o ≡ option_map g (option_map row_in o)
+    by_row : (o : Option (PipeOf Item)) → option_map f o ≡ option_map g (option_map row_in o)
     by_row None = refl
     by_row (Some row) = ap Some (same row)
 
 -- the option bits of a pipe
-pub bits_there : (rows : List PipeRow) (number : ℕ) →
-    ◌≡◌ {A = Option ℕ} (option_map (λ row. row.bits) (pipe_row rows number)) (option_map (λ row. row.bits) (row_of (map row_in rows) number))
+pub bits_there : (rows : List (PipeOf Item)) (number : ℕ) →
+    ◌≡◌ {A = Option ℕ} (option_map (λ row. row.bits) (pipe_at rows number)) (option_map (λ row. row.bits) (pipe_at (map row_in rows) number))
 bits_there rows number = told_there (λ row. eqb row.number number) (λ row. row.bits) (λ row. row.bits) (λ row. refl) rows
 
 -- its name
-pub name_there : (rows : List PipeRow) (number : ℕ) →
-    ◌≡◌ {A = Option (List ℕ)} (option_map (λ row. row.name) (pipe_row rows number)) (option_map (λ row. row.name) (row_of (map row_in rows) number))
+pub name_there : (rows : List (PipeOf Item)) (number : ℕ) →
+    ◌≡◌ {A = Option (List ℕ)} (option_map (λ row. row.name) (pipe_at rows number)) (option_map (λ row. row.name) (pipe_at (map row_in rows) number))
 name_there rows number = told_there (λ row. eqb row.number number) (λ row. row.name) (λ row. row.name) (λ row. refl) rows
 
 -- the number of the first pipe of a name
-pub find_there : (rows : List PipeRow) (name : List ℕ) →
-    ◌≡◌ {A = Option ℕ} (option_map (λ row. row.number) (named_row rows name)) (option_map (λ row. row.number) (find (λ row. bytes_eq row.name name) (map row_in rows)))
+pub find_there : (rows : List (PipeOf Item)) (name : List ℕ) →
+    ◌≡◌ {A = Option ℕ} (option_map (λ row. row.number) (pipe_named rows name)) (option_map (λ row. row.number) (find (λ row. bytes_eq row.name name) (map row_in rows)))
 find_there rows name = told_there (λ row. bytes_eq row.name name) (λ row. row.number) (λ row. row.number) (λ row. refl) rows
 
 -- the number of the first pipe of an owner
-pub first_there : (rows : List PipeRow) (app : ℕ) →
+pub first_there : (rows : List (PipeOf Item)) (app : ℕ) →
     ◌≡◌ {A = Option ℕ} (option_map (λ row. row.number) (first_owned rows app)) (option_map (λ row. row.number) (find (λ row. eqb row.owner app) (map row_in rows)))
 first_there rows app = told_there (λ row. eqb row.owner app) (λ row. row.number) (λ row. row.number) (λ row. refl) rows
 
 -- the oldest item on a pipe
-pub oldest_there : (rows : List PipeRow) (number : ℕ) → option_map item_in (oldest_on rows number) ≡ oldest_item (map row_in rows) number
-oldest_there rows number =
-    by_row (pipe_row rows number)
-    ∙ ap (λ o. option_and_then (λ (row : Row). first_item row.queue) o) (sym (find-map (λ (row : Row). eqb row.number number) row_in rows))
-  where
-    by_queue : (queue : List Item) → option_map item_in (slice_get queue 0) ≡ first_item (map item_in queue)
-    by_queue [] = refl
-    by_queue (item ∷ items) = refl
-
-    by_row : (o : Option PipeRow) →
-        option_map item_in (option_and_then (λ row. slice_get row.queue 0) o) ≡ option_and_then (λ (row : Row). first_item row.queue) (option_map row_in o)
-    by_row None = refl
-    by_row (Some row) = by_queue row.queue
+pub oldest_there : (rows : List (PipeOf Item)) (number : ℕ) → option_map item_in (oldest_on rows number) ≡ oldest_on (map row_in rows) number
+oldest_there rows number = sym (oldest_on-map item_in rows number)
 
 -- the item that was received last on a pipe
-pub last_there : (rows : List PipeRow) (number : ℕ) →
-    option_map item_in (option_and_then (λ row. row.last) (pipe_row rows number)) ≡ option_and_then (λ (row : Row). row.last) (row_of (map row_in rows) number)
-last_there rows number =
-    by_row (pipe_row rows number) ∙ ap (λ o. option_and_then (λ (row : Row). row.last) o) (sym (find-map (λ (row : Row). eqb row.number number) row_in rows))
-  where
-    by_row : (o : Option PipeRow) → option_map item_in (option_and_then (λ row. row.last) o) ≡ option_and_then (λ (row : Row). row.last) (option_map row_in o)
-    by_row None = refl
-    by_row (Some row) = refl
+pub last_there : (rows : List (PipeOf Item)) (number : ℕ) → option_map item_in (last_on rows number) ≡ last_on (map row_in rows) number
+last_there rows number = sym (last_on-map item_in rows number)
 
 -- to the application alone it is told
-pub last_owned : (rows : List PipeRow) (app number : ℕ) → pipes.owns_row rows app number ≡ true →
-    option_map item_in (option_and_then (λ row. row.last) (pipe_row rows number)) ≡ last_row_item (map row_in rows) app number
+pub last_owned : (rows : List (PipeOf Item)) (app number : ℕ) → owns rows app number ≡ true →
+    option_map item_in (option_and_then (λ row. row.last) (pipe_at rows number)) ≡ last_row_item (map row_in rows) app number
 last_owned rows app number owned =
     last_there rows number
-    ∙ ap (λ b. cond {A = Option ItemRow} b (option_and_then (λ (row : Row). row.last) (row_of (map row_in rows) number)) None) (sym owned ∙ owns_there rows app number)
+    ∙ ap (λ b. cond {A = Option ItemRow} b (option_and_then (λ (row : Row). row.last) (pipe_at (map row_in rows) number)) None) (sym owned ∙ owns_there rows app number)
 
-pub last_foreign : (rows : List PipeRow) (app number : ℕ) → pipes.owns_row rows app number ≡ false → None ≡ last_row_item (map row_in rows) app number
+pub last_foreign : (rows : List (PipeOf Item)) (app number : ℕ) → owns rows app number ≡ false → None ≡ last_row_item (map row_in rows) app number
 last_foreign rows app number foreign =
-    ap (λ b. cond {A = Option ItemRow} b (option_and_then (λ (row : Row). row.last) (row_of (map row_in rows) number)) None) (sym foreign ∙ owns_there rows app number)
-
--- the numbers rise
-pub rising_there : (below : ℕ) (rows : List PipeRow) → pipes.IsRising below rows → IsRising below (map row_in rows)
-rising_there below [] rising = tt
-rising_there below (row ∷ rows) rising = (rising.0, rising_there row.number rows rising.1)
+    ap (λ b. cond {A = Option ItemRow} b (option_and_then (λ (row : Row). row.last) (pipe_at (map row_in rows) number)) None) (sym foreign ∙ owns_there rows app number)
 
 -- whether an id has a route, wherever their numbers begin
 pub route_there : (number : ℕ) (routes : List Route) (id : ℕ) → is_some (route_from number routes id) ≡ list_any (λ route. eqb route.id id) (map way_in routes)

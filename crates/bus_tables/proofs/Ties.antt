@@ -9,13 +9,15 @@ use Rattle.std.proofs.lemmas.List.Elements.{All-weaker, All-filter}
 use Rattle.fsw_base.proofs.Lists.{list_any-map, filter-map}
 use Rattle.bus_words.specs.Bus.{route, is_subscribed}
 use Rattle.bus_words.specs.Bus as bus
-use Rattle.pipe_table.specs.Table.{PipeRow, Pipes}
+use Rattle.pipe_queue.specs.declared.item.Item.{Item}
+use Rattle.bus_words.specs.Pipes.{PipeOf}
+use Rattle.pipe_table.specs.Table.{Pipes}
 use Rattle.subscriptions.specs.declared.words.SubNo.{SubNo}
 use Rattle.subscriptions.specs.Subs.{Subscription, Subscribed, number_of, goes_by, live_at, without, IsRising}
 use Rattle.routing.specs.Routing.{Routing, dests_at, route_of}
 use Rattle.bus_tables.specs.Rows.{Row}
 use Rattle.bus_tables.specs.Tables.{Tables}
-use Rattle.bus_tables.specs.Inside.{row_in, tables_in, ways_of, AreRouted, AreQueued, IsQueued, IsOf, IsCounted, IsPlaced, of_id, sub_in, first_of, ties}
+use Rattle.bus_tables.specs.Inside.{row_in, tables_in, ways_of, AreRouted, AreQueued, IsQueued, IsOf, IsCounted, of_id, sub_in, first_of, ties}
 use Rattle.bus_tables.proofs.EndingsLists.{any_found, found_all, found_passes, found_only, filter_alike, filter_empty, filter_whole, not_none, not_found}
 use Rattle.bus_tables.proofs.Endings.{and_left, own_number, goes, rising_above}
 
@@ -140,10 +142,9 @@ none_tied subs id pipe none =
 -- Messages that wait. --
 
 -- what waits stays counted where subscriptions leave
-pub queued_left : (rows : List PipeRow) (subs : Subscribed) (stays : Subscription → Bool) → AreQueued rows subs → AreQueued rows (record subs { live = filter stays subs.live })
+pub queued_left : (rows : List (PipeOf Item)) (subs : Subscribed) (stays : Subscription → Bool) → AreQueued rows subs → AreQueued rows (record subs { live = filter stays subs.live })
 queued_left rows subs stays queued = record {
   counted = All-filter stays (IsCounted rows) subs.live queued.counted;
-  placed = All-filter stays (IsPlaced rows) subs.live queued.placed;
   items =
       All-weaker (λ row. All (IsQueued subs row.number) row.queue) (λ row. All (IsQueued left row.number) row.queue)
       (λ row all. All-weaker (IsQueued subs row.number) (IsQueued left row.number) (λ item one. record { made = one.made; own = All-filter stays (IsOf row.number item) subs.live one.own }) row.queue all)
@@ -157,14 +158,14 @@ queued_left rows subs stays queued = record {
 
 -- what they stand for once pipes and subscriptions have left, and routes have changed in their destinations alone
 pub seen_left : (pipes some : Pipes) (subs few : Subscribed) (routing next : Routing) (now : Tables) (rows : List Row) (left : List bus.Subscription) → tables_in pipes subs routing ≡ now →
-    some ≡ record pipes { live = some.live } → map row_in some.live ≡ rows →
+    some ≡ record pipes { live = some.live; places = some.places } → map row_in some.live ≡ rows →
     few ≡ record subs { live = few.live } → map sub_in few.live ≡ left →
     next ≡ record routing { routes = next.routes } → ways_of next ≡ ways_of routing →
     tables_in some few next ≡ record now { pipes = rows; subscriptions = left }
 seen_left pipes some subs few routing next now rows left view pipes_is rows_are subs_are left_are routing_is ways =
     ap (λ p. tables_in p few next) pipes_is
-    ∙ ap (λ s. tables_in (record pipes { live = some.live }) s next) subs_are
-    ∙ ap (λ r. tables_in (record pipes { live = some.live }) (record subs { live = few.live }) r) routing_is
+    ∙ ap (λ s. tables_in (record pipes { live = some.live; places = some.places }) s next) subs_are
+    ∙ ap (λ r. tables_in (record pipes { live = some.live; places = some.places }) (record subs { live = few.live }) r) routing_is
     ∙ ap (λ l. let v : Tables = record (tables_in pipes subs routing) { pipes = l; subscriptions = map sub_in few.live; routes = ways_of next } in v) rows_are
     ∙ ap (λ l. let v : Tables = record (tables_in pipes subs routing) { pipes = rows; subscriptions = l; routes = ways_of next } in v) left_are
     ∙ ap (λ l. let v : Tables = record (tables_in pipes subs routing) { pipes = rows; subscriptions = left; routes = l } in v) ways

@@ -5,7 +5,8 @@ use Rattle.std.specs.List.{All}
 use Rattle.std.specs.Option.{option_map, option_map_or}
 use Rattle.bus_words.specs.Bus.{Subscription}
 use Rattle.pipe_queue.specs.declared.item.Item.{Item}
-use Rattle.pipe_table.specs.Table.{Pipes, PipeRow, pipe_row, place_of}
+use Rattle.bus_words.specs.Pipes.{PipeOf, pipe_at, waiting_of, pipe_by}
+use Rattle.pipe_table.specs.Table.{Pipes, place_of}
 use Rattle.routing.specs.Routing.{Route, Routing, route_of, dests_at}
 use Rattle.subscriptions.specs.Subs as subs
 use Rattle.subscriptions.specs.declared.words.SubNo.{SubNo}
@@ -18,16 +19,8 @@ use Rattle.bus_tables.specs.Tables.{Tables}
 abbrev pub item_in : Item → ItemRow
 item_in item = record { number = item.number; desc = item.desc; subscription = item.sub.number }
 
-abbrev pub row_in : PipeRow → Row
-row_in row = record {
-  number = row.number;
-  name = row.name;
-  owner = row.owner;
-  depth = row.depth;
-  bits = row.bits;
-  queue = map item_in row.queue;
-  last = option_map item_in row.last;
-}
+abbrev pub row_in : PipeOf Item → Row
+row_in pipe = pipe_by item_in pipe
 
 abbrev pub sub_in : subs.Subscription → Subscription
 sub_in s = record { number = s.number; id = s.id; pipe = s.pipe; limit = s.limit; scope = s.scope }
@@ -54,12 +47,12 @@ tables_in pipes subscribed routing = record {
 -- Pipes and subscriptions. --
 
 -- how many items of a subscription wait on a pipe
-abbrev pub waiting_at : PipeRow → ℕ → ℕ
-waiting_at row number = count_by (λ item. item.sub.number == number) row.queue
+abbrev pub waiting_at : PipeOf Item → ℕ → ℕ
+waiting_at row number = waiting_of (λ item. item.sub.number) row number
 
 -- a subscription's pipe is live, and as many of its messages wait there as it counts
-abbrev pub IsCounted : List PipeRow → subs.Subscription → Type 0
-IsCounted rows s = option_map (λ row. waiting_at row s.number) (pipe_row rows s.pipe) ≡ Some s.waiting
+abbrev pub IsCounted : List (PipeOf Item) → subs.Subscription → Type 0
+IsCounted rows s = option_map (λ row. waiting_at row s.number) (pipe_at rows s.pipe) ≡ Some s.waiting
 
 -- a subscription is the item's, where it has the item's number: in that slot, and of this pipe
 abbrev pub IsOf : ℕ → Item → subs.Subscription → Type 0
@@ -70,15 +63,18 @@ pub record IsQueued (subscribed : subs.Subscribed) (pipe : ℕ) (item : Item) : 
   pub made : item.sub.number ≤ subscribed.made
   pub own : All (IsOf pipe item) subscribed.live
 
--- a subscription knows where its pipe lies
-abbrev pub IsPlaced : List PipeRow → subs.Subscription → Type 0
-IsPlaced rows s = place_of rows s.pipe ≡ Some s.place
-
--- what waits is counted, and each pipe lies where its subscriptions say
-pub record AreQueued (rows : List PipeRow) (subscribed : subs.Subscribed) : Type 0 where
+-- what waits is counted
+pub record AreQueued (rows : List (PipeOf Item)) (subscribed : subs.Subscribed) : Type 0 where
   pub counted : All (IsCounted rows) subscribed.live
-  pub placed : All (IsPlaced rows) subscribed.live
   pub items : All (λ row. All (IsQueued subscribed row.number) row.queue) rows
+
+-- a subscription knows where its pipe lies
+abbrev pub IsPlaced : List (ℕ × ℕ) → subs.Subscription → Type 0
+IsPlaced places s = place_of places s.pipe ≡ Some s.place
+
+-- each pipe lies where its subscriptions say
+abbrev pub ArePlaced : List (ℕ × ℕ) → subs.Subscribed → Type 0
+ArePlaced places subscribed = All (IsPlaced places) subscribed.live
 
 -- Subscriptions and routes. --
 
@@ -103,6 +99,7 @@ pub record AreRouted (subscribed : subs.Subscribed) (routing : Routing) : Type 0
 -- what is always true of the three
 pub record AreTied (pipes : Pipes) (subscribed : subs.Subscribed) (routing : Routing) : Type 0 where
   pub queued : AreQueued pipes.live subscribed
+  pub placed : ArePlaced pipes.places subscribed
   pub routed : AreRouted subscribed routing
   -- there is room for the subscriptions of as many routes as there may be
   pub room : subscribed.room ≡ routing.msgids * routing.dests

@@ -1,5 +1,5 @@
 -- The tables as their user sees them.
-use Rattle.std.specs.Prelude.{ℕ, ◌<◌, List, [], ◌∷◌}
+use Rattle.std.specs.Prelude.{ℕ, List, []}
 use Rattle.fsw_base.specs.Limits.{Limits}
 use Rattle.bus_words.specs.Bus.{Subscription}
 use Rattle.bus_tables.specs.Rows.{Row, RouteRow}
@@ -36,8 +36,3 @@ room_for limits = record {
 -- nothing was created yet
 abbrev pub opened : Limits → Tables
 opened limits = record { pipes = []; pipes_created = 0; subscriptions = []; subscriptions_made = 0; routes = []; room = room_for limits }
-
--- the numbers rise, all of them above this one
-abbrev pub IsRising : ℕ → List Row → Type 0
-IsRising below [] = Unit {0}
-IsRising below (row ∷ rows) = (below < row.number) × IsRising row.number rows

@@ -3,16 +3,18 @@ ghost use Rattle.std.specs.Prelude.{◌≡◌, ◌+◌, ◌*◌, ◌<◌, ◌≤
 ghost use Rattle.std.specs.Option.{ForSome};
 ghost use Rattle.bus_words.specs.Bus.{route};
 ghost use Rattle.subscriptions.specs.Subs.{live_at};
-ghost use Rattle.bus_tables.specs.Rows.{with_row, offered_row, row_takes, deliver_rows, reached_rows, row_misses, missed_rows};
-ghost use Rattle.bus_tables.specs.Inside.{AreQueued, AreRouted, row_in, sub_in, still, frame};
+ghost use Rattle.bus_words.specs.Pipes.{with_pipe};
+ghost use Rattle.bus_tables.specs.Rows.{offered_row, row_takes, deliver_rows, reached_rows, row_misses, missed_rows};
+ghost use Rattle.bus_tables.specs.Inside.{AreQueued, ArePlaced, AreRouted, row_in, sub_in, still, frame};
 
 use crate::message::Message;
 use crate::misses::{MissCause, Misses};
 use bucket_list::{Ledger, Steps};
+use bus_words::Verdict;
 use pipe_queue::Item;
-use pipe_table::{OfferVerdict, PipeNo, PipeTable};
+use pipe_table::{PipeNo, PipeTable};
 use routing::Routes;
-use subscriptions::{SubNo, Subs, Verdict};
+use subscriptions::{SubNo, Subs};
 
 /// Offers the message to the subscriptions of its id, in order, and tells how many
 /// pipes took it.
@@ -28,6 +30,7 @@ pub(crate) fn along<L: Ledger>(
     requires room { routes.now.dests ≤ misses.old.room }
     requires few { length subs.old.live < 2 ^ 32 }
     requires queued { AreQueued pipes.old.live subs.old }
+    requires placed { ArePlaced pipes.old.places subs.old }
     requires routed { AreRouted subs.old routes.now }
     ensures rows { map row_in pipes.new.live ≡
         deliver_rows message.now (route (map sub_in subs.old.live) id)
@@ -78,9 +81,10 @@ fn offer(
     requires live { IsSome (live_at subs.old sub) }
     requires room { length misses.old.items < misses.old.room }
     requires queued { AreQueued pipes.old.live subs.old }
+    requires placed { ArePlaced pipes.old.places subs.old }
     ensures rows { ForSome (live_at subs.old sub)
         (λ s. map row_in pipes.new.live ≡
-        with_row (offered_row message.now (sub_in s)) s.pipe (map row_in pipes.old.live)) }
+        with_pipe (offered_row message.now (sub_in s)) s.pipe (map row_in pipes.old.live)) }
     ensures taken { ForSome (live_at subs.old sub)
         (λ s. result ≡ row_takes message.now (sub_in s) (map row_in pipes.old.live)) }
     ensures missed { ForSome (live_at subs.old sub)
@@ -107,18 +111,18 @@ fn offer(
         number: message.number,
         sub,
     };
-    let is_over = row.verdict() == Verdict::OverLimit;
+    let is_over = row.verdict() == subscriptions::Verdict::OverLimit;
     match pipes.offer(pipe, message.sender, is_over, item) {
-        OfferVerdict::Skipped => 0,
-        OfferVerdict::OverLimit => {
+        Verdict::Skip => 0,
+        Verdict::OverLimit => {
             misses.push(row.pipe, MissCause::OverLimit);
             0
         }
-        OfferVerdict::Full => {
+        Verdict::Full => {
             misses.push(row.pipe, MissCause::Full);
             0
         }
-        OfferVerdict::Taken => {
+        Verdict::In => {
             subs.queued(sub);
             1
         }

@@ -6,8 +6,9 @@ ghost use Rattle.std.specs.Str.{bytes_eq};
 ghost use Rattle.fsw_base.specs.Limits.{limits_of};
 ghost use Rattle.fsw_base.specs.Starts.{start_of};
 ghost use Rattle.bus_words.specs.Bus.{route, is_subscribed};
-ghost use Rattle.bus_tables.specs.Rows.{row_of, owns_row, oldest_item, last_item, last_row_item, with_row, after_take, without_front, without_last, row_with_bits, new_row, deliver_rows, reached_rows, missed_rows, has_way, counted_in, counted_on, with_route};
-ghost use Rattle.bus_tables.specs.Tables.{opened, IsRising};
+ghost use Rattle.bus_words.specs.Pipes.{pipe_at, owns, oldest_on, last_on, with_pipe, after_receive, without_front, without_last, with_bits, new_pipe, IsRising};
+ghost use Rattle.bus_tables.specs.Rows.{last_row_item, deliver_rows, reached_rows, missed_rows, has_way, counted_in, counted_on, with_route};
+ghost use Rattle.bus_tables.specs.Tables.{opened};
 
 use crate::delivery::along;
 use crate::ending::{end_of_pipe, end_subscription};
@@ -94,21 +95,21 @@ impl BusTables {
     /// Whether a pipe of this number is live and the application's. By the code, the number is
     /// looked up by halves among the live ones.
     pub fn owns(&self, app: AppNo, number: u32) -> bool
-        ensures { result ≡ owns_row self.now.pipes app number }
+        ensures { result ≡ owns self.now.pipes app number }
     {
         self.pipes.owns(app, number)
     }
 
     /// The option bits of the live pipe of this number, looked up by halves.
     pub fn bits(&self, number: u32) -> Option<u8>
-        ensures { result ≡ option_map (λ row. row.bits) (row_of self.now.pipes number) }
+        ensures { result ≡ option_map (λ row. row.bits) (pipe_at self.now.pipes number) }
     {
         self.pipes.bits(number)
     }
 
     /// The name of the live pipe of this number, looked up by halves.
     pub fn name(&self, number: u32) -> Option<PipeText>
-        ensures { result ≡ option_map (λ row. row.name) (row_of self.now.pipes number) }
+        ensures { result ≡ option_map (λ row. row.name) (pipe_at self.now.pipes number) }
     {
         self.pipes.name(number)
     }
@@ -124,7 +125,7 @@ impl BusTables {
 
     /// What waits longest on the live pipe of this number, looked up by halves.
     pub fn oldest(&self, number: u32) -> Option<ItemRow>
-        ensures { result ≡ oldest_item self.now.pipes number }
+        ensures { result ≡ oldest_on self.now.pipes number }
     {
         item_row(self.pipes.oldest(number))
     }
@@ -202,7 +203,7 @@ impl BusTables {
         requires depth { depth ≤ self.old.room.depth }
         ensures number { result ≡ self.old.pipes_created + 1 }
         ensures after { self.new ≡ record self.old {
-          pipes = self.old.pipes ++ new_row (self.old.pipes_created + 1) name.now owner depth ∷ [];
+          pipes = self.old.pipes ++ new_pipe (self.old.pipes_created + 1) name.now owner depth ∷ [];
           pipes_created = self.old.pipes_created + 1;
         } }
     {
@@ -213,8 +214,8 @@ impl BusTables {
     /// subscriptions; no effect where none is live. By the code, looks at as many subscriptions as
     /// ever were live at once, for each that ends and once more.
     pub fn delete_pipe<L: Ledger>(&mut self, number: u32, steps: &mut Steps<L>)
-        requires waits { oldest_item self.old.pipes number ≡ None }
-        requires last { last_item self.old.pipes number ≡ None }
+        requires waits { oldest_on self.old.pipes number ≡ None }
+        requires last { last_on self.old.pipes number ≡ None }
         ensures { self.new ≡ record self.old {
           pipes = filter (λ row. not (row.number == number)) self.old.pipes;
           subscriptions = filter (λ sub. not (sub.pipe == number)) self.old.subscriptions;
@@ -236,7 +237,7 @@ impl BusTables {
     /// Sets the option bits of the live pipe of this number, looked up by halves.
     pub fn set_bits(&mut self, number: u32, bits: u8)
         ensures { self.new ≡
-            record self.old { pipes = with_row (row_with_bits bits) number self.old.pipes } }
+            record self.old { pipes = with_pipe (with_bits bits) number self.old.pipes } }
     {
         self.pipes.set_bits(number, bits);
     }
@@ -244,10 +245,10 @@ impl BusTables {
     /// Lets the last message of the live pipe of this number go, and takes the one that waits
     /// longest, if any, in its place. Answers both. By the code, the number is looked up by halves.
     pub fn take(&mut self, number: u32) -> LastItems
-        ensures before { result.before ≡ last_item self.old.pipes number }
-        ensures oldest { result.after ≡ oldest_item self.old.pipes number }
+        ensures before { result.before ≡ last_on self.old.pipes number }
+        ensures oldest { result.after ≡ oldest_on self.old.pipes number }
         ensures rows { self.new ≡
-            record self.old { pipes = with_row after_take number self.old.pipes } }
+            record self.old { pipes = with_pipe after_receive number self.old.pipes } }
     {
         let (before, after) = self.pipes.take(number);
         count_down(&mut self.subs, after);
@@ -260,9 +261,9 @@ impl BusTables {
     /// Takes what waits longest out of the live pipe of this number, for whoever empties it; None
     /// if and only if nothing waits there. By the code, the number is looked up by halves.
     pub fn take_front(&mut self, number: u32) -> Option<ItemRow>
-        ensures oldest { result ≡ oldest_item self.old.pipes number }
+        ensures oldest { result ≡ oldest_on self.old.pipes number }
         ensures rows { self.new ≡
-            record self.old { pipes = with_row without_front number self.old.pipes } }
+            record self.old { pipes = with_pipe without_front number self.old.pipes } }
     {
         let item = self.pipes.take_front(number);
         count_down(&mut self.subs, item);
@@ -273,9 +274,9 @@ impl BusTables {
     /// None if and only if there is no such message. By the code, the number is looked up by
     /// halves.
     pub fn take_last(&mut self, number: u32) -> Option<ItemRow>
-        ensures last { result ≡ last_item self.old.pipes number }
+        ensures last { result ≡ last_on self.old.pipes number }
         ensures rows { self.new ≡
-            record self.old { pipes = with_row without_last number self.old.pipes } }
+            record self.old { pipes = with_pipe without_last number self.old.pipes } }
     {
         item_row(self.pipes.take_last(number))
     }
@@ -313,6 +314,8 @@ impl BusTables {
         } }
         ensures cost { steps.new ≤ steps.old + 8 }
     {
+        // Does nothing; the proof learns of it that each live pipe lies somewhere.
+        self.pipes.recall_order();
         let place = self.pipes.place_of(pipe).unwrap();
         let route = route_for(&mut self.routes, id);
         // Does nothing; the proof learns of it that there is room for all subscriptions that routes

@@ -2,9 +2,9 @@
 ghost use Rattle.std.specs.Prelude.{◌≡◌, ℕ, ◌+◌, ◌==◌, if◌then◌else◌, List};
 ghost use Rattle.std.specs.Option.{option_map_or};
 ghost use Rattle.bus_words.specs.Bus.{Subscription};
-ghost use Rattle.bus_tables.specs.Rows.{Row, row_of, with_row, after_take, without_front, without_last, oldest_item, last_item, deliver_rows, reached_rows};
+ghost use Rattle.bus_words.specs.Pipes.{pipe_at, with_pipe, after_receive, without_front, without_last, oldest_on, last_on, IsRising};
+ghost use Rattle.bus_tables.specs.Rows.{Row, deliver_rows, reached_rows};
 ghost use Rattle.bus_tables.specs.declared.message.Message.{Message};
-ghost use Rattle.bus_tables.specs.Tables.{IsRising};
 ghost use Rattle.bus_tables.specs.Uses.{item_use, uses_of};
 
 /// Counting the uses of a send: a delivery adds one for each pipe that it reached, to its own send
@@ -19,12 +19,12 @@ pub fn recall_uses()
         uses_of number rows +
         (if message.number == number then reached_rows message subs rows else 0) }
     ensures taken { (number pipe : ℕ) (rows : List Row) → IsRising 0 rows →
-        uses_of number (with_row after_take pipe rows) + option_map_or
-        (λ row. item_use number row.last) (row_of rows pipe) 0 ≡ uses_of number rows }
+        uses_of number (with_pipe after_receive pipe rows) + option_map_or
+        (λ row. item_use number row.last) (pipe_at rows pipe) 0 ≡ uses_of number rows }
     ensures front { (number pipe : ℕ) (rows : List Row) → IsRising 0 rows →
-        uses_of number (with_row without_front pipe rows)
-        + item_use number (oldest_item rows pipe) ≡ uses_of number rows }
+        uses_of number (with_pipe without_front pipe rows)
+        + item_use number (oldest_on rows pipe) ≡ uses_of number rows }
     ensures last { (number pipe : ℕ) (rows : List Row) → IsRising 0 rows →
-        uses_of number (with_row without_last pipe rows)
-        + item_use number (last_item rows pipe) ≡ uses_of number rows }
+        uses_of number (with_pipe without_last pipe rows)
+        + item_use number (last_on rows pipe) ≡ uses_of number rows }
 {}

@@ -10,7 +10,7 @@ use subscriptions::SubNo;
 
 /// A message queued on a new pipe is the one received last, once it was taken.
 fn last_received(pipes: &mut PipeTable, name: &PipeText, app: AppNo, item: Item) -> Option<Item>
-    requires { pipes.old ≡ record { live = []; created = 0; room = 1; depth = 4 } }
+    requires { pipes.old ≡ record { live = []; places = []; created = 0; room = 1; depth = 4 } }
     ensures { result ≡ Some item }
 {
     let pipe = pipes.create(name, app, 4);

@@ -6,7 +6,9 @@ use Rattle.std.specs.Option.{option_map, option_map_or, is_some}
 use Rattle.std.proofs.lemmas.List.{map_push, length-map}
 use Rattle.fsw_base.specs.declared.config.Scope.{Scope}
 use Rattle.fsw_base.specs.declared.config.Scope.TheVariants.{Global}
-use Rattle.bus_words.specs.Bus.{Item, Pipe, Subscription, Sending, Verdict, Skip, OverLimit, Full, In, verdict, waiting_of, is_in, item_for, offered, oldest, after_receive, with_bits}
+use Rattle.bus_words.specs.Bus.{Item, Pipe, Subscription, Sending, verdict, waiting_of, is_in, item_for, offered, oldest, after_receive, with_bits}
+use Rattle.bus_words.specs.declared.verdict.Verdict.{Verdict}
+use Rattle.bus_words.specs.declared.verdict.Verdict.TheVariants.{Skip, OverLimit, Full, In}
 use Rattle.bus_words.specs.Alone.{Alone, Stop, empty_pipe, sub_alone, sent_alone, input_alone, last_of}
 use Rattle.bus_words.proofs.Finds.{Each, Each-push, Each-drop, Each-filter, map-each, filter-map, any-map, find-map, same-self}
 

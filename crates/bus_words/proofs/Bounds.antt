@@ -12,7 +12,8 @@ use Rattle.fsw_base.specs.Limits.{Limits}
 use Rattle.ccsds_msg.specs.Message.{is_valid_id}
 use Rattle.bus_words.specs.declared.history.Call.{Call}
 use Rattle.bus_words.specs.declared.history.Entry.{Entry}
-use Rattle.bus_words.specs.Bus.{Pipe, Subscription, State, Sending, Skip, OverLimit, Full, In, opening, owns, with_pipe, with_bits, is_named, route, is_subscribed, has_route, ignores_own, waiting_of, is_in, item_for, offered, deliver, after_receive}
+use Rattle.bus_words.specs.Bus.{Pipe, Subscription, State, Sending, opening, owns, with_pipe, with_bits, is_named, route, is_subscribed, has_route, ignores_own, waiting_of, is_in, item_for, offered, deliver, after_receive}
+use Rattle.bus_words.specs.declared.verdict.Verdict.TheVariants.{Skip, OverLimit, Full, In}
 use Rattle.bus_words.specs.Machine.{refused_if, create_cause, subscribe_cause, step, state_after}
 use Rattle.bus_words.proofs.Steps.{refused_if-none, after_step, state_from-keeps}
 

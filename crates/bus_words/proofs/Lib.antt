@@ -15,6 +15,7 @@ pub mod KeptPipes
 pub mod Lasts
 pub mod LegalSteps
 pub mod Owners
+pub mod PipeItems
 pub mod PoolGrants
 pub mod Replay
 pub mod Solo

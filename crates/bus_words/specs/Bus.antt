@@ -1,14 +1,15 @@
 -- The state of the software bus (cFE Software Bus; packets by CCSDS 133.0-B, 4.1). Pipes keep copies of the
 -- messages sent to them; nothing here is shared.
-use Rattle.std.specs.Prelude.{◌≡◌, ℕ, ◌≤◌, All, ◌+◌, ◌-◌, ◌%◌, ◌==◌, ◌&&◌, not, nat_le, Bool, true, false, List, [], ◌∷◌, ◌++◌, length, drop, map, filter, find, count_by, replicate, slice_set, slice_index_or, Option, Some, None, is_some, if◌then◌else◌}
+use Rattle.std.specs.Prelude.{◌≡◌, ℕ, ◌≤◌, All, ◌-◌, ◌==◌, ◌&&◌, not, Bool, true, false, List, [], ◌∷◌, length, filter, find, replicate, slice_set, slice_index_or, Option, is_some, if◌then◌else◌}
 use Rattle.std.specs.List.{list_any, list_all}
 use Rattle.std.specs.Option.{option_map_or}
-use Rattle.std.specs.Str.{bytes_eq}
 use Rattle.fsw_base.specs.Limits.{Limits}
-use Rattle.fsw_base.specs.declared.config.Scope.{Scope}
 use Rattle.fsw_base.specs.EventDesk.{Desk, new_desk}
 use Rattle.housekeeping.specs.Statistics.{Statistics, no_statistics}
 use Rattle.pool_words.specs.Grants.{Pools, IsCounted}
+pub use Rattle.bus_words.specs.Pipes.{PipeOf, Subscription, Offer, is_in, oldest, pipe_at, is_live, owns, pipe_named, is_named, with_pipe, ignores_own, after_receive, with_bits}
+use Rattle.bus_words.specs.declared.verdict.Verdict.{Verdict}
+use Rattle.bus_words.specs.Pipes as words
 
 -- A message that is queued for one subscription: its send number, the size first asked for, the subscription's number, its bytes.
 pub record Item : Type 0 where
@@ -17,24 +18,9 @@ pub record Item : Type 0 where
   pub subscription : ℕ
   pub message : List ℕ
 
--- A pipe: number, name, owner, how many messages it may hold (its depth), option bits, the messages queued, oldest first,
--- and the last one received.
-pub record Pipe : Type 0 where
-  pub number : ℕ
-  pub name : List ℕ
-  pub owner : ℕ
-  pub depth : ℕ
-  pub bits : ℕ
-  pub queue : List Item
-  pub last : Option Item
-
--- A subscription: its number, message id and pipe, how many of its messages may be queued at once, and its scope.
-pub record Subscription : Type 0 where
-  pub number : ℕ
-  pub id : ℕ
-  pub pipe : ℕ
-  pub limit : ℕ
-  pub scope : Scope
+-- a pipe that queues messages
+abbrev pub Pipe : Type 0
+Pipe = PipeOf Item
 
 -- What an application is doing.
 pub data Standing : Type 0 where
@@ -102,30 +88,6 @@ pub record ArePools (limits : Limits) (entries : ℕ) (pools : Pools) : Type 0 w
 abbrev pub standing_of : State → ℕ → Standing
 standing_of s app = if app == 0 then Ended else slice_index_or s.standings (app - 1) Ended
 
--- the live pipe of this number
-abbrev pub pipe_at : List Pipe → ℕ → Option Pipe
-pipe_at pipes number = find (λ pipe. pipe.number == number) pipes
-
--- whether a pipe of this number is live
-abbrev pub is_live : List Pipe → ℕ → Bool
-is_live pipes number = list_any (λ pipe. pipe.number == number) pipes
-
--- whether a pipe of this number is live and this application's
-abbrev pub owns : List Pipe → ℕ → ℕ → Bool
-owns pipes app number = list_any (λ pipe. pipe.number == number && pipe.owner == app) pipes
-
--- the live pipe of this name
-abbrev pub pipe_named : List Pipe → List ℕ → Option Pipe
-pipe_named pipes name = find (λ pipe. bytes_eq pipe.name name) pipes
-
--- whether a live pipe has this name
-abbrev pub is_named : List Pipe → List ℕ → Bool
-is_named pipes name = list_any (λ pipe. bytes_eq pipe.name name) pipes
-
--- the pipes, with the one of this number changed
-abbrev pub with_pipe : (Pipe → Pipe) → ℕ → List Pipe → List Pipe
-with_pipe change number pipes = map (λ pipe. if pipe.number == number then change pipe else pipe) pipes
-
 -- the live subscriptions of an id, by rising number
 abbrev pub route : List Subscription → ℕ → List Subscription
 route subscriptions id = filter (λ sub. sub.id == id) subscriptions
@@ -166,39 +128,6 @@ without_unsent unsent app number = slice_set unsent (app - 1) (filter (λ buffer
 abbrev pub without_all_unsent : List (List Buffer) → ℕ → List (List Buffer)
 without_all_unsent unsent app = slice_set unsent (app - 1) []
 
--- option bit 0x01: messages that the pipe's owner sends are not for it
-abbrev pub ignores_own : Pipe → Bool
-ignores_own pipe = pipe.bits % 2 == 1
-
--- What becomes of a message at one subscription.
-pub data Verdict : Type 0 where
-  -- the pipe ignores its owner's messages, and its owner sent it
-  Skip : Verdict
-  -- at least as many messages of this subscription are queued as its limit says
-  OverLimit : Verdict
-  -- the queue's length is the pipe's depth
-  Full : Verdict
-  -- it is queued
-  In : Verdict
-
--- how many messages of a subscription are queued in the pipe
-abbrev pub waiting_of : Pipe → ℕ → ℕ
-waiting_of pipe subscription = count_by (λ item. item.subscription == subscription) pipe.queue
-
--- the first of the verdicts that applies
-abbrev pub verdict : Pipe → Subscription → ℕ → Verdict
-verdict pipe sub sender =
-    if ignores_own pipe && pipe.owner == sender then Skip
-    else if nat_le sub.limit (waiting_of pipe sub.number) then OverLimit
-    else if length pipe.queue == pipe.depth then Full
-    else In
-
-abbrev pub is_in : Verdict → Bool
-is_in Skip = false
-is_in OverLimit = false
-is_in Full = false
-is_in In = true
-
 -- What is sent: who sends it, its number, the size first asked for, and the message.
 pub record Sending : Type 0 where
   pub sender : ℕ
@@ -210,38 +139,33 @@ pub record Sending : Type 0 where
 abbrev pub item_for : Sending → Subscription → Item
 item_for sending sub = record { number = sending.number; asked = sending.asked; subscription = sub.number; message = sending.message }
 
--- the pipe once a subscription of its own was offered what is sent: with the item as its newest where the verdict is In
+-- what is sent, as pipes are offered it
+abbrev pub offer_of : Sending → Offer Item
+offer_of sending = record { sender = sending.sender; subscription_of = λ item. item.subscription; item_for = item_for sending }
+
+-- how many messages of a subscription are queued in the pipe
+abbrev pub waiting_of : Pipe → ℕ → ℕ
+waiting_of pipe subscription = words.waiting_of (λ item. item.subscription) pipe subscription
+
+-- the verdict on a message of this sender for the subscription
+abbrev pub verdict : Pipe → Subscription → ℕ → Verdict
+verdict pipe sub sender = words.verdict (λ item. item.subscription) pipe sub sender
+
+-- the pipe once a subscription of its own was offered what is sent
 abbrev pub offered : Sending → Subscription → Pipe → Pipe
-offered sending sub pipe =
-    if is_in (verdict pipe sub sending.sender) then record pipe { queue = pipe.queue ++ item_for sending sub ∷ [] } else pipe
+offered sending sub pipe = words.offered (offer_of sending) sub pipe
 
 -- the pipes once each of these subscriptions was offered what is sent, in order
 abbrev pub deliver : Sending → List Subscription → List Pipe → List Pipe
-deliver sending [] pipes = pipes
-deliver sending (sub ∷ subs) pipes = deliver sending subs (with_pipe (offered sending sub) sub.pipe pipes)
+deliver sending subs pipes = words.deliver (offer_of sending) subs pipes
 
 -- 1 where the subscription's pipe takes what is sent
 abbrev pub taken_by : Sending → Subscription → List Pipe → ℕ
-taken_by sending sub pipes = option_map_or (λ pipe. if is_in (verdict pipe sub sending.sender) then 1 else 0) (pipe_at pipes sub.pipe) 0
+taken_by sending sub pipes = words.taken_by (offer_of sending) sub pipes
 
 -- how many of these subscriptions have the verdict In, each as its turn comes
 abbrev pub reached : Sending → List Subscription → List Pipe → ℕ
-reached sending [] pipes = 0
-reached sending (sub ∷ subs) pipes =
-    taken_by sending sub pipes + reached sending subs (with_pipe (offered sending sub) sub.pipe pipes)
-
--- the oldest item that is queued
-abbrev pub oldest : List Item → Option Item
-oldest [] = None
-oldest (item ∷ items) = Some item
-
--- the pipe after a receive: its last message is released, and the oldest that is queued, if any, takes its place
-abbrev pub after_receive : Pipe → Pipe
-after_receive pipe = record pipe { queue = drop 1 pipe.queue; last = oldest pipe.queue }
-
--- the pipe with these option bits
-abbrev pub with_bits : ℕ → Pipe → Pipe
-with_bits bits pipe = record pipe { bits = bits }
+reached sending subs pipes = words.reached (offer_of sending) subs pipes
 
 -- whether no message is queued on the pipe of this number
 abbrev pub is_empty : List Pipe → ℕ → Bool

@@ -13,7 +13,9 @@ use Rattle.bus_words.specs.declared.calls.BusAnswer.TheVariants.{Sb, Es, Evs}
 use Rattle.bus_words.specs.declared.history.Call.{Call}
 use Rattle.bus_words.specs.declared.history.Call.TheVariants.{Subscribe, Unsubscribe, Transmit, TransmitBuffer, Register, SendEvent, ResetFilter, LogMode, ClearLog, Housekeeping, End}
 use Rattle.bus_words.specs.declared.history.Entry.{Entry}
-use Rattle.bus_words.specs.Bus.{Pipe, Subscription, State, Verdict, Skip, OverLimit, Full, In, Sending, verdict, pipe_at, with_pipe, offered, route, is_subscribed}
+use Rattle.bus_words.specs.Bus.{Pipe, Subscription, State, Sending, verdict, pipe_at, with_pipe, offered, route, is_subscribed}
+use Rattle.bus_words.specs.declared.verdict.Verdict.{Verdict}
+use Rattle.bus_words.specs.declared.verdict.Verdict.TheVariants.{Skip, OverLimit, Full, In}
 use Rattle.bus_words.specs.Sends.{Reads, sending_from, sending_in, packet_in}
 
 -- An entry of a history at its moment: what its call saw beside the bus, the bus before it, the entry, and the bus after it.

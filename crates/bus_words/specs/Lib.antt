@@ -1,6 +1,7 @@
 pub mod Acts
 pub mod Alone
 pub mod Bus
+pub mod Pipes
 pub mod Counters
 pub mod Entries
 pub mod Events

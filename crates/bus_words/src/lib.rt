@@ -19,6 +19,7 @@ mod laws;
 mod message_receipts;
 mod pipe_text;
 mod receipts;
+mod verdict;
 
 pub use calls::{BusAnswer, BusCall, BusEntry, LentEntry};
 pub use history::{Call, Entry};
@@ -31,3 +32,4 @@ pub use laws::{
 };
 pub use pipe_text::{NAME_BYTES, PipeText};
 pub use receipts::{HEAD_BYTES, Head, Receipt, ReceiptList};
+pub use verdict::Verdict;

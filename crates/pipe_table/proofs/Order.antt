@@ -1,7 +1,7 @@
 -- The live pipes stand in order of number, each in a place of its own.
 use Rattle.std.proofs.Common.{ℕ, List, [], ◌∷◌, ◌++◌, sym, subst, arith}
 use Rattle.std.specs.Option.{option_to_list}
-use Rattle.pipe_table.specs.Table.{IsRising}
+use Rattle.bus_words.specs.Pipes.{IsRising}
 use Rattle.pipe_table.specs.Inside.{PlaceState, live_in, AreFiled}
 use Rattle.pipe_table.proofs.Filing.{stands_here}
 

@@ -1,36 +1,33 @@
 -- Searching the numbers given so far, and the table that opens.
 use Rattle.std.proofs.Common.{◌≡◌, ℕ, zero, suc, ◌+◌, ◌<◌, ◌≤◌, Bool, true, false, cond, eqb, List, [], ◌∷◌, ◌++◌, length, drop, replicate, find, get_or, Option, Some, None, refl, ap, ◌∙◌, arith}
 use Rattle.std.specs.List.{All, AllByRecursion, IsDistinct, range_with_len}
-use Rattle.std.specs.Option.{option_map, option_to_list}
+use Rattle.std.specs.Option.{option_to_list}
 use Rattle.std.proofs.lemmas.Bool.Decides.{nat_tests}
 use Rattle.std.proofs.lemmas.List.{length-replicate}
 use Rattle.std.proofs.lemmas.List.FromFn.{length-range_with_len}
 use Rattle.std.proofs.lemmas.List.Elements.{All-nil, All-cons}
-use Rattle.pipe_table.specs.Table.{PipeRow}
-use Rattle.pipe_table.specs.Inside.{PlaceState, pipe_in, IsFree, AreKept}
+use Rattle.bus_words.specs.Pipes.{PipeOf}
+use Rattle.pipe_queue.specs.declared.item.Item.{Item}
+use Rattle.pipe_table.specs.Inside.{PlaceState, pipe_in, number_of, IsFree, AreKept}
 
 -- Searching. --
 
--- the number that a row tells, if there is one
-abbrev pub told_number : Option PipeRow → Option ℕ
-told_number o = option_map (λ row. row.number) o
-
--- a row that passes is the first
-pub find_here : (p : PipeRow → Bool) (o : Option PipeRow) (rows : List PipeRow) (n : ℕ) → told_number (find p (option_to_list o)) ≡ Some n →
-    told_number (find p (option_to_list o ++ rows)) ≡ Some n
-find_here p None rows n is = absurd (cc (is))
-find_here p (Some row) rows n is = at (p row) is
+-- a pipe that passes is the first
+pub find_here : (p : PipeOf Item → Bool) (o : Option (PipeOf Item)) (pipes : List (PipeOf Item)) (n : ℕ) → number_of (find p (option_to_list o)) ≡ Some n →
+    number_of (find p (option_to_list o ++ pipes)) ≡ Some n
+find_here p None pipes n is = absurd (cc (is))
+find_here p (Some pipe) pipes n is = at (p pipe) is
   where
-    at : (b : Bool) → told_number (cond {A = Option PipeRow} b (Some row) None) ≡ Some n → told_number (cond {A = Option PipeRow} b (Some row) (find p rows)) ≡ Some n
+    at : (b : Bool) → number_of (cond {A = Option (PipeOf Item)} b (Some pipe) None) ≡ Some n → number_of (cond {A = Option (PipeOf Item)} b (Some pipe) (find p pipes)) ≡ Some n
     at true is = is
     at false is = absurd (cc (is))
 
 -- where none passes here, the search goes on
-pub find_on : (p : PipeRow → Bool) (o : Option PipeRow) (rows : List PipeRow) → told_number (find p (option_to_list o)) ≡ None → find p (option_to_list o ++ rows) ≡ find p rows
-find_on p None rows is = refl
-find_on p (Some row) rows is = at (p row) is
+pub find_on : (p : PipeOf Item → Bool) (o : Option (PipeOf Item)) (pipes : List (PipeOf Item)) → number_of (find p (option_to_list o)) ≡ None → find p (option_to_list o ++ pipes) ≡ find p pipes
+find_on p None pipes is = refl
+find_on p (Some pipe) pipes is = at (p pipe) is
   where
-    at : (b : Bool) → told_number (cond {A = Option PipeRow} b (Some row) None) ≡ None → cond {A = Option PipeRow} b (Some row) (find p rows) ≡ find p rows
+    at : (b : Bool) → number_of (cond {A = Option (PipeOf Item)} b (Some pipe) None) ≡ None → cond {A = Option (PipeOf Item)} b (Some pipe) (find p pipes) ≡ find p pipes
     at true is = absurd (cc (is))
     at false is = refl
 

@@ -4,12 +4,12 @@
 //! kept of a pipe that has gone.
 //!
 //! Contracts see the pipes as a list in order of number, of which each call changes the one named
-//! and leaves the others, and no call but `new` takes memory.
+//! and leaves the others, and beside it the place of each; no call but `new` takes memory.
 //!
 //! ```
 //! /// A message queued on a new pipe is the one received last, once it was taken.
 //! fn last_received(pipes: &mut PipeTable, name: &PipeText, app: AppNo, item: Item) -> Option<Item>
-//!     requires { pipes.old ≡ record { live = []; created = 0; room = 1; depth = 4 } }
+//!     requires { pipes.old ≡ record { live = []; places = []; created = 0; room = 1; depth = 4 } }
 //!     ensures { result ≡ Some item }
 //! {
 //!     let pipe = pipes.create(name, app, 4);
@@ -20,11 +20,9 @@
 //! ```
 #![tactic(auto)]
 
-mod offered;
 mod pipe_no;
 mod place;
 mod table;
 
-pub use offered::OfferVerdict;
 pub use pipe_no::PipeNo;
 pub use table::PipeTable;

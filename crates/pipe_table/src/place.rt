@@ -1,12 +1,10 @@
 //! A place for a pipe.
-ghost use Rattle.std.specs.Prelude.{◌≡◌, ◌==◌, ◌≤◌, ◌+◌, ◌<◌, [], length, slice_get, Some, None, IfOk, IsSome, false, ◌%◌, ◌&&◌};
+ghost use Rattle.std.specs.Prelude.{◌≡◌, ◌==◌, ◌≤◌, ◌+◌, ◌<◌, [], length, Some, None, IfOk, IsSome, false, ◌%◌, ◌&&◌};
 ghost use Rattle.std.specs.Option.{option_map, option_map_or, option_and_then};
 ghost use Rattle.std.specs.Str.{bytes_eq};
-ghost use Rattle.pipe_table.specs.Table.{PipeRow, new_row, ignores_sender, offered_to, with_offer, with_bits, taken_row, without_front, without_last};
+ghost use Rattle.bus_words.specs.Pipes.{oldest, new_pipe, ignores_own, verdict_over, offered_over, with_bits, after_receive, without_front, without_last};
 
-use crate::offered::OfferVerdict;
-use crate::pipe_no::PipeNo;
-use bus_words::PipeText;
+use bus_words::{PipeText, Verdict};
 use fsw_base::AppNo;
 use pipe_queue::{Full, Item, PipeQueue};
 use std::alloc::{AllocError, Global};
@@ -17,8 +15,6 @@ use std::marker::Model;
 struct Label {
     // Its number, from 1.
     number: u32,
-    // Which place this is.
-    place: u32,
     // 1 to 19 bytes.
     name: PipeText,
     // Who created it.
@@ -46,7 +42,6 @@ impl Model for Place {
     ghost view = { λ p. record {
       pipe = option_map (λ label. record {
         number = label.number;
-        place = label.place;
         name = label.name;
         owner = label.owner;
         depth = p.queue.depth;
@@ -72,20 +67,19 @@ impl Place {
     }
 
     /// Puts a new pipe into a free place.
-    pub(crate) fn fill(&mut self, pipe: PipeNo, name: &PipeText, owner: AppNo, depth: u32)
+    pub(crate) fn fill(&mut self, number: u32, name: &PipeText, owner: AppNo, depth: u32)
         requires free { self.old.pipe ≡ None }
         requires some { 1 ≤ depth }
         requires depth { depth ≤ self.old.room }
         ensures { self.new ≡
             record {
-              pipe = Some (new_row pipe.number pipe.place name.now owner depth);
+              pipe = Some (new_pipe number name.now owner depth);
               room = self.old.room;
             } }
     {
         self.queue.start(depth);
         self.label = Some(Label {
-            number: pipe.number,
-            place: pipe.place,
+            number,
             name: name.again(),
             owner,
             bits: 0,
@@ -168,7 +162,7 @@ impl Place {
 
     /// What waits longest.
     pub(crate) fn oldest(&self) -> Option<Item>
-        ensures { result ≡ option_and_then (λ pipe. slice_get pipe.queue 0) self.now.pipe }
+        ensures { result ≡ option_and_then (λ pipe. oldest pipe.queue) self.now.pipe }
     {
         self.queue.front()
     }
@@ -185,9 +179,9 @@ impl Place {
     pub(crate) fn take(&mut self) -> (Option<Item>, Option<Item>)
         ensures last { result.0 ≡ option_and_then (λ pipe. pipe.last) self.old.pipe }
         ensures oldest { result.1 ≡
-            option_and_then (λ pipe. slice_get pipe.queue 0) self.old.pipe }
+            option_and_then (λ pipe. oldest pipe.queue) self.old.pipe }
         ensures after { self.new ≡
-            record self.old { pipe = option_map taken_row self.old.pipe } }
+            record self.old { pipe = option_map after_receive self.old.pipe } }
     {
         let oldest = self.queue.take_front();
         let last = self.queue.set_last(oldest);
@@ -196,7 +190,7 @@ impl Place {
 
     /// Takes out what waits longest.
     pub(crate) fn take_front(&mut self) -> Option<Item>
-        ensures oldest { result ≡ option_and_then (λ pipe. slice_get pipe.queue 0) self.old.pipe }
+        ensures oldest { result ≡ option_and_then (λ pipe. oldest pipe.queue) self.old.pipe }
         ensures after { self.new ≡
             record self.old { pipe = option_map without_front self.old.pipe } }
     {
@@ -214,30 +208,32 @@ impl Place {
 
     /// Offers the pipe a message of this sender, over the limit of its subscription or not: queues
     /// it, unless something is against it.
-    pub(crate) fn offer(&mut self, sender: AppNo, is_over: bool, item: Item) -> OfferVerdict
+    pub(crate) fn offer(&mut self, sender: AppNo, is_over: bool, item: Item) -> Verdict
         requires { IsSome self.old.pipe }
-        ensures told { option_map (offered_to sender is_over) self.old.pipe ≡ Some result }
+        ensures told { option_map (λ pipe. verdict_over is_over pipe sender) self.old.pipe ≡
+            Some result }
         ensures after { self.new ≡
             record
             self.old {
-              pipe = option_map (with_offer sender is_over item) self.old.pipe;
+              pipe = option_map (offered_over is_over sender item) self.old.pipe;
             } }
     {
         if self.ignores(sender) {
-            return OfferVerdict::Skipped;
+            return Verdict::Skip;
         }
         if is_over {
-            return OfferVerdict::OverLimit;
+            return Verdict::OverLimit;
         }
         match self.queue.try_put(item) {
-            Ok(()) => OfferVerdict::Taken,
-            Err(Full) => OfferVerdict::Full,
+            Ok(()) => Verdict::In,
+            Err(Full) => Verdict::Full,
         }
     }
 
     // Whether the pipe ignores what the application sends.
     fn ignores(&self, sender: AppNo) -> bool
-        ensures { result ≡ option_map_or (λ pipe. ignores_sender pipe sender) self.now.pipe false }
+        ensures { result ≡
+            option_map_or (λ pipe. ignores_own pipe && pipe.owner == sender) self.now.pipe false }
     {
         match &self.label {
             Some(label) => label.bits % 2 == 1 && label.owner == sender,

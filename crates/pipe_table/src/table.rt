@@ -1,14 +1,14 @@
 //! The table.
-ghost use Rattle.std.specs.Prelude.{◌≡◌, ℕ, ◌==◌, ◌+◌, ◌<◌, ◌≤◌, ◌^◌, ◌↔◌, ◌++◌, ◌∷◌, [], length, replicate, true, false, All, IfOk, IsErr, IsSome, IfSome, IsTrue, slice_index, slice_index_or, None, Some, vec_len, vec_capacity};
+ghost use Rattle.std.specs.Prelude.{◌≡◌, ℕ, ◌==◌, ◌+◌, ◌<◌, ◌≤◌, ◌^◌, ◌↔◌, ◌++◌, ◌∷◌, [], length, map, replicate, true, false, All, IfOk, IsErr, IsSome, IfSome, IsTrue, slice_index, slice_index_or, None, Some, vec_len, vec_capacity};
 ghost use Rattle.std.specs.List.{list_any, range_with_len};
 ghost use Rattle.std.specs.Option.{option_map, option_map_or, option_to_list};
-ghost use Rattle.pipe_table.specs.Table.{Pipes, pipe_row, place_of, is_live_row, owns_row, named_row, with_row, without_row, new_row, offered_to, with_offer, with_bits, taken_row, without_front, without_last, oldest_on, last_on, first_owned, IsRising};
+ghost use Rattle.bus_words.specs.Pipes.{pipe_at, is_live, owns, pipe_named, first_owned, oldest_on, last_on, IsRising, with_pipe, without_pipe, new_pipe, with_bits, after_receive, without_front, without_last, verdict_over, offered_over};
+ghost use Rattle.pipe_table.specs.Table.{Pipes, place_of, without_place};
 ghost use Rattle.pipe_table.specs.Inside.{pipe_in, live_in, place_under, AreRising, AreOrdered, AreFiled};
 
-use crate::offered::OfferVerdict;
 use crate::pipe_no::PipeNo;
 use crate::place::Place;
-use bus_words::PipeText;
+use bus_words::{PipeText, Verdict};
 use fsw_base::AppNo;
 use pipe_queue::Item;
 use std::alloc::{AllocError, Global};
@@ -37,14 +37,9 @@ impl Model for PipeTable {
 
     ghost Value = { Pipes };
 
-    ghost use Rattle.pipe_table.specs.Inside.{live_in, AreKept};
+    ghost use Rattle.pipe_table.specs.Inside.{table_of, AreKept};
 
-    ghost view = { λ t. record {
-      live = live_in t.places.items t.at.items;
-      created = t.created;
-      room = length t.places.items;
-      depth = t.depth;
-    } };
+    ghost view = { λ t. table_of t.depth t.places.items t.live.items t.at.items t.created };
 
     ghost invariant = { λ t. AreKept t.depth t.places.items t.live.items t.at.items t.free.items
         t.created
@@ -61,7 +56,8 @@ impl PipeTable {
     /// Where memory runs out.
     pub fn new(alloc: Global, pipes: u32, depth: u32) -> Result<PipeTable, AllocError>
         ensures { IfOk result
-            (λ table. table ≡ record { live = []; created = 0; room = pipes; depth = depth }) }
+            (λ table. table ≡
+            record { live = []; places = []; created = 0; room = pipes; depth = depth }) }
     {
         Ok(PipeTable {
             places: free_places(alloc, pipes, depth)?,
@@ -80,23 +76,25 @@ impl PipeTable {
         self.places.len() - self.free.len()
     }
 
-    /// The live pipes stand in order of number. Does nothing.
+    /// The live pipes stand in order of number, and their places in the same order. Does nothing.
     pub fn recall_order(&self)
-        ensures { IsRising 0 self.now.live }
+        ensures order { IsRising 0 self.now.live }
+        ensures places { map (λ pair. pair.0) self.now.places ≡
+            map (λ pipe. pipe.number) self.now.live }
     {
         let _ = &self.live;
     }
 
     /// Whether a pipe of this number is live.
     pub fn is_live(&self, number: u32) -> bool
-        ensures { result ≡ is_live_row self.now.live number }
+        ensures { result ≡ is_live self.now.live number }
     {
         self.bits(number).is_some()
     }
 
     /// Whether a pipe of this number is live and the application's.
     pub fn owns(&self, app: AppNo, number: u32) -> bool
-        ensures { result ≡ owns_row self.now.live app number }
+        ensures { result ≡ owns self.now.live app number }
     {
         match found(&self.places, &self.live, &self.at, number) {
             Some(place) => place.is_owned_by(app),
@@ -106,7 +104,7 @@ impl PipeTable {
 
     /// The option bits of the live pipe of this number.
     pub fn bits(&self, number: u32) -> Option<u8>
-        ensures { result ≡ option_map (λ row. row.bits) (pipe_row self.now.live number) }
+        ensures { result ≡ option_map (λ pipe. pipe.bits) (pipe_at self.now.live number) }
     {
         match found(&self.places, &self.live, &self.at, number) {
             Some(place) => place.bits(),
@@ -116,7 +114,7 @@ impl PipeTable {
 
     /// The name of the live pipe of this number.
     pub fn name(&self, number: u32) -> Option<PipeText>
-        ensures { result ≡ option_map (λ row. row.name) (pipe_row self.now.live number) }
+        ensures { result ≡ option_map (λ pipe. pipe.name) (pipe_at self.now.live number) }
     {
         match found(&self.places, &self.live, &self.at, number) {
             Some(place) => place.name(),
@@ -126,7 +124,7 @@ impl PipeTable {
 
     /// The place of the live pipe of this number.
     pub fn place_of(&self, number: u32) -> Option<u32>
-        ensures { result ≡ place_of self.now.live number }
+        ensures { result ≡ place_of self.now.places number }
     {
         at_number(&self.live, &self.at, number)
     }
@@ -154,7 +152,7 @@ impl PipeTable {
     /// The number of the live pipe that was created first of those with the name. For a creation
     /// and for finding a pipe by name: it looks at every live pipe.
     pub fn find(&self, name: &[u8]) -> Option<u32>
-        ensures { result ≡ option_map (λ row. row.number) (named_row self.now.live name.now) }
+        ensures { result ≡ option_map (λ pipe. pipe.number) (pipe_named self.now.live name.now) }
     {
         for at in &self.at {
             if let Some(number) = number_where_named(&self.places, *at, name) {
@@ -167,7 +165,7 @@ impl PipeTable {
     /// The number of the live pipe that was created first of the application's. For an
     /// application's end: it looks at every live pipe.
     pub fn first_of(&self, app: AppNo) -> Option<u32>
-        ensures { result ≡ option_map (λ row. row.number) (first_owned self.now.live app) }
+        ensures { result ≡ option_map (λ pipe. pipe.number) (first_owned self.now.live app) }
     {
         for at in &self.at {
             if let Some(number) = number_where_owned(&self.places, *at, app) {
@@ -186,8 +184,8 @@ impl PipeTable {
         requires depth { depth ≤ self.old.depth }
         ensures number { result.number ≡ self.old.created + 1 }
         ensures after { self.new ≡ record self.old {
-          live = self.old.live ++ new_row (self.old.created + 1) result.place name.now owner depth
-              ∷ [];
+          live = self.old.live ++ new_pipe (self.old.created + 1) name.now owner depth ∷ [];
+          places = self.old.places ++ (self.old.created + 1, result.place) ∷ [];
           created = self.old.created + 1;
         } }
     {
@@ -199,13 +197,18 @@ impl PipeTable {
         };
         self.live.push_reserved(self.created);
         self.at.push_reserved(place);
-        self.places[place as usize].fill(pipe, name, owner, depth);
+        self.places[place as usize].fill(pipe.number, name, owner, depth);
         pipe
     }
 
     /// Ends the live pipe of this number, with what waits on it; no effect where none is live.
     pub fn remove(&mut self, number: u32)
-        ensures { self.new ≡ record self.old { live = without_row number self.old.live } }
+        ensures { self.new ≡
+            record
+            self.old {
+              live = without_pipe number self.old.live;
+              places = without_place number self.old.places;
+            } }
     {
         if let Some(index) = index_of(&self.live, number) {
             let at = self.at.remove(index);
@@ -218,7 +221,7 @@ impl PipeTable {
     /// Sets the option bits of the live pipe of this number.
     pub fn set_bits(&mut self, number: u32, bits: u8)
         ensures { self.new ≡
-            record self.old { live = with_row (with_bits bits) number self.old.live } }
+            record self.old { live = with_pipe (with_bits bits) number self.old.live } }
     {
         if let Some(at) = at_number(&self.live, &self.at, number) {
             self.places[at as usize].set_bits(bits);
@@ -231,7 +234,7 @@ impl PipeTable {
         ensures last { result.0 ≡ last_on self.old.live number }
         ensures oldest { result.1 ≡ oldest_on self.old.live number }
         ensures after { self.new ≡
-            record self.old { live = with_row taken_row number self.old.live } }
+            record self.old { live = with_pipe after_receive number self.old.live } }
     {
         match at_number(&self.live, &self.at, number) {
             Some(at) => self.places[at as usize].take(),
@@ -243,7 +246,7 @@ impl PipeTable {
     pub fn take_front(&mut self, number: u32) -> Option<Item>
         ensures oldest { result ≡ oldest_on self.old.live number }
         ensures after { self.new ≡
-            record self.old { live = with_row without_front number self.old.live } }
+            record self.old { live = with_pipe without_front number self.old.live } }
     {
         match at_number(&self.live, &self.at, number) {
             Some(at) => self.places[at as usize].take_front(),
@@ -255,7 +258,7 @@ impl PipeTable {
     pub fn take_last(&mut self, number: u32) -> Option<Item>
         ensures last { result ≡ last_on self.old.live number }
         ensures after { self.new ≡
-            record self.old { live = with_row without_last number self.old.live } }
+            record self.old { live = with_pipe without_last number self.old.live } }
     {
         match at_number(&self.live, &self.at, number) {
             Some(at) => self.places[at as usize].take_last(),
@@ -267,14 +270,14 @@ impl PipeTable {
     /// queues it, unless the pipe ignores the sender, it is over the limit, or as many messages
     /// wait as the pipe's depth; answers the first of these that holds. Looks once at the pipe's
     /// place, and at no other.
-    pub fn offer(&mut self, pipe: PipeNo, sender: AppNo, is_over: bool, item: Item) -> OfferVerdict
-        requires live { place_of self.old.live pipe.number ≡ Some pipe.place }
-        ensures told { option_map (offered_to sender is_over) (pipe_row self.old.live pipe.number) ≡
-            Some result }
+    pub fn offer(&mut self, pipe: PipeNo, sender: AppNo, is_over: bool, item: Item) -> Verdict
+        requires live { place_of self.old.places pipe.number ≡ Some pipe.place }
+        ensures told { option_map (λ pipe. verdict_over is_over pipe sender)
+            (pipe_at self.old.live pipe.number) ≡ Some result }
         ensures after { self.new ≡
             record
             self.old {
-              live = with_row (with_offer sender is_over item) pipe.number self.old.live;
+              live = with_pipe (offered_over is_over sender item) pipe.number self.old.live;
             } }
     {
         self.places[pipe.place as usize].offer(sender, is_over, item)
@@ -331,8 +334,8 @@ fn found<'p>(
 ) -> Option<&'p Place>
     requires { AreFiled 0 places.now.items live.now.items at.now.items }
     ensures some { IfSome result
-        (λ place. place.now.pipe ≡ pipe_row (live_in places.now.items at.now.items) number) }
-    ensures none { result ≡ None → pipe_row (live_in places.now.items at.now.items) number ≡ None }
+        (λ place. place.now.pipe ≡ pipe_at (live_in places.now.items at.now.items) number) }
+    ensures none { result ≡ None → pipe_at (live_in places.now.items at.now.items) number ≡ None }
 {
     match at_number(live, at, number) {
         Some(place) => Some(place_at(places, place)),
@@ -351,8 +354,8 @@ fn place_at(places: &Vec<Place>, at: u32) -> &Place
 // The number of the pipe in a place, where it has the name.
 fn number_where_named(places: &[Place], at: u32, name: &[u8]) -> Option<u32>
     ensures { result ≡
-        option_map (λ row. row.number)
-        (named_row (option_to_list (pipe_in places.now at)) name.now) }
+        option_map (λ pipe. pipe.number)
+        (pipe_named (option_to_list (pipe_in places.now at)) name.now) }
 {
     let place = places.get(at as usize)?;
     if place.is_named(name) {
@@ -365,7 +368,8 @@ fn number_where_named(places: &[Place], at: u32, name: &[u8]) -> Option<u32>
 // The number of the pipe in a place, where it is the application's.
 fn number_where_owned(places: &[Place], at: u32, app: AppNo) -> Option<u32>
     ensures { result ≡
-        option_map (λ row. row.number) (first_owned (option_to_list (pipe_in places.now at)) app) }
+        option_map (λ pipe. pipe.number)
+        (first_owned (option_to_list (pipe_in places.now at)) app) }
 {
     let place = places.get(at as usize)?;
     if place.is_owned_by(app) {

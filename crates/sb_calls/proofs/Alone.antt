@@ -16,7 +16,8 @@ use Rattle.bus_words.specs.Bus.{Item, Pipe, State, opening, owns, pipe_at}
 use Rattle.bus_words.specs.Machine.{IsLegal, makes_entry, step}
 use Rattle.bus_words.proofs.Isolation.{gives_newest, stands_alone}
 use Rattle.bus_words.proofs.LegalSteps.{AreWaiters-after, legal-last}
-use Rattle.bus_store.specs.Words.{last_of, loan_of}
+use Rattle.bus_words.specs.Pipes.{last_on}
+use Rattle.bus_store.specs.Words.{loan_of}
 use Rattle.sb_core.specs.declared.pending.Pended.{Pended}
 use Rattle.sb_core.specs.declared.pending.Pended.TheVariants as waits
 use Rattle.sb_core.specs.Answers.{got, pended}
@@ -31,7 +32,7 @@ itself n = grind (arith, nat_tests)
 -- what the bag shows of a pipe of the application's
 pub shown : (core : Core) (app pipe : ℕ) (bag : Holding LentBytes) → HasBag core app bag → bytes_seen bag pipe ≡ last_message (state_of core) app pipe
 shown core app pipe bag has =
-    ap (λ v. option_map (λ (view : LentBytes). view.bytes) v) (has.views.seen pipe) ∙ by_owner (owns (state_of core).pipes app pipe) (last_of (state_of core).pipes pipe)
+    ap (λ v. option_map (λ (view : LentBytes). view.bytes) v) (has.views.seen pipe) ∙ by_owner (owns (state_of core).pipes app pipe) (last_on (state_of core).pipes pipe)
   where
     by_owner : (own : Bool) (last : Option Item) →
         option_map (λ (view : LentBytes). view.bytes) (cond {A = Option LentBytes} own (option_map (λ (item : Item). record { loan = loan_of (loans_of core) pipe; bytes = item.message }) last) None)
@@ -42,7 +43,7 @@ shown core app pipe bag has =
 
 -- the pipe's last message, as a list of at most one, is one of at most one
 newest-last : (pipes : List Pipe) (pipe : ℕ) (message : Received) → option_map_or (λ (x : Pipe). alone.last_of x.last) (pipe_at pipes pipe) [] ≡ message ∷ [] →
-    option_map (λ (item : Item). item.message) (last_of pipes pipe) ≡ Some message.message
+    option_map (λ (item : Item). item.message) (last_on pipes pipe) ≡ Some message.message
 newest-last pipes pipe message is = by_pipe (pipe_at pipes pipe) is
   where
     by_last : (last : Option Item) → alone.last_of last ≡ message ∷ [] → option_map (λ (item : Item). item.message) last ≡ Some message.message
@@ -64,7 +65,7 @@ got_alone old new app pipe call number bag gets does own has =
     let last : option_map_or (λ (x : Pipe). alone.last_of x.last) (pipe_at (state_of new).pipes pipe) [] ≡ given.0 ∷ [] =
     ap (λ (c : Core). option_map_or (λ (x : Pipe). alone.last_of x.last) (pipe_at (state_of c).pipes pipe) []) does.entry ∙ given.1.last in
     let seen = shown new app pipe bag has
-    ∙ ap (λ b. cond {A = Option (List ℕ)} b (option_map (λ (item : Item). item.message) (last_of (state_of new).pipes pipe)) None) own
+    ∙ ap (λ b. cond {A = Option (List ℕ)} b (option_map (λ (item : Item). item.message) (last_on (state_of new).pipes pipe)) None) own
     ∙ newest-last (state_of new).pipes pipe given.0 last in
     (given.0, sym (cc (given.1.answer)), seen, given.1)
 

@@ -7,7 +7,8 @@ use Rattle.bus_words.specs.Bus.{Item, State, owns, unsent_of}
 use Rattle.bus_words.specs.Held.{is_unsent}
 use Rattle.bus_words.proofs.Buffers.{unsent_here}
 use Rattle.bus_store.specs.Bag.{views_due}
-use Rattle.bus_store.specs.Words.{last_of, loan_of, desc_of}
+use Rattle.bus_words.specs.Pipes.{last_on}
+use Rattle.bus_store.specs.Words.{loan_of, desc_of}
 use Rattle.sb_core.specs.Bags as plain
 use Rattle.sb_calls.specs.declared.bus_core.BusCore.TheInside.{Inside}
 use Rattle.sb_calls.specs.Bags.{HasBag, KeepsBags, AreOneLoan, loans_of, descs_of}
@@ -18,9 +19,9 @@ use Rattle.sb_calls.proofs.Holds.{holds-alike, last-live, loan_of-told, buffers-
 use Rattle.sb_calls.proofs.Over.{bus_is}
 
 -- the loan that was noted of a pipe is that of its last message
-pub loan_is : (a : Inside) → Stands a → (pipe : ℕ) → is_some (last_of a.core.whole.bus.pipes pipe) ≡ true → loan_of (loans_of (core_of a)) pipe ≡ loan_of a.core.loans pipe
+pub loan_is : (a : Inside) → Stands a → (pipe : ℕ) → is_some (last_on a.core.whole.bus.pipes pipe) ≡ true → loan_of (loans_of (core_of a)) pipe ≡ loan_of a.core.loans pipe
 loan_is a stands pipe some =
-    let some_there : is_some (last_of (state_of (core_of a)).pipes pipe) ≡ true = ap (λ (s : State). is_some (last_of s.pipes pipe)) (sym (bus_is a stands)) ∙ some in
+    let some_there : is_some (last_on (state_of (core_of a)).pipes pipe) ≡ true = ap (λ (s : State). is_some (last_on s.pipes pipe)) (sym (bus_is a stands)) ∙ some in
     loan_of-told (λ n. noted n a.noted.log.entries a.noted.notes) (state_of (core_of a)).pipes pipe (last-live (state_of (core_of a)).pipes pipe some_there)
     ∙ sym (stands.loans pipe some)
 
@@ -36,8 +37,8 @@ bag_in a old app bag is stands has_old = record {
   views =
       holds-alike (state_of (core_of a)).pipes a.core.whole.bus.pipes (loans_of (core_of a)) a.core.loans a.core.limits.pipes app bag (record {
         owned = λ pipe. ap (λ (s : State). owns s.pipes app pipe) (sym same);
-        last = λ pipe own. ap (λ (s : State). last_of s.pipes pipe) (sym same);
-        lent = λ pipe own some. sym (loan_is a stands pipe (ap (λ (s : State). is_some (last_of s.pipes pipe)) (sym same) ∙ some));
+        last = λ pipe own. ap (λ (s : State). last_on s.pipes pipe) (sym same);
+        lent = λ pipe own some. sym (loan_is a stands pipe (ap (λ (s : State). is_some (last_on s.pipes pipe)) (sym same) ∙ some));
         counted = ap (λ (s : State). views_due s.pipes app) (sym same);
       }) has.views;
   buffers =
@@ -58,7 +59,7 @@ bag_out a app bag stands has = record {
   views =
       holds-alike a.core.whole.bus.pipes (state_of (core_of a)).pipes a.core.loans (loans_of (core_of a)) a.core.limits.pipes app bag (record {
         owned = λ pipe. ap (λ (s : State). owns s.pipes app pipe) same;
-        last = λ pipe own. ap (λ (s : State). last_of s.pipes pipe) same;
+        last = λ pipe own. ap (λ (s : State). last_on s.pipes pipe) same;
         lent = λ pipe own some. loan_is a stands pipe some;
         counted = ap (λ (s : State). views_due s.pipes app) same;
       }) has.views;
@@ -77,10 +78,10 @@ bags_over a next old is stands stands_next keeps app bag has = bag_out next app 
 
 -- pipes whose last messages are of one send have one loan noted, as the core's loans are one
 pub one_loan : (a : Inside) → Stands a →
-    ((pipe other : ℕ) (item its : Item) → last_of a.core.whole.bus.pipes pipe ≡ Some item → last_of a.core.whole.bus.pipes other ≡ Some its → item.number ≡ its.number →
+    ((pipe other : ℕ) (item its : Item) → last_on a.core.whole.bus.pipes pipe ≡ Some item → last_on a.core.whole.bus.pipes other ≡ Some its → item.number ≡ its.number →
     loan_of a.core.loans pipe ≡ loan_of a.core.loans other) →
     AreOneLoan (core_of a)
 one_loan a stands told pipe other item its is also same =
-    let here : last_of a.core.whole.bus.pipes pipe ≡ Some item = ap (λ (s : State). last_of s.pipes pipe) (bus_is a stands) ∙ is in
-    let there : last_of a.core.whole.bus.pipes other ≡ Some its = ap (λ (s : State). last_of s.pipes other) (bus_is a stands) ∙ also in
+    let here : last_on a.core.whole.bus.pipes pipe ≡ Some item = ap (λ (s : State). last_on s.pipes pipe) (bus_is a stands) ∙ is in
+    let there : last_on a.core.whole.bus.pipes other ≡ Some its = ap (λ (s : State). last_on s.pipes other) (bus_is a stands) ∙ also in
     sym (stands.loans pipe (ap (λ l. is_some l) here)) ∙ told pipe other item its here there same ∙ stands.loans other (ap (λ l. is_some l) there)

@@ -15,17 +15,17 @@ use Rattle.bus_words.proofs.Finds.{same-self, find-filter_none}
 use Rattle.bus_words.proofs.KeptPipes.{owns-with_pipe}
 use Rattle.bus_words.proofs.Lasts.{last-emptied}
 use Rattle.bus_words.proofs.LegalSteps.{AreWaiters, WaitsOwn, waits_on}
-use Rattle.bus_store.specs.Words.{last_of}
+use Rattle.bus_words.specs.Pipes.{last_on}
 
 pub data Fares (pipes now : List Pipe) (app pipe : ℕ) (gives : Bool) : Type 0 where
   -- it gives a message, which is its last then
-  Given : gives ≡ true → owns now app pipe ≡ true → is_some (last_of now pipe) ≡ true → Fares pipes now app pipe gives
+  Given : gives ≡ true → owns now app pipe ≡ true → is_some (last_on now pipe) ≡ true → Fares pipes now app pipe gives
   -- it has no last message any more
-  Emptied : gives ≡ false → last_of now pipe ≡ None → Fares pipes now app pipe gives
+  Emptied : gives ≡ false → last_on now pipe ≡ None → Fares pipes now app pipe gives
   -- it isn't the application's, and nothing changes
   Refused : gives ≡ false → owns pipes app pipe ≡ false → now ≡ pipes → Fares pipes now app pipe gives
 
-last-taken : (pipes : List Pipe) (p : ℕ) → is_empty pipes p ≡ false → is_some (last_of (with_pipe after_receive p pipes) p) ≡ true
+last-taken : (pipes : List Pipe) (p : ℕ) → is_empty pipes p ≡ false → is_some (last_on (with_pipe after_receive p pipes) p) ≡ true
 last-taken [] p some = absurd (true≢false some)
 last-taken (x ∷ pipes) p some = by_test (x.number == p) refl (last-taken pipes p) some
   where
@@ -33,9 +33,9 @@ last-taken (x ∷ pipes) p some = by_test (x.number == p) refl (last-taken pipes
     an_item [] none = absurd (true≢false none)
     an_item (item ∷ queue) some = refl
 
-    by_test : (b : Bool) → (x.number == p) ≡ b → (is_empty pipes p ≡ false → is_some (last_of (with_pipe after_receive p pipes) p) ≡ true) →
+    by_test : (b : Bool) → (x.number == p) ≡ b → (is_empty pipes p ≡ false → is_some (last_on (with_pipe after_receive p pipes) p) ≡ true) →
         option_map_or (λ (y : Pipe). length y.queue == 0) (cond {A = Option Pipe} b (Some x) (pipe_at pipes p)) true ≡ false →
-        is_some (last_of (cond {A = Pipe} b (after_receive x) x ∷ with_pipe after_receive p pipes) p) ≡ true
+        is_some (last_on (cond {A = Pipe} b (after_receive x) x ∷ with_pipe after_receive p pipes) p) ≡ true
     by_test true e ih some =
         ap (λ b. is_some (option_and_then (λ (y : Pipe). y.last) (cond {A = Option Pipe} b (Some (after_receive x)) (pipe_at (with_pipe after_receive p pipes) p)))) e ∙ an_item x.queue some
     by_test false e ih some =

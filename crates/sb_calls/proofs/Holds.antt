@@ -10,7 +10,8 @@ use Rattle.bus_words.specs.Held.{is_unsent, buffers_in}
 use Rattle.bus_words.proofs.Buffers.{of_buffer, unsent_in}
 use Rattle.bus_store.specs.Bag.{HoldsViews, HoldsBuffers, Shape, shape_of, view_due, views_due}
 use Rattle.bus_store.specs.Store.{LastLoan, BufferDesc}
-use Rattle.bus_store.specs.Words.{last_of, loan_of, desc_of, size_for}
+use Rattle.bus_words.specs.Pipes.{last_on}
+use Rattle.bus_store.specs.Words.{loan_of, desc_of, size_for}
 
 -- Views. --
 
@@ -25,8 +26,8 @@ viewed-alike loan other (Some item) same = ap (λ n. viewed n (Some item)) (same
 -- Pipes as an application sees them: it has the same ones, with the same last messages, lent by the same loans.
 pub record AreSeenAlike (pipes now : List Pipe) (loans others : List LastLoan) (app : ℕ) : Type 0 where
   pub owned : (pipe : ℕ) → owns now app pipe ≡ owns pipes app pipe
-  pub last : (pipe : ℕ) → owns pipes app pipe ≡ true → last_of now pipe ≡ last_of pipes pipe
-  pub lent : (pipe : ℕ) → owns pipes app pipe ≡ true → is_some (last_of pipes pipe) ≡ true → loan_of others pipe ≡ loan_of loans pipe
+  pub last : (pipe : ℕ) → owns pipes app pipe ≡ true → last_on now pipe ≡ last_on pipes pipe
+  pub lent : (pipe : ℕ) → owns pipes app pipe ≡ true → is_some (last_on pipes pipe) ≡ true → loan_of others pipe ≡ loan_of loans pipe
   pub counted : views_due now app ≡ views_due pipes app
 
 pub holds-alike : (pipes now : List Pipe) (loans others : List LastLoan) (most app : ℕ) (bag : Holding LentBytes) → AreSeenAlike pipes now loans others app →
@@ -39,15 +40,15 @@ holds-alike pipes now loans others most app bag alike holds = record {
   where
     due : (pipe : ℕ) (b : Bool) → owns pipes app pipe ≡ b → view_due now others app pipe ≡ view_due pipes loans app pipe
     due pipe true own =
-        ap (λ b. cond {A = Option LentBytes} b (viewed (loan_of others pipe) (last_of now pipe)) None) (alike.owned pipe)
+        ap (λ b. cond {A = Option LentBytes} b (viewed (loan_of others pipe) (last_on now pipe)) None) (alike.owned pipe)
         ∙ ap (λ l. cond {A = Option LentBytes} (owns pipes app pipe) (viewed (loan_of others pipe) l) None) (alike.last pipe own)
-        ∙ ap (λ v. cond {A = Option LentBytes} (owns pipes app pipe) v None) (viewed-alike (loan_of loans pipe) (loan_of others pipe) (last_of pipes pipe) (alike.lent pipe own))
+        ∙ ap (λ v. cond {A = Option LentBytes} (owns pipes app pipe) v None) (viewed-alike (loan_of loans pipe) (loan_of others pipe) (last_on pipes pipe) (alike.lent pipe own))
     due pipe false none =
-        ap (λ b. cond {A = Option LentBytes} b (viewed (loan_of others pipe) (last_of now pipe)) None) (alike.owned pipe ∙ none)
-        ∙ sym (ap (λ b. cond {A = Option LentBytes} b (viewed (loan_of loans pipe) (last_of pipes pipe)) None) none)
+        ap (λ b. cond {A = Option LentBytes} b (viewed (loan_of others pipe) (last_on now pipe)) None) (alike.owned pipe ∙ none)
+        ∙ sym (ap (λ b. cond {A = Option LentBytes} b (viewed (loan_of loans pipe) (last_on pipes pipe)) None) none)
 
 -- a pipe with a last message is live
-pub last-live : (pipes : List Pipe) (number : ℕ) → is_some (last_of pipes number) ≡ true → is_live pipes number ≡ true
+pub last-live : (pipes : List Pipe) (number : ℕ) → is_some (last_on pipes number) ≡ true → is_live pipes number ≡ true
 last-live [] number some = absurd (true≢false (sym some))
 last-live (x ∷ pipes) number some =
     elim (x.number == number) as (λ b. is_some (option_and_then (λ (pipe : Pipe). pipe.last) (cond {A = Option Pipe} b (Some x) (pipe_at pipes number))) ≡ true → (b || is_live pipes number) ≡ true) [

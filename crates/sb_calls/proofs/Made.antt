@@ -24,7 +24,8 @@ use Rattle.bus_words.proofs.KeptPipes.{AreSingle, single-rising}
 use Rattle.bus_words.proofs.Ties.{is_live-owns}
 use Rattle.bus_words.proofs.Unsent.{AreUnsent-after}
 use Rattle.bus_words.proofs.UnsentSteps.{all_gone-unsent}
-use Rattle.bus_store.specs.Words.{last_of, loan_of, desc_of}
+use Rattle.bus_words.specs.Pipes.{last_on}
+use Rattle.bus_store.specs.Words.{loan_of, desc_of}
 use Rattle.sb_core.specs.declared.calls.Sent.{Sent}
 use Rattle.sb_core.specs.Answers.{created, found, bits_told, named, done, sent, pool_told, grant_back, figures_told, event_told}
 use Rattle.sb_core.specs.Bags.{HasBag, KeepsAllLoans, KeepsLoans, KeepsOtherLoans, KeepsAllDescs, KeepsOtherDescs}
@@ -98,7 +99,7 @@ module _ (a : Inside) (core : Plain) (next : NotedLog) (app : ℕ) (call : Call)
   -- a call that gives no message and no buffer
   pub made_quiet : Pushed → note_due answer call 0 ≡ Nothing → ((pipe : ℕ) → gets_from pipe (record { app = app; call = call; answer = answer }) ≡ false) →
       ((number : ℕ) → gives_buffer number (record { app = app; call = call; answer = answer }) ≡ false) →
-      ((pipe : ℕ) → is_some (last_of core.whole.bus.pipes pipe) ≡ true → is_some (last_of a.core.whole.bus.pipes pipe) ≡ true → loan_of core.loans pipe ≡ loan_of a.core.loans pipe) →
+      ((pipe : ℕ) → is_some (last_on core.whole.bus.pipes pipe) ≡ true → is_some (last_on a.core.whole.bus.pipes pipe) ≡ true → loan_of core.loans pipe ≡ loan_of a.core.loans pipe) →
       ((number : ℕ) → is_unsent core.whole.bus.unsent number ≡ true → desc_of core.descs number ≡ desc_of a.core.descs number) →
       Made a core next app call answer
   made_quiet pushed nothing none no_buffer kept left = record {
@@ -132,7 +133,7 @@ made_register a core next app filters kept same acts loans descs pushed =
 
 module _ (a : Inside) (core : Plain) (app pipe : ℕ) (loans : KeepsLoans a.core core pipe) (unowned : owns a.core.whole.bus.pipes app pipe ≡ false → core.loans ≡ a.core.loans) where
   -- a pipe that gives no message and has one keeps its loan
-  kept_here : (gives : Bool) → Fares a.core.whole.bus.pipes core.whole.bus.pipes app pipe gives → gives ≡ false → is_some (last_of core.whole.bus.pipes pipe) ≡ true →
+  kept_here : (gives : Bool) → Fares a.core.whole.bus.pipes core.whole.bus.pipes app pipe gives → gives ≡ false → is_some (last_on core.whole.bus.pipes pipe) ≡ true →
       loan_of core.loans pipe ≡ loan_of a.core.loans pipe
   kept_here gives (Given is own some) none has = absurd (true≢false (sym is ∙ none))
   kept_here gives (Emptied is gone) none has = absurd (true≢false (sym has ∙ ap (λ l. is_some l) gone))
@@ -140,13 +141,13 @@ module _ (a : Inside) (core : Plain) (app pipe : ℕ) (loans : KeepsLoans a.core
 
   -- and every other pipe does
   pub kept_on : (gives : Bool) → Fares a.core.whole.bus.pipes core.whole.bus.pipes app pipe gives → (other : ℕ) → ((pipe == other) ≡ true → gives ≡ false) →
-      is_some (last_of core.whole.bus.pipes other) ≡ true → loan_of core.loans other ≡ loan_of a.core.loans other
+      is_some (last_on core.whole.bus.pipes other) ≡ true → loan_of core.loans other ≡ loan_of a.core.loans other
   kept_on gives fares other none has =
       elim (pipe == other) as (λ b. (pipe == other) ≡ b → loan_of core.loans other ≡ loan_of a.core.loans other) [
         | true ↦ λ same.
             let here = eqb-true pipe other same in
             subst (λ n. loan_of core.loans n ≡ loan_of a.core.loans n) here
-            (kept_here gives fares (none same) (ap (λ n. is_some (last_of core.whole.bus.pipes n)) here ∙ has))
+            (kept_here gives fares (none same) (ap (λ n. is_some (last_on core.whole.bus.pipes n)) here ∙ has))
         | false ↦ λ differ. loans other (λ same. true≢false (sym (same-self pipe) ∙ ap (λ n. pipe == n) same ∙ differ))
       ] refl
 
@@ -195,7 +196,7 @@ module _ (a : Inside) (core : Plain) (next : NotedLog) (app pipe : ℕ) (call : 
   }
     where
       shown : (gives : Bool) → Fares a.core.whole.bus.pipes core.whole.bus.pipes app pipe gives → gives ≡ true → option_map (λ (v : LentBytes). v.loan) (view_at bag pipe) ≡ Some (loan_of core.loans pipe)
-      shown gives (Given is own some) gave = due-loan core.whole.bus.pipes (loan_of core.loans pipe) bag (owns core.whole.bus.pipes app pipe) (last_of core.whole.bus.pipes pipe) pipe own some (has.views.seen pipe)
+      shown gives (Given is own some) gave = due-loan core.whole.bus.pipes (loan_of core.loans pipe) bag (owns core.whole.bus.pipes app pipe) (last_on core.whole.bus.pipes pipe) pipe own some (has.views.seen pipe)
       shown gives (Emptied is gone) gave = absurd (true≢false (sym gave ∙ is))
       shown gives (Refused is not_his stays) gave = absurd (true≢false (sym gave ∙ is))
 
@@ -207,7 +208,7 @@ module _ (a : Inside) (core : Plain) (next : NotedLog) (app pipe : ℕ) (call : 
       (λ other some had. kept_on a core app pipe loans unowned (gets_from pipe e) fares other (λ same. none pipe) some) (λ number now. descs number)
 
 -- a pipe of the application's is gone where all of its pipes are
-gone : (app : ℕ) (pipes : List Pipe) (number : ℕ) → AreSingle pipes → owns pipes app number ≡ true → is_some (last_of (filter (λ pipe. not (pipe.owner == app)) pipes) number) ≡ true → ⊥
+gone : (app : ℕ) (pipes : List Pipe) (number : ℕ) → AreSingle pipes → owns pipes app number ≡ true → is_some (last_on (filter (λ pipe. not (pipe.owner == app)) pipes) number) ≡ true → ⊥
 gone app [] number one = λ own some. true≢false (sym own)
 gone app (pipe ∷ pipes) number one = by_tests (pipe.number == number) refl (pipe.owner == app) (gone app pipes number one.1)
   where
@@ -217,8 +218,8 @@ gone app (pipe ∷ pipes) number one = by_tests (pipe.number == number) refl (pi
     dead : (pipe.number == number) ≡ true → is_live pipes number ≡ false
     dead here = ap (is_live pipes) (sym (eqb-true pipe.number number here)) ∙ one.0
 
-    by_tests : (here : Bool) → (pipe.number == number) ≡ here → (own : Bool) → (owns pipes app number ≡ true → is_some (last_of left number) ≡ true → ⊥) →
-        ((here && own) || owns pipes app number) ≡ true → is_some (last_of (cond {A = List Pipe} (not own) (pipe ∷ left) left) number) ≡ true → ⊥
+    by_tests : (here : Bool) → (pipe.number == number) ≡ here → (own : Bool) → (owns pipes app number ≡ true → is_some (last_on left number) ≡ true → ⊥) →
+        ((here && own) || owns pipes app number) ≡ true → is_some (last_on (cond {A = List Pipe} (not own) (pipe ∷ left) left) number) ≡ true → ⊥
     by_tests true here true ih is some =
         true≢false (sym (last-live left number some) ∙ any-filter_none (λ (x : Pipe). x.number == number) (λ x. not (x.owner == app)) pipes (dead here))
     by_tests true here false ih is some = true≢false (sym (is_live-owns pipes app number is) ∙ dead here)
@@ -241,7 +242,7 @@ made_end a core next app stands acts loans descs pushed =
     let after : core.whole.bus.unsent ≡ without_all_unsent a.core.whole.bus.unsent app = ap (λ (p : BusAnswer × State). p.1.unsent) (sym (step_is a core app End Done stands acts)) in
     made_quiet a core next app End Done Done acts refl refl refl pushed refl (λ pipe. refl) (λ number. refl)
     (λ pipe some had. loans pipe (elim (owns pipes app pipe) as (λ b. owns pipes app pipe ≡ b → b ≡ false) [
-      | true ↦ λ own. absurd (gone app pipes pipe single own (ap (λ ps. is_some (last_of ps pipe)) (sym left) ∙ some))
+      | true ↦ λ own. absurd (gone app pipes pipe single own (ap (λ ps. is_some (last_on ps pipe)) (sym left) ∙ some))
       | false ↦ λ none. refl
     ] refl))
     (λ number now. descs number (elim (has_unsent a.core.whole.bus.unsent app number) as (λ b. has_unsent a.core.whole.bus.unsent app number ≡ b → b ≡ false) [

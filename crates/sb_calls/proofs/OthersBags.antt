@@ -23,7 +23,8 @@ use Rattle.bus_words.proofs.Unsent.{AreUnsent-after}
 use Rattle.bus_words.proofs.UnsentSteps.{unsent-other}
 use Rattle.bus_store.specs.Bag.{HoldsViews, HoldsBuffers}
 use Rattle.bus_store.specs.Store.{LastLoan, BufferDesc}
-use Rattle.bus_store.specs.Words.{last_of, loan_of, desc_of}
+use Rattle.bus_words.specs.Pipes.{last_on}
+use Rattle.bus_store.specs.Words.{loan_of, desc_of}
 use Rattle.sb_core.specs.declared.pending.Pended.{Pended}
 use Rattle.sb_core.specs.declared.pending.Pended.TheVariants as waits
 use Rattle.sb_core.specs.Answers.{waited}
@@ -73,7 +74,7 @@ module _ (old : Core) (e : Entry) (note : Note) (app : ℕ) (even : length old.n
         | false ↦ λ none. refl
       ] refl
 
-  loans : (pipe : ℕ) → owns s.pipes app pipe ≡ true → is_some (last_of s.pipes pipe) ≡ true →
+  loans : (pipe : ℕ) → owns s.pipes app pipe ≡ true → is_some (last_on s.pipes pipe) ≡ true →
       loan_of (told (old.log.entries ++ e ∷ []) (old.notes ++ note ∷ []) t.pipes) pipe ≡ loan_of (loans_of old) pipe
   loans pipe own some =
       loan_of-told (λ n. noted n (old.log.entries ++ e ∷ []) (old.notes ++ note ∷ [])) t.pipes pipe (last-live t.pipes pipe (ap (λ l. is_some l) ((kept pipe).last own) ∙ some))

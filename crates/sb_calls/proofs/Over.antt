@@ -23,7 +23,8 @@ use Rattle.bus_words.proofs.Replay.{goes_on}
 use Rattle.bus_words.proofs.Steps.{AreCounted-after, length-standings}
 use Rattle.bus_words.proofs.PoolGrants.{ArePools-after}
 use Rattle.journal_store.proofs.Charges.{entries_left-charged}
-use Rattle.bus_store.specs.Words.{last_of, loan_of, desc_of}
+use Rattle.bus_words.specs.Pipes.{last_on}
+use Rattle.bus_store.specs.Words.{loan_of, desc_of}
 use Rattle.sb_core.specs.Core.{Plain, MayAct, Acts, apps_in, has_grant_numbers}
 use Rattle.sb_calls.specs.declared.bus_core.BusCore.TheInside.{Inside}
 use Rattle.sb_calls.specs.Core.{Core, MayCall, Does, IsLegalCore, IsNoted, with_noted, state_of}
@@ -87,9 +88,9 @@ pub record Made (a : Inside) (core : Plain) (next : NotedLog) (app : ℕ) (call 
   pub whole : IsTrue (brings a.core.whole.bus.unsent app call)
   pub name : ℕ
   pub pushed : next ≡ record { log = with_entry a.noted.log (record { app = app; call = call; answer = answer }); notes = a.noted.notes ++ note_due answer call name ∷ [] }
-  pub given : (pipe : ℕ) → gets_from pipe (record { app = app; call = call; answer = answer }) ≡ true → is_some (last_of core.whole.bus.pipes pipe) ≡ true → loan_of core.loans pipe ≡ name
-  pub kept : (pipe : ℕ) → gets_from pipe (record { app = app; call = call; answer = answer }) ≡ false → is_some (last_of core.whole.bus.pipes pipe) ≡ true →
-      is_some (last_of a.core.whole.bus.pipes pipe) ≡ true → loan_of core.loans pipe ≡ loan_of a.core.loans pipe
+  pub given : (pipe : ℕ) → gets_from pipe (record { app = app; call = call; answer = answer }) ≡ true → is_some (last_on core.whole.bus.pipes pipe) ≡ true → loan_of core.loans pipe ≡ name
+  pub kept : (pipe : ℕ) → gets_from pipe (record { app = app; call = call; answer = answer }) ≡ false → is_some (last_on core.whole.bus.pipes pipe) ≡ true →
+      is_some (last_on a.core.whole.bus.pipes pipe) ≡ true → loan_of core.loans pipe ≡ loan_of a.core.loans pipe
   pub gave : (number : ℕ) → gives_buffer number (record { app = app; call = call; answer = answer }) ≡ true → desc_of core.descs number ≡ name
   pub left : (number : ℕ) → gives_buffer number (record { app = app; call = call; answer = answer }) ≡ false → is_unsent core.whole.bus.unsent number ≡ true →
       is_unsent a.core.whole.bus.unsent number ≡ true → desc_of core.descs number ≡ desc_of a.core.descs number
@@ -174,16 +175,16 @@ module _ (a : Inside) (core : Plain) (next : NotedLog) (old : Core) (app : ℕ) 
   even_before = even-due a.noted.log.entries a.noted.notes stands.due
 
   -- the pipe had a last message before
-  had : (pipe : ℕ) → gets_from pipe e ≡ false → is_some (last_of core.whole.bus.pipes pipe) ≡ true → is_some (last_of a.core.whole.bus.pipes pipe) ≡ true
+  had : (pipe : ℕ) → gets_from pipe e ≡ false → is_some (last_on core.whole.bus.pipes pipe) ≡ true → is_some (last_on a.core.whole.bus.pipes pipe) ≡ true
   had pipe none some =
       let as_step = step_is a core app call answer stands made.acts in
       let waits = waiters_in a stands in
-      some-from (last_of a.core.whole.bus.pipes pipe) (last_of core.whole.bus.pipes pipe)
+      some-from (last_on a.core.whole.bus.pipes pipe) (last_on core.whole.bus.pipes pipe)
       (subst (λ (p : BusAnswer × State). gets_from pipe (record { app = app; call = call; answer = p.0 }) ≡ false → IsFrom a.core.whole.bus.pipes p.1.pipes pipe) as_step
       (from-step a.core.limits a.noted.log.entries a.core.whole.bus pipe app waits.numbered call) none)
       some
 
-  loans_after : (pipe : ℕ) → is_some (last_of core.whole.bus.pipes pipe) ≡ true → loan_of core.loans pipe ≡ noted pipe (a.noted.log.entries ++ e ∷ []) (a.noted.notes ++ note_due answer call made.name ∷ [])
+  loans_after : (pipe : ℕ) → is_some (last_on core.whole.bus.pipes pipe) ≡ true → loan_of core.loans pipe ≡ noted pipe (a.noted.log.entries ++ e ∷ []) (a.noted.notes ++ note_due answer call made.name ∷ [])
   loans_after pipe some =
       elim (gets_from pipe e) as (λ b. gets_from pipe e ≡ b → loan_of core.loans pipe ≡ noted pipe (a.noted.log.entries ++ e ∷ []) (a.noted.notes ++ note_due answer call made.name ∷ [])) [
         | true ↦ λ gives.

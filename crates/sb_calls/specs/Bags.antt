@@ -10,7 +10,7 @@ use Rattle.bus_words.specs.Bus.{Item, State, owns}
 use Rattle.bus_words.specs.Held.{buffers_in}
 use Rattle.bus_store.specs.Bag.{HoldsViews, HoldsBuffers}
 use Rattle.bus_store.specs.Store.{LastLoan, BufferDesc}
-use Rattle.bus_store.specs.Words.{last_of}
+use Rattle.bus_words.specs.Pipes.{last_on}
 use Rattle.sb_calls.specs.Core.{Core, IsLegalCore, IsNoted, state_of}
 use Rattle.sb_calls.specs.Notes.{noted, noted_desc}
 
@@ -38,12 +38,12 @@ KeepsOtherBags old new app = (other : ℕ) (bag : Holding LentBytes) → other �
 
 -- the last message of an application's pipe, where the pipe is live and has one
 abbrev pub last_message : State → ℕ → ℕ → Option (List ℕ)
-last_message s app pipe = if owns s.pipes app pipe then option_map (λ item. item.message) (last_of s.pipes pipe) else None
+last_message s app pipe = if owns s.pipes app pipe then option_map (λ item. item.message) (last_on s.pipes pipe) else None
 
 -- pipes whose last messages are of one send have one loan noted, by which the bags of their applications have it
 abbrev pub AreOneLoan : Core → Type 0
 AreOneLoan core =
-    (pipe other : ℕ) (item its : Item) → last_of (state_of core).pipes pipe ≡ Some item → last_of (state_of core).pipes other ≡ Some its → item.number ≡ its.number →
+    (pipe other : ℕ) (item its : Item) → last_on (state_of core).pipes pipe ≡ Some item → last_on (state_of core).pipes other ≡ Some its → item.number ≡ its.number →
     noted pipe core.log.entries core.notes ≡ noted other core.log.entries core.notes
 
 -- Only others called meanwhile: their entries with their notes stand behind those that were there, and none of this

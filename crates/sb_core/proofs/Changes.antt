@@ -4,7 +4,8 @@ use Rattle.std.proofs.lemmas.List.Elements.{All-filter}
 use Rattle.bus_words.specs.Bus.{Pipe, Subscription, owns, with_pipe, with_bits, after_receive}
 use Rattle.bus_tables.specs.Rows.{has_way}
 use Rattle.bus_store.specs.Store.{Store, LastLoan}
-use Rattle.bus_store.specs.Words.{IsRising, with_held}
+use Rattle.bus_words.specs.Pipes.{IsRising}
+use Rattle.bus_store.specs.Words.{with_held}
 use Rattle.sb_core.specs.declared.plain.SbCore.TheInside.{Inside}
 use Rattle.sb_core.specs.declared.activities.Activity.{Activity}
 use Rattle.sb_core.specs.declared.activities.Activity.TheVariants as activities

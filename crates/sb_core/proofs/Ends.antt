@@ -15,7 +15,8 @@ use Rattle.bus_words.specs.Machine.{ended}
 use Rattle.bus_tables.specs.Rows.{has_way}
 use Rattle.bus_store.specs.Bag.{views_due}
 use Rattle.bus_store.specs.Store.{Store, LastLoan, BufferDesc}
-use Rattle.bus_store.specs.Words.{IsRising, with_held}
+use Rattle.bus_words.specs.Pipes.{IsRising}
+use Rattle.bus_store.specs.Words.{with_held}
 use Rattle.sb_core.specs.declared.plain.SbCore.TheInside.{Inside}
 use Rattle.sb_core.specs.declared.activities.Activity.{Activity}
 use Rattle.sb_core.specs.declared.activities.Activity.TheVariants as activities

@@ -16,7 +16,8 @@ use Rattle.bus_words.specs.Counters.{refusal_counter}
 use Rattle.bus_words.specs.Bus.{State, Standing, Active, Waiting, owns, with_pipe, after_receive, is_empty, is_idle, others_idle, with_standing}
 use Rattle.bus_words.specs.Machine.{refused_if, unowned_cause, received, oldest_number, pended_answer, pended, looked}
 use Rattle.bus_store.specs.Store.{Store}
-use Rattle.bus_store.specs.Words.{IsRising, with_held}
+use Rattle.bus_words.specs.Pipes.{IsRising}
+use Rattle.bus_store.specs.Words.{with_held}
 use Rattle.sb_core.specs.declared.plain.SbCore.TheInside.{Inside}
 use Rattle.sb_core.specs.declared.pending.Pended.{Pended}
 use Rattle.sb_core.specs.declared.pending.Pended.TheVariants as waits

@@ -8,7 +8,7 @@ use Rattle.std.proofs.lemmas.Map.Views.{any-filter_same}
 use Rattle.bus_words.specs.Bus.{Pipe, pipe_at, is_live, owns, with_pipe, oldest, after_receive}
 use Rattle.bus_words.proofs.Finds.{any-push, both}
 use Rattle.bus_tables.proofs.EndingsLists.{find_within}
-use Rattle.bus_store.specs.Words.{IsRising, oldest_of, last_of}
+use Rattle.bus_words.specs.Pipes.{IsRising, oldest_on, last_on}
 
 -- Owners. --
 
@@ -67,7 +67,7 @@ owns_pushed pipes pipe app number own =
     any-push (λ (p : Pipe). eqb p.number number && eqb p.owner app) pipes pipe
     ∙ ap (λ b. b || (eqb pipe.number number && eqb pipe.owner app)) own
 
-pub last_pushed : (pipes : List Pipe) (pipe : Pipe) (app number : ℕ) → owns pipes app number ≡ true → last_of (pipes ++ pipe ∷ []) number ≡ last_of pipes number
+pub last_pushed : (pipes : List Pipe) (pipe : Pipe) (app number : ℕ) → owns pipes app number ≡ true → last_on (pipes ++ pipe ∷ []) number ≡ last_on pipes number
 last_pushed pipes pipe app number own =
     ap (option_and_then (λ (p : Pipe). p.last)) (find_pushed (λ (p : Pipe). eqb p.number number) pipes pipe (live_owned pipes app number own))
 
@@ -107,17 +107,17 @@ module _ (change : Pipe → Pipe) (numbers : (pipe : Pipe) → (change pipe).num
           ∙ ap (λ n. eqb pipe.number number && eqb n app) (owners pipe)
 
   -- last messages stay, where the change keeps them
-  pub lasts_changed : ((pipe : Pipe) → (change pipe).last ≡ pipe.last) → (pipes : List Pipe) (number : ℕ) → last_of (with_pipe change changed pipes) number ≡ last_of pipes number
+  pub lasts_changed : ((pipe : Pipe) → (change pipe).last ≡ pipe.last) → (pipes : List Pipe) (number : ℕ) → last_on (with_pipe change changed pipes) number ≡ last_on pipes number
   lasts_changed lasts [] number = refl
   lasts_changed lasts (pipe ∷ pipes) number = by_test (eqb pipe.number changed) (lasts_changed lasts pipes number)
     where
-      choose : (b : Bool) → (p : Pipe) → p.last ≡ pipe.last → last_of (with_pipe change changed pipes) number ≡ last_of pipes number →
+      choose : (b : Bool) → (p : Pipe) → p.last ≡ pipe.last → last_on (with_pipe change changed pipes) number ≡ last_on pipes number →
           option_and_then (λ (q : Pipe). q.last) (cond {A = Option Pipe} b (Some p) (pipe_at (with_pipe change changed pipes) number))
           ≡ option_and_then (λ (q : Pipe). q.last) (cond {A = Option Pipe} b (Some pipe) (pipe_at pipes number))
       choose true p same ih = same
       choose false p same ih = ih
 
-      by_test : (b : Bool) → last_of (with_pipe change changed pipes) number ≡ last_of pipes number →
+      by_test : (b : Bool) → last_on (with_pipe change changed pipes) number ≡ last_on pipes number →
           option_and_then (λ (q : Pipe). q.last) (cond {A = Option Pipe} (eqb (cond {A = Pipe} b (change pipe) pipe).number number) (Some (cond {A = Pipe} b (change pipe) pipe)) (pipe_at (with_pipe change changed pipes) number))
           ≡ option_and_then (λ (q : Pipe). q.last) (cond {A = Option Pipe} (eqb pipe.number number) (Some pipe) (pipe_at pipes number))
       by_test false ih = choose (eqb pipe.number number) pipe refl ih
@@ -126,14 +126,14 @@ module _ (change : Pipe → Pipe) (numbers : (pipe : Pipe) → (change pipe).num
           ∙ choose (eqb pipe.number number) (change pipe) (lasts pipe) ih
 
 -- after a receive the last message is the one that waited longest
-pub last_received : (pipes : List Pipe) (number : ℕ) → last_of (with_pipe after_receive number pipes) number ≡ oldest_of pipes number
+pub last_received : (pipes : List Pipe) (number : ℕ) → last_on (with_pipe after_receive number pipes) number ≡ oldest_on pipes number
 last_received [] number = refl
 last_received (pipe ∷ pipes) number = by_test (eqb pipe.number number) refl (last_received pipes number)
   where
     rest : List Pipe
     rest = with_pipe after_receive number pipes
 
-    by_test : (b : Bool) → eqb pipe.number number ≡ b → last_of rest number ≡ oldest_of pipes number →
+    by_test : (b : Bool) → eqb pipe.number number ≡ b → last_on rest number ≡ oldest_on pipes number →
         option_and_then (λ (q : Pipe). q.last) (cond {A = Option Pipe} (eqb (cond {A = Pipe} b (after_receive pipe) pipe).number number) (Some (cond {A = Pipe} b (after_receive pipe) pipe)) (pipe_at rest number))
         ≡ option_and_then (λ (q : Pipe). oldest q.queue) (cond {A = Option Pipe} b (Some pipe) (pipe_at pipes number))
     by_test true e ih = ap (λ c. option_and_then (λ (q : Pipe). q.last) (cond {A = Option Pipe} c (Some (after_receive pipe)) (pipe_at rest number))) e
@@ -155,7 +155,7 @@ module _ (number other : ℕ) (apart : number ≡ other → ⊥) (pipes : List P
       any-filter_same (λ (p : Pipe). eqb p.number other && eqb p.owner app) (λ (p : Pipe). not (eqb p.number number)) true
       (λ p passes. stays_of p.number number other apart (both (eqb p.number other) (eqb p.owner app) passes).0) pipes
 
-  pub last_without : last_of (filter (λ (p : Pipe). not (eqb p.number number)) pipes) other ≡ last_of pipes other
+  pub last_without : last_on (filter (λ (p : Pipe). not (eqb p.number number)) pipes) other ≡ last_on pipes other
   last_without =
       ap (option_and_then (λ (p : Pipe). p.last))
       (find_within (λ (p : Pipe). eqb p.number other) (λ (p : Pipe). not (eqb p.number number)) (λ p is. stays_of p.number number other apart is) pipes)
@@ -202,5 +202,5 @@ module _ (app other : ℕ) (apart : other ≡ app → ⊥) where
           ap (λ c. pipe_at (cond {A = List Pipe} c (pipe ∷ rest) rest) number) (kept_by pipe.owner mine)
           ∙ ap (λ c. cond {A = Option Pipe} c (Some pipe) (pipe_at rest number)) e
 
-  pub last_left : (pipes : List Pipe) (number : ℕ) → IsRising 0 pipes → owns pipes other number ≡ true → last_of (filter (λ (p : Pipe). not (eqb p.owner app)) pipes) number ≡ last_of pipes number
+  pub last_left : (pipes : List Pipe) (number : ℕ) → IsRising 0 pipes → owns pipes other number ≡ true → last_on (filter (λ (p : Pipe). not (eqb p.owner app)) pipes) number ≡ last_on pipes number
   last_left pipes number rises own = ap (option_and_then (λ (p : Pipe). p.last)) (found_left 0 pipes number rises own)

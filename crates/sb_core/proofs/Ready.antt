@@ -6,7 +6,7 @@ use Rattle.std.proofs.lemmas.Bool.Decides.{nat_tests}
 use Rattle.std.proofs.lemmas.List.{get_or-set_same, get_or-set_other}
 use Rattle.std.proofs.Math.ListN.{get_or-map}
 use Rattle.bus_words.specs.Bus.{Pipe, Subscription, Sending, Standing, Ended, State, standing_of, is_in, verdict, item_for, owns, with_pipe, with_bits, offered, deliver, after_receive}
-use Rattle.bus_store.specs.Words.{IsRising}
+use Rattle.bus_words.specs.Pipes.{IsRising}
 use Rattle.sb_core.specs.declared.activities.Activity.{Activity}
 use Rattle.sb_core.specs.declared.activities.Activity.TheVariants as activities
 use Rattle.sb_core.specs.Inside.{IsReady, AreReady}

@@ -12,7 +12,7 @@ use Rattle.bus_tables.proofs.EndingsLists.{found_all, found_any, found_passes, f
 use Rattle.bus_tables.proofs.Endings.{and_left}
 use Rattle.bus_tables.proofs.Removals.{other_number}
 use Rattle.bus_store.specs.Store.{Store, LastLoan}
-use Rattle.bus_store.specs.Words.{IsRising}
+use Rattle.bus_words.specs.Pipes.{IsRising}
 
 -- rising numbers are all above the first bound
 rising_above : (below : ℕ) (pipes : List Pipe) → IsRising below pipes → All (λ one. below < one.number) pipes

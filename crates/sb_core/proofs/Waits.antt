@@ -4,11 +4,11 @@ use Rattle.std.specs.Option.{option_map, option_map_or, option_and_then}
 use Rattle.std.proofs.lemmas.Bool.Decides.{nat_tests}
 use Rattle.bus_words.specs.Bus.{Item, Pipe, pipe_at, oldest, is_empty}
 use Rattle.bus_words.specs.Machine.{oldest_number}
-use Rattle.bus_store.specs.Words.{oldest_of}
+use Rattle.bus_words.specs.Pipes.{oldest_on}
 
 -- the number of the message that waits longest, as the store tells it
 abbrev pub oldest_told : List Pipe → ℕ → Option ℕ
-oldest_told pipes number = option_map (λ (item : Item). item.number) (oldest_of pipes number)
+oldest_told pipes number = option_map (λ (item : Item). item.number) (oldest_on pipes number)
 
 -- where none waits the pipe is empty
 pub empty-none : (pipes : List Pipe) (number : ℕ) → oldest_told pipes number ≡ None → is_empty pipes number ≡ true
@@ -51,7 +51,7 @@ oldest-some pipes number n some = same (pipe_at pipes number) ∙ ap (λ o. opti
     same (Some pipe) = queue_at pipe.queue
 
 -- where the pipe is empty none waits
-pub none-told : (pipes : List Pipe) (number : ℕ) → is_empty pipes number ≡ true → oldest_of pipes number ≡ None
+pub none-told : (pipes : List Pipe) (number : ℕ) → is_empty pipes number ≡ true → oldest_on pipes number ≡ None
 none-told pipes number empty = at (pipe_at pipes number) empty
   where
     wrong : (k : ℕ) → eqb (suc k) 0 ≡ true → ⊥

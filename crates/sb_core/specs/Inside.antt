@@ -9,7 +9,8 @@ use Rattle.bus_words.specs.Held.{in_use}
 use Rattle.bus_tables.specs.Rows.{ids_of, has_way}
 use Rattle.bus_tables.specs.Tables.{room_for}
 use Rattle.bus_store.specs.Store.{Store}
-use Rattle.bus_store.specs.Words.{last_of, nexts_in}
+use Rattle.bus_words.specs.Pipes.{last_on}
+use Rattle.bus_store.specs.Words.{nexts_in}
 use Rattle.sb_core.specs.declared.activities.Activity.{Activity}
 use Rattle.sb_core.specs.declared.activities.Activity.TheVariants as activities
 use Rattle.sb_core.specs.declared.plain.SbCore.TheInside.{Inside}
@@ -50,7 +51,7 @@ pub record IsPoolOf (limits : Limits) (account : Account) : Type 0 where
 -- a pipe is the application's, and has no last message
 pub record IsReady (pipes : List Pipe) (app pipe : ℕ) : Type 0 where
   pub own : owns pipes app pipe ≡ true
-  pub none : last_of pipes pipe ≡ None
+  pub none : last_on pipes pipe ≡ None
 
 -- each application that waits does so on a pipe of its own, whose last message it let go before
 abbrev pub AreReady : List Pipe → List Activity → Type 0

@@ -5,7 +5,8 @@ ghost use Rattle.es_pool.specs.Pool.{in_use_by};
 ghost use Rattle.bus_words.specs.Bus.{Item};
 ghost use Rattle.bus_words.specs.Held.{account_of, items_of, held, block_of};
 ghost use Rattle.bus_store.specs.Blocks.{IsGiven, AreOfOneSend, AreBlocks};
-ghost use Rattle.bus_store.specs.Words.{last_of, loan_of};
+ghost use Rattle.bus_words.specs.Pipes.{last_on};
+ghost use Rattle.bus_store.specs.Words.{loan_of};
 
 use crate::plain::SbCore;
 use buf_desc::Desk;
@@ -45,8 +46,8 @@ impl<'r> SbCore<'r> {
     /// for it, which both lend. Does nothing.
     pub fn recall_loans(&self)
         ensures { (pipe other : ℕ) (item its : Item) →
-            last_of self.now.whole.bus.pipes pipe ≡ Some item →
-            last_of self.now.whole.bus.pipes other ≡ Some its → item.number ≡ its.number →
+            last_on self.now.whole.bus.pipes pipe ≡ Some item →
+            last_on self.now.whole.bus.pipes other ≡ Some its → item.number ≡ its.number →
             loan_of self.now.loans pipe ≡ loan_of self.now.loans other }
     {
         self.store.recall_loans();

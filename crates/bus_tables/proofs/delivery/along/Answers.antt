@@ -5,6 +5,7 @@ use Rattle.bus_tables.specs.Missed.{Missed}
 use Rattle.bus_tables.specs.Rows.{deliver_rows, reached_rows, missed_rows}
 use Rattle.bus_tables.specs.Inside.{row_in}
 use Rattle.bus_tables.proofs.Along.{Walked, route_within, no_route, as_many, stands, is_live, walked_more, told_more, all_rows, all_reached, all_told, none_left}
+use Rattle.bus_tables.proofs.Placed.{placed_after}
 use Rattle.bus_tables.proofs.delivery.along.Goals as goal
 
 -- Where the id has no route. --
@@ -47,6 +48,12 @@ pub offer-reached-requires-clause-room : goal.offer-reached-requires-clause-room
 offer-reached-requires-clause-room g c =
     let told = c.loop.invariant.told in
     omega (arith, told.short, told.room, c.requires.room, c.recall_routes.ensures.few c.in-Some.route, c.dests_of-end.ensures)
+
+pub offer-reached-requires-clause-placed : goal.offer-reached-requires-clause-placed
+offer-reached-requires-clause-placed g c =
+    let a = c.args in
+    let l = c.loop in
+    placed_after a.pipes.now l.pipes a.subs.now l.subs l.invariant.walked.framed l.invariant.walked.same c.requires.placed
 
 pub loop-preserved : goal.loop-preserved
 loop-preserved g c =

@@ -3,7 +3,7 @@ use Rattle.std.specs.Option.{option_map}
 use Rattle.bus_words.specs.Bus.{Item, owns}
 use Rattle.bus_tables.specs.declared.tables.ItemRow.{ItemRow}
 use Rattle.bus_store.specs.Store.{Store}
-use Rattle.bus_store.specs.Words.{last_of}
+use Rattle.bus_words.specs.Pipes.{last_on}
 use Rattle.bus_store.proofs.Readers.{last_number}
 use Rattle.bus_store.proofs.store.BusStore.last.Goals as goal
 
@@ -13,11 +13,11 @@ returns-in_err-item c =
     c.from_residual.ensures
     ∙ sym (ap (option_map (λ (i : ItemRow). i.number)) (sym c.last.ensures ∙ c.in_err-item.was))
     ∙ sym (last_number a.desk.slots a.tables.pipes c.args.app c.args.number)
-    ∙ ap (λ (o : Store). cond {A = Option ℕ} (owns o.pipes c.args.app c.args.number) (option_map (λ (i : Item). i.number) (last_of o.pipes c.args.number)) None) c.self.view_is
+    ∙ ap (λ (o : Store). cond {A = Option ℕ} (owns o.pipes c.args.app c.args.number) (option_map (λ (i : Item). i.number) (last_on o.pipes c.args.number)) None) c.self.view_is
 
 pub returns : goal.returns
 returns c =
     let a = c.self.inside in
     sym (ap (option_map (λ (i : ItemRow). i.number)) (sym c.last.ensures ∙ c.in_ok-item.was))
     ∙ sym (last_number a.desk.slots a.tables.pipes c.args.app c.args.number)
-    ∙ ap (λ (o : Store). cond {A = Option ℕ} (owns o.pipes c.args.app c.args.number) (option_map (λ (i : Item). i.number) (last_of o.pipes c.args.number)) None) c.self.view_is
+    ∙ ap (λ (o : Store). cond {A = Option ℕ} (owns o.pipes c.args.app c.args.number) (option_map (λ (i : Item). i.number) (last_on o.pipes c.args.number)) None) c.self.view_is

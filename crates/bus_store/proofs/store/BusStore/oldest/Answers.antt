@@ -3,7 +3,7 @@ use Rattle.std.specs.Option.{option_map}
 use Rattle.bus_words.specs.Bus.{Item}
 use Rattle.bus_tables.specs.declared.tables.ItemRow.{ItemRow}
 use Rattle.bus_store.specs.Store.{Store}
-use Rattle.bus_store.specs.Words.{oldest_of}
+use Rattle.bus_words.specs.Pipes.{oldest_on}
 use Rattle.bus_store.proofs.Readers.{oldest_number}
 use Rattle.bus_store.proofs.store.BusStore.oldest.Goals as goal
 
@@ -13,11 +13,11 @@ returns-in_err-item c =
     c.from_residual.ensures
     ∙ sym (ap (option_map (λ (i : ItemRow). i.number)) (sym c.oldest.ensures ∙ c.in_err-item.was))
     ∙ sym (oldest_number a.desk.slots a.tables.pipes c.args.number)
-    ∙ ap (λ (o : Store). option_map (λ (i : Item). i.number) (oldest_of o.pipes c.args.number)) c.self.view_is
+    ∙ ap (λ (o : Store). option_map (λ (i : Item). i.number) (oldest_on o.pipes c.args.number)) c.self.view_is
 
 pub returns : goal.returns
 returns c =
     let a = c.self.inside in
     sym (ap (option_map (λ (i : ItemRow). i.number)) (sym c.oldest.ensures ∙ c.in_ok-item.was))
     ∙ sym (oldest_number a.desk.slots a.tables.pipes c.args.number)
-    ∙ ap (λ (o : Store). option_map (λ (i : Item). i.number) (oldest_of o.pipes c.args.number)) c.self.view_is
+    ∙ ap (λ (o : Store). option_map (λ (i : Item). i.number) (oldest_on o.pipes c.args.number)) c.self.view_is

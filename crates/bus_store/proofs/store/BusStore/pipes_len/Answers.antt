@@ -1,7 +1,8 @@
 use Rattle.std.proofs.Common.{length, ap, sym, ◌∙◌}
 use Rattle.std.proofs.lemmas.List.{length-map}
 use Rattle.bus_store.specs.Store.{Store}
-use Rattle.bus_store.specs.Inside.{item_in, pipe_by}
+use Rattle.bus_words.specs.Pipes.{pipe_by}
+use Rattle.bus_store.specs.Inside.{item_in}
 use Rattle.bus_store.proofs.store.BusStore.pipes_len.Goals as goal
 
 pub returns-clause-len : goal.returns-clause-len

@@ -2,7 +2,8 @@ use Rattle.std.proofs.Common.{eqb, map, ap, sym, ◌∙◌}
 use Rattle.fsw_base.proofs.Lists.{list_any-map}
 use Rattle.bus_words.specs.Bus.{Pipe, is_live}
 use Rattle.bus_store.specs.Store.{Store}
-use Rattle.bus_store.specs.Inside.{item_in, pipe_by}
+use Rattle.bus_words.specs.Pipes.{pipe_by}
+use Rattle.bus_store.specs.Inside.{item_in}
 use Rattle.bus_tables.specs.Tables.{Tables}
 use Rattle.bus_store.specs.Inside.{store_of, pipes_in, loan_in}
 use Rattle.bus_store.proofs.Lasts.{holds_still}

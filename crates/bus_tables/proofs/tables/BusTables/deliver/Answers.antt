@@ -10,7 +10,7 @@ use Rattle.bus_tables.proofs.tables.BusTables.deliver.Goals as goal
 pub invariant_of-self : goal.invariant_of-self
 invariant_of-self g c =
     let a = c.self.inside in
-    tied_after a.pipes c.along.new.pipes a.subs c.along.new.subs a.routes c.self.invariant c.along.ensures.subs c.along.ensures.queued
+    tied_after a.pipes c.along.new.pipes a.subs c.along.new.subs a.routes c.self.invariant c.along.ensures.frame c.along.ensures.subs c.along.ensures.queued
 
 pub returns-clause-after : goal.returns-clause-after
 returns-clause-after g c =

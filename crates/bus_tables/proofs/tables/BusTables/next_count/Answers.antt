@@ -24,6 +24,7 @@ invariant_of-self c =
     let P : Routing → Type 0 = λ r. AreTied s.pipes s.subs r in
     subst P (sym c.next_count.ensures.after) (record {
       queued = c.self.invariant.queued;
+      placed = c.self.invariant.placed;
       routed = routed_counted s.subs s.routes c.unwrap-route.result c.self.invariant.routed;
       room = c.self.invariant.room;
     })

@@ -1,6 +1,6 @@
 use Rattle.std.proofs.Common.{ap, ◌∙◌}
 use Rattle.std.specs.Option.{option_map}
-use Rattle.bus_tables.specs.Rows.{oldest_item}
+use Rattle.bus_words.specs.Pipes.{oldest_on}
 use Rattle.bus_tables.specs.Tables.{Tables}
 use Rattle.bus_tables.specs.Inside.{item_in}
 use Rattle.bus_tables.proofs.Readers.{oldest_there}
@@ -11,4 +11,4 @@ returns c =
     c.item_row.ensures
     ∙ ap (option_map item_in) c.oldest.ensures
     ∙ oldest_there c.self.inside.pipes.live c.args.number
-    ∙ ap (λ (t : Tables). oldest_item t.pipes c.args.number) c.self.view_is
+    ∙ ap (λ (t : Tables). oldest_on t.pipes c.args.number) c.self.view_is

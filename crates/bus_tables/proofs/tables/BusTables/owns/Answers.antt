@@ -1,5 +1,5 @@
 use Rattle.std.proofs.Common.{ap, ◌∙◌}
-use Rattle.bus_tables.specs.Rows.{owns_row}
+use Rattle.bus_words.specs.Pipes.{owns}
 use Rattle.bus_tables.specs.Tables.{Tables}
 use Rattle.bus_tables.proofs.Readers.{owns_there}
 use Rattle.bus_tables.proofs.tables.BusTables.owns.Goals as goal
@@ -8,4 +8,4 @@ pub returns : goal.returns
 returns c =
     c.owns.ensures
     ∙ owns_there c.self.inside.pipes.live c.args.app c.args.number
-    ∙ ap (λ (t : Tables). owns_row t.pipes c.args.app c.args.number) c.self.view_is
+    ∙ ap (λ (t : Tables). owns t.pipes c.args.app c.args.number) c.self.view_is

@@ -1,6 +1,7 @@
 use Rattle.std.proofs.Common.{List, ap, sym, ◌∙◌, subst, refl}
-use Rattle.pipe_table.specs.Table.{Pipes, with_bits}
-use Rattle.bus_tables.specs.Rows.{Row, with_row, row_with_bits}
+use Rattle.pipe_table.specs.Table.{Pipes}
+use Rattle.bus_words.specs.Pipes.{with_pipe, with_bits}
+use Rattle.bus_tables.specs.Rows.{Row}
 use Rattle.bus_tables.specs.Tables.{Tables}
 use Rattle.bus_tables.specs.Inside.{tables_in, AreTied}
 use Rattle.bus_tables.proofs.Makings.{queued_changed, bits_keep, rows_changed}
@@ -12,6 +13,7 @@ invariant_of-self c =
     let P : Pipes → Type 0 = λ p. AreTied p s.subs s.routes in
     subst P (sym c.set_bits.ensures) (record {
       queued = queued_changed (with_bits c.args.bits) c.args.number (bits_keep c.args.bits) s.pipes.live s.subs c.self.invariant.queued;
+      placed = c.self.invariant.placed;
       routed = c.self.invariant.routed;
       room = c.self.invariant.room;
     })
@@ -19,7 +21,7 @@ invariant_of-self c =
 pub returns : goal.returns
 returns c =
     let s = c.self.inside in
-    let F : Tables → Tables = λ t. record t { pipes = with_row (row_with_bits c.args.bits) c.args.number t.pipes } in
+    let F : Tables → Tables = λ t. record t { pipes = with_pipe (with_bits c.args.bits) c.args.number t.pipes } in
     ap (λ (p : Pipes). tables_in p s.subs s.routes) c.set_bits.ensures
-    ∙ ap (λ (rows : List Row). record (tables_in s.pipes s.subs s.routes) { pipes = rows }) (rows_changed (with_bits c.args.bits) (row_with_bits c.args.bits) (λ row. refl) c.args.number s.pipes.live)
+    ∙ ap (λ (rows : List Row). record (tables_in s.pipes s.subs s.routes) { pipes = rows }) (rows_changed (with_bits c.args.bits) (with_bits c.args.bits) (λ row. refl) c.args.number s.pipes.live)
     ∙ ap F c.self.view_is

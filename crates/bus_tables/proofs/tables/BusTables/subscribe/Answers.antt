@@ -1,15 +1,16 @@
-use Rattle.std.proofs.Common.{◌≡◌, ℕ, ◌+◌, ◌*◌, ◌<◌, ◌++◌, ◌∷◌, [], false, true, eqb, length, map, is_some, Option, Some, None, ap, sym, ◌∙◌, subst, refl, arith}
+use Rattle.std.proofs.Common.{◌≡◌, ℕ, ◌+◌, ◌*◌, ◌<◌, ◌++◌, ◌∷◌, [], false, true, eqb, length, map, is_some, Option, ap, sym, ◌∙◌, subst, refl, arith}
 use Rattle.std.specs.List.{list_any}
 use Rattle.std.proofs.lemmas.List.{length-map}
 use Rattle.bus_words.specs.Bus as bus
-use Rattle.std.specs.Option.{IsSome, option_map}
-use Rattle.pipe_table.specs.Table.{PipeRow, pipe_row}
+use Rattle.std.specs.Option.{IsSome}
+use Rattle.std.proofs.lemmas.List.Elements.{All-nil, All-cons, All-append}
 use Rattle.subscriptions.specs.Subs.{Subscription, Subscribed}
 use Rattle.routing.specs.Dests.{last_node}
 use Rattle.routing.specs.Routing.{Routing, dests_at, with_dests}
 use Rattle.bus_tables.specs.Rows.{Row, has_way, with_route}
 use Rattle.bus_tables.specs.Tables.{Tables}
-use Rattle.bus_tables.specs.Inside.{way_in, tables_in, AreTied}
+use Rattle.bus_tables.specs.Inside.{way_in, tables_in, IsPlaced, AreTied}
+use Rattle.bus_tables.proofs.Placed.{place_there}
 use Rattle.bus_tables.proofs.Readers.{way_there}
 use Rattle.bus_tables.proofs.Counting.{found}
 use Rattle.bus_tables.proofs.MakingsRouted.{leads, dests_few, room_left, taken, routed_more, queued_more, live_found, none_tied, seen_more}
@@ -20,11 +21,7 @@ unwrap-place-requires g c =
     let s = c.self.inside in
     let Live : Tables → Type 0 = λ t. list_any (λ (row : Row). eqb row.number c.args.pipe) t.pipes ≡ true in
     let live = live_found s.pipes.live c.args.pipe (subst Live (sym c.self.view_is) c.requires.live) in
-    subst (λ (o : Option ℕ). IsSome o) (sym c.place_of.ensures) (lies (pipe_row s.pipes.live c.args.pipe) live)
-  where
-    lies : (o : Option PipeRow) → is_some o ≡ true → IsSome (option_map (λ row. row.place) o)
-    lies None none = absurd (cc (none))
-    lies (Some row) some = refl
+    subst (λ (o : Option ℕ). IsSome o) (sym c.place_of.ensures) (place_there s.pipes.places s.pipes.live c.args.pipe c.recall_order.ensures.places live)
 
 pub add-sub-requires-clause-room : goal.add-sub-requires-clause-room
 add-sub-requires-clause-room g c =
@@ -72,7 +69,10 @@ invariant_of-self g c =
     let P : Subscribed → Type 0 = λ b. AreTied s.pipes b c.add_dest.new.self in
     let Q : Routing → Type 0 = λ r. AreTied s.pipes (record s.subs { made = c.add-sub.result.number; live = s.subs.live ++ sub ∷ [] }) r in
     subst P (sym c.add-sub.ensures.after) (subst Q (sym next) (record {
-      queued = queued_more s.pipes.live s.subs sub c.self.invariant.queued live (sym c.place_of.ensures ∙ c.unwrap-place.ensures) c.add-sub.ensures.number refl;
+      queued = queued_more s.pipes.live s.subs sub c.self.invariant.queued live c.add-sub.ensures.number refl;
+      placed =
+          All-append (IsPlaced s.pipes.places) s.subs.live (sub ∷ []) c.self.invariant.placed
+          (All-cons (IsPlaced s.pipes.places) sub [] (sym c.place_of.ensures ∙ c.unwrap-place.ensures) (All-nil (IsPlaced s.pipes.places)));
       routed = routed_more s.subs made.new.routes made.result node c.add-sub.result.number sub lead.routed lead.way none;
       room = c.self.invariant.room ∙ sym (ap (λ (r : Routing). r.msgids * r.dests) lead.same);
     }))

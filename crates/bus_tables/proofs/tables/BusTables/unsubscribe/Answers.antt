@@ -4,8 +4,9 @@ use Rattle.bus_words.specs.Bus.{is_subscribed, route}
 use Rattle.routing.specs.Routing.{Routing}
 use Rattle.subscriptions.specs.Subs.{Subscribed}
 use Rattle.bus_tables.specs.Tables.{Tables}
-use Rattle.bus_tables.specs.Inside.{AreQueued, of_id, sub_in, ties}
+use Rattle.bus_tables.specs.Inside.{AreQueued, ArePlaced, of_id, sub_in, ties}
 use Rattle.bus_tables.proofs.EndingsLists.{found_passes}
+use Rattle.bus_tables.proofs.Placed.{placed_left}
 use Rattle.bus_tables.proofs.Ties.{tied_one, tied_live, without_tied, none_tied, tied_id, subscribed_seen, route_seen, queued_left, seen_left}
 use Rattle.bus_tables.proofs.tables.BusTables.unsubscribe.Goals as goal
 
@@ -20,6 +21,9 @@ invariant_of-self g c = record {
   queued =
       subst (AreQueued c.self.inside.pipes.live) (sym c.end_subscription.ensures.after)
       (queued_left c.self.inside.pipes.live c.self.inside.subs (λ s. not (eqb s.number c.in-Some.sub.number)) c.self.invariant.queued);
+  placed =
+      subst (ArePlaced c.self.inside.pipes.places) (sym c.end_subscription.ensures.after)
+      (placed_left c.self.inside.pipes.places c.self.inside.subs (λ s. not (eqb s.number c.in-Some.sub.number)) c.self.invariant.placed);
   routed = c.end_subscription.ensures.routed;
   room =
       ap (λ (s : Subscribed). s.room) c.end_subscription.ensures.after ∙ c.self.invariant.room

@@ -2,10 +2,12 @@ use Rattle.std.proofs.Common.{◌≡◌, ◌+◌, ℕ, List, [], ◌∷◌, ◌+
 use Rattle.std.specs.List.{All}
 use Rattle.std.specs.Option.{option_to_list}
 use Rattle.std.proofs.lemmas.List.{get_or_default, length-set}
-use Rattle.pipe_table.specs.Table.{PipeRow, Pipes, new_row}
-use Rattle.pipe_table.specs.Inside.{PlaceState, IsFree, AreKept, live_in}
+use Rattle.bus_words.specs.Pipes.{PipeOf, new_pipe}
+use Rattle.pipe_queue.specs.declared.item.Item.{Item}
+use Rattle.pipe_table.specs.Table.{Pipes}
+use Rattle.pipe_table.specs.Inside.{PlaceState, IsFree, AreKept, table_of}
 use Rattle.pipe_table.proofs.Filing.{nowhere, as_many, live_many}
-use Rattle.pipe_table.proofs.Changes.{created_live, created_kept, room_at, all_last}
+use Rattle.pipe_table.proofs.Changes.{created_table, created_kept, room_at, all_last}
 use Rattle.pipe_table.proofs.table.PipeTable.create.Goals as goal
 
 pub unwrap-place-requires : goal.unwrap-place-requires
@@ -45,14 +47,14 @@ invariant_of-self c =
     let popped : a.free.items ≡ c.pop.new.self.items ++ p ∷ [] = c.pop.ensures.items ∙ ap (λ o. c.pop.new.self.items ++ option_to_list o) c.unwrap-place.ensures in
     let free = all_last (IsFree places) c.pop.new.self.items p (subst (λ l. All (IsFree places) l) popped kept.empty) in
     let there = c.index_mut.ensures.value ∙ get_or_default places p _ nowhere free.there in
-    let row = new_row (a.created + 1) p c.args.name.now c.args.owner c.args.depth in
-    let pipe : c.fill.new.self.pipe ≡ Some row = ap (λ (s : PlaceState). s.pipe) c.fill.ensures in
+    let pipe : PipeOf Item = new_pipe (a.created + 1) c.args.name.now c.args.owner c.args.depth in
+    let holds : c.fill.new.self.pipe ≡ Some pipe = ap (λ (s : PlaceState). s.pipe) c.fill.ensures in
     let room : c.fill.new.self.room ≡ a.depth = ap (λ (s : PlaceState). s.room) c.fill.ensures ∙ ap (λ (s : PlaceState). s.room) there ∙ room_at a.depth places p free.there kept.rooms in
     let all = length-set places p c.fill.new.self in
     let K : List ℕ → List ℕ → Type 0 = λ l m. AreKept a.depth (set places p c.fill.new.self) l m c.pop.new.self.items (a.created + 1) in (
       subst (λ l. K l c.push_reserved-2.new.self.items) (sym c.push_reserved.ensures.items)
           (subst (λ m. K (a.live.items ++ (a.created + 1) ∷ []) m) (sym c.push_reserved-2.ensures.items)
-          (created_kept a.depth places a.live.items a.at.items a.free.items c.pop.new.self.items a.created (a.created + 1) p c.fill.new.self row kept popped pipe room refl refl refl)),
+          (created_kept a.depth places a.live.items a.at.items a.free.items c.pop.new.self.items a.created (a.created + 1) p c.fill.new.self pipe kept popped holds room refl refl)),
       omega (arith, c.self.invariant.1, all, c.pop.ensures.capacity),
       omega (arith, c.self.invariant.2, all, c.push_reserved.ensures.capacity),
       omega (arith, c.self.invariant.3, all, c.push_reserved-2.ensures.capacity),
@@ -67,12 +69,11 @@ returns-clause-after c =
     let popped : a.free.items ≡ c.pop.new.self.items ++ p ∷ [] = c.pop.ensures.items ∙ ap (λ o. c.pop.new.self.items ++ option_to_list o) c.unwrap-place.ensures in
     let free = all_last (IsFree places) c.pop.new.self.items p (subst (λ l. All (IsFree places) l) popped kept.empty) in
     let there = c.index_mut.ensures.value ∙ get_or_default places p _ nowhere free.there in
-    let row = new_row (a.created + 1) p c.args.name.now c.args.owner c.args.depth in
-    let pipe : c.fill.new.self.pipe ≡ Some row = ap (λ (s : PlaceState). s.pipe) c.fill.ensures in
+    let pipe : PipeOf Item = new_pipe (a.created + 1) c.args.name.now c.args.owner c.args.depth in
+    let holds : c.fill.new.self.pipe ≡ Some pipe = ap (λ (s : PlaceState). s.pipe) c.fill.ensures in
     let room : c.fill.new.self.room ≡ a.depth = ap (λ (s : PlaceState). s.room) c.fill.ensures ∙ ap (λ (s : PlaceState). s.room) there ∙ room_at a.depth places p free.there kept.rooms in
-    let made : List PipeRow → ℕ → Pipes = λ l r. record { live = l; created = a.created + 1; room = r; depth = a.depth } in
-    ap (λ l. made (live_in (set places p c.fill.new.self) l) (length (set places p c.fill.new.self))) c.push_reserved-2.ensures.items
-    ∙ ap (λ l. made l (length (set places p c.fill.new.self)))
-    (created_live a.depth places a.live.items a.at.items a.free.items c.pop.new.self.items a.created (a.created + 1) p c.fill.new.self row kept popped pipe room refl refl refl)
-    ∙ ap (λ n. made (live_in places a.at.items ++ row ∷ []) n) (length-set places p c.fill.new.self)
-    ∙ ap (λ (t : Pipes). record t { live = t.live ++ new_row (t.created + 1) p c.args.name.now c.args.owner c.args.depth ∷ []; created = t.created + 1 }) c.self.view_is
+    let next = a.created + 1 in
+    ap (λ l. table_of a.depth (set places p c.fill.new.self) l c.push_reserved-2.new.self.items next) c.push_reserved.ensures.items
+    ∙ ap (λ l. table_of a.depth (set places p c.fill.new.self) (a.live.items ++ next ∷ []) l next) c.push_reserved-2.ensures.items
+    ∙ created_table a.depth places a.live.items a.at.items a.free.items c.pop.new.self.items a.created next p c.fill.new.self pipe kept popped holds room refl refl
+    ∙ ap (λ (t : Pipes). record t { live = t.live ++ new_pipe (t.created + 1) c.args.name.now c.args.owner c.args.depth ∷ []; places = t.places ++ (t.created + 1, p) ∷ []; created = t.created + 1 }) c.self.view_is

@@ -5,5 +5,5 @@ use Rattle.pipe_table.proofs.table.PipeTable.first_of.Given as goal
 -- what is left gives what the whole does
 abbrev pub invariant-loop-at : goal.invariant-loop-at
 invariant-loop-at l =
-    find (λ row. eqb row.owner l.app) (live_in l.self-inside.places.items (drop l.at-index l.self-inside.at.items))
-    ≡ find (λ row. eqb row.owner l.app) (live_in l.self-inside.places.items l.self-inside.at.items)
+    find (λ pipe. eqb pipe.owner l.app) (live_in l.self-inside.places.items (drop l.at-index l.self-inside.at.items))
+    ≡ find (λ pipe. eqb pipe.owner l.app) (live_in l.self-inside.places.items l.self-inside.at.items)

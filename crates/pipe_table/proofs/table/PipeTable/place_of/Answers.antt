@@ -10,5 +10,5 @@ pub returns : goal.returns
 returns c =
     let a = c.self.inside in
     c.at_number.ensures
-    ∙ place_seen a.places.items a.live.items a.at.items c.args.number c.self.invariant.0.filed
-    ∙ ap (λ (t : Pipes). place_of t.live c.args.number) c.self.view_is
+    ∙ place_seen a.live.items a.at.items c.args.number
+    ∙ ap (λ (t : Pipes). place_of t.places c.args.number) c.self.view_is

@@ -1,10 +1,11 @@
 use Rattle.std.proofs.Common.{◌≡◌, ◌<◌, ℕ, List, length, set, get_or, Some, None, ap, sym, ◌∙◌, subst, arith}
 use Rattle.std.specs.List.{remove}
 use Rattle.std.proofs.lemmas.List.{get_or_default, get_or_read, length-set, length_push}
-use Rattle.pipe_table.specs.Table.{PipeRow, Pipes, without_row}
-use Rattle.pipe_table.specs.Inside.{PlaceState, AreKept, live_in}
+use Rattle.bus_words.specs.Pipes.{without_pipe}
+use Rattle.pipe_table.specs.Table.{Pipes, without_place}
+use Rattle.pipe_table.specs.Inside.{PlaceState, AreKept, table_of}
 use Rattle.pipe_table.proofs.Filing.{ordered, as_many, under_index, under_none, stands_under, nowhere}
-use Rattle.pipe_table.proofs.Changes.{removed_live, removed_kept, room_at, unremoved}
+use Rattle.pipe_table.proofs.Changes.{removed_table, removed_kept, room_at, unremoved}
 use Rattle.pipe_table.proofs.table.PipeTable.remove.Goals as goal
 
 pub index_of-requires : goal.index_of-requires
@@ -43,9 +44,9 @@ push_reserved-requires c =
     let under = under_index 0 a.live.items a.at.items i c.args.number (ordered places a.live.items a.at.items kept.filed).rising both at.0 at.1 ∙ ap Some (sym place) in
     let within : p < length places = (stands_under 0 places a.live.items a.at.items c.args.number p kept.filed under).there in
     let there = c.index_mut.ensures.value ∙ get_or_default places p _ nowhere within in
-    let pipe : c.clear.new.self.pipe ≡ None = ap (λ (s : PlaceState). s.pipe) c.clear.ensures in
+    let holds : c.clear.new.self.pipe ≡ None = ap (λ (s : PlaceState). s.pipe) c.clear.ensures in
     let room : c.clear.new.self.room ≡ a.depth = ap (λ (s : PlaceState). s.room) c.clear.ensures ∙ ap (λ (s : PlaceState). s.room) there ∙ room_at a.depth places p within kept.rooms in
-    let counted = (removed_kept a.depth places a.live.items a.at.items a.free.items a.created i p c.clear.new.self kept at.0 place pipe room).all in
+    let counted = (removed_kept a.depth places a.live.items a.at.items a.free.items a.created i p c.clear.new.self kept at.0 place holds room).all in
     omega (arith, counted, length_push a.free.items p, length-set places p c.clear.new.self, c.self.invariant.1, a.free.ok.0)
 
 pub invariant_of-self : goal.invariant_of-self
@@ -61,14 +62,14 @@ invariant_of-self c =
     let under = under_index 0 a.live.items a.at.items i c.args.number (ordered places a.live.items a.at.items kept.filed).rising both at.0 at.1 ∙ ap Some (sym place) in
     let within : p < length places = (stands_under 0 places a.live.items a.at.items c.args.number p kept.filed under).there in
     let there = c.index_mut.ensures.value ∙ get_or_default places p _ nowhere within in
-    let pipe : c.clear.new.self.pipe ≡ None = ap (λ (s : PlaceState). s.pipe) c.clear.ensures in
+    let holds : c.clear.new.self.pipe ≡ None = ap (λ (s : PlaceState). s.pipe) c.clear.ensures in
     let room : c.clear.new.self.room ≡ a.depth = ap (λ (s : PlaceState). s.room) c.clear.ensures ∙ ap (λ (s : PlaceState). s.room) there ∙ room_at a.depth places p within kept.rooms in
     let all = length-set places p c.clear.new.self in
     let K : List ℕ → List ℕ → List ℕ → Type 0 = λ l m n. AreKept a.depth (set places p c.clear.new.self) l m n a.created in (
       subst (λ l. K l c.remove-at.new.self.items c.push_reserved.new.self.items) (sym c.remove.ensures.items)
           (subst (λ m. K (remove a.live.items i) m c.push_reserved.new.self.items) (sym c.remove-at.ensures.items)
           (subst (K (remove a.live.items i) (remove a.at.items i)) (sym c.push_reserved.ensures.items)
-          (removed_kept a.depth places a.live.items a.at.items a.free.items a.created i p c.clear.new.self kept at.0 place pipe room))),
+          (removed_kept a.depth places a.live.items a.at.items a.free.items a.created i p c.clear.new.self kept at.0 place holds room))),
       omega (arith, c.self.invariant.1, all, c.push_reserved.ensures.capacity),
       omega (arith, c.self.invariant.2, all, c.remove.ensures.capacity),
       omega (arith, c.self.invariant.3, all, c.remove-at.ensures.capacity),
@@ -87,19 +88,18 @@ returns-in-Some c =
     let under = under_index 0 a.live.items a.at.items i c.args.number (ordered places a.live.items a.at.items kept.filed).rising both at.0 at.1 ∙ ap Some (sym place) in
     let within : p < length places = (stands_under 0 places a.live.items a.at.items c.args.number p kept.filed under).there in
     let there = c.index_mut.ensures.value ∙ get_or_default places p _ nowhere within in
-    let pipe : c.clear.new.self.pipe ≡ None = ap (λ (s : PlaceState). s.pipe) c.clear.ensures in
+    let holds : c.clear.new.self.pipe ≡ None = ap (λ (s : PlaceState). s.pipe) c.clear.ensures in
     let room : c.clear.new.self.room ≡ a.depth = ap (λ (s : PlaceState). s.room) c.clear.ensures ∙ ap (λ (s : PlaceState). s.room) there ∙ room_at a.depth places p within kept.rooms in
-    let made : List PipeRow → ℕ → Pipes = λ l r. record { live = l; created = a.created; room = r; depth = a.depth } in
-    ap (λ l. made (live_in (set places p c.clear.new.self) l) (length (set places p c.clear.new.self))) c.remove-at.ensures.items
-    ∙ ap (λ l. made l (length (set places p c.clear.new.self))) (removed_live a.depth places a.live.items a.at.items a.free.items a.created i p c.clear.new.self kept at.0 place pipe room)
-    ∙ ap (λ n. made (without_row n (live_in places a.at.items)) (length (set places p c.clear.new.self))) at.1
-    ∙ ap (λ n. made (without_row c.args.number (live_in places a.at.items)) n) (length-set places p c.clear.new.self)
-    ∙ ap (λ (t : Pipes). record t { live = without_row c.args.number t.live }) c.self.view_is
+    let gone : Pipes → ℕ → Pipes = λ t n. record t { live = without_pipe n t.live; places = without_place n t.places } in
+    ap (λ l. table_of a.depth (set places p c.clear.new.self) l c.remove-at.new.self.items a.created) c.remove.ensures.items
+    ∙ ap (λ l. table_of a.depth (set places p c.clear.new.self) (remove a.live.items i) l a.created) c.remove-at.ensures.items
+    ∙ removed_table a.depth places a.live.items a.at.items a.free.items a.created i p c.clear.new.self kept at.0 place holds room
+    ∙ ap (gone (table_of a.depth places a.live.items a.at.items a.created)) at.1
+    ∙ ap (λ (t : Pipes). gone t c.args.number) c.self.view_is
 
 pub returns-in_default : goal.returns-in_default
 returns-in_default c =
     let a = c.self.inside in
-    let none = under_none a.live.items a.at.items c.args.number (c.index_of.ensures.none c.in_default.is) in
     sym c.self.view_is
-    ∙ sym (ap (λ (l : List PipeRow). record { live = l; created = a.created; room = length a.places.items; depth = a.depth }) (unremoved a.places.items a.live.items a.at.items c.args.number c.self.invariant.0.filed none))
-    ∙ ap (λ (t : Pipes). record t { live = without_row c.args.number t.live }) c.self.view_is
+    ∙ unremoved a.depth a.places.items a.live.items a.at.items a.created c.args.number c.self.invariant.0.filed (under_none a.live.items a.at.items c.args.number (c.index_of.ensures.none c.in_default.is))
+    ∙ ap (λ (t : Pipes). record t { live = without_pipe c.args.number t.live; places = without_place c.args.number t.places }) c.self.view_is

@@ -3,7 +3,7 @@ use Rattle.fsw_base.specs.Limits.{limits_of}
 use Rattle.bus_words.specs.Acts.{opening_whole, whole_after}
 use Rattle.journal_store.specs.Budgets.{entries_left}
 use Rattle.bus_words.specs.Log.{left_of}
-use Rattle.bus_store.specs.Words.{last_of}
+use Rattle.bus_words.specs.Pipes.{last_on}
 use Rattle.sb_core.specs.Core.{Plain}
 use Rattle.bus_words.specs.Held.{is_unsent}
 use Rattle.sb_calls.specs.Core.{IsLegalCore}
@@ -27,7 +27,7 @@ invariant_of-result c =
       whole = ap (λ (p : Plain). p.whole) c.in_ok-new-2.ensures ∙ ap (opening_whole (limits_of c.args.cfg.now)) (sym apps)
           ∙ ap (λ limits. opening_whole limits (length noted.log.budgets)) (sym (ap (λ (p : Plain). p.limits) c.in_ok-new-2.ensures))
           ∙ ap (λ (n : NotedLog). whole_after core.limits (length noted.log.budgets) n.log.entries) (sym log);
-      loans = λ pipe some. absurd (true≢false (sym some ∙ ap (λ (p : Plain). is_some (last_of p.whole.bus.pipes pipe)) c.in_ok-new-2.ensures));
+      loans = λ pipe some. absurd (true≢false (sym some ∙ ap (λ (p : Plain). is_some (last_on p.whole.bus.pipes pipe)) c.in_ok-new-2.ensures));
       descs = λ number is. absurd (true≢false (sym is ∙ ap (λ (p : Plain). is_unsent p.whole.bus.unsent number) c.in_ok-new-2.ensures ∙ none-first (length budgets) number));
       few = omega (arith, no_entry, entries, c.requires.budgets.entries);
     }

@@ -1,0 +1,154 @@
+-- What is delivered commutes with a map of items: where items of one kind stand for items of another, pipes of these stand for
+-- pipes of those, and each change of the one is that change of the other.
+use Rattle.std.proofs.Common.{◌≡◌, ℕ, ◌+◌, Bool, true, false, ◌&&◌, cond, eqb, leb, List, [], ◌∷◌, ◌++◌, map, count_by, drop, Option, Some, None, refl, ap, sym, ◌∙◌}
+use Rattle.std.specs.Option.{option_map, option_map_or, option_and_then}
+use Rattle.std.proofs.lemmas.List.{length-map, map_push}
+use Rattle.std.proofs.lemmas.List.Sums.{sum_by-cons}
+use Rattle.fsw_base.proofs.Lists.{find-map, list_any-map}
+use Rattle.bus_words.specs.Pipes.{PipeOf, Subscription, Offer, is_in, oldest, pipe_at, owns, with_pipe, oldest_on, last_on, IsRising, after_receive, ignores_sender, waiting_of, verdict_over, verdict, offered_over, offered, deliver, taken_by, reached, pipe_by}
+use Rattle.bus_words.specs.declared.verdict.Verdict.{Verdict}
+use Rattle.bus_words.specs.declared.verdict.Verdict.TheVariants.{Skip, OverLimit, Full, In}
+
+-- a change of a pipe is that change of the one that it stands for
+pub with_pipe-map : {A B : Type 0} (read : A → B) (change : PipeOf A → PipeOf A) (next : PipeOf B → PipeOf B) →
+    ((pipe : PipeOf A) → pipe_by read (change pipe) ≡ next (pipe_by read pipe)) →
+    (number : ℕ) (pipes : List (PipeOf A)) → map (pipe_by read) (with_pipe change number pipes) ≡ with_pipe next number (map (pipe_by read) pipes)
+with_pipe-map read change next same number [] = refl
+with_pipe-map {A} {B} read change next same number (pipe ∷ pipes) =
+    ap (λ p. p ∷ map (pipe_by read) (with_pipe change number pipes)) (turn (eqb pipe.number number))
+    ∙ ap (λ ps. cond {A = PipeOf B} (eqb pipe.number number) (next (pipe_by read pipe)) (pipe_by read pipe) ∷ ps) (with_pipe-map read change next same number pipes)
+  where
+    turn : (b : Bool) → pipe_by read (cond {A = PipeOf A} b (change pipe) pipe) ≡ cond {A = PipeOf B} b (next (pipe_by read pipe)) (pipe_by read pipe)
+    turn true = same pipe
+    turn false = refl
+
+-- Look-ups. --
+
+pub pipe_at-map : {A B : Type 0} (read : A → B) (pipes : List (PipeOf A)) (number : ℕ) → pipe_at (map (pipe_by read) pipes) number ≡ option_map (pipe_by read) (pipe_at pipes number)
+pipe_at-map {A} {B} read pipes number = find-map (λ (pipe : PipeOf B). eqb pipe.number number) (pipe_by read) pipes
+
+pub owns-map : {A B : Type 0} (read : A → B) (pipes : List (PipeOf A)) (app number : ℕ) → owns (map (pipe_by read) pipes) app number ≡ owns pipes app number
+owns-map {A} {B} read pipes app number = list_any-map (λ (pipe : PipeOf B). eqb pipe.number number && eqb pipe.owner app) (pipe_by read) pipes
+
+pub oldest-map : {A B : Type 0} (read : A → B) (queue : List A) → oldest (map read queue) ≡ option_map read (oldest queue)
+oldest-map read [] = refl
+oldest-map read (item ∷ items) = refl
+
+-- the item that waits longest
+pub oldest_on-map : {A B : Type 0} (read : A → B) (pipes : List (PipeOf A)) (number : ℕ) → oldest_on (map (pipe_by read) pipes) number ≡ option_map read (oldest_on pipes number)
+oldest_on-map {A} {B} read pipes number =
+    ap (λ o. option_and_then (λ (pipe : PipeOf B). oldest pipe.queue) o) (pipe_at-map read pipes number) ∙ by_pipe (pipe_at pipes number)
+  where
+    by_pipe : (o : Option (PipeOf A)) →
+        option_and_then (λ (pipe : PipeOf B). oldest pipe.queue) (option_map (pipe_by read) o) ≡ option_map read (option_and_then (λ (pipe : PipeOf A). oldest pipe.queue) o)
+    by_pipe None = refl
+    by_pipe (Some pipe) = oldest-map read pipe.queue
+
+-- the last item
+pub last_on-map : {A B : Type 0} (read : A → B) (pipes : List (PipeOf A)) (number : ℕ) → last_on (map (pipe_by read) pipes) number ≡ option_map read (last_on pipes number)
+last_on-map {A} {B} read pipes number =
+    ap (λ o. option_and_then (λ (pipe : PipeOf B). pipe.last) o) (pipe_at-map read pipes number) ∙ by_pipe (pipe_at pipes number)
+  where
+    by_pipe : (o : Option (PipeOf A)) →
+        option_and_then (λ (pipe : PipeOf B). pipe.last) (option_map (pipe_by read) o) ≡ option_map read (option_and_then (λ (pipe : PipeOf A). pipe.last) o)
+    by_pipe None = refl
+    by_pipe (Some pipe) = refl
+
+-- their numbers rise
+pub IsRising-map : {A B : Type 0} (read : A → B) (below : ℕ) (pipes : List (PipeOf A)) → IsRising below pipes → IsRising below (map (pipe_by read) pipes)
+IsRising-map read below [] rises = tt
+IsRising-map read below (pipe ∷ pipes) rises = (rises.0, IsRising-map read pipe.number pipes rises.1)
+
+-- a receive
+pub after_receive-map : {A B : Type 0} (read : A → B) (pipe : PipeOf A) → pipe_by read (after_receive pipe) ≡ after_receive (pipe_by read pipe)
+after_receive-map {A} {B} read pipe = by_queue pipe.queue
+  where
+    by_queue : (queue : List A) →
+        pipe_by read (record pipe { queue = drop 1 queue; last = oldest queue })
+        ≡ record (pipe_by read pipe) { queue = drop 1 (map read queue); last = oldest (map read queue) }
+    by_queue [] = refl
+    by_queue (item ∷ items) = refl
+
+-- Delivery. --
+
+-- a message that pipes of one kind are offered is the one that pipes of the other are
+pub record IsOffer {A B : Type 0} (read : A → B) (from : Offer A) (to : Offer B) : Type 0 where
+  pub sender : to.sender ≡ from.sender
+  pub subscription : (item : A) → to.subscription_of (read item) ≡ from.subscription_of item
+  pub item : (sub : Subscription) → read (from.item_for sub) ≡ to.item_for sub
+
+-- a count behind a map
+counted : {A B : Type 0} (read : A → B) (p : A → Bool) (q : B → Bool) → ((item : A) → q (read item) ≡ p item) → (items : List A) → count_by q (map read items) ≡ count_by p items
+counted read p q same [] = refl
+counted read p q same (item ∷ items) =
+    sum_by-cons (λ y. cond {A = ℕ} (q y) 1 0) (read item) (map read items)
+    ∙ ap (λ b. cond {A = ℕ} b 1 0 + count_by q (map read items)) (same item)
+    ∙ ap (λ n. cond {A = ℕ} (p item) 1 0 + n) (counted read p q same items)
+    ∙ sym (sum_by-cons (λ y. cond {A = ℕ} (p y) 1 0) item items)
+
+-- how many wait
+pub waiting_of-map : {A B : Type 0} (read : A → B) (of_from : A → ℕ) (of_to : B → ℕ) → ((item : A) → of_to (read item) ≡ of_from item) →
+    (pipe : PipeOf A) (number : ℕ) → waiting_of of_to (pipe_by read pipe) number ≡ waiting_of of_from pipe number
+waiting_of-map read of_from of_to same pipe number =
+    counted read (λ item. eqb (of_from item) number) (λ item. eqb (of_to item) number) (λ item. ap (λ n. eqb n number) (same item)) pipe.queue
+
+-- the verdict on a message whose subscription's limit is known to be reached or not
+pub verdict_over-map : {A B : Type 0} (read : A → B) (is_over : Bool) (pipe : PipeOf A) (sender : ℕ) → verdict_over is_over (pipe_by read pipe) sender ≡ verdict_over is_over pipe sender
+verdict_over-map read is_over pipe sender =
+    ap (λ n. cond {A = Verdict} (ignores_sender pipe sender) Skip (cond {A = Verdict} is_over OverLimit (cond {A = Verdict} (eqb n pipe.depth) Full In)))
+    (length-map pipe.queue read)
+
+-- an offer
+pub offered_over-map : {A B : Type 0} (read : A → B) (is_over : Bool) (sender : ℕ) (newest : A) (pipe : PipeOf A) →
+    pipe_by read (offered_over is_over sender newest pipe) ≡ offered_over is_over sender (read newest) (pipe_by read pipe)
+offered_over-map {A} {B} read is_over sender newest pipe =
+    by_test (is_in (verdict_over is_over pipe sender))
+    ∙ ap (λ v. cond {A = PipeOf B} (is_in v) (record (pipe_by read pipe) { queue = map read pipe.queue ++ read newest ∷ [] }) (pipe_by read pipe)) (sym (verdict_over-map read is_over pipe sender))
+  where
+    by_test : (b : Bool) →
+        pipe_by read (cond {A = PipeOf A} b (record pipe { queue = pipe.queue ++ newest ∷ [] }) pipe)
+        ≡ cond {A = PipeOf B} b (record (pipe_by read pipe) { queue = map read pipe.queue ++ read newest ∷ [] }) (pipe_by read pipe)
+    by_test true = ap (λ queue. record (pipe_by read pipe) { queue = queue }) (map_push read pipe.queue newest)
+    by_test false = refl
+
+module _ {A B : Type 0} (read : A → B) (from : Offer A) (to : Offer B) (is : IsOffer read from to) where
+  pub verdict-map : (sub : Subscription) (pipe : PipeOf A) →
+      verdict to.subscription_of (pipe_by read pipe) sub to.sender ≡ verdict from.subscription_of pipe sub from.sender
+  verdict-map sub pipe =
+      ap (λ n. verdict_over (leb sub.limit n) (pipe_by read pipe) to.sender) (waiting_of-map read from.subscription_of to.subscription_of is.subscription pipe sub.number)
+      ∙ ap (λ n. verdict_over (leb sub.limit (waiting_of from.subscription_of pipe sub.number)) (pipe_by read pipe) n) is.sender
+      ∙ verdict_over-map read (leb sub.limit (waiting_of from.subscription_of pipe sub.number)) pipe from.sender
+
+  pub offered-map : (sub : Subscription) (pipe : PipeOf A) → pipe_by read (offered from sub pipe) ≡ offered to sub (pipe_by read pipe)
+  offered-map sub pipe =
+      offered_over-map read (leb sub.limit (waiting_of from.subscription_of pipe sub.number)) from.sender (from.item_for sub) pipe
+      ∙ ap (λ n. offered_over (leb sub.limit n) from.sender (read (from.item_for sub)) (pipe_by read pipe)) (sym (waiting_of-map read from.subscription_of to.subscription_of is.subscription pipe sub.number))
+      ∙ ap (λ n. offered_over (leb sub.limit (waiting_of to.subscription_of (pipe_by read pipe) sub.number)) n (read (from.item_for sub)) (pipe_by read pipe)) (sym is.sender)
+      ∙ ap (λ i. offered_over (leb sub.limit (waiting_of to.subscription_of (pipe_by read pipe) sub.number)) to.sender i (pipe_by read pipe)) (is.item sub)
+
+  -- the pipes once each subscription was offered the message
+  pub deliver-map : (subs : List Subscription) (pipes : List (PipeOf A)) → map (pipe_by read) (deliver from subs pipes) ≡ deliver to subs (map (pipe_by read) pipes)
+  deliver-map [] pipes = refl
+  deliver-map (sub ∷ subs) pipes =
+      deliver-map subs (with_pipe (offered from sub) sub.pipe pipes)
+      ∙ ap (deliver to subs) (with_pipe-map read (offered from sub) (offered to sub) (offered-map sub) sub.pipe pipes)
+
+  taken_by-map : (sub : Subscription) (pipes : List (PipeOf A)) → taken_by from sub pipes ≡ taken_by to sub (map (pipe_by read) pipes)
+  taken_by-map sub pipes =
+      by_pipe (pipe_at pipes sub.pipe)
+      ∙ ap (λ o. option_map_or {U = ℕ} (λ (pipe : PipeOf B). cond (is_in (verdict to.subscription_of pipe sub to.sender)) 1 0) o 0) (sym (pipe_at-map read pipes sub.pipe))
+    where
+      by_pipe : (o : Option (PipeOf A)) →
+          ◌≡◌ {A = ℕ} (option_map_or (λ (pipe : PipeOf A). cond (is_in (verdict from.subscription_of pipe sub from.sender)) 1 0) o 0)
+          (option_map_or (λ (pipe : PipeOf B). cond (is_in (verdict to.subscription_of pipe sub to.sender)) 1 0) (option_map (pipe_by read) o) 0)
+      by_pipe None = refl
+      by_pipe (Some pipe) = ap (λ v. cond {A = ℕ} (is_in v) 1 0) (sym (verdict-map sub pipe))
+
+  -- how many take it
+  pub reached-map : (subs : List Subscription) (pipes : List (PipeOf A)) → reached from subs pipes ≡ reached to subs (map (pipe_by read) pipes)
+  reached-map [] pipes = refl
+  reached-map (sub ∷ subs) pipes =
+      ap (λ n. n + reached from subs (with_pipe (offered from sub) sub.pipe pipes)) (taken_by-map sub pipes)
+      ∙ ap (λ n. taken_by to sub (map (pipe_by read) pipes) + n)
+      (reached-map subs (with_pipe (offered from sub) sub.pipe pipes)
+      ∙ ap (reached to subs) (with_pipe-map read (offered from sub) (offered to sub) (offered-map sub) sub.pipe pipes))

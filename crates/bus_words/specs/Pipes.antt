@@ -1,0 +1,179 @@
+-- Pipes of the software bus (cFE Software Bus), whatever they queue: an item may be of any kind that tells its subscription. What
+-- becomes of a message that pipes are offered, and what a receive leaves, is said here alone.
+use Rattle.std.specs.Prelude.{ℕ, ◌+◌, ◌%◌, ◌<◌, ◌==◌, ◌&&◌, not, nat_le, Bool, true, false, List, [], ◌∷◌, ◌++◌, length, drop, map, filter, find, count_by, Option, Some, None, if◌then◌else◌}
+use Rattle.std.specs.List.{list_any}
+use Rattle.std.specs.Option.{option_map, option_map_or, option_and_then}
+use Rattle.std.specs.Str.{bytes_eq}
+use Rattle.fsw_base.specs.declared.config.Scope.{Scope}
+use Rattle.bus_words.specs.declared.verdict.Verdict.{Verdict}
+use Rattle.bus_words.specs.declared.verdict.Verdict.TheVariants.{Skip, OverLimit, Full, In}
+
+-- A pipe: number, name, owner, how many messages it may hold (its depth), option bits, what it queues, oldest first, and the item
+-- received last.
+pub record PipeOf (item : Type 0) : Type 0 where
+  pub number : ℕ
+  pub name : List ℕ
+  pub owner : ℕ
+  pub depth : ℕ
+  pub bits : ℕ
+  pub queue : List item
+  pub last : Option item
+
+-- A subscription: its number, message id and pipe, how many of its messages may be queued at once, and its scope.
+pub record Subscription : Type 0 where
+  pub number : ℕ
+  pub id : ℕ
+  pub pipe : ℕ
+  pub limit : ℕ
+  pub scope : Scope
+
+-- A message that pipes are offered: who sends it, which subscription an item is of, and the item that a subscription's pipe queues
+-- for it.
+pub record Offer (item : Type 0) : Type 0 where
+  pub sender : ℕ
+  pub subscription_of : item → ℕ
+  pub item_for : Subscription → item
+
+abbrev pub is_in : Verdict → Bool
+is_in Skip = false
+is_in OverLimit = false
+is_in Full = false
+is_in In = true
+
+-- the oldest item that is queued
+abbrev pub oldest : {item : Type 0} → List item → Option item
+oldest [] = None
+oldest (item ∷ items) = Some item
+
+module _ {item : Type 0} where
+  -- Lists of pipes. --
+
+  -- the live pipe of this number
+  abbrev pub pipe_at : List (PipeOf item) → ℕ → Option (PipeOf item)
+  pipe_at pipes number = find (λ pipe. pipe.number == number) pipes
+
+  -- whether a pipe of this number is live
+  abbrev pub is_live : List (PipeOf item) → ℕ → Bool
+  is_live pipes number = list_any (λ pipe. pipe.number == number) pipes
+
+  -- whether a pipe of this number is live and this application's
+  abbrev pub owns : List (PipeOf item) → ℕ → ℕ → Bool
+  owns pipes app number = list_any (λ pipe. pipe.number == number && pipe.owner == app) pipes
+
+  -- the live pipe of this name
+  abbrev pub pipe_named : List (PipeOf item) → List ℕ → Option (PipeOf item)
+  pipe_named pipes name = find (λ pipe. bytes_eq pipe.name name) pipes
+
+  -- whether a live pipe has this name
+  abbrev pub is_named : List (PipeOf item) → List ℕ → Bool
+  is_named pipes name = list_any (λ pipe. bytes_eq pipe.name name) pipes
+
+  -- the pipes, with the one of this number changed
+  abbrev pub with_pipe : (PipeOf item → PipeOf item) → ℕ → List (PipeOf item) → List (PipeOf item)
+  with_pipe change number pipes = map (λ pipe. if pipe.number == number then change pipe else pipe) pipes
+
+  -- the pipes but the one of this number
+  abbrev pub without_pipe : ℕ → List (PipeOf item) → List (PipeOf item)
+  without_pipe number pipes = filter (λ pipe. not (pipe.number == number)) pipes
+
+  -- the first pipe of this owner
+  abbrev pub first_owned : List (PipeOf item) → ℕ → Option (PipeOf item)
+  first_owned pipes app = find (λ pipe. pipe.owner == app) pipes
+
+  -- the item that waits longest on the pipe of this number
+  abbrev pub oldest_on : List (PipeOf item) → ℕ → Option item
+  oldest_on pipes number = option_and_then (λ pipe. oldest pipe.queue) (pipe_at pipes number)
+
+  -- the item received last from the pipe of this number
+  abbrev pub last_on : List (PipeOf item) → ℕ → Option item
+  last_on pipes number = option_and_then (λ pipe. pipe.last) (pipe_at pipes number)
+
+  -- the pipes' numbers rise, all of them above this one
+  abbrev pub IsRising : ℕ → List (PipeOf item) → Type 0
+  IsRising below [] = Unit {0}
+  IsRising below (pipe ∷ pipes) = (below < pipe.number) × IsRising pipe.number pipes
+
+  -- Changes of a pipe. --
+
+  -- a pipe on which nothing waits
+  abbrev pub new_pipe : ℕ → List ℕ → ℕ → ℕ → PipeOf item
+  new_pipe number name owner depth = record { number = number; name = name; owner = owner; depth = depth; bits = 0; queue = []; last = None }
+
+  -- the pipe with these option bits
+  abbrev pub with_bits : ℕ → PipeOf item → PipeOf item
+  with_bits bits pipe = record pipe { bits = bits }
+
+  -- the pipe after a receive: its last item is released, and the oldest that is queued, if any, takes its place
+  abbrev pub after_receive : PipeOf item → PipeOf item
+  after_receive pipe = record pipe { queue = drop 1 pipe.queue; last = oldest pipe.queue }
+
+  -- the pipe without the item that waits longest
+  abbrev pub without_front : PipeOf item → PipeOf item
+  without_front pipe = record pipe { queue = drop 1 pipe.queue }
+
+  -- the pipe without the item received last
+  abbrev pub without_last : PipeOf item → PipeOf item
+  without_last pipe = record pipe { last = None }
+
+  -- What becomes of a message. --
+
+  -- option bit 0x01: messages that the pipe's owner sends are not for it
+  abbrev pub ignores_own : PipeOf item → Bool
+  ignores_own pipe = pipe.bits % 2 == 1
+
+  -- whether the pipe ignores what this application sends
+  abbrev pub ignores_sender : PipeOf item → ℕ → Bool
+  ignores_sender pipe sender = ignores_own pipe && pipe.owner == sender
+
+  -- how many items of a subscription are queued in the pipe
+  abbrev pub waiting_of : (item → ℕ) → PipeOf item → ℕ → ℕ
+  waiting_of subscription_of pipe subscription = count_by (λ queued. subscription_of queued == subscription) pipe.queue
+
+  -- the first of the verdicts that applies to a message of this sender, which is over its subscription's limit or isn't
+  abbrev pub verdict_over : Bool → PipeOf item → ℕ → Verdict
+  verdict_over is_over pipe sender =
+      if ignores_sender pipe sender then Skip
+      else if is_over then OverLimit
+      else if length pipe.queue == pipe.depth then Full
+      else In
+
+  -- the verdict on a message of this sender for the subscription
+  abbrev pub verdict : (item → ℕ) → PipeOf item → Subscription → ℕ → Verdict
+  verdict subscription_of pipe sub sender = verdict_over (nat_le sub.limit (waiting_of subscription_of pipe sub.number)) pipe sender
+
+  -- the pipe once it was offered an item of this sender, which is over its subscription's limit or isn't: with the item as its
+  -- newest where the verdict is In
+  abbrev pub offered_over : Bool → ℕ → item → PipeOf item → PipeOf item
+  offered_over is_over sender newest pipe =
+      if is_in (verdict_over is_over pipe sender) then record pipe { queue = pipe.queue ++ newest ∷ [] } else pipe
+
+  -- the pipe once a subscription of its own was offered the message
+  abbrev pub offered : Offer item → Subscription → PipeOf item → PipeOf item
+  offered offer sub pipe = offered_over (nat_le sub.limit (waiting_of offer.subscription_of pipe sub.number)) offer.sender (offer.item_for sub) pipe
+
+  -- the pipes once each of these subscriptions was offered the message, in order
+  abbrev pub deliver : Offer item → List Subscription → List (PipeOf item) → List (PipeOf item)
+  deliver offer [] pipes = pipes
+  deliver offer (sub ∷ subs) pipes = deliver offer subs (with_pipe (offered offer sub) sub.pipe pipes)
+
+  -- 1 where the subscription's pipe takes the message
+  abbrev pub taken_by : Offer item → Subscription → List (PipeOf item) → ℕ
+  taken_by offer sub pipes =
+      option_map_or (λ pipe. if is_in (verdict offer.subscription_of pipe sub offer.sender) then 1 else 0) (pipe_at pipes sub.pipe) 0
+
+  -- how many of these subscriptions have the verdict In, each as its turn comes
+  abbrev pub reached : Offer item → List Subscription → List (PipeOf item) → ℕ
+  reached offer [] pipes = 0
+  reached offer (sub ∷ subs) pipes = taken_by offer sub pipes + reached offer subs (with_pipe (offered offer sub) sub.pipe pipes)
+
+-- a pipe, with each of its items read in this way
+abbrev pub pipe_by : {item other : Type 0} → (item → other) → PipeOf item → PipeOf other
+pipe_by read pipe = record {
+  number = pipe.number;
+  name = pipe.name;
+  owner = pipe.owner;
+  depth = pipe.depth;
+  bits = pipe.bits;
+  queue = map read pipe.queue;
+  last = option_map read pipe.last;
+}

@@ -1,0 +1,15 @@
+//! What becomes of a message at one subscription.
+
+/// What becomes of a message at one of its subscriptions (cFE Software Bus): the first of these, in
+/// this order, that applies.
+#[derive(Clone, Copy, Debug, PartialEq, Eq)]
+pub enum Verdict {
+    /// The pipe ignores its owner's messages, and its owner sent this one.
+    Skip,
+    /// As many messages of the subscription wait on the pipe as its limit says.
+    OverLimit,
+    /// As many messages wait on the pipe as its depth says.
+    Full,
+    /// The pipe queues it.
+    In,
+}
