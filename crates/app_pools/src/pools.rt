@@ -45,7 +45,7 @@ impl Model for AppPools {
 
 impl AppPools {
     /// Room for [`MAX_APP_POOLS`] pools of up to `config.apppool` bytes with the configured block
-    /// sizes. No later call takes memory.
+    /// sizes. By the code, no later call takes memory.
     ///
     /// # Errors
     /// `AllocError` where memory runs out.

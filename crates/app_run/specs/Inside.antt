@@ -19,8 +19,8 @@ progress_in a = record {
 abbrev pub receipts_to_come : ℕ → Option ℕ → ℕ
 receipts_to_come lines waits_on = lines + (if is_some waits_on then 1 else 0)
 
--- The application is one of the script's; its lines are in range; what its lines have made and its receipts have room; and once it has
--- ended it is through and waits no more.
+-- The application is one of the script's; its lines are in range, and it has come to a place among them; what its lines have made
+-- and its receipts have room.
 pub record Keeps (a : Inside) : Type 0 where
   pub known : a.app ≤ length a.script.now.apps
   pub few : length (app_at a.script.now a.app).lines ≤ 20000

@@ -64,7 +64,8 @@ impl App {
     }
 
     /// An application of this name and these call lines, in order: at most 20000, whose charges
-    /// come to at most 16777216 bytes. It keeps the lines where they are, and takes no memory.
+    /// come to at most 16777216 bytes. By the code, it keeps the lines where they are, and takes no
+    /// memory.
     pub fn of_lines(name: ByteText, lines: Vec<Line>) -> App
         requires calls { length lines.items ≤ 20000 }
         requires bytes { (account_of lines.items).bytes ≤ 16777216 }

@@ -1,8 +1,9 @@
 //! Lists of numbered nodes, linked by index, and a count of the steps that calls take over links.
 //!
 //! A memory pool keeps its free blocks in such lists: it takes one from the front of a list and
-//! puts it back there, with no search and no memory taken. Each call acts on the front of one list
-//! and leaves the others, no node is ever in two lists, and a call takes at most four steps.
+//! puts it back there, with no search and, by the code, no memory taken. Each call acts on the
+//! front of one list and leaves the others, no node is ever in two lists, and a call takes at most
+//! four steps.
 //!
 //! ```
 //! /// Two nodes go onto a list, and the newer one comes back, in at most 12 steps.

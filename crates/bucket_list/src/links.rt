@@ -24,7 +24,7 @@ impl Model for Links {
 }
 
 impl Links {
-    /// A row of `count` places, with 0 at each. No later call takes memory.
+    /// A row of `count` places, with 0 at each. By the code, no later call takes memory.
     ///
     /// # Errors
     /// `AllocError` where memory runs out.
@@ -36,7 +36,7 @@ impl Links {
         })
     }
 
-    /// A row of `count` places, each linked to itself. No later call takes memory.
+    /// A row of `count` places, each linked to itself. By the code, no later call takes memory.
     ///
     /// # Errors
     /// `AllocError` where memory runs out.

@@ -43,7 +43,7 @@ impl Model for Lists {
 
 impl Lists {
     /// Room for `nodes` nodes, none of which exists yet, and `lists` empty lists, numbered from 0.
-    /// No later call takes memory.
+    /// By the code, no later call takes memory.
     ///
     /// # Errors
     /// `AllocError` where memory runs out.

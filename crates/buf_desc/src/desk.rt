@@ -47,7 +47,7 @@ impl<'r> Model for Desk<'r> {
 
 impl<'r> Desk<'r> {
     /// A desk over a pool of `pool` bytes with these block sizes, whose blocks are cut from the
-    /// region. No later call takes memory.
+    /// region. By the code, no later call takes memory.
     ///
     /// # Errors
     ///

@@ -1,9 +1,10 @@
 //! What a software bus tells of its calls, and counts: its event desk (cFE Event Services), its
 //! counters, and the peaks of what was in use. A bus has one of it, and tells it of each call.
 //!
-//! Each call leaves exactly what the definitions of `Records.antt` say, an event's text is put
-//! together only where the log takes the line, and no call but `new` takes memory. What the records
-//! are after a call of the bus, by the bus's definitions, is said by lemmas, a shape of call each.
+//! Each call leaves exactly what the definitions of `Records.antt` say. By the code, an event's
+//! text is put together only where the log takes the line, and no call but `new` takes memory. What
+//! the records are after a call of the bus, by the bus's definitions, is said by lemmas, a shape of
+//! call each.
 //!
 //! The caller below is proved, in the crate `bus_tests`.
 //!

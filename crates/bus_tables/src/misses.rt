@@ -41,8 +41,8 @@ impl Model for Misses {
 }
 
 impl Misses {
-    /// None yet, with room for so many: as many as a message can have destinations. No later call
-    /// takes memory.
+    /// None yet, with room for so many: as many as a message can have destinations. By the code, no
+    /// later call takes memory.
     ///
     /// # Errors
     /// Where memory runs out.

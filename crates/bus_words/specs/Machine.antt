@@ -54,6 +54,7 @@ delivered limits history bytes inc = stamped (reads_after limits history) bytes 
 abbrev pub refused_if : {A : Type 0} → Bool → A → Option A → Option A
 refused_if test status others = if test then Some status else others
 
+-- where the depth or the name isn't in its range, as many pipes are live as may be, or a live pipe has the name
 abbrev pub create_cause : Limits → State → ℕ → List ℕ → Option SbStatus
 create_cause limits s depth name =
     refused_if (depth == 0 || nat_lt limits.depth depth || length name == 0 || nat_lt 19 (length name)) BadArgument
@@ -64,6 +65,7 @@ create_cause limits s depth name =
 abbrev pub unowned_cause : State → ℕ → ℕ → Option SbStatus
 unowned_cause s app pipe = refused_if (not (owns s.pipes app pipe)) BadArgument None
 
+-- where the pipe isn't a live one of the application's own, or the bits are above 1
 abbrev pub set_opts_cause : State → ℕ → ℕ → ℕ → Option SbStatus
 set_opts_cause s app pipe bits = refused_if (not (owns s.pipes app pipe) || nat_lt 1 bits) BadArgument None
 
@@ -71,6 +73,7 @@ set_opts_cause s app pipe bits = refused_if (not (owns s.pipes app pipe) || nat_
 abbrev pub dead_cause : State → ℕ → Option SbStatus
 dead_cause s pipe = refused_if (not (is_live s.pipes pipe)) BadArgument None
 
+-- where no live pipe has the name
 abbrev pub find_cause : State → List ℕ → Option SbStatus
 find_cause s name = refused_if (not (is_named s.pipes name)) BadArgument None
 
@@ -82,6 +85,7 @@ subscribe_cause limits s app id pipe =
     else refused_if (not (has_route s.routed id) && nat_le limits.msgids (length s.routed)) MaxMsgsMet
     (refused_if (nat_le limits.dests (length (route s.subscriptions id))) MaxDestsMet None))
 
+-- where no message may have the id, or the pipe isn't a live one of the application's own
 abbrev pub unsubscribe_cause : State → ℕ → ℕ → ℕ → Option SbStatus
 unsubscribe_cause s app id pipe = refused_if (not (is_valid_id id) || not (owns s.pipes app pipe)) BadArgument None
 
@@ -93,6 +97,7 @@ transmit_cause limits s bytes =
     (if length (route s.subscriptions (message_id bytes)) == 0 then None
     else refused_if (not (has_room (account_of limits s) (length bytes))) BufAlocErr None))
 
+-- where the pipe isn't a live one of the application's own, or no message waits there
 abbrev pub receive_cause : State → ℕ → ℕ → Option SbStatus
 receive_cause s app pipe =
     refused_if (not (owns s.pipes app pipe)) BadArgument
@@ -115,9 +120,11 @@ transmit_buffer_cause s app buf bytes =
 abbrev pub release_cause : State → ℕ → ℕ → Option SbStatus
 release_cause s app buf = refused_if (not (has_unsent s.unsent app buf)) BufferInvalid None
 
+-- where no pool of so many bytes can be made
 abbrev pub pool_create_cause : State → ℕ → Option EsStatus
 pool_create_cause s bytes = refused_if (refuses_pool s.pools bytes) ErrMemBlockSize None
 
+-- where there is no pool of the number, or it has no block for so many bytes
 abbrev pub pool_get_cause : State → ℕ → ℕ → Option EsStatus
 pool_get_cause s pool size =
     refused_if (not (is_pool s.pools pool)) NoPool
@@ -182,6 +189,7 @@ cause limits history s app call = cause_with (reads_after limits history) limits
 
 -- What a call that isn't refused answers and changes. --
 
+-- a new pipe, numbered one more than were created, stands last
 abbrev pub created : State → ℕ → ℕ → List ℕ → BusAnswer × State
 created s app depth name = (
   Number (s.pipes_created + 1),
@@ -239,6 +247,7 @@ sent_along limits (sub ∷ subs) sending s = (
   },
 )
 
+-- a message goes to the live subscriptions of its id, in order
 abbrev pub transmitted : Reads → Limits → State → ℕ → List ℕ → Bool → BusAnswer × State
 transmitted reads limits s app bytes inc =
     sent_along limits (route s.subscriptions (message_id bytes)) (sending_from reads s app bytes inc) s
@@ -358,8 +367,8 @@ accept_with reads limits s app End = (Done, ended s app)
 abbrev pub accept : Limits → List Entry → State → ℕ → Call → BusAnswer × State
 accept limits history s app call = accept_with (reads_after limits history) limits s app call
 
--- A refused call changes nothing, but that a receive that finds no message has released the last one, and that a pool counts
--- the returns that were refused.
+-- Beside what `recorded` tells and counts, a refused call changes nothing, but that a receive that finds no message has released
+-- the last one, and that a pool counts the returns that were refused.
 abbrev pub refused_state : State → Call → Refusal → State
 refused_state s (Receive pipe) (OfBus NoMessage) = received s pipe
 refused_state s (PoolPut pool grant) why = pool_returned s pool grant
@@ -367,10 +376,12 @@ refused_state s call why = s
 
 -- Steps and histories. --
 
+-- what a call answers and leaves that is refused for this cause, or isn't refused
 abbrev pub decided_with : Reads → Limits → State → ℕ → Call → Option Refusal → BusAnswer × State
 decided_with reads limits s app call (Some why) = (refusal_answer why, refused_state s call why)
 decided_with reads limits s app call None = accept_with reads limits s app call
 
+-- the same after a history
 abbrev pub decided : Limits → List Entry → State → ℕ → Call → Option Refusal → BusAnswer × State
 decided limits history s app call why = decided_with (reads_after limits history) limits s app call why
 

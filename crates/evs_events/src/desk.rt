@@ -18,8 +18,8 @@ const APPS: usize = MAX_APPS as usize;
 
 /// The registrations, the log and the counts of one Event Services.
 ///
-/// No call but [`EventDesk::new`] takes memory. A call looks at the filters of its own application
-/// alone, at most [`fsw_base::MAX_FILTERS`].
+/// By the code, no call but [`EventDesk::new`] takes memory, and a call looks at the filters of its
+/// own application alone, at most [`fsw_base::MAX_FILTERS`].
 #[derive(Drop)]
 pub struct EventDesk {
     // By application, number 1 first; None where it isn't registered.

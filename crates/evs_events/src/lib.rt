@@ -3,7 +3,7 @@
 //! them. Applications are numbered 1 to 16; the services' own events have number 0.
 //!
 //! Each call answers and leaves exactly what the definitions of `EventDesk.antt` (of `fsw_base`)
-//! say, and no call takes memory once the desk is made.
+//! say. By the code, no call takes memory once the desk is made.
 //!
 //! The caller below is proved, in the crate `bus_tests`.
 //!

@@ -22,7 +22,7 @@ pub struct Config {
     pub pool: u32,
     /// The largest memory pool of an application, 24 to 1048576 bytes.
     pub apppool: u32,
-    /// How many tables may be registered, 1 to 256.
+    /// How many tables may have a handle, registered or not, 1 to 256.
     pub tables: u32,
     /// How many table handles may be live at once, 1 to 1024.
     pub handles: u32,
@@ -99,7 +99,7 @@ impl Config {
 pub struct Budget {
     /// Journal entries.
     pub entries: u32,
-    /// Bytes of journal entries: names, texts and messages.
+    /// Bytes of journal entries: names, texts, messages, buffers and loads.
     pub bytes: u32,
     /// Buffers taken for sending without a copy.
     pub buffers: u32,

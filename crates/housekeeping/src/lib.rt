@@ -3,7 +3,8 @@
 //! what it is told.
 //!
 //! Each counter shows how often it was ticked, up to 4294967295, each peak is the greatest number
-//! seen, and the packet has exactly the bytes of `housekeeping_packet`. No call takes memory.
+//! seen, and the packet has exactly the bytes of `housekeeping_packet`. By the code, no call takes
+//! memory.
 //!
 //! The caller below is proved, in the crate `bus_tests`.
 //!

@@ -20,7 +20,7 @@ use text_page::{Page, put};
 /// two, message ids and masks as `0x` and four hexadecimal digits, bytes as lower-case digits, all
 /// other numbers in decimal, and limit, scope and mode even where a script may leave them out.
 ///
-/// Takes no memory. After a failed write nothing is written any more.
+/// By the code, it takes no memory. After a failed write nothing is written any more.
 pub fn print_line<K: Sink>(sink: &mut SinkGuard<'_, K>, page: &mut Page, line: &Line)
     ensures { Puts sink.old sink.new page.old page.new (line_text line.now) }
 {

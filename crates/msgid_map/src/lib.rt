@@ -1,8 +1,8 @@
 //! A finite map from message ids to routes, for ids 1 to 0x1FFF (CCSDS 133.0-B, 4.1.3).
 //!
 //! The Software Bus finds in it the route of a message that is sent. A look-up answers what was
-//! inserted for this id, and None exactly where nothing was; it reads one place of a table over all
-//! ids, and no call but `new` takes memory.
+//! inserted for this id, and None exactly where nothing was. By the code, it reads one place of a
+//! table over all ids, and no call but `new` takes memory.
 //!
 //! ```
 //! /// Two ids get a route each; one of them is looked up, and one that has none.

@@ -41,7 +41,8 @@ impl Model for IdMap {
 }
 
 impl IdMap {
-    /// No id has a route, and there is room for `room` ids. No later call takes memory.
+    /// No id has a route, and there is room for `room` ids. By the code, no later call takes
+    /// memory.
     ///
     /// # Errors
     /// `AllocError` where there is no memory for the table.

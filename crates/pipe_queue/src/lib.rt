@@ -1,7 +1,7 @@
 //! The queue of one pipe of a software bus, and the item that was received last from it.
 //!
-//! Contracts see a list with a depth, and a last item; each call does just what that list says, and
-//! none but `new` takes memory.
+//! Contracts see a list with a depth, and a last item; each call does just what that list says. By
+//! the code, none but `new` takes memory.
 //!
 //! ```
 //! /// Of three items two fit, and the older one comes out.

@@ -32,7 +32,8 @@ impl Model for PipeQueue {
 }
 
 impl PipeQueue {
-    /// An empty queue with room for pipes of a depth up to `room`. No later call takes memory.
+    /// An empty queue with room for pipes of a depth up to `room`. By the code, no later call takes
+    /// memory.
     ///
     /// # Errors
     /// `AllocError` where memory runs out.

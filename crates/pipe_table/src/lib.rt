@@ -4,7 +4,8 @@
 //! kept of a pipe that has gone.
 //!
 //! Contracts see the pipes as a list in order of number, of which each call changes the one named
-//! and leaves the others, and beside it the place of each; no call but `new` takes memory.
+//! and leaves the others, and beside it the place of each. By the code, no call but `new` takes
+//! memory.
 //!
 //! ```
 //! /// A message queued on a new pipe is the one received last, once it was taken.

@@ -49,8 +49,8 @@ impl Model for PipeTable {
 }
 
 impl PipeTable {
-    /// No pipe, with room for `pipes` live ones that hold up to `depth` messages each. No later
-    /// call takes memory.
+    /// No pipe, with room for `pipes` live ones that hold up to `depth` messages each. By the code,
+    /// no later call takes memory.
     ///
     /// # Errors
     /// Where memory runs out.

@@ -26,6 +26,7 @@ pub record ToldPools : Type 0 where
   pub sizes : List ℕ
   pub pools : List ToldPool
 
+-- a pool of so many bytes that has given no grant yet
 abbrev pub new_told : List ℕ → ℕ → ToldPool
 new_told sizes bytes = record { account = new_account sizes bytes; grants = [] }
 
@@ -53,9 +54,11 @@ abbrev pub told_get_if : ToldPool → ℕ → Option ℕ → ToldPool
 told_get_if pool app None = pool
 told_get_if pool app (Some class) = if has_room_for pool.account class 1 then told_grant pool app class else pool
 
+-- what a request of so many bytes leaves
 abbrev pub told_get : ToldPool → ℕ → ℕ → ToldPool
 told_get pool app size = told_get_if pool app (class_of size pool.account.sizes)
 
+-- a request's answer: the number of the new grant, or that the pool has no block for it
 abbrev pub told_get_answer : ToldPool → ℕ → Result ℕ EsStatus
 told_get_answer pool size = if has_room pool.account size then Ok (length pool.grants + 1) else Err ErrMemBlockSize
 
@@ -81,38 +84,46 @@ told_account app account (grant ∷ grants) = told_account app (if grant.out && 
 abbrev pub told_end : ℕ → ToldPool → ToldPool
 told_end app pool = record { account = told_account app pool.account pool.grants; grants = map (back_from app) pool.grants }
 
--- whether a pool of this number was created, the pool, and the pools with it changed
+-- whether a pool of this number was created
 abbrev pub is_told : ToldPools → ℕ → Bool
 is_told s pool = nat_le 1 pool && nat_le pool (length s.pools)
 
+-- the pool of this number; one without bytes where none was created
 abbrev pub told_in : ToldPools → ℕ → ToldPool
 told_in s pool = slice_index_or s.pools (pool - 1) (new_told [] 0)
 
+-- the pools with this one under the number; as they are where none of the number was created
 abbrev pub with_told : ToldPools → ℕ → ToldPool → ToldPools
 with_told s pool after = if is_told s pool then record s { pools = slice_set s.pools (pool - 1) after } else s
 
--- a creation
+-- whether a creation is refused: there are eight pools, or so many bytes are too many, or too few for a block of the first size
 abbrev pub refuses_told : ToldPools → ℕ → Bool
 refuses_told s bytes = nat_le 8 (length s.pools) || not (nat_le bytes s.most) || not (nat_le (slice_index s.sizes 0 + overhead) bytes)
 
+-- a creation's answer: the number of the new pool, or that it is refused
 abbrev pub told_create_answer : ToldPools → ℕ → Result ℕ EsStatus
 told_create_answer s bytes = if refuses_told s bytes then Err ErrMemBlockSize else Ok (length s.pools + 1)
 
+-- the pools after a creation: the new one stands last, where it isn't refused
 abbrev pub told_create : ToldPools → ℕ → ToldPools
 told_create s bytes = if refuses_told s bytes then s else (record s { pools = s.pools ++ new_told s.sizes bytes ∷ [] })
 
+-- the pools after an application's end
 abbrev pub all_told_end : ℕ → ToldPools → ToldPools
 all_told_end app s = record s { pools = map (told_end app) s.pools }
 
--- what of a told pool is kept: its account, how many grants were given, and those that are out
+-- what is kept of a grant that is out: its number, the application that it was given to, and its block size
 abbrev pub present_grant : ToldGrant → Grant
 present_grant grant = record { number = grant.number; app = grant.app; class = grant.class }
 
+-- what is kept of a pool's grants: those that are out
 abbrev pub present_grants : List ToldGrant → List Grant
 present_grants grants = map present_grant (filter (λ grant. grant.out) grants)
 
+-- what is kept of a pool: its account, how many grants were given, and those that are out
 abbrev pub present_pool : ToldPool → PoolGrants
 present_pool pool = record { account = pool.account; given = length pool.grants; out = present_grants pool.grants }
 
+-- what is kept of the pools
 abbrev pub present : ToldPools → Pools
 present s = record { most = s.most; sizes = s.sizes; pools = map present_pool s.pools }

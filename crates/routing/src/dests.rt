@@ -56,7 +56,8 @@ impl Model for DestLists {
 }
 
 impl DestLists {
-    /// `lists` empty lists that may have `limit` destinations each. No later call takes memory.
+    /// `lists` empty lists that may have `limit` destinations each. By the code, no later call
+    /// takes memory.
     pub(crate) fn new(alloc: Global, lists: u32, limit: u32) -> Result<DestLists, AllocError>
         requires { lists * limit + lists < 2 ^ 32 }
         ensures { IfOk result

@@ -4,7 +4,7 @@
 //!
 //! A send finds its id's route in one look-up and goes along the destinations, at most two steps
 //! each, however many routes and destinations there are; a new destination goes last, and one that
-//! leaves takes no other with it. No call but `new` takes memory.
+//! leaves takes no other with it. By the code, no call but `new` takes memory.
 //!
 //! ```
 //! /// An id gets a route with one destination, and its first sequence count, which is 0 behind

@@ -66,7 +66,7 @@ impl Model for Routes {
 
 impl Routes {
     /// No routes yet, and room for `msgids` routes of `dests` destinations each, so many that all
-    /// of them can be numbered in 32 bits. No later call takes memory.
+    /// of them can be numbered in 32 bits. By the code, no later call takes memory.
     ///
     /// # Errors
     /// Where memory runs out.
@@ -233,7 +233,7 @@ impl Routes {
     }
 
     /// The next sequence count of a route: its id's start, one for each count that it has given,
-    /// and one more, modulo 16384. It counts as given. Takes a constant time.
+    /// and one more, modulo 16384. It counts as given. By the code, it takes a constant time.
     pub fn next_count(&mut self, route: u32) -> u16
         requires { route < length self.old.routes }
         ensures count { result ≡ next_of self.old.starts (route_at self.old route) }

@@ -41,8 +41,8 @@ impl<'r> BusCore<'r> {
     }
 
     /// Has messages of this id queued on the caller's pipe, up to `limit` of them at once. Where
-    /// the pipe is subscribed to the id already, this changes nothing. At most 2 steps for each
-    /// subscription of the id, and 10 more.
+    /// the pipe is subscribed to the id already, the bus tells and counts that, and nothing else
+    /// changes. At most 2 steps for each subscription of the id, and 10 more.
     ///
     /// # Errors
     /// `BadArgument` for an id that isn't 1 to 0x1FFF, and for a pipe that isn't live or isn't the
@@ -81,8 +81,8 @@ impl<'r> BusCore<'r> {
     }
 
     /// Has no more messages of this id queued on the caller's pipe. Those that wait
-    /// stay. Where the pipe isn't subscribed to the id, this changes nothing. At most 3 steps for
-    /// each subscription of the id, and 10 more.
+    /// stay. Where the pipe isn't subscribed to the id, the bus tells that, and nothing else
+    /// changes. At most 3 steps for each subscription of the id, and 10 more.
     ///
     /// # Errors
     /// `BadArgument` for an id that isn't 1 to 0x1FFF, and for a pipe that isn't live or isn't the

@@ -69,7 +69,7 @@ impl<'r> SbCore<'r> {
         self.records.counters()
     }
 
-    /// What is in use now, in constant time.
+    /// What is in use now. By the code, it takes a constant time.
     pub fn in_use(&self) -> InUse
         ensures now { result ≡ in_use self.now.limits self.now.whole.bus }
         ensures peaks { greater self.now.whole.bus.statistics.peak result ≡

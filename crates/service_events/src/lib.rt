@@ -1,7 +1,8 @@
 //! The events that the software bus tells of its own doings, as cFE's Software Bus sends event
 //! messages: their numbers, kinds and texts. The texts are this project's own.
 //!
-//! Number, kind and text of each are exactly those of `Events.antt`, and no call takes memory.
+//! Number, kind and text of each are exactly those of `Events.antt`. By the code, no call takes
+//! memory.
 //!
 //! The caller below is proved, in the crate `bus_tests`.
 //!

@@ -2,8 +2,8 @@
 //! messages may wait there at once.
 //!
 //! Contracts see the live subscriptions as a list, in order of their numbers, which are never given
-//! again; each call answers and changes just what that list says, and none but `new` takes memory.
-//! By its code, no call but `any_of_pipe` looks at another subscription than the one named.
+//! again; each call answers and changes just what that list says. By its code, none but `new` takes
+//! memory, and none but `any_of_pipe` looks at another subscription than the one named.
 //!
 //! ```
 //! /// A subscription that lets one message wait admits a first one, and is over its limit once

@@ -46,7 +46,8 @@ impl Model for Subs {
 }
 
 impl Subs {
-    /// Room for `room` live subscriptions, none of which is made yet. No later call takes memory.
+    /// Room for `room` live subscriptions, none of which is made yet. By the code, no later call
+    /// takes memory.
     ///
     /// # Errors
     /// `AllocError` where memory runs out.
@@ -63,7 +64,7 @@ impl Subs {
         })
     }
 
-    /// How many subscriptions are live. Takes a constant time.
+    /// How many subscriptions are live. By the code, it takes a constant time.
     pub fn len(&self) -> u32
         ensures { result ≡ length self.now.live }
     {
@@ -79,7 +80,7 @@ impl Subs {
     }
 
     /// A new subscription of a message id to a pipe that lies in this place, of whose messages none
-    /// waits. Whether the pair is live already isn't asked. Takes a constant time.
+    /// waits. Whether the pair is live already isn't asked. By the code, it takes a constant time.
     pub fn add(&mut self, id: u16, pipe: u32, place: u32, limit: u32, scope: Scope) -> SubNo
         requires room { length self.old.live < self.old.room }
         requires number { self.old.made + 1 < 2 ^ 32 }
@@ -119,7 +120,8 @@ impl Subs {
         }
     }
 
-    /// Ends a live subscription. Its slot is used again, its number never. Takes a constant time.
+    /// Ends a live subscription. Its slot is used again, its number never. By the code, it takes a
+    /// constant time.
     pub fn remove(&mut self, sub: SubNo)
         requires { IsSome (live_at self.old sub) }
         ensures { self.new ≡ without self.old sub }
@@ -128,8 +130,8 @@ impl Subs {
         self.free.push_reserved(sub.slot);
     }
 
-    /// What a live subscription was made with, and how many of its messages wait. Takes a constant
-    /// time.
+    /// What a live subscription was made with, and how many of its messages wait. By the code, it
+    /// takes a constant time.
     pub fn at(&self, sub: SubNo) -> SubRow
         requires { IsSome (live_at self.now sub) }
         ensures { option_map row_of (live_at self.now sub) ≡ Some result }
@@ -138,7 +140,7 @@ impl Subs {
     }
 
     /// What the limit of a subscription says of one message more; one that has ended has no limit.
-    /// Takes a constant time.
+    /// By the code, it takes a constant time.
     pub fn admit(&self, sub: SubNo) -> Verdict
         ensures { result ≡ verdict_at self.now sub }
     {
@@ -148,8 +150,8 @@ impl Subs {
         }
     }
 
-    /// One more message of a subscription waits; no effect where it has ended. Takes a constant
-    /// time.
+    /// One more message of a subscription waits; no effect where it has ended. By the code, it
+    /// takes a constant time.
     pub fn queued(&mut self, sub: SubNo)
         requires { ForSome (live_at self.old sub) (λ s. s.waiting + 1 < 2 ^ 32) }
         ensures { self.new ≡ with_change self.old sub one_more }
@@ -160,7 +162,7 @@ impl Subs {
     }
 
     /// One message of a subscription, of which at least one waits, waits no longer; no effect where
-    /// it has ended. Takes a constant time.
+    /// it has ended. By the code, it takes a constant time.
     pub fn unqueued(&mut self, sub: SubNo)
         requires { ForSome (live_at self.old sub) (λ s. 1 ≤ s.waiting) }
         ensures { self.new ≡ with_change self.old sub one_fewer }

@@ -24,8 +24,8 @@ use std::marker::Model;
 /// most one staged value, in its own inactive block or in one of four working buffers.
 ///
 /// A table is named by a key below the number that `new` was given. Contracts see the pool's
-/// account, what is kept for each table by its key, and how many working buffers are free. After
-/// `new` no call takes memory.
+/// account, what is kept for each table by its key, and how many working buffers are free. By the
+/// code, no call takes memory after `new`.
 #[derive(Drop)]
 pub struct TableBlocks<'r> {
     /// The pool, with the memory of its blocks.

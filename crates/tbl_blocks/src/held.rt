@@ -28,7 +28,8 @@ impl<'r> Model for HeldTables<'r> {
 }
 
 impl<'r> HeldTables<'r> {
-    /// No view, with room for one of each of so many handles. No later call takes memory.
+    /// No view, with room for one of each of so many handles. By the code, no later call takes
+    /// memory.
     ///
     /// # Errors
     ///

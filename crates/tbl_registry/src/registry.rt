@@ -45,8 +45,8 @@ impl Model for Registry {
 }
 
 impl Registry {
-    /// No table, with room for `tables` tables and `handles` live handles. No later call takes
-    /// memory.
+    /// No table, with room for `tables` tables and `handles` live handles. By the code, no later
+    /// call takes memory.
     ///
     /// # Errors
     /// `AllocError` where memory runs out.

@@ -15,7 +15,8 @@
 //! ```
 //!
 //! A run may wait, for the turns of its applications and for messages that they send to each other;
-//! nothing is claimed of how long. All memory is taken before the first call, by the code.
+//! nothing is claimed of how long. By the code, all memory is taken before the first call, but for
+//! what each thread takes when it is started.
 //!
 //! # Implementation
 //!

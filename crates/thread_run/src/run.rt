@@ -23,7 +23,8 @@ use std::thread::Threads;
 /// Runs a script: each application on a thread of its own, which runs its lines and makes its end,
 /// at the tables first and then at the bus. Messages and tables lie in the regions, which are at
 /// least as large as the script's configuration says. The gate's calls stand round each line,
-/// outside every lock. By the code, all memory is taken before the first call.
+/// outside every lock. By the code, all memory is taken before the first call, but for what each
+/// thread takes when it is started.
 ///
 /// The call may wait, and returns once all applications have ended. Where an application's thread
 /// can't be started the caller runs the application, once all others were started; one that waits

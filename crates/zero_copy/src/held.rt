@@ -50,7 +50,7 @@ impl Model for HeldLists {
 
 impl HeldLists {
     /// Empty lists for `apps` applications over descriptors 0 to `descs` - 1, together fewer than
-    /// 2^32. No later call takes memory.
+    /// 2^32. By the code, no later call takes memory.
     ///
     /// # Errors
     ///

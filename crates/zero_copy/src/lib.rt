@@ -3,8 +3,8 @@
 //!
 //! The Software Bus keeps in them which buffers an application has allocated and not sent yet (cFE
 //! Software Bus, zero copy). A descriptor is in one list at most, letting go of one and taking the
-//! first need no search, no call but `new` takes memory, and a call takes at most 8 steps, however
-//! many buffers and applications there are.
+//! first need no search, and a call takes at most 8 steps, however many buffers and applications
+//! there are. By the code, no call but `new` takes memory.
 //!
 //! ```
 //! /// Two buffers are held, the older one is let go of, and the newer one comes first, in at most
