@@ -1,7 +1,6 @@
 -- Calls of other applications leave an application as it stands.
-use Rattle.std.proofs.Common.{◌≡◌, ◌≢◌, ℕ, ◌-◌, ◌≤◌, true, List, [], ◌∷◌, ◌++◌, Some, IfSome, IsTrue, refl, ap, sym, ◌∙◌, subst, append-nil, append_assoc, inl, inr, ne_eqb, arith}
+use Rattle.std.proofs.Common.{◌≡◌, ◌≢◌, ℕ, ◌≤◌, true, List, [], ◌∷◌, ◌++◌, Some, IfSome, IsTrue, refl, ap, sym, ◌∙◌, subst, append-nil, append_assoc, inl, inr, ne_eqb}
 use Rattle.std.specs.List.{All}
-use Rattle.std.proofs.lemmas.List.{get_or-set_other}
 use Rattle.std.proofs.lemmas.List.Elements.{All-head, All-tail}
 use Rattle.bus_words.specs.declared.calls.BusAnswer.{BusAnswer}
 use Rattle.bus_words.specs.declared.history.Call.{Call}
@@ -20,6 +19,7 @@ use Rattle.script_runs.specs.Told.{own_hold, own_last}
 use Rattle.script_runs.proofs.HeldReceipts.{own_hold-other}
 use Rattle.script_runs.proofs.LastMessages.{own_last-other}
 use Rattle.bus_words.proofs.LegalSteps.{caller-first, standing-step, legal-last, legal-front}
+use Rattle.bus_words.proofs.OwnEntries.{charged_other}
 use Rattle.fsw_base.specs.Limits.{Limits}
 use Rattle.tbl_words.specs.declared.calls.TblAnswer.{TblAnswer}
 use Rattle.tbl_words.specs.declared.history.Call.{Call as TableCall}
@@ -52,9 +52,6 @@ pub record Called (before after : Core) (who : ℕ) (call : Call) (answer : BusA
   pub left : left_of after.log ≡ charged (left_of before.log) who (call_bytes call)
   pub state : state_of after ≡ (step before.limits before.log.entries (state_of before) who call).1
 
-differ : (a b : ℕ) → (a ≡ b → ⊥) → 1 ≤ a → b - 1 ≡ a - 1 → 1 ≤ b → ⊥
-differ a b other first same some = other (omega (arith, first, same, some))
-
 pub stands-called : (one : Equipped) (before after : Core) (who : ℕ) (call : Call) (answer : BusAnswer) → Called before after who call answer →
     apps_of after ≡ apps_of before → (who ≡ one.progress.running.app → ⊥) → 1 ≤ one.progress.running.app → StandsAtBus one before → StandsAtBus one after
 stands-called one before after who call answer c apps other some stands =
@@ -63,7 +60,7 @@ stands-called one before after who call answer c apps other some stands =
     let first = caller-first (state_of before) who call c.may in
     let left : allowance_of (left_of after.log) app ≡ allowance_of (left_of before.log) app =
     ap (λ l. allowance_of l app) c.left
-    ∙ get_or-set_other (left_of before.log) (who - 1) (app - 1) _ _ (λ same. differ who app other first same some) in
+    ∙ charged_other (left_of before.log) who app (call_bytes call) first some (ne_eqb who app other) in
     record {
       known = subst (λ n. app ≤ n) (sym apps) stands.known;
       standing = ap (λ s. standing_of s app) c.state
@@ -188,7 +185,7 @@ stands-called_at_tables one before after who call answer c apps other some stand
     let first = has_number (tables_of before).ended who (goes (tables_of before) who c.may) in
     let left : allowance_of (tables_left_of after.log) app ≡ allowance_of (tables_left_of before.log) app =
     ap (λ l. allowance_of l app) c.left
-    ∙ get_or-set_other (tables_left_of before.log) (who - 1) (app - 1) _ _ (λ same. differ who app other first same some) in
+    ∙ charged_other (tables_left_of before.log) who app (table_call_bytes call) first some (ne_eqb who app other) in
     record {
       known = subst (λ n. app ≤ n) (sym apps) stands.known;
       ended = ap (λ s. has_ended s app) c.state ∙ ended-other before.limits (tables_of before) who app call c.may other some ∙ stands.ended;

@@ -23,7 +23,7 @@ use Rattle.bus_service.specs.Ports.{left_by}
 use Rattle.bus_service.specs.Turns.{Entered}
 use Rattle.bus_service.specs.declared.boxed.NotedCall.{NotedCall}
 use Rattle.bus_service.proofs.Histories.{entries_in-with_notes, notes_in-with_notes, own-entries_in, entries_in-append, notes_in-append, due-parts, even_pairs, own-append, by_others, nothing_more}
-use Rattle.bus_service.proofs.Allowances.{allowed_by_own}
+use Rattle.bus_words.proofs.OwnEntries.{allowed_by_own}
 use Rattle.bus_service.proofs.Meanwhile.{may_meanwhile, left_meanwhile, standing_meanwhile}
 
 -- the core with this fixed part, these entries and these notes

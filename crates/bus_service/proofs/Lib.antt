@@ -1,5 +1,4 @@
 mod Active
-mod Allowances
 mod Allowed
 pub mod Crossing
 mod Few

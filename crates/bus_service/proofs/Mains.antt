@@ -31,7 +31,7 @@ use Rattle.bus_service.specs.Ports.{PortView, MainView, Begins, KeepsLongerOf, b
 use Rattle.bus_service.specs.declared.boxed.NotedCall.{NotedCall}
 use Rattle.bus_service.specs.declared.permits.Permits.{Permits}
 use Rattle.bus_service.proofs.Active.{active_alone}
-use Rattle.bus_service.proofs.Allowances.{allowed_by_own}
+use Rattle.bus_words.proofs.OwnEntries.{allowed_by_own}
 use Rattle.bus_service.proofs.Allowed.{at_most, tested}
 use Rattle.bus_service.proofs.Few.{none_once, one_more, room_for}
 use Rattle.bus_service.proofs.Found.{core_of, entries_again, notes_again}

@@ -29,7 +29,7 @@ use Rattle.bus_service.specs.declared.boxed.NotedCall.{NotedCall}
 use Rattle.bus_service.specs.declared.permits.Permits.{Permits}
 use Rattle.bus_service.proofs.Found.{core_of, even, entries_again, notes_again, fixed_found, own_found, own_at, others_called, known, left_found, standing_found, bag_found}
 use Rattle.bus_service.proofs.Histories.{with_notes-push, own-entries_in, own-push}
-use Rattle.bus_service.proofs.Meanwhile.{callers_from_one}
+use Rattle.bus_words.proofs.OwnEntries.{callers_from_one}
 
 module _ (s : SeatView Fixed NotedCall) (app : ℕ) (left : Allowance) (bag : Holding LentBytes) (port : IsPort s app left bag) (old : Core) (e : Entered (view_of s) old)
     (new : Core) (call : Call) (answer : BusAnswer) (d : Does old new app call answer) where

@@ -1,9 +1,10 @@
 -- What the lock knows of the core: what never changes, and its history, each call with its answer and note beside its application.
-use Rattle.std.specs.Prelude.{ℕ, ◌==◌, List, [], ◌∷◌, map, filter, Option, Some, None}
+use Rattle.std.specs.Prelude.{ℕ, List, [], ◌∷◌, map, Option, Some, None}
 use Rattle.fsw_base.specs.Limits.{Limits, usual_limits}
 use Rattle.fsw_base.specs.declared.config.Budget.{Budget}
 use Rattle.lend_block.specs.declared.note.Note.{Note}
 use Rattle.bus_words.specs.declared.history.Entry.{Entry}
+pub use Rattle.bus_words.specs.Runs.{own_entries}
 use Rattle.sb_calls.specs.Core.{Core}
 use Rattle.bus_service.specs.declared.boxed.NotedCall.{NotedCall}
 
@@ -53,7 +54,3 @@ core_with fixed pairs = record {
   log = record { budgets = (the_fixed fixed).budgets; entries = entries_in pairs };
   notes = notes_in pairs;
 }
-
--- one application's entries, in order
-abbrev pub own_entries : ℕ → List Entry → List Entry
-own_entries app entries = filter (λ e. e.app == app) entries

@@ -3,7 +3,7 @@ ghost use Rattle.std.specs.Prelude.{◌≡◌, ℕ, ◌≤◌, ◌++◌, ◌∷�
 ghost use Rattle.fsw_base.specs.Limits.{limits_of};
 ghost use Rattle.journal_store.specs.Budgets.{AreBudgets};
 ghost use Rattle.sb_calls.specs.Core.{IsLegalCore, StandAlone};
-ghost use Rattle.bus_service.specs.Histories.{own_entries};
+ghost use Rattle.bus_words.specs.Runs.{own_entries};
 ghost use Rattle.bus_service.specs.Ports.{Begins, KeepsLongerOf, buffers_for};
 
 use crate::boxed::{BoxedCore, NotedCall, Opening};

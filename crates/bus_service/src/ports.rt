@@ -8,7 +8,7 @@ ghost use Rattle.bus_words.specs.declared.history.Call.TheVariants.{Look};
 ghost use Rattle.sb_calls.specs.Bags.{HasBag, last_message};
 ghost use Rattle.sb_calls.specs.Core.{MayCall, state_of};
 ghost use Rattle.sb_calls.specs.Views.{bytes_seen};
-ghost use Rattle.bus_service.specs.Histories.{own_entries};
+ghost use Rattle.bus_words.specs.Runs.{own_entries};
 ghost use Rattle.bus_service.specs.Ports.{Answers, AnswersLook, FindsRoom, left_by};
 
 use crate::boxed::{NotedCall, Opening};

@@ -14,6 +14,8 @@ pub mod Journals
 pub mod KeptPipes
 pub mod Lasts
 pub mod LegalSteps
+pub mod OwnEntries
+pub mod OwnStandings
 pub mod Owners
 pub mod PipeItems
 pub mod PoolGrants

@@ -1,9 +1,13 @@
--- Histories as runs: what a list of calls makes, each answered by the machine's step.
-use Rattle.std.specs.Prelude.{◌≡◌, ℕ, List, [], ◌∷◌, ◌++◌, map}
+-- Histories as runs: what a list of calls makes, each answered by the machine's step. And what an application's own entries
+-- tell of it.
+use Rattle.std.specs.Prelude.{◌≡◌, ℕ, ◌==◌, List, [], ◌∷◌, ◌++◌, map, filter}
 use Rattle.fsw_base.specs.Limits.{Limits}
+use Rattle.bus_words.specs.declared.calls.BusAnswer.{BusAnswer}
+use Rattle.bus_words.specs.declared.calls.BusAnswer.TheVariants.{Pending}
 use Rattle.bus_words.specs.declared.history.Call.{Call}
+use Rattle.bus_words.specs.declared.history.Call.TheVariants.{Pend, End}
 use Rattle.bus_words.specs.declared.history.Entry.{Entry}
-use Rattle.bus_words.specs.Bus.{State}
+use Rattle.bus_words.specs.Bus.{State, Standing, Active, Waiting, Ended}
 use Rattle.bus_words.specs.Machine.{step, state_after, IsLegal}
 
 -- who made which call, in order
@@ -21,3 +25,22 @@ stepped limits history s (made ∷ calls) =
 pub record Follows (limits : Limits) (apps : ℕ) (history : List Entry) (e : Entry) : Type 0 where
   pub legal : IsLegal limits apps (history ++ e ∷ [])
   pub state : state_after limits apps (history ++ e ∷ []) ≡ (step limits history (state_after limits apps history) e.app e.call).1
+
+-- What an application's own entries tell. --
+
+-- one application's entries, in order
+abbrev pub own_entries : ℕ → List Entry → List Entry
+own_entries app entries = filter (λ e. e.app == app) entries
+
+-- how an application stands once its call was so answered: a receive that has to wait leaves it waiting on that pipe, its end
+-- leaves it ended, every other call leaves it active
+abbrev pub standing_by : Call → BusAnswer → Standing
+standing_by (Pend pipe) Pending = Waiting pipe
+standing_by End answer = Ended
+standing_by call answer = Active
+
+-- how an application with these entries of its own stands: as the last of them leaves it; active before the first
+abbrev pub standing_behind : List Entry → Standing
+standing_behind [] = Active
+standing_behind (e ∷ []) = standing_by e.call e.answer
+standing_behind (e ∷ f ∷ es) = standing_behind (f ∷ es)

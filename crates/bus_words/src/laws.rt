@@ -1,16 +1,19 @@
 //! What holds of every history of the bus, whoever kept it.
-ghost use Rattle.std.specs.Prelude.{◌≡◌, ℕ, ◌≤◌, List, [], ◌∷◌, ◌++◌, length, sum_by, true, false, IsTrue};
+ghost use Rattle.std.specs.Prelude.{◌≡◌, ◌≢◌, ℕ, ◌≤◌, All, List, [], ◌∷◌, ◌++◌, length, sum_by, true, false, IsTrue};
 ghost use Rattle.fsw_base.specs.Limits.{Limits};
+ghost use Rattle.fsw_base.specs.declared.config.Budget.{Budget};
 ghost use Rattle.housekeeping.specs.Peaks.{greater};
+ghost use Rattle.journal_store.specs.Budgets.{allowance_of};
 ghost use Rattle.bus_words.specs.declared.history.Call.{Call};
 ghost use Rattle.bus_words.specs.declared.history.Call.TheVariants.{Transmit, Housekeeping};
 ghost use Rattle.bus_words.specs.declared.history.Entry.{Entry};
 ghost use Rattle.bus_words.specs.Bus.{ArePools, State, opening, standing_of, has_ended, owns, unsent_of};
 ghost use Rattle.bus_words.specs.Held.{AreUnsent, IsAccounted, HoldsNothing, held, block_of, account_of, bytes_in_use, in_use};
+ghost use Rattle.bus_words.specs.Log.{Log, left_of};
 ghost use Rattle.bus_words.specs.Machine.{reads_after, cause, cause_with, step, state_after, may_call, makes_entry, brings, desk_after, statistics_after, IsLegal};
 ghost use Rattle.bus_words.specs.Sends.{packet_in};
 ghost use Rattle.bus_words.specs.Acts.{AreAlike, Whole, act, reads_in, whole_after, whole_of};
-ghost use Rattle.bus_words.specs.Runs.{callers, stepped, Follows};
+ghost use Rattle.bus_words.specs.Runs.{callers, stepped, Follows, own_entries, standing_behind};
 ghost use Rattle.bus_words.specs.Alone.{Received, Gives, unmade, solo_receipts, cut, gets_from, receipts};
 
 /// A legal history is a run: its calls, made in order from where the bus opens, give the same
@@ -28,6 +31,31 @@ pub fn histories_are_runs()
         IsTrue (makes_entry e.call e.answer) →
         IsTrue (brings (state_after limits apps history).unsent e.app e.call) →
         Follows limits apps history e }
+{}
+
+/// What the bus asks of an application before a call, that its standing allows the call and that
+/// its budget has room for the entry, follows from the application's own entries and its budget.
+/// Entries of others behind a legal history change neither how it stands nor what it may still add.
+/// What it may still add is its budget less its own entries alone; and it stands as the last of its
+/// own entries leaves it. Does nothing.
+pub fn own_entries_decide()
+    ensures standing { (limits : Limits) (apps app : ℕ) (history more : List Entry) →
+        IsLegal limits apps (history ++ more) → All (λ (e : Entry). e.app ≢ app) more →
+        standing_of (state_after limits apps (history ++ more)) app ≡
+        standing_of (state_after limits apps history) app }
+    ensures left { (limits : Limits) (apps app : ℕ) (budgets : List Budget)
+        (history more : List Entry) →
+        IsLegal limits apps (history ++ more) → 1 ≤ app → All (λ (e : Entry). e.app ≢ app) more →
+        allowance_of (left_of (record { budgets = budgets; entries = history ++ more })) app ≡
+        allowance_of (left_of (record { budgets = budgets; entries = history })) app }
+    ensures own { (limits : Limits) (apps app : ℕ) (log : Log) →
+        IsLegal limits apps log.entries → 1 ≤ app → app ≤ length log.budgets →
+        allowance_of (left_of (record log { entries = own_entries app log.entries })) app ≡
+        allowance_of (left_of log) app }
+    ensures last { (limits : Limits) (apps app : ℕ) (history : List Entry) →
+        IsLegal limits apps history → 1 ≤ app → app ≤ apps →
+        standing_of (state_after limits apps history) app ≡
+        standing_behind (own_entries app history) }
 {}
 
 /// Each pipe stands alone: what its owner receives is what a pipe gives that knows nothing of the

@@ -27,8 +27,8 @@ pub use journal::BusJournal;
 pub use journal_store::Allowance;
 pub use laws::{
     buffers_are_apart, bytes_are_of_sends, draws_are_counted, ends_leave_nothing, events_are_told,
-    histories_are_runs, housekeeping_is_a_send, pipes_stand_alone, pools_are_counted,
-    states_are_enough, statistics_are_counted,
+    histories_are_runs, housekeeping_is_a_send, own_entries_decide, pipes_stand_alone,
+    pools_are_counted, states_are_enough, statistics_are_counted,
 };
 pub use pipe_text::{NAME_BYTES, PipeText};
 pub use receipts::{HEAD_BYTES, Head, Receipt, ReceiptList};

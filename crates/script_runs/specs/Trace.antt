@@ -1,10 +1,11 @@
 -- What a history of the bus has of one application of a script: the calls of its lines, each once and in their order.
-use Rattle.std.specs.Prelude.{◌≡◌, ℕ, ◌==◌, List, [], ◌∷◌, filter, replicate, slice_index, slice_set, Option, Some, None}
+use Rattle.std.specs.Prelude.{◌≡◌, ℕ, List, [], ◌∷◌, replicate, slice_index, slice_set, Option, Some, None}
 use Rattle.bus_words.specs.declared.calls.BusAnswer.{BusAnswer}
 use Rattle.bus_words.specs.declared.calls.BusAnswer.TheVariants.{Number, Pending}
 use Rattle.bus_words.specs.declared.history.Call.{Call}
 use Rattle.bus_words.specs.declared.history.Call.TheVariants as calls
 use Rattle.bus_words.specs.declared.history.Entry.{Entry}
+pub use Rattle.bus_words.specs.Runs.{own_entries}
 use Rattle.script_lines.specs.declared.line.Line.{Line}
 use Rattle.script_lines.specs.declared.line.Line.TheVariants as lines
 use Rattle.script_runs.specs.Messages.{sent_message}
@@ -107,7 +108,3 @@ Trace registers written (line ∷ lines) es =
     LineEntries (call_of registers written line)
     (λ call answer rest. Trace (registers_after registers line answer) (written_after written call answer) lines rest)
     (λ rest. Trace registers (written_by written registers.buffers line) lines rest) es
-
--- the entries of one application
-abbrev pub own_entries : ℕ → List Entry → List Entry
-own_entries app history = filter (λ e. e.app == app) history

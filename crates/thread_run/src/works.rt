@@ -5,7 +5,7 @@ ghost use Rattle.sb_calls.specs.Core.{state_of};
 ghost use Rattle.tbl_words.specs.Tables.{has_ended as has_ended_at_tables};
 ghost use Rattle.tbl_load.specs.Core.{state_of as tables_of};
 ghost use Rattle.script_runs.specs.TableTrace.{own_table_entries};
-ghost use Rattle.script_runs.specs.Trace.{own_entries};
+ghost use Rattle.bus_words.specs.Runs.{own_entries};
 ghost use Rattle.core_calls.specs.Callers.{SameServices};
 ghost use Rattle.app_run.specs.Turns.{MayTurn, TakesTurnBy};
 ghost use Rattle.thread_run.specs.Works.{MayWork, IsDone};
