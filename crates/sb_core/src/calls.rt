@@ -200,6 +200,8 @@ impl<'r> SbCore<'r> {
         ensures does { Acts self.old self.new app (Receive pipe) (got result) }
         ensures unowned { owns self.old.whole.bus.pipes app pipe ≡ false →
             self.new ≡ with_tick self.old CounterName.Recv }
+        ensures bag_refused { owns self.old.whole.bus.pipes app pipe ≡ false →
+            held.new ≡ held.old }
         ensures loans { KeepsLoans self.old self.new pipe }
         ensures descs { KeepsAllDescs self.old self.new }
         ensures bag { HasBag self.new app held.new }

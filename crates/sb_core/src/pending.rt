@@ -1,6 +1,6 @@
 //! Receives that wait. Nothing blocks here: an application that would wait is told so, and looks
 //! again in its next turn.
-ghost use Rattle.std.specs.Prelude.{◌≡◌, ◌≤◌, ◌+◌, ◌-◌, false, not, length, slice_set, slice_index_or, count_by, if◌then◌else◌};
+ghost use Rattle.std.specs.Prelude.{◌≡◌, ◌≤◌, ◌+◌, ◌-◌, false, not, length, slice_set, slice_index_or, count_by, if◌then◌else◌, OnErr};
 ghost use Rattle.std.specs.List.{list_all};
 ghost use Rattle.bus_words.specs.declared.history.Call.TheVariants.{Pend, Look};
 ghost use Rattle.bus_words.specs.Bus.{owns, standing_of, waited_on};
@@ -73,6 +73,7 @@ impl<'r> SbCore<'r> {
         ensures does { Acts self.old self.new app (Pend pipe) (pended result) }
         ensures unowned { owns self.old.whole.bus.pipes app pipe ≡ false →
             self.new ≡ with_tick self.old CounterName.Recv }
+        ensures bag_refused { OnErr result (held.new ≡ held.old) }
         ensures loans { KeepsLoans self.old self.new pipe }
         ensures descs { KeepsAllDescs self.old self.new }
         ensures bag { HasBag self.new app held.new }

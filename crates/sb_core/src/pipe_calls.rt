@@ -1,5 +1,5 @@
 //! The calls on a pipe that is there: its end, its option bits, its number and its name.
-ghost use Rattle.std.specs.Prelude.{◌≡◌, ℕ, false};
+ghost use Rattle.std.specs.Prelude.{◌≡◌, ℕ, false, OnErr};
 ghost use Rattle.bus_words.specs.declared.history.Call.TheVariants.{Delete, SetOpts, GetOpts, Find, PipeName};
 ghost use Rattle.bus_words.specs.Bus.{owns};
 ghost use Rattle.sb_core.specs.Core.{MayAct, Acts, with_tick};
@@ -33,6 +33,7 @@ impl<'r> SbCore<'r> {
         ensures does { Acts self.old self.new app (Delete pipe) (done result) }
         ensures unowned { owns self.old.whole.bus.pipes app pipe ≡ false →
             self.new ≡ with_tick self.old CounterName.Create }
+        ensures bag_refused { OnErr result (held.new ≡ held.old) }
         ensures loans { KeepsLoans self.old self.new pipe }
         ensures descs { KeepsAllDescs self.old self.new }
         ensures bag { HasBag self.new app held.new }
