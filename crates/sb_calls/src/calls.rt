@@ -1,8 +1,8 @@
 //! The calls of subscriptions and messages, and the last call. Each is the core's call and one
 //! entry of the journal: the call with its answer.
-ghost use Rattle.std.specs.Prelude.{◌≡◌, ℕ, ◌+◌, ◌*◌, ◌≤◌, [], length, Ok};
+ghost use Rattle.std.specs.Prelude.{◌≡◌, ℕ, ◌+◌, ◌*◌, ◌≤◌, false, [], length, Ok};
 ghost use Rattle.ccsds_msg.specs.Message.{message_id};
-ghost use Rattle.bus_words.specs.Bus.{route};
+ghost use Rattle.bus_words.specs.Bus.{owns, route};
 ghost use Rattle.sb_calls.specs.Bags.{HasBag, KeepsBags, KeepsOtherBags};
 ghost use Rattle.sb_calls.specs.Core.{MayCall, Does, GotAlone, state_of};
 ghost use Rattle.sb_core.specs.Answers.{created, done, sent, got};
@@ -166,6 +166,8 @@ impl<'r> BusCore<'r> {
         ensures bag { HasBag self.new app held.new }
         ensures other_bags { KeepsOtherBags self.old self.new app }
         ensures buffers { held.new ≡ record held.old { views = held.new.views } }
+        ensures bag_refused { owns (state_of self.old).pipes app pipe ≡ false →
+            held.new ≡ held.old }
         ensures alone { (number : ℕ) → result ≡ Ok number →
             GotAlone self.old app pipe (Call.Receive pipe) number held.new }
         ensures cost { steps.new ≤ steps.old + 32 }

@@ -1,6 +1,6 @@
 //! Receives that wait. Nothing blocks here: an application that would wait is told so, and looks
 //! again in its next turn.
-ghost use Rattle.std.specs.Prelude.{◌≡◌, ℕ, ◌+◌, ◌≤◌, Ok};
+ghost use Rattle.std.specs.Prelude.{◌≡◌, ℕ, ◌+◌, ◌≤◌, Ok, OnErr};
 ghost use Rattle.bus_words.specs.declared.history.Call.TheVariants.{Look};
 ghost use Rattle.bus_words.specs.Bus.{standing_of, waited_on};
 ghost use Rattle.sb_core.specs.Answers.{pended};
@@ -39,6 +39,7 @@ impl<'r> BusCore<'r> {
         ensures bag { HasBag self.new app held.new }
         ensures other_bags { KeepsOtherBags self.old self.new app }
         ensures buffers { held.new ≡ record held.old { views = held.new.views } }
+        ensures bag_refused { OnErr result (held.new ≡ held.old) }
         ensures alone { (number : ℕ) → result ≡ Ok (Pended.Got number) →
             GotAlone self.old app pipe (Call.Pend pipe) number held.new }
         ensures cost { steps.new ≤ steps.old + 32 }

@@ -1,6 +1,6 @@
 //! The calls on a pipe that is there: its end, its option bits, its number and its name. Each is
 //! the core's call and one entry of the journal.
-ghost use Rattle.std.specs.Prelude.{◌≡◌};
+ghost use Rattle.std.specs.Prelude.{◌≡◌, OnErr};
 ghost use Rattle.sb_calls.specs.Bags.{HasBag, KeepsBags, KeepsOtherBags};
 ghost use Rattle.sb_calls.specs.Core.{MayCall, Does};
 ghost use Rattle.sb_core.specs.Answers.{done, found, bits_told, named};
@@ -33,6 +33,7 @@ impl<'r> BusCore<'r> {
         ensures bag { HasBag self.new app held.new }
         ensures other_bags { KeepsOtherBags self.old self.new app }
         ensures buffers { held.new ≡ record held.old { views = held.new.views } }
+        ensures bag_refused { OnErr result (held.new ≡ held.old) }
     {
         let result = self.core.delete_pipe(app, pipe, held, steps);
         let entry = BusEntry {

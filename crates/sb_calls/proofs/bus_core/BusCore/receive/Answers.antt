@@ -1,11 +1,12 @@
-use Rattle.std.proofs.Common.{ap}
+use Rattle.std.proofs.Common.{ap, ◌∙◌}
 use Rattle.bus_words.specs.declared.history.Call.TheVariants.{Receive}
+use Rattle.bus_words.specs.Bus.{State, owns}
 use Rattle.sb_calls.proofs.Alone.{received_alone}
 use Rattle.sb_core.specs.Core.{Plain}
 use Rattle.sb_calls.proofs.CoreBags.{bag_in, bag_out}
 use Rattle.sb_calls.proofs.Made.{made_receive}
 use Rattle.sb_calls.proofs.OthersBags.{others_keep}
-use Rattle.sb_calls.proofs.Over.{may_act, stands_over, does_over}
+use Rattle.sb_calls.proofs.Over.{bus_now, may_act, stands_over, does_over}
 use Rattle.sb_calls.proofs.bus_core.BusCore.receive.Goals as goal
 
 pub receive-result-requires : goal.receive-result-requires
@@ -50,3 +51,7 @@ returns-clause-alone g c = λ number is.
 
 pub returns-clause-other_bags : goal.returns-clause-other_bags
 returns-clause-other_bags g c = others_keep c.args.self.now _ c.args.app (Receive c.args.pipe) _ (returns-clause-does g c)
+
+pub returns-clause-bag_refused : goal.returns-clause-bag_refused
+returns-clause-bag_refused g c = λ none.
+    c.receive-result.ensures.bag_refused (ap (λ (s : State). owns s.pipes c.args.app c.args.pipe) (bus_now c.self.inside c.args.self.now c.self.view_is c.self.invariant) ∙ none)
