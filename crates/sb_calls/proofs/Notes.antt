@@ -70,3 +70,19 @@ due-push [] e [] name due = ((name, refl), tt)
 due-push [] e (n ∷ notes) name due = absurd due
 due-push (x ∷ es) e [] name due = absurd due
 due-push (x ∷ es) e (n ∷ notes) name due = (due.0, due-push es e notes name due.1)
+
+-- more entries with their notes
+pub due-append : (es more : List Entry) (notes others : List Note) → AreDue es notes → AreDue more others → AreDue (es ++ more) (notes ++ others)
+due-append [] more [] others due rest = rest
+due-append [] more (n ∷ notes) others due rest = absurd due
+due-append (e ∷ es) more [] others due rest = absurd due
+due-append (e ∷ es) more (n ∷ notes) others due rest = (due.0, due-append es more notes others due.1 rest)
+
+-- without the last entry and its note
+pub due-front : (es : List Entry) (e : Entry) (notes : List Note) (note : Note) → AreDue (es ++ e ∷ []) (notes ++ note ∷ []) → AreDue es notes
+due-front [] e [] note due = tt
+due-front [] e (n ∷ []) note due = absurd due.1
+due-front [] e (n ∷ m ∷ notes) note due = absurd due.1
+due-front (x ∷ []) e [] note due = absurd due.1
+due-front (x ∷ y ∷ es) e [] note due = absurd due.1
+due-front (x ∷ es) e (n ∷ notes) note due = (due.0, due-front es e notes note due.1)

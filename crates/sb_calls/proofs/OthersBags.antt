@@ -2,7 +2,7 @@
 use Rattle.std.proofs.Common.{◌≡◌, ◌≢◌, ℕ, ◌≤◌, ◌==◌, true, false, true≢false, ne_eqb, List, [], ◌∷◌, ◌++◌, length, map, find, append-nil, append_assoc, is_some, IsTrue, refl, ap, sym, ◌∙◌, subst, arith}
 use Rattle.std.specs.List.{All}
 use Rattle.std.proofs.lemmas.List.{length_push}
-use Rattle.std.proofs.lemmas.List.Elements.{All-head, All-tail}
+use Rattle.std.proofs.lemmas.List.Elements.{All-nil, All-cons, All-append, All-head, All-tail}
 use Rattle.lend_block.specs.Loan.{LentBytes}
 use Rattle.lend_block.specs.declared.note.Note.{Note}
 use Rattle.buf_desc.specs.Held.{Holding}
@@ -32,7 +32,7 @@ use Rattle.sb_calls.specs.Bags.{HasBag, KeepsOtherBags, CalledByOthers, loans_of
 use Rattle.sb_calls.specs.Core.{Core, Does, Looks, IsLegalCore, IsNoted, with_noted, apps_of, state_of}
 use Rattle.sb_calls.specs.Notes.{noted, noted_desc, note_due, gives_buffer}
 use Rattle.sb_calls.proofs.Holds.{holds-alike, last-live, loan_of-told, buffers-alike, desc_of-told}
-use Rattle.sb_calls.proofs.Notes.{noted-other, noted_desc-other, even-due}
+use Rattle.sb_calls.proofs.Notes.{noted-other, noted_desc-other, even-due, due-append, due-front}
 use Rattle.sb_calls.proofs.UnsentBuffers.{gives-next, unsent-given}
 
 -- the loans that are noted of these pipes
@@ -170,4 +170,36 @@ behind old app bag (e ∷ es) (n ∷ ns) others even noted legal has =
 pub others_behind : (old new : Core) (app : ℕ) (bag : Holding LentBytes) → CalledByOthers old new app → HasBag old app bag → HasBag new app bag
 others_behind old new app bag called has =
     subst (λ core. HasBag core app bag) (sym called.grown)
-    (behind old app bag called.entries called.notes called.by_others called.noted (even-due old.log.entries old.notes called.before) (subst (λ core. IsLegalCore core) called.grown called.legal) has)
+    (behind old app bag called.entries called.notes called.by_others (even-due called.entries called.notes called.noted) (even-due old.log.entries old.notes called.before) (subst (λ core. IsLegalCore core) called.grown called.legal) has)
+
+-- a call of another is one of others
+pub called_by : (old new : Core) (app other : ℕ) (call : Call) (answer : BusAnswer) → Does old new app call answer → app ≢ other → CalledByOthers old new other
+called_by old new app other call answer does differ =
+    let e : Entry = record { app = app; call = call; answer = answer } in
+    let note = note_due answer call does.name in
+    let pushed : IsNoted (with_noted old e note) = subst (λ core. IsNoted core) does.entry does.noted in
+    record {
+      entries = e ∷ [];
+      notes = note ∷ [];
+      by_others = All-cons (λ (x : Entry). x.app ≢ other) e [] differ (All-nil (λ (x : Entry). x.app ≢ other));
+      grown = does.entry;
+      legal = does.legal;
+      before = due-front old.log.entries e old.notes note pushed;
+      noted = ((does.name, refl), tt);
+    }
+
+-- and those that came behind it
+pub called_further : (old mid new : Core) (app : ℕ) → CalledByOthers old mid app → CalledByOthers mid new app → CalledByOthers old new app
+called_further old mid new app first second = record {
+  entries = first.entries ++ second.entries;
+  notes = first.notes ++ second.notes;
+  by_others = All-append (λ (x : Entry). x.app ≢ app) first.entries second.entries first.by_others second.by_others;
+  grown =
+      second.grown
+      ∙ ap (λ (core : Core). grown core second.entries second.notes) first.grown
+      ∙ ap (λ xs. record { limits = old.limits; log = record { budgets = old.log.budgets; entries = xs }; notes = (old.notes ++ first.notes) ++ second.notes }) (append_assoc old.log.entries first.entries second.entries)
+      ∙ ap (λ xs. record { limits = old.limits; log = record { budgets = old.log.budgets; entries = old.log.entries ++ (first.entries ++ second.entries) }; notes = xs }) (append_assoc old.notes first.notes second.notes);
+  legal = second.legal;
+  before = first.before;
+  noted = due-append first.entries second.entries first.notes second.notes first.noted second.noted;
+}

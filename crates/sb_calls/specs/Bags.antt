@@ -1,6 +1,6 @@
 -- What an application has in its bag of the messages that it received and of the buffers that it hasn't sent, said of the history,
 -- its notes and the bag.
-use Rattle.std.specs.Prelude.{◌≡◌, ◌≢◌, ℕ, ◌++◌, All, List, length, map, Option, Some, None, if◌then◌else◌}
+use Rattle.std.specs.Prelude.{◌≡◌, ◌≢◌, ℕ, ◌++◌, All, List, map, Option, Some, None, if◌then◌else◌}
 use Rattle.std.specs.Option.{option_map}
 use Rattle.lend_block.specs.Loan.{LentBytes}
 use Rattle.lend_block.specs.declared.note.Note.{Note}
@@ -12,7 +12,7 @@ use Rattle.bus_store.specs.Bag.{HoldsViews, HoldsBuffers}
 use Rattle.bus_store.specs.Store.{LastLoan, BufferDesc}
 use Rattle.bus_words.specs.Pipes.{last_on}
 use Rattle.sb_calls.specs.Core.{Core, IsLegalCore, IsNoted, state_of}
-use Rattle.sb_calls.specs.Notes.{noted, noted_desc}
+use Rattle.sb_calls.specs.Notes.{AreDue, noted, noted_desc}
 
 -- of each live pipe, the loan that was noted of it
 abbrev pub loans_of : Core → List LastLoan
@@ -46,7 +46,7 @@ AreOneLoan core =
     (pipe other : ℕ) (item its : Item) → last_on (state_of core).pipes pipe ≡ Some item → last_on (state_of core).pipes other ≡ Some its → item.number ≡ its.number →
     noted pipe core.log.entries core.notes ≡ noted other core.log.entries core.notes
 
--- Only others called meanwhile: their entries with their notes stand behind those that were there, and none of this
+-- Only others called meanwhile: their entries, each with the note that is due, stand behind those that were there, and none of this
 -- application's own.
 pub record CalledByOthers (old new : Core) (app : ℕ) : Type 0 where
   pub entries : List Entry
@@ -55,4 +55,4 @@ pub record CalledByOthers (old new : Core) (app : ℕ) : Type 0 where
   pub grown : new ≡ record { limits = old.limits; log = record { budgets = old.log.budgets; entries = old.log.entries ++ entries }; notes = old.notes ++ notes }
   pub legal : IsLegalCore new
   pub before : IsNoted old
-  pub noted : length notes ≡ length entries
+  pub noted : AreDue entries notes

@@ -1,5 +1,5 @@
 //! What holds of every bag, whoever has it.
-ghost use Rattle.std.specs.Prelude.{◌≡◌, ℕ, List};
+ghost use Rattle.std.specs.Prelude.{◌≡◌, ◌≢◌, ℕ, List};
 ghost use Rattle.lend_block.specs.Loan.{LentBytes};
 ghost use Rattle.buf_desc.specs.Held.{Holding, with_bytes_at};
 ghost use Rattle.bus_words.specs.declared.calls.BusAnswer.{BusAnswer};
@@ -10,7 +10,8 @@ ghost use Rattle.sb_calls.specs.Views.{bytes_seen};
 
 /// An application's bag shows the bytes of the last message of each of its pipes, and nothing of
 /// any other pipe; and it stays its bag whatever others call, by one entry or by many, and whatever
-/// the application writes over the bytes of its buffers. Does nothing.
+/// the application writes over the bytes of its buffers. A call of another is one of others, and so
+/// is one that follows such calls. Does nothing.
 pub fn bags_stay()
     ensures shown { (core : Core) (app pipe : ℕ) (bag : Holding LentBytes) → HasBag core app bag →
         bytes_seen bag pipe ≡ last_message (state_of core) app pipe }
@@ -18,6 +19,10 @@ pub fn bags_stay()
         Does old new app call answer → KeepsOtherBags old new app }
     ensures behind { (old new : Core) (app : ℕ) (bag : Holding LentBytes) →
         CalledByOthers old new app → HasBag old app bag → HasBag new app bag }
+    ensures called { (old new : Core) (app other : ℕ) (call : Call) (answer : BusAnswer) →
+        Does old new app call answer → app ≢ other → CalledByOthers old new other }
+    ensures further { (old mid new : Core) (app : ℕ) →
+        CalledByOthers old mid app → CalledByOthers mid new app → CalledByOthers old new app }
     ensures written { (core : Core) (app number : ℕ) (bag : Holding LentBytes) (w : List ℕ) →
         HasBag core app bag → HasBag core app (with_bytes_at bag number w) }
 {

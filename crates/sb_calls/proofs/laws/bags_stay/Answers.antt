@@ -1,5 +1,5 @@
 use Rattle.sb_calls.proofs.Alone.{shown}
-use Rattle.sb_calls.proofs.OthersBags.{others_keep, others_behind}
+use Rattle.sb_calls.proofs.OthersBags.{others_keep, others_behind, called_by, called_further}
 use Rattle.sb_calls.proofs.laws.bags_stay.Goals as goal
 
 pub returns-clause-shown : goal.returns-clause-shown
@@ -10,6 +10,12 @@ returns-clause-other_bags c = others_keep
 
 pub returns-clause-behind : goal.returns-clause-behind
 returns-clause-behind c = others_behind
+
+pub returns-clause-called : goal.returns-clause-called
+returns-clause-called c = called_by
+
+pub returns-clause-further : goal.returns-clause-further
+returns-clause-further c = called_further
 
 pub returns-clause-written : goal.returns-clause-written
 returns-clause-written c core app number bag w has = record {
