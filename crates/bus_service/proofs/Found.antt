@@ -22,7 +22,7 @@ use Rattle.bus_service.specs.Inside.{IsPort, seen_in, mine_in}
 use Rattle.bus_service.specs.Ports.{left_by}
 use Rattle.bus_service.specs.Turns.{Entered}
 use Rattle.bus_service.specs.declared.boxed.NotedCall.{NotedCall}
-use Rattle.bus_service.proofs.Histories.{entries_in-with_notes, notes_in-with_notes, own-entries_in, entries_in-append, notes_in-append, due-parts, even_pairs, own-append, by_others, nothing_more}
+use Rattle.bus_service.proofs.Histories.{entries_in-with_notes, notes_in-with_notes, own-entries_in, entries_in-append, notes_in-append, due-parts, own-append, by_others, nothing_more}
 use Rattle.bus_words.proofs.OwnEntries.{allowed_by_own}
 use Rattle.bus_service.proofs.Meanwhile.{may_meanwhile, left_meanwhile, standing_meanwhile}
 
@@ -99,7 +99,7 @@ module _ (s : SeatView Fixed NotedCall) (app : ℕ) (left : Allowance) (bag : Ho
         grown = core_found v core e;
         legal = e.legal;
         before = (dues v core e).0;
-        noted = even_pairs more;
+        noted = (dues v core e).1;
       }
 
   -- so the bag is still the application's

@@ -1,5 +1,5 @@
 -- The history that the lock knows, and the journal with its notes.
-use Rattle.std.proofs.Common.{◌≡◌, ◌≢◌, ℕ, suc, Bool, true, false, cond, true≢false, eqb, List, [], ◌∷◌, ◌++◌, length, All, refl, ap, sym, ◌∙◌, arith, length-append}
+use Rattle.std.proofs.Common.{◌≡◌, ◌≢◌, ℕ, Bool, true, false, cond, true≢false, eqb, List, [], ◌∷◌, ◌++◌, length, All, refl, ap, sym, ◌∙◌, arith, length-append}
 use Rattle.std.proofs.lemmas.Bool.Decides.{nat_tests}
 use Rattle.std.proofs.lemmas.List.{map-append}
 use Rattle.std.proofs.lemmas.List.Elements.{All-nil, All-cons, filter-append}
@@ -43,11 +43,6 @@ entries_in-append xs ys = map-append entry_in xs ys
 
 pub notes_in-append : (xs ys : List (ℕ × NotedCall)) → notes_in (xs ++ ys) ≡ notes_in xs ++ notes_in ys
 notes_in-append xs ys = map-append note_in xs ys
-
--- there are as many notes as entries
-pub even_pairs : (pairs : List (ℕ × NotedCall)) → length (notes_in pairs) ≡ length (entries_in pairs)
-even_pairs [] = refl
-even_pairs (p ∷ pairs) = ap suc (even_pairs pairs)
 
 -- where the notes of a history are due, so are those of its two parts
 pub due-parts : (xs ys : List (ℕ × NotedCall)) → AreDue (entries_in (xs ++ ys)) (notes_in (xs ++ ys)) → AreDue (entries_in xs) (notes_in xs) × AreDue (entries_in ys) (notes_in ys)

@@ -7,5 +7,6 @@ mod Histories
 mod Lent
 mod Mains
 pub mod Meanwhile
+mod Refused
 mod Unowned
 mod Visits

@@ -1,5 +1,5 @@
 //! Calls about pipes, by ports.
-ghost use Rattle.std.specs.Prelude.{◌≡◌};
+ghost use Rattle.std.specs.Prelude.{◌≡◌, OnErr};
 ghost use Rattle.bus_words.specs.declared.history.Call.TheVariants as made;
 ghost use Rattle.sb_core.specs.Answers.{bits_told, created, done, found, named};
 ghost use Rattle.sb_calls.specs.Core.{MayCall};
@@ -58,7 +58,8 @@ impl PortCall for DeletePipe {
 
     ghost answer = { done };
 
-    ghost leaves = { λ c old new told. new ≡ record old { views = new.views } };
+    ghost leaves = { λ c old new told.
+        (new ≡ record old { views = new.views }) × OnErr told (new ≡ old) };
 
     fn make<'r, L: Ledger>(
         self,
@@ -212,6 +213,7 @@ impl<'r> BusPort<'r> {
         requires may { MayCall self.old.seen self.old.app (made.Delete pipe) }
         ensures answers { Answers self.old self.new (made.Delete pipe) (done result) }
         ensures buffers { self.new.bag ≡ record self.old.bag { views = self.new.bag.views } }
+        ensures bag_refused { OnErr result (self.new.bag ≡ self.old.bag) }
     {
         self.visit(bus, rt, DeletePipe { pipe })
     }

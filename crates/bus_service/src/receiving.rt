@@ -1,5 +1,6 @@
 //! Receives, by ports.
-ghost use Rattle.std.specs.Prelude.{◌≡◌};
+ghost use Rattle.std.specs.Prelude.{◌≡◌, Err, OnErr};
+ghost use Rattle.fsw_base.specs.declared.statuses.SbStatus.TheVariants.{BadArgument};
 ghost use Rattle.bus_words.specs.declared.history.Call.TheVariants as made;
 ghost use Rattle.sb_core.specs.Answers.{got, pended};
 ghost use Rattle.sb_calls.specs.Core.{MayCall};
@@ -28,7 +29,8 @@ impl PortCall for Receive {
 
     ghost answer = { got };
 
-    ghost leaves = { λ c old new told. new ≡ record old { views = new.views } };
+    ghost leaves = { λ c old new told.
+        (new ≡ record old { views = new.views }) × (told ≡ Err BadArgument → new ≡ old) };
 
     fn make<'r, L: Ledger>(
         self,
@@ -55,7 +57,8 @@ impl PortCall for Pend {
 
     ghost answer = { pended };
 
-    ghost leaves = { λ c old new told. new ≡ record old { views = new.views } };
+    ghost leaves = { λ c old new told.
+        (new ≡ record old { views = new.views }) × OnErr told (new ≡ old) };
 
     fn make<'r, L: Ledger>(
         self,
@@ -79,6 +82,7 @@ impl<'r> BusPort<'r> {
         requires may { MayCall self.old.seen self.old.app (made.Receive pipe) }
         ensures answers { Answers self.old self.new (made.Receive pipe) (got result) }
         ensures buffers { self.new.bag ≡ record self.old.bag { views = self.new.bag.views } }
+        ensures bag_refused { result ≡ Err BadArgument → self.new.bag ≡ self.old.bag }
     {
         self.visit(bus, rt, Receive { pipe })
     }
@@ -95,6 +99,7 @@ impl<'r> BusPort<'r> {
         requires may { MayCall self.old.seen self.old.app (made.Pend pipe) }
         ensures answers { Answers self.old self.new (made.Pend pipe) (pended result) }
         ensures buffers { self.new.bag ≡ record self.old.bag { views = self.new.bag.views } }
+        ensures bag_refused { OnErr result (self.new.bag ≡ self.old.bag) }
     {
         self.visit(bus, rt, Pend { pipe })
     }
