@@ -36,6 +36,7 @@ impl<'r> PlainTables<'r> {
         ensures others { (other : ℕ) → (handle == other) ≡ false →
             held_at held.new other ≡ held_at held.old other }
         ensures given { OnOk result (IsSome (held_at held.new handle)) }
+        ensures room { held.new.room ≡ held.old.room }
         ensures unchanged { OnErr result (held.new ≡ held.old) }
     {
         self.registry.recall_ties();
@@ -70,6 +71,7 @@ impl<'r> PlainTables<'r> {
         ensures others { (other : ℕ) → (handle == other) ≡ false →
             held_at held.new other ≡ held_at held.old other }
         ensures gone { OnOk result (held_at held.new handle ≡ None) }
+        ensures room { held.new.room ≡ held.old.room }
         ensures unchanged { OnErr result (held.new ≡ held.old) }
     {
         self.registry.recall_ties();

@@ -39,6 +39,7 @@ impl<'r> PlainTables<'r> {
         ensures others { (other : ℕ) → (handle == other) ≡ false →
             held_at held.new other ≡ held_at held.old other }
         ensures gone { OnOk result (held_at held.new handle ≡ None) }
+        ensures room { held.new.room ≡ held.old.room }
         ensures unchanged { OnErr result (held.new ≡ held.old) }
         ensures cost { steps.new ≤ steps.old + 16 }
     {
@@ -54,7 +55,7 @@ impl<'r> PlainTables<'r> {
         requires bag { Holds self.old app held.old }
         ensures does { Acts self.old self.new app End Done }
         ensures bag { Holds self.new app held.new }
-        ensures views { held.new.views ≡ [] }
+        ensures empty { held.new ≡ record held.old { views = [] } }
         ensures cost { steps.new ≤
             steps.old + 16 * count_by (λ h. h.app == app) self.old.state.handles }
     {
@@ -76,6 +77,7 @@ impl<'r> PlainTables<'r> {
         ensures bag { Holds self.new app held.new }
         ensures other_bags { (other : ℕ) (bag : HeldViews) → other ≢ app →
             Holds self.old other bag → Holds self.new other bag }
+        ensures room { held.new.room ≡ held.old.room }
         ensures cost { steps.new ≤
             steps.old + 16 * count_by (λ h. h.app == app) self.old.state.handles }
     {

@@ -37,6 +37,7 @@ impl<'r> TblCore<'r> {
         ensures bag { HasBag self.new app held.new }
         ensures others { (other : ℕ) → (handle == other) ≡ false →
             held_at held.new other ≡ held_at held.old other }
+        ensures room { held.new.room ≡ held.old.room }
         ensures unchanged { OnErr result (held.new ≡ held.old) }
         ensures other_bags { KeepsOtherBags self.old self.new app }
     {
@@ -71,6 +72,7 @@ impl<'r> TblCore<'r> {
         ensures bag { HasBag self.new app held.new }
         ensures others { (other : ℕ) → (handle == other) ≡ false →
             held_at held.new other ≡ held_at held.old other }
+        ensures room { held.new.room ≡ held.old.room }
         ensures unchanged { OnErr result (held.new ≡ held.old) }
         ensures other_bags { KeepsOtherBags self.old self.new app }
     {

@@ -36,6 +36,7 @@ impl<'r> TblCore<'r> {
         ensures bag { HasBag self.new app held.new }
         ensures others { (other : ℕ) → (handle == other) ≡ false →
             held_at held.new other ≡ held_at held.old other }
+        ensures room { held.new.room ≡ held.old.room }
         ensures unchanged { OnErr result (held.new ≡ held.old) }
         ensures other_bags { KeepsOtherBags self.old self.new app }
         ensures cost { steps.new ≤ steps.old + 16 }
@@ -59,7 +60,7 @@ impl<'r> TblCore<'r> {
         ensures does { Does self.old self.new app End Done }
         ensures bag { HasBag self.new app held.new }
         ensures other_bags { KeepsOtherBags self.old self.new app }
-        ensures views { held.new.views ≡ [] }
+        ensures empty { held.new ≡ record held.old { views = [] } }
         ensures cost { steps.new ≤
             steps.old + 16 * count_by (λ h. h.app == app) (state_of self.old).handles }
     {

@@ -27,7 +27,8 @@ impl PortCall for GetAddress {
 
     ghost answer = { addressed };
 
-    ghost leaves = { λ c old new told. KeepsOthers c.handle old new × OnErr told (new ≡ old) };
+    ghost leaves = { λ c old new told.
+        KeepsOthers c.handle old new × (new.room ≡ old.room) × OnErr told (new ≡ old) };
 
     fn make<'r, L: Ledger>(
         self,
@@ -54,7 +55,8 @@ impl PortCall for ReleaseAddress {
 
     ghost answer = { done };
 
-    ghost leaves = { λ c old new told. KeepsOthers c.handle old new × OnErr told (new ≡ old) };
+    ghost leaves = { λ c old new told.
+        KeepsOthers c.handle old new × (new.room ≡ old.room) × OnErr told (new ≡ old) };
 
     fn make<'r, L: Ledger>(
         self,
@@ -84,6 +86,7 @@ impl<'r> TblPort<'r> {
         requires may { MayCall self.old.seen self.old.app (made.GetAddress handle) }
         ensures answers { Answers self.old self.new (made.GetAddress handle) (addressed result) }
         ensures others { KeepsOthers handle self.old.bag self.new.bag }
+        ensures room { self.new.bag.room ≡ self.old.bag.room }
         ensures unchanged { OnErr result (self.new.bag ≡ self.old.bag) }
     {
         self.visit(tables, rt, GetAddress { handle })
@@ -104,6 +107,7 @@ impl<'r> TblPort<'r> {
         requires may { MayCall self.old.seen self.old.app (made.ReleaseAddress handle) }
         ensures answers { Answers self.old self.new (made.ReleaseAddress handle) (done result) }
         ensures others { KeepsOthers handle self.old.bag self.new.bag }
+        ensures room { self.new.bag.room ≡ self.old.bag.room }
         ensures unchanged { OnErr result (self.new.bag ≡ self.old.bag) }
     {
         self.visit(tables, rt, ReleaseAddress { handle })

@@ -29,7 +29,8 @@ impl PortCall for Unregister {
 
     ghost answer = { done };
 
-    ghost leaves = { λ c old new told. KeepsOthers c.handle old new × OnErr told (new ≡ old) };
+    ghost leaves = { λ c old new told.
+        KeepsOthers c.handle old new × (new.room ≡ old.room) × OnErr told (new ≡ old) };
 
     fn make<'r, L: Ledger>(
         self,
@@ -53,7 +54,7 @@ impl PortCall for End {
 
     ghost answer = { λ told. Done };
 
-    ghost leaves = { λ c old new told. new.views ≡ [] };
+    ghost leaves = { λ c old new told. new ≡ record old { views = [] } };
 
     fn make<'r, L: Ledger>(
         self,
@@ -82,6 +83,7 @@ impl<'r> TblPort<'r> {
         requires may { MayCall self.old.seen self.old.app (made.Unregister handle) }
         ensures answers { Answers self.old self.new (made.Unregister handle) (done result) }
         ensures others { KeepsOthers handle self.old.bag self.new.bag }
+        ensures room { self.new.bag.room ≡ self.old.bag.room }
         ensures unchanged { OnErr result (self.new.bag ≡ self.old.bag) }
     {
         self.visit(tables, rt, Unregister { handle })
@@ -94,7 +96,7 @@ impl<'r> TblPort<'r> {
         requires may { MayCall self.old.seen self.old.app made.End }
         ensures answers { Answers self.old self.new made.End Done }
         ensures ended { has_ended (state_of self.new.seen) self.new.app ≡ true }
-        ensures views { self.new.bag.views ≡ [] }
+        ensures empty { self.new.bag ≡ record self.old.bag { views = [] } }
     {
         self.visit(tables, rt, End);
     }

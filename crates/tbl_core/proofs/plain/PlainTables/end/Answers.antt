@@ -3,7 +3,7 @@ use Rattle.tbl_words.specs.Tables.{State}
 use Rattle.tbl_core.specs.Core.{Plain, Holds}
 use Rattle.tbl_core.specs.Inside.{plain_of}
 use Rattle.tbl_core.proofs.Ends.{end_made, ended_holds}
-use Rattle.tbl_core.proofs.Others.{ended_views}
+use Rattle.tbl_core.proofs.Others.{ended_bag}
 use Rattle.tbl_core.proofs.plain.PlainTables.end.Goals as goal
 
 pub returns-clause-does : goal.returns-clause-does
@@ -19,5 +19,5 @@ returns-clause-does g c =
           (subst (λ (p : Plain). Holds p other bag) (sym c.self.view_is) (c.unregister_all.ensures.other_bags other bag (apart refl) holds));
     }
 
-pub returns-clause-views : goal.returns-clause-views
-returns-clause-views g c = ended_views c.unregister_all.new.self c.args.self.now.state c.args.app c.unregister_all.new.held c.unregister_all.ensures.after c.unregister_all.ensures.bag
+pub returns-clause-empty : goal.returns-clause-empty
+returns-clause-empty g c = ended_bag c.unregister_all.new.self c.args.self.now.state c.args.app c.args.held.now c.unregister_all.new.held c.unregister_all.ensures.after c.unregister_all.ensures.bag c.unregister_all.ensures.room

@@ -28,6 +28,7 @@ loop-handle-preserved g c =
       limits = c.unregister.ensures.does.limits ∙ before.limits;
       may = still_may c.loop-handle.self c.unregister.new.self c.args.app c.in-Some.handle left before.may;
       bag = c.unregister.ensures.bag;
+      room = c.unregister.ensures.room ∙ before.room;
       others = λ other bag apart holds. c.unregister.ensures.does.bags other bag (λ changes. apart) (before.others other bag apart holds);
       cost =
           omega (

@@ -12,6 +12,7 @@ invariant-loop-handle g l = record {
   limits : l.self.limits ≡ l.initial.self.limits;
   may : MayAct l.self l.app End;
   bag : Holds l.self l.app l.held;
+  room : l.held.room ≡ l.initial.held.room;
   others : (other : ℕ) (bag : HeldViews) → other ≢ l.app → Holds l.initial.self other bag → Holds l.self other bag;
   cost : l.steps + 16 * count_by (of_app l.app) l.self.state.handles ≤ l.initial.steps + 16 * count_by (of_app l.app) l.initial.self.state.handles;
 }

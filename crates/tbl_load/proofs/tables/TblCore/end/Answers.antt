@@ -2,6 +2,7 @@ use Rattle.std.proofs.Common.{count_by, eqb, refl, ap, arith}
 use Rattle.tbl_words.specs.declared.calls.TblAnswer.TheVariants.{Done}
 use Rattle.tbl_words.specs.declared.history.Call.TheVariants.{End}
 use Rattle.tbl_words.specs.Tables.{Handle, State}
+use Rattle.tbl_blocks.specs.Held.{HeldViews}
 use Rattle.tbl_load.proofs.Made.{made_taking, none_stays}
 use Rattle.tbl_load.proofs.CoreBags.{bag_in, bag_out}
 use Rattle.tbl_load.proofs.OthersBags.{others_keep}
@@ -24,14 +25,14 @@ pub invariant_of-self : goal.invariant_of-self
 invariant_of-self g c =
     stands_over c.self.inside c.end.new.self c.push.new.self c.args.self.now c.args.app End Done c.self.view_is c.self.invariant c.requires.may
     (made_taking c.self.inside c.end.new.self c.push.new.self c.args.app End Done Done c.in_use-now.result c.self.invariant c.end.ensures.does refl c.in_use-now.ensures c.push.ensures.due
-    c.args.held.now c.end.new.held (bag_in c.self.inside c.args.self.now c.args.app c.args.held.now c.self.view_is c.self.invariant c.requires.bag) c.end.ensures.bag (λ n none. none_stays c.args.held.now c.end.new.held c.end.ensures.views n)
+    c.args.held.now c.end.new.held (bag_in c.self.inside c.args.self.now c.args.app c.args.held.now c.self.view_is c.self.invariant c.requires.bag) c.end.ensures.bag (λ n none. none_stays c.args.held.now c.end.new.held (ap (λ (b : HeldViews). b.views) c.end.ensures.empty) n)
     c.push.ensures.pushed refl (λ n. refl))
 
 pub returns-clause-does : goal.returns-clause-does
 returns-clause-does g c =
     does_over c.self.inside c.end.new.self c.push.new.self c.args.self.now c.args.app End Done c.self.view_is c.self.invariant c.requires.may
     (made_taking c.self.inside c.end.new.self c.push.new.self c.args.app End Done Done c.in_use-now.result c.self.invariant c.end.ensures.does refl c.in_use-now.ensures c.push.ensures.due
-    c.args.held.now c.end.new.held (bag_in c.self.inside c.args.self.now c.args.app c.args.held.now c.self.view_is c.self.invariant c.requires.bag) c.end.ensures.bag (λ n none. none_stays c.args.held.now c.end.new.held c.end.ensures.views n)
+    c.args.held.now c.end.new.held (bag_in c.self.inside c.args.self.now c.args.app c.args.held.now c.self.view_is c.self.invariant c.requires.bag) c.end.ensures.bag (λ n none. none_stays c.args.held.now c.end.new.held (ap (λ (b : HeldViews). b.views) c.end.ensures.empty) n)
     c.push.ensures.pushed refl (λ n. refl))
 
 pub returns-clause-bag : goal.returns-clause-bag
