@@ -275,6 +275,7 @@ takes-table_line old new held bus before after line lines call answer stands goe
           ∙ ap (λ a. old.progress.receipts ++ addressed_in app (after_table_call limits sofar app call).tables call a) exact
           ∙ sym (ap (λ t. old.progress.receipts ++ t) told);
       same_app = refl;
+      begun = omega (arith, ap length next);
       stands = record {
         bus = stands-other old old.bag held bus line lines (handles_after place.handles line answer) receipts at goes active next none at.buffers refl refl
             (remember-addressed (state_of bus) (tables_of after) app call answer old.progress.receipts at.remember);
@@ -305,9 +306,9 @@ table_line-exact : (p old : Progress) (before after : Caller) (line : Line) (lin
     p ≡ old → MayTurn old before → old.waits_on ≡ None → p.running.lines ≡ line ∷ lines → IsLineInRange line →
     call_of p.running.registers (written_in before.bag) line ≡ None → table_call_of p.running.handles line ≡ Some call → TablesAnswer before after call answer →
     r ≡ p.receipts ++ taken_at_tables after (Some call) answer → handles ≡ handles_after p.running.handles line answer →
-    TakesTurnBy old (the_progress (the_place p.running.app lines p.running.registers handles) p.waits_on p.ended r) before after
+    TakesTurnBy old (the_progress (the_place p.running.app (p.running.begun + 1) lines p.running.registers handles) p.waits_on p.ended r) before after
 table_line-exact p old before after line lines answer handles r call is may active next range none calls answered got noted =
-    let new : Progress = the_progress (the_place p.running.app lines p.running.registers handles) p.waits_on p.ended r in
+    let new : Progress = the_progress (the_place p.running.app (p.running.begun + 1) lines p.running.registers handles) p.waits_on p.ended r in
     let written = written_in before.bag in
     let none-old : call_of old.running.registers written line ≡ None = subst (λ (q : Progress). call_of q.running.registers written line ≡ None) is none in
     let calls-old : table_call_of old.running.handles line ≡ Some call = subst (λ (q : Progress). table_call_of q.running.handles line ≡ Some call) is calls in
@@ -338,7 +339,7 @@ pub ran-table_line : (p old : Progress) (before mid after : Caller) (line : Line
     call_of p.running.registers (written_in before.bag) line ≡ o → IsRun before mid o None →
     table_call_of p.running.handles line ≡ t → IsRunAtTables mid after t (Some answer) →
     r ≡ p.receipts ++ taken_at_tables after t answer → handles ≡ handles_after p.running.handles line answer →
-    TakesTurnBy old (the_progress (the_place p.running.app lines p.running.registers handles) p.waits_on p.ended r) before after
+    TakesTurnBy old (the_progress (the_place p.running.app (p.running.begun + 1) lines p.running.registers handles) p.waits_on p.ended r) before after
 ran-table_line p old before mid after line lines answer handles r (Some call) t is may active next range calls run table_calls table_run got noted = absurd run
 ran-table_line p old before mid after line lines answer handles r None None is may active next range calls run table_calls table_run got noted = absurd table_run
 ran-table_line p old before mid after line lines answer handles r None (Some call) is may active next range calls run table_calls table_run got noted =
@@ -430,6 +431,7 @@ takes-end old bag held before after tables now stands goes active through table_
           ∙ sym (ap (λ t. old.progress.receipts ++ t) (ap (λ s. tells_in limits sofar (running_of old) s) standing
           ∙ ap (λ ls. active_tells limits sofar (running_of old) ls) through));
       same_app = refl;
+      begun = refl;
       stands = record {
         bus = record {
           known = subst (λ n. app ≤ n) (sym (apps-does before after app calls.End Done does)) at.known;

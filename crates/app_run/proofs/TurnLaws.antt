@@ -246,6 +246,7 @@ look-exact old bag before after tables pipe stands goes waits does leaves told =
           (does.state ∙ sym (ap (λ (b : SoFar). b.state) (looked-after limits sofar app pipe answer told)))
           ∙ sym (ap (λ s. old.progress.receipts ++ tells_in limits sofar (running_of old) s) standing);
       same_app = refl;
+      begun = refl;
       stands = record {
         bus = record {
           known = subst (λ n. app ≤ n) (sym (apps-does before after app (calls.Look pipe) answer does)) at.known;
@@ -373,18 +374,18 @@ may-run progress caller line lines (Some call) may active next allowed =
 abbrev pub the_progress : Place → Option ℕ → Bool → List Receipt → Progress
 the_progress running waits_on ended receipts = record { running = running; waits_on = waits_on; ended = ended; receipts = receipts }
 
-abbrev pub the_place : ℕ → List Line → Registers → List ℕ → Place
-the_place app lines registers handles = record { app = app; lines = lines; registers = registers; handles = handles }
+abbrev pub the_place : ℕ → ℕ → List Line → Registers → List ℕ → Place
+the_place app begun lines registers handles = record { app = app; begun = begun; lines = lines; registers = registers; handles = handles }
 
 -- the progress behind a line that the bus so answered
 abbrev pub behind_line : Progress → Line → List Line → BusAnswer → List Receipt → Progress
 behind_line old line lines answer receipts =
-    the_progress (the_place old.running.app lines (registers_after old.running.registers line answer) old.running.handles)
+    the_progress (the_place old.running.app (old.running.begun + 1) lines (registers_after old.running.registers line answer) old.running.handles)
     (pipe_waited_for old.running.registers line answer) false receipts
 
 -- the progress behind a line that the bus doesn't see, with these registers of handles
 abbrev pub behind_other : Progress → List Line → List ℕ → List Receipt → Progress
-behind_other old lines handles receipts = the_progress (the_place old.running.app lines old.running.registers handles) None false receipts
+behind_other old lines handles receipts = the_progress (the_place old.running.app (old.running.begun + 1) lines old.running.registers handles) None false receipts
 
 pub turn-line : (limits : Limits) (sofar : SoFar) (running : Running) (line : Line) (lines : List Line) (o : Option Call) →
     standing_of sofar.state running.app ≡ Active → running.lines ≡ line ∷ lines → call_of running.registers running.written line ≡ o →
@@ -458,6 +459,7 @@ line-exact old bag before after tables line lines call stands goes active next c
       receipts = ap (λ s. old.progress.receipts ++ got_in app s call answer) does.state
           ∙ sym (ap (λ t. old.progress.receipts ++ t) (tells-line limits sofar (running_of old) line lines (Some call) standing next calls));
       same_app = refl;
+      begun = omega (arith, ap length next);
       stands = record {
         bus = record {
           known = subst (λ n. app ≤ n) (sym (apps-does before after app call answer does)) at.known;
@@ -555,6 +557,7 @@ takes-local old new bag core tables line lines stands goes active next none no_t
       goes_on = ap (λ w. the_running app lines place.registers place.handles w ∷ []) same ∙ sym (ap (λ (t : SoFar × List Running). t.1) turned);
       receipts = sym (ap (λ t. old.progress.receipts ++ t) (tells-other limits sofar (running_of old) line lines None standing next none no_table));
       same_app = refl;
+      begun = omega (arith, ap length next);
       stands = record {
         bus = stands-other old bag old.held core line lines place.handles (old.progress.receipts ++ shown app (state_of core) (tables_of tables) place.registers place.handles line) at goes active next none
             (asked-fewer place.registers.buffers at.asked (written_in old.bag) (written_in bag) (state_of core).numbers_given (state_of core).numbers_given at.buffers (omega arith)
@@ -605,22 +608,22 @@ progress-looked p old r told is goes same =
 
 progress-behind : (p old : Progress) (line : Line) (lines : List Line) (answer : BusAnswer) (registers : Registers) (waits_on : Option ℕ) (r told : List Receipt) → p ≡ old → old.ended ≡ false →
     registers ≡ registers_after p.running.registers line answer → waits_on ≡ pipe_waited_for p.running.registers line answer → r ≡ told →
-    the_progress (the_place p.running.app lines registers p.running.handles) waits_on p.ended r ≡ behind_line old line lines answer told
+    the_progress (the_place p.running.app (p.running.begun + 1) lines registers p.running.handles) waits_on p.ended r ≡ behind_line old line lines answer told
 progress-behind p old line lines answer registers waits_on r told is goes noted waiting same =
-    ap (λ x. the_progress (the_place p.running.app lines x p.running.handles) waits_on p.ended r) noted
-    ∙ ap (λ x. the_progress (the_place p.running.app lines (registers_after p.running.registers line answer) p.running.handles) x p.ended r) waiting
-    ∙ ap (λ (q : Progress). the_progress (the_place q.running.app lines (registers_after q.running.registers line answer) q.running.handles)
+    ap (λ x. the_progress (the_place p.running.app (p.running.begun + 1) lines x p.running.handles) waits_on p.ended r) noted
+    ∙ ap (λ x. the_progress (the_place p.running.app (p.running.begun + 1) lines (registers_after p.running.registers line answer) p.running.handles) x p.ended r) waiting
+    ∙ ap (λ (q : Progress). the_progress (the_place q.running.app (q.running.begun + 1) lines (registers_after q.running.registers line answer) q.running.handles)
     (pipe_waited_for q.running.registers line answer) q.ended r) is
-    ∙ ap (λ e. the_progress (the_place old.running.app lines (registers_after old.running.registers line answer) old.running.handles)
+    ∙ ap (λ e. the_progress (the_place old.running.app (old.running.begun + 1) lines (registers_after old.running.registers line answer) old.running.handles)
     (pipe_waited_for old.running.registers line answer) e r) goes
     ∙ ap (λ x. behind_line old line lines answer x) same
 
 pub progress-other : (p old : Progress) (lines : List Line) (handles now : List ℕ) (r told : List Receipt) → p ≡ old → old.ended ≡ false → old.waits_on ≡ None → handles ≡ now → r ≡ told →
-    the_progress (the_place p.running.app lines p.running.registers handles) p.waits_on p.ended r ≡ behind_other old lines now told
+    the_progress (the_place p.running.app (p.running.begun + 1) lines p.running.registers handles) p.waits_on p.ended r ≡ behind_other old lines now told
 progress-other p old lines handles now r told is goes active noted same =
-    ap (λ (q : Progress). the_progress (the_place q.running.app lines q.running.registers handles) q.waits_on q.ended r) is
-    ∙ ap (λ e. the_progress (the_place old.running.app lines old.running.registers handles) old.waits_on e r) goes
-    ∙ ap (λ w. the_progress (the_place old.running.app lines old.running.registers handles) w false r) active
+    ap (λ (q : Progress). the_progress (the_place q.running.app (q.running.begun + 1) lines q.running.registers handles) q.waits_on q.ended r) is
+    ∙ ap (λ e. the_progress (the_place old.running.app (old.running.begun + 1) lines old.running.registers handles) old.waits_on e r) goes
+    ∙ ap (λ w. the_progress (the_place old.running.app (old.running.begun + 1) lines old.running.registers handles) w false r) active
     ∙ ap (λ h. behind_other old lines h r) noted
     ∙ ap (λ x. behind_other old lines now x) same
 
@@ -724,6 +727,7 @@ takes-pending old bag now tables pipe stands goes waits leaves pending =
           ∙ sym (ap (λ a. old.progress.receipts ++ got_in app (after_look limits sofar app pipe a).state (calls.Look pipe) a) pending)
           ∙ sym (ap (λ s. old.progress.receipts ++ tells_in limits sofar (running_of old) s) standing);
       same_app = refl;
+      begun = refl;
       stands = record {
         bus = record {
           known = at.known;
@@ -787,10 +791,10 @@ pub ran-line : (p old : Progress) (before after : Caller) (line : Line) (lines :
     call_of p.running.registers (written_in before.bag) line ≡ o → IsRun before after o (Some answer) →
     r ≡ p.receipts ++ taken_by after o answer → registers ≡ registers_after p.running.registers line answer →
     waits_on ≡ pipe_waited_for p.running.registers line answer →
-    TakesTurnBy old (the_progress (the_place p.running.app lines registers p.running.handles) waits_on p.ended r) before after
+    TakesTurnBy old (the_progress (the_place p.running.app (p.running.begun + 1) lines registers p.running.handles) waits_on p.ended r) before after
 ran-line p old before after line lines answer registers waits_on r None is may active next range calls run got noted waiting = absurd run
 ran-line p old before after line lines answer registers waits_on r (Some call) is may active next range calls run got noted waiting =
-    let new : Progress = the_progress (the_place p.running.app lines registers p.running.handles) waits_on p.ended r in
+    let new : Progress = the_progress (the_place p.running.app (p.running.begun + 1) lines registers p.running.handles) waits_on p.ended r in
     let written = written_in before.bag in
     let calls-old : call_of old.running.registers written line ≡ Some call = subst (λ (q : Progress). call_of q.running.registers written line ≡ Some call) is calls in
     let next-old : old.running.lines ≡ line ∷ lines = subst (λ (q : Progress). q.running.lines ≡ line ∷ lines) is next in
@@ -849,9 +853,9 @@ local-exact : (p old : Progress) (before after : Caller) (line : Line) (lines : 
     call_of p.running.registers (written_in before.bag) line ≡ None → table_call_of p.running.handles line ≡ None →
     Writes before after (written_by (written_in before.bag) p.running.registers.buffers line) →
     r ≡ p.receipts ++ shown after.app (state_of after.core) (tables_of after.tables) p.running.registers p.running.handles line →
-    TakesTurnBy old (the_progress (the_place p.running.app lines p.running.registers p.running.handles) p.waits_on p.ended r) before after
+    TakesTurnBy old (the_progress (the_place p.running.app (p.running.begun + 1) lines p.running.registers p.running.handles) p.waits_on p.ended r) before after
 local-exact p old before after line lines r is may active next calls no_table writes told =
-    let new : Progress = the_progress (the_place p.running.app lines p.running.registers p.running.handles) p.waits_on p.ended r in
+    let new : Progress = the_progress (the_place p.running.app (p.running.begun + 1) lines p.running.registers p.running.handles) p.waits_on p.ended r in
     let written = written_in before.bag in
     let calls-old : call_of old.running.registers written line ≡ None = subst (λ (q : Progress). call_of q.running.registers written line ≡ None) is calls in
     let tables-old : table_call_of old.running.handles line ≡ None = subst (λ (q : Progress). table_call_of q.running.handles line ≡ None) is no_table in
@@ -884,7 +888,7 @@ pub ran-local : (p old : Progress) (before mid late after : Caller) (line : Line
     table_call_of p.running.handles line ≡ t → IsRunAtTables mid late t None →
     Writes late after (written_by (written_in late.bag) p.running.registers.buffers line) →
     r ≡ p.receipts ++ shown after.app (state_of after.core) (tables_of after.tables) p.running.registers p.running.handles line →
-    TakesTurnBy old (the_progress (the_place p.running.app lines p.running.registers p.running.handles) p.waits_on p.ended r) before after
+    TakesTurnBy old (the_progress (the_place p.running.app (p.running.begun + 1) lines p.running.registers p.running.handles) p.waits_on p.ended r) before after
 ran-local p old before mid late after line lines r o t is may active next calls run table_calls table_run writes told =
     let same : late ≡ before = table_run-none mid late t table_run ∙ run-none before mid o run in
     local-exact p old before after line lines r is may active next (calls ∙ called-none before mid o run) (table_calls ∙ table_called-none mid late t table_run)

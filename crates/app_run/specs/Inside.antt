@@ -9,7 +9,7 @@ use Rattle.app_run.specs.Runners.{Progress}
 -- the application's progress
 abbrev pub progress_in : Inside → Progress
 progress_in a = record {
-  running = record { app = a.app; lines = drop a.next (app_at a.script.now a.app).lines; registers = a.registers; handles = a.handles };
+  running = record { app = a.app; begun = a.next; lines = drop a.next (app_at a.script.now a.app).lines; registers = a.registers; handles = a.handles };
   waits_on = a.waits_on;
   ended = a.ended;
   receipts = a.receipts.receipts;

@@ -1,5 +1,6 @@
 -- How far an application has come.
-use Rattle.std.specs.Prelude.{ℕ, Bool, false, List, [], ◌∷◌, Option, Some, None, if◌then◌else◌}
+use Rattle.std.specs.Prelude.{ℕ, ◌&&◌, nat_lt, Bool, false, List, [], ◌∷◌, length, Option, Some, None, if◌then◌else◌}
+use Rattle.std.specs.Option.{is_none}
 use Rattle.lend_block.specs.Loan.{LentBytes}
 use Rattle.buf_desc.specs.Held.{Holding}
 use Rattle.bus_words.specs.declared.receipts.Receipt.{Receipt}
@@ -24,9 +25,11 @@ pub record Services : Type 0 where
 abbrev pub histories_of : Core → TableCore → Histories
 histories_of bus tables = record { bus = bus.log.entries; tables = tables.log.entries }
 
--- Where an application is in its script: its number, the lines left and its registers, those of table handles by themselves.
+-- Where an application is in its script: its number, how many lines it has begun, the lines left and its registers, those of table
+-- handles by themselves.
 pub record Place : Type 0 where
   pub app : ℕ
+  pub begun : ℕ
   pub lines : List Line
   pub registers : Registers
   pub handles : List ℕ
@@ -42,11 +45,15 @@ pub record Progress : Type 0 where
 -- before the first line
 abbrev pub beginning : ScriptText → ℕ → Progress
 beginning script app = record {
-  running = record { app = app; lines = (app_at script app).lines; registers = first_registers; handles = first_handles };
+  running = record { app = app; begun = 0; lines = (app_at script app).lines; registers = first_registers; handles = first_handles };
   waits_on = None;
   ended = false;
   receipts = [];
 }
+
+-- whether the next turn begins a line: the application waits for nothing, and a line is left
+abbrev pub begins_line : Progress → Bool
+begins_line progress = is_none progress.waits_on && nat_lt 0 (length progress.running.lines)
 
 -- the standing of an application that has not ended
 abbrev pub standing_for : Option ℕ → Standing

@@ -135,6 +135,7 @@ pub record TakesTurn (old new : Equipped) (before after : Services) : Type 0 whe
   pub goes_on : going new ≡ (turn before.bus.limits (so_far before) (running_of old)).1
   pub receipts : new.progress.receipts ≡ old.progress.receipts ++ tells before.bus.limits (so_far before) (running_of old)
   pub same_app : new.progress.running.app ≡ old.progress.running.app
+  pub begun : new.progress.running.begun + length new.progress.running.lines ≡ old.progress.running.begun + length old.progress.running.lines
   pub stands : Stands new after
   pub moved : Moved before.bus after.bus old.progress.running.app
   pub tables_moved : TablesMoved before.tables after.tables old.progress.running.app

@@ -2,7 +2,7 @@
 ghost use Rattle.std.specs.Prelude.{◌≡◌, ◌<◌, ◌≤◌, ◌-◌, ◌+◌, length, true, false, [], Some, None, All, IfOk};
 ghost use Rattle.app_script.specs.Script.{app_at};
 ghost use Rattle.app_run.specs.Lines.{made_size, filling_size, pipe_waited_for};
-ghost use Rattle.app_run.specs.Runners.{beginning};
+ghost use Rattle.app_run.specs.Runners.{beginning, begins_line};
 
 use crate::handles::Handles;
 use crate::line_calls::{run_line, write_line};
@@ -117,14 +117,17 @@ impl<'s> Runner<'s> {
     }
 
     /// Whether its next turn runs a line: it has one left, and waits for nothing. Who holds a run
-    /// up at its lines asks this; no clause tells of it.
-    pub fn begins_line(&self) -> bool {
+    /// up at its lines asks this.
+    pub fn begins_line(&self) -> bool
+        ensures { result ≡ begins_line self.now }
+    {
         self.waits_on.is_none() && self.next < self.script.lines(self.app)
     }
 
     /// How many of its lines it has begun; the last of them may still wait.
     pub fn lines_begun(&self) -> u32
-        ensures { result ≤ 20000 }
+        ensures exact { result ≡ self.now.running.begun }
+        ensures few { result ≤ 20000 }
     {
         self.next
     }
