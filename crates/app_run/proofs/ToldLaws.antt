@@ -1,6 +1,6 @@
 -- What a turn tells, and what is then still to be told.
 use Rattle.std.proofs.Common.{◌≡◌, ℕ, cond, eq-eqb, ne_eqb, List, [], ◌∷◌, ◌++◌, slice_index, Option, Some, None, unwrap_or, refl, ap, sym, ◌∙◌, subst, append-nil}
-use Rattle.std.specs.Option.{is_some}
+use Rattle.std.specs.Option.{is_some, option_map_or}
 use Rattle.fsw_base.specs.Limits.{Limits}
 use Rattle.bus_words.specs.declared.calls.BusAnswer.{BusAnswer}
 use Rattle.bus_words.specs.declared.calls.BusAnswer.TheVariants.{Pending}
@@ -24,7 +24,7 @@ use Rattle.script_lines.specs.declared.line.Line.TheVariants.{ShowPipe, ShowTabl
 use Rattle.script_runs.specs.Histories.{Histories}
 use Rattle.script_runs.specs.Rotation.{Running, SoFar, after_call, after_end, after_look, after_table_call, answer_to, table_answer_to, turn, turn_in, active_turn, line_turn, other_turn, behind, behind_table}
 use Rattle.script_runs.specs.TableTrace.{table_call_of, handles_after}
-use Rattle.script_runs.specs.Told.{Seen, TableSeen, Telling, seen_from, table_seen_from, got_in, addressed_in, held_in, receipts_of, table_receipts_of, shown, told_after, seen_told, table_seen_told, other_told, line_told, told}
+use Rattle.script_runs.specs.Told.{Seen, TableSeen, Telling, seen_from, table_seen_from, got_in, addressed_in, held_in, receipts_of, table_receipts_of, shown, settled_from, settled_told, seen_told, table_seen_told, other_told, line_told, told}
 use Rattle.script_runs.specs.Trace.{Registers, call_of, registers_after}
 use Rattle.script_runs.specs.Written.{written_after, written_by}
 use Rattle.app_run.specs.Lines.{pipe_waited_for}
@@ -87,10 +87,14 @@ pub record TellsOn (limits : Limits) (sofar : SoFar) (running : Running) (after 
   pub comes : (entries : Histories) →
       to_come limits sofar running (record { bus = added ++ entries.bus; tables = added_at_tables ++ entries.tables }) ≡ told ++ to_come limits after goes_on entries
 
+-- what a line tells, and then the lines behind it
+abbrev with_lines : ℕ → List Line → List Receipt × Option Telling → List Receipt
+with_lines app lines first = first.0 ++ option_map_or (λ now. told app lines now) first.1 []
+
 -- a line's call of the bus that was so answered
 told-answer : (app : ℕ) (line : Line) (lines : List Line) (call : Call) (answer : BusAnswer) (waits : Option ℕ) (at : Telling) (after : State) (others : List Seen) →
     is_pending answer ≡ is_some waits →
-    seen_told app line call (record { entry = record { app = app; call = call; answer = answer }; after = after } ∷ others) at (λ now. told app lines now)
+    with_lines app lines (seen_told app line call (record { entry = record { app = app; call = call; answer = answer }; after = after } ∷ others) at)
     ≡ got_in app after call answer
     ++ told_on (standing_for waits) app lines
     (record at { registers = registers_after at.registers line answer; written = written_after at.written call answer; state = after; seen = others })
@@ -155,8 +159,8 @@ tells-local limits sofar running line lines next none none_at_tables active =
           let then = telling_now limits sofar (behind running lines running.registers (written_by running.written running.registers.buffers line)) entries in
           ap (λ st. told_on st app running.lines at) active
           ∙ ap (λ ls. told app ls at) next
-          ∙ ap (λ o. line_told app line o at (λ now. told app lines now)) none
-          ∙ ap (λ o. other_told app line o at (λ now. told app lines now)) none_at_tables
+          ∙ ap (λ o. with_lines app lines (line_told app line o at)) none
+          ∙ ap (λ o. with_lines app lines (other_told app line o at)) none_at_tables
           ∙ ap (λ st. local ++ told_on st app lines then) (sym active);
     }
 
@@ -181,9 +185,9 @@ tells-table_call limits sofar running line lines call next none calls active =
           let then = telling_now limits (after_table_call limits sofar app call) (behind_table running lines (handles_after running.handles line answer)) entries in
           ap (λ st. told_on st app running.lines at) active
           ∙ ap (λ ls. told app ls at) next
-          ∙ ap (λ o. line_told app line o at (λ now. told app lines now)) none
-          ∙ ap (λ o. other_told app line o at (λ now. told app lines now)) calls
-          ∙ ap (λ seen. table_seen_told app line seen at (λ now. told app lines now)) (table_seen-own limits sofar.tables app call answer entries.tables)
+          ∙ ap (λ o. with_lines app lines (line_told app line o at)) none
+          ∙ ap (λ o. with_lines app lines (other_told app line o at)) calls
+          ∙ ap (λ seen. with_lines app lines (table_seen_told app line seen at)) (table_seen-own limits sofar.tables app call answer entries.tables)
           ∙ ap (λ st. addressed_in app after call answer ++ told_on st app lines then) (sym active);
     }
 
@@ -216,8 +220,8 @@ tells-call limits sofar running line lines call next calls active =
           let others = seen_from limits (sofar.history ++ e ∷ []) after app entries.bus in
           ap (λ st. told_on st app running.lines at) active
           ∙ ap (λ ls. told app ls at) next
-          ∙ ap (λ o. line_told app line o at (λ now. told app lines now)) calls
-          ∙ ap (λ seen. seen_told app line call seen at (λ now. told app lines now)) (seen-own limits sofar.history s app call answer entries.bus)
+          ∙ ap (λ o. with_lines app lines (line_told app line o at)) calls
+          ∙ ap (λ seen. with_lines app lines (seen_told app line call seen at)) (seen-own limits sofar.history s app call answer entries.bus)
           ∙ told-answer app line lines call answer waits at after others settled.pending
           ∙ ap (λ st. got_in app after call answer ++ told_on st app lines then) (sym settled.standing);
     }
@@ -313,30 +317,26 @@ IsToldSame app lines =
     (at : Telling) (t : State) (v : Tables) → ((pipe : ℕ) → receipt_in t app pipe ≡ receipt_in at.state app pipe) → ((handle : ℕ) → held_in v app handle ≡ held_in at.tables app handle) →
     told app lines (record at { state = t; tables = v }) ≡ told app lines at
 
+-- the same behind the entry that settles a call
+settled_told-same : (app : ℕ) (lines : List Line) (at : Telling) (t : State) (v : Tables) (seen : List Seen) → IsToldSame app lines →
+    ((handle : ℕ) → held_in v app handle ≡ held_in at.tables app handle) →
+    with_lines app lines (settled_told app seen (record at { state = t; tables = v })) ≡ with_lines app lines (settled_told app seen at)
+settled_told-same app lines at t v [] lines_same held = refl
+settled_told-same app lines at t v (last ∷ others) lines_same held =
+    ap (λ rest. receipts_of app last ++ rest) (lines_same (record at { state = last.after; seen = others }) last.after v (λ pipe. refl) held)
+
 seen_told-same : (app : ℕ) (line : Line) (lines : List Line) (call : Call) (at : Telling) (t : State) (v : Tables) (seen : List Seen) → IsToldSame app lines →
     ((handle : ℕ) → held_in v app handle ≡ held_in at.tables app handle) →
-    seen_told app line call seen (record at { state = t; tables = v }) (λ now. told app lines now) ≡ seen_told app line call seen at (λ now. told app lines now)
+    with_lines app lines (seen_told app line call seen (record at { state = t; tables = v })) ≡ with_lines app lines (seen_told app line call seen at)
 seen_told-same app line lines call at t v [] lines_same held = refl
-seen_told-same app line lines call at t v (first ∷ others) lines_same held = by_answer first.entry.answer others
-  where
-    further : (answer : BusAnswer) (after : State) (rest : List Seen) →
-        told app lines (record at { registers = registers_after at.registers line answer; written = written_after at.written call answer; state = after; tables = v; seen = rest })
-        ≡ told app lines (record at { registers = registers_after at.registers line answer; written = written_after at.written call answer; state = after; seen = rest })
-    further answer after rest =
-        lines_same (record at { registers = registers_after at.registers line answer; written = written_after at.written call answer; state = after; seen = rest }) after v (λ pipe. refl) held
-
-    by_answer : (answer : BusAnswer) (others : List Seen) →
-        told_after app answer first others
-        (λ after rest. told app lines (record at { registers = registers_after at.registers line answer; written = written_after at.written call answer; state = after; tables = v; seen = rest }))
-        ≡ told_after app answer first others
-        (λ after rest. told app lines (record at { registers = registers_after at.registers line answer; written = written_after at.written call answer; state = after; seen = rest }))
-    by_answer Pending [] = refl
-    by_answer Pending (look ∷ rest) = ap (λ more. receipts_of app look ++ more) (further Pending look.after rest)
-    by_answer answer others = ap (λ more. receipts_of app first ++ more) (further answer first.after others)
+seen_told-same app line lines call at t v (own ∷ others) lines_same held =
+    let answer = own.entry.answer in
+    let answered : Telling = record at { registers = registers_after at.registers line answer; written = written_after at.written call answer } in
+    settled_told-same app lines answered t v (settled_from answer own others) lines_same held
 
 table_seen_told-same : (app : ℕ) (line : Line) (lines : List Line) (at : Telling) (t : State) (v : Tables) (seen : List TableSeen) → IsToldSame app lines →
     ((pipe : ℕ) → receipt_in t app pipe ≡ receipt_in at.state app pipe) →
-    table_seen_told app line seen (record at { state = t; tables = v }) (λ now. told app lines now) ≡ table_seen_told app line seen at (λ now. told app lines now)
+    with_lines app lines (table_seen_told app line seen (record at { state = t; tables = v })) ≡ with_lines app lines (table_seen_told app line seen at)
 table_seen_told-same app line lines at t v [] lines_same same = refl
 table_seen_told-same app line lines at t v (first ∷ others) lines_same same =
     ap (λ rest. table_receipts_of app first ++ rest)
@@ -347,7 +347,7 @@ told-same app [] at t v same held = refl
 told-same app (line ∷ lines) at t v same held = by_call (told-same app lines) (call_of at.registers at.written line)
   where
     by_table_call : IsToldSame app lines → (o : Option TableCall) →
-        other_told app line o (record at { state = t; tables = v }) (λ now. told app lines now) ≡ other_told app line o at (λ now. told app lines now)
+        with_lines app lines (other_told app line o (record at { state = t; tables = v })) ≡ with_lines app lines (other_told app line o at)
     by_table_call lines_same None =
         ap (λ local. local ++ told app lines (record at { written = written_by at.written at.registers.buffers line; state = t; tables = v }))
         (shown-same app at.state t at.tables v at.registers at.handles line same held)
@@ -356,7 +356,7 @@ told-same app (line ∷ lines) at t v same held = by_call (told-same app lines) 
     by_table_call lines_same (Some call) = table_seen_told-same app line lines at t v at.table_seen lines_same same
 
     by_call : IsToldSame app lines → (o : Option Call) →
-        line_told app line o (record at { state = t; tables = v }) (λ now. told app lines now) ≡ line_told app line o at (λ now. told app lines now)
+        with_lines app lines (line_told app line o (record at { state = t; tables = v })) ≡ with_lines app lines (line_told app line o at)
     by_call lines_same None = by_table_call lines_same (table_call_of at.handles line)
     by_call lines_same (Some call) = seen_told-same app line lines call at t v at.seen lines_same held
 

@@ -1,6 +1,6 @@
 -- What an application tells of the messages that it received and of the tables that it held, in the order of its lines.
 use Rattle.std.specs.Prelude.{ℕ, ◌==◌, List, [], ◌∷◌, ◌++◌, length, slice_index, Option, Some, None, unwrap_or, if◌then◌else◌}
-use Rattle.std.specs.Option.{option_map, option_and_then, option_to_list}
+use Rattle.std.specs.Option.{option_map, option_map_or, option_and_then, option_to_list}
 use Rattle.fsw_base.specs.Limits.{Limits}
 use Rattle.bus_words.specs.declared.calls.BusAnswer.{BusAnswer}
 use Rattle.bus_words.specs.declared.calls.BusAnswer.TheVariants.{Got, Pending}
@@ -106,48 +106,52 @@ shown app s t registers handles (ShowPipe pipe) = unwrap_or (receipt_in s app (s
 shown app s t registers handles (ShowTable handle) = unwrap_or (held_in t app (slice_index handles handle)) Nothing ∷ []
 shown app s t registers handles line = []
 
--- what follows an entry of the bus so answered: where it waits, its look's receipts first
-abbrev pub told_after : ℕ → BusAnswer → Seen → List Seen → (State → List Seen → List Receipt) → List Receipt
-told_after app Pending seen [] rest = []
-told_after app Pending seen (look ∷ others) rest = receipts_of app look ++ rest look.after others
-told_after app answer seen others rest = receipts_of app seen ++ rest seen.after others
+-- Each of these answers the receipts that a line makes, and where the application is behind it; where a history ends before the
+-- line's entry, there is no receipt and nothing to go on from.
 
--- what a line with this call of the bus tells, and what comes then: it has the next entry of the bus
-abbrev pub seen_told : ℕ → Line → Call → List Seen → Telling → (Telling → List Receipt) → List Receipt
-seen_told app line call [] at next = []
-seen_told app line call (first ∷ others) at next =
-    let answer = first.entry.answer in
-    told_after app answer first others
-    (λ after rest. next (record at {
-      registers = registers_after at.registers line answer;
-      written = written_after at.written call answer;
-      state = after;
-      seen = rest;
-    }))
+-- the entries from the one on that settles a call so answered: its own, or the look behind it, where it was left waiting
+abbrev pub settled_from : BusAnswer → Seen → List Seen → List Seen
+settled_from Pending own others = others
+settled_from answer own others = own ∷ others
 
--- what a line with a call of the tables tells, and what comes then: it has the next entry of the tables
-abbrev pub table_seen_told : ℕ → Line → List TableSeen → Telling → (Telling → List Receipt) → List Receipt
-table_seen_told app line [] at next = []
-table_seen_told app line (first ∷ others) at next =
-    table_receipts_of app first
-    ++ next (record at { handles = handles_after at.handles line first.entry.answer; tables = first.after; table_seen = others })
+-- the entry that settles a call of the bus makes its receipts, and the bus is then as after that entry
+abbrev pub settled_told : ℕ → List Seen → Telling → List Receipt × Option Telling
+settled_told app [] at = ([], None)
+settled_told app (last ∷ others) at = (receipts_of app last, Some (record at { state = last.after; seen = others }))
 
--- what a line tells that the bus doesn't see, and what comes then
-abbrev pub other_told : ℕ → Line → Option TableCall → Telling → (Telling → List Receipt) → List Receipt
-other_told app line None at next =
-    shown app at.state at.tables at.registers at.handles line
-    ++ next (record at { written = written_by at.written at.registers.buffers line })
-other_told app line (Some call) at next = table_seen_told app line at.table_seen at next
+-- a line with this call of the bus: its own entry answers it, and the one that settles it makes the receipts
+abbrev pub seen_told : ℕ → Line → Call → List Seen → Telling → List Receipt × Option Telling
+seen_told app line call [] at = ([], None)
+seen_told app line call (own ∷ others) at =
+    let answer = own.entry.answer in
+    let answered = record at { registers = registers_after at.registers line answer; written = written_after at.written call answer } in
+    settled_told app (settled_from answer own others) answered
 
--- what a line tells, and what comes then
-abbrev pub line_told : ℕ → Line → Option Call → Telling → (Telling → List Receipt) → List Receipt
-line_told app line None at next = other_told app line (table_call_of at.handles line) at next
-line_told app line (Some call) at next = seen_told app line call at.seen at next
+-- a line with a call of the tables: its entry answers it and makes the receipts
+abbrev pub table_seen_told : ℕ → Line → List TableSeen → Telling → List Receipt × Option Telling
+table_seen_told app line [] at = ([], None)
+table_seen_told app line (own ∷ others) at =
+    let handles = handles_after at.handles line own.entry.answer in
+    (table_receipts_of app own, Some (record at { handles = handles; tables = own.after; table_seen = others }))
 
--- What the lines tell, from there on.
+-- a line that the bus doesn't see: it makes its call of the tables, or shows what it shows and writes what it writes
+abbrev pub other_told : ℕ → Line → Option TableCall → Telling → List Receipt × Option Telling
+other_told app line None at =
+    let written = written_by at.written at.registers.buffers line in
+    (shown app at.state at.tables at.registers at.handles line, Some (record at { written = written }))
+other_told app line (Some call) at = table_seen_told app line at.table_seen at
+
+-- a line, with its call of the bus, where it makes one
+abbrev pub line_told : ℕ → Line → Option Call → Telling → List Receipt × Option Telling
+line_told app line None at = other_told app line (table_call_of at.handles line) at
+line_told app line (Some call) at = seen_told app line call at.seen at
+
+-- What the lines tell, from there on: the receipts of the first one, then those of the others from where it left the application.
 abbrev pub told : ℕ → List Line → Telling → List Receipt
 told app [] at = []
-told app (line ∷ lines) at = line_told app line (call_of at.registers at.written line) at (λ now. told app lines now)
+told app (line ∷ lines) at =
+    let first = line_told app line (call_of at.registers at.written line) at in
+    first.0 ++ option_map_or (λ now. told app lines now) first.1 []
 
 -- before the first line of an application, where a script's run has these histories
 abbrev pub telling_from : ScriptText → Histories → ℕ → Telling
