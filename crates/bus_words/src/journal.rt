@@ -262,6 +262,28 @@ impl BusJournal {
         requires { HasRoom (left_of self.old) entry.now.app (call_bytes (call_of entry.now.call)) }
         ensures { self.new ≡ with_entry self.old (entry_of entry.now) }
     {
+        // A send that was accepted goes by itself: its row is known, so it is made where it stands.
+        match (&entry.call, &entry.answer) {
+            (BusCall::Transmit { bytes, inc }, BusAnswer::Sent { number, reached }) => {
+                let row = Row {
+                    call: RowCall::Transmit { inc: *inc },
+                    answer: BusAnswer::Sent {
+                        number: *number,
+                        reached: *reached,
+                    },
+                };
+                self.store.push(entry.app, row, bytes);
+            }
+            _ => self.push_any(entry),
+        }
+    }
+
+    // As `push`, for an entry of any call and answer.
+    #[inline(never)]
+    fn push_any(&mut self, entry: &BusEntry<'_>)
+        requires { HasRoom (left_of self.old) entry.now.app (call_bytes (call_of entry.now.call)) }
+        ensures { self.new ≡ with_entry self.old (entry_of entry.now) }
+    {
         let row = Row {
             call: row_of(&entry.call),
             answer: entry.answer.again(),

@@ -133,21 +133,23 @@ impl<R: Drop> JournalStore<R> {
 
     /// Adds a row with its bytes behind all others. Its application must have a row left, and the
     /// bytes.
+    #[inline(always)]
     pub fn push(&mut self, app: AppNo, row: R, text: &[u8])
         requires { HasRoom (left_of self.old) app (length text.now) }
         ensures { self.new ≡
             with_row self.old (record { app = app; row = row; text = text.now }) }
     {
         let start = self.bytes.len() as u32;
-        // There is room for them, so this takes no memory and doesn't fail.
-        let _ = self.bytes.extend_from_slice(text);
-        charge(&mut self.left, app, text.len() as u32);
+        let len = text.len() as u32;
         self.rows.push_reserved(KeptRow {
             app,
             row,
             start,
-            len: text.len() as u32,
+            len,
         });
+        charge(&mut self.left, app, len);
+        // There is room for them, so this takes no memory and doesn't fail.
+        let _ = self.bytes.extend_from_slice(text);
     }
 
     /// Gives the last row another content. Its application and its bytes stay, and so do all other
