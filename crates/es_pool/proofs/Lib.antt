@@ -4,4 +4,5 @@ pub mod Keeps
 pub mod Marks
 pub mod Rooms
 pub mod Sizes
+pub mod Surely
 pub mod Totals

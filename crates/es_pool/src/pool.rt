@@ -9,6 +9,9 @@ use fsw_base::{BlockSizes, EsStatus, PoolStats};
 use std::alloc::{AllocError, Global};
 use std::marker::Model;
 
+// What a block of the largest size that there may be costs.
+const MOST_COST: u32 = 80_000 + OVERHEAD;
+
 /// A memory pool, by account: it says which block serves a request, and holds no bytes itself.
 ///
 /// Contracts see its bytes, its block sizes, the blocks cut so far in order of their numbers, each
@@ -104,6 +107,9 @@ impl Pool {
     pub fn fits(&self, size: u32, count: u32) -> bool
         ensures { result ≡ fits self.now size count }
     {
+        if count == 1 && self.fits_surely(size) {
+            return true;
+        }
         match self.sizes.class_of(size) {
             Some(class) => self.fits_class(class, count),
             None => false,
@@ -265,6 +271,15 @@ impl Pool {
         ensures { IsWhole self.now }
     {
         let _ = &self.blocks;
+    }
+
+    // Whether some size is large enough, and the rest holds a block of the largest that there may
+    // be. Then a block fits, and neither its class nor the free blocks are looked for.
+    fn fits_surely(&self, size: u32) -> bool
+        ensures { IsTrue result → IsTrue (fits self.now size 1) }
+    {
+        let last = self.sizes.count() - 1;
+        size <= self.sizes.at(last) && self.rest >= MOST_COST
     }
 
     // Whether `count` blocks of a class can be drawn.
