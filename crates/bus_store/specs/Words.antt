@@ -8,7 +8,7 @@ use Rattle.bus_words.specs.Bus.{Pipe, Buffer, Sending, pipe_at, unsent_size}
 use Rattle.bus_words.specs.Held.{blocks_held}
 use Rattle.bus_words.specs.Machine.{Reads, stamped, front_of}
 use Rattle.bus_words.specs.Acts.{NextCount, next_in}
-pub use Rattle.bus_tables.specs.Missed.{cause_of, missed_by, missed}
+pub use Rattle.bus_tables.specs.Missed.{missed}
 use Rattle.bus_tables.specs.Rows.{RouteRow, counted_on}
 use Rattle.bus_store.specs.Store.{Store, LastLoan, BufferDesc}
 

@@ -4,7 +4,7 @@ ghost use Rattle.bus_words.specs.Bus.{owns};
 ghost use Rattle.buf_desc.specs.Held.{Holding};
 ghost use Rattle.lend_block.specs.Loan.{LentBytes};
 ghost use Rattle.bus_store.specs.Bag.{HoldsViews};
-ghost use Rattle.bus_words.specs.Pipes.{oldest_on, last_on};
+ghost use Rattle.bus_words.specs.Pipes.{without_pipe, oldest_on, last_on};
 ghost use Rattle.bus_store.specs.Words.{loan_of, waiting_on, with_held};
 
 use crate::store::BusStore;
@@ -24,8 +24,7 @@ fn empty_pipe<'r, L: Ledger>(
     requires bag { HoldsViews store.old.pipes store.old.loans store.old.room.pipes app held.old }
     ensures waits { oldest_on store.new.pipes pipe ≡ None }
     ensures last { last_on store.new.pipes pipe ≡ None }
-    ensures others { filter (λ one. not (one.number == pipe)) store.new.pipes ≡
-        filter (λ one. not (one.number == pipe)) store.old.pipes }
+    ensures others { without_pipe pipe store.new.pipes ≡ without_pipe pipe store.old.pipes }
     ensures same { store.new ≡ record store.old {
       pipes = store.new.pipes;
       account = store.new.account;
@@ -51,7 +50,7 @@ impl<'r> BusStore<'r> {
         requires waits { oldest_on self.old.pipes pipe ≡ None }
         requires last { last_on self.old.pipes pipe ≡ None }
         ensures after { self.new ≡ record self.old {
-          pipes = filter (λ one. not (one.number == pipe)) self.old.pipes;
+          pipes = without_pipe pipe self.old.pipes;
           subscriptions = filter (λ sub. not (sub.pipe == pipe)) self.old.subscriptions;
           loans = filter (λ one. not (one.pipe == pipe)) self.old.loans;
         } }
@@ -79,7 +78,7 @@ impl<'r> BusStore<'r> {
         requires own { owns self.old.pipes app pipe ≡ true }
         requires bag { HoldsViews self.old.pipes self.old.loans self.old.room.pipes app held.old }
         ensures after { self.new ≡ record self.old {
-          pipes = filter (λ one. not (one.number == pipe)) self.old.pipes;
+          pipes = without_pipe pipe self.old.pipes;
           subscriptions = filter (λ sub. not (sub.pipe == pipe)) self.old.subscriptions;
           account = with_held self.old.account self.new.pipes self.old.unsent
               self.old.numbers_given;

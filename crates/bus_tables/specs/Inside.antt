@@ -118,7 +118,7 @@ still subscribed = record subscribed { live = map uncounted subscribed.live }
 abbrev pub fewer_by : Option Item → subs.Subscribed → subs.Subscribed
 fewer_by item subscribed = option_map_or (λ i. subs.with_change subscribed i.sub subs.one_fewer) item subscribed
 
--- the room and the number created, of a table of pipes
+-- a table of pipes but for the pipes themselves: where they lie, how many were created, the room and the greatest depth
 abbrev pub frame : Pipes → Pipes
 frame pipes = record pipes { live = [] }
 

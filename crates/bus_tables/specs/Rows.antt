@@ -27,10 +27,6 @@ item_of message sub = record { number = message.number; desc = message.desc; sub
 abbrev pub offer_of : Message → Offer ItemRow
 offer_of message = record { sender = message.sender; subscription_of = λ item. item.subscription; item_for = item_of message }
 
--- how many items of a subscription wait
-abbrev pub waiting_in : Row → ℕ → ℕ
-waiting_in row subscription = words.waiting_of (λ item. item.subscription) row subscription
-
 -- whether the pipe takes a message of this sender for the subscription
 abbrev pub takes : Row → Subscription → ℕ → Bool
 takes row sub sender = is_in (words.verdict (λ item. item.subscription) row sub sender)

@@ -1,6 +1,7 @@
 //! The pipes, subscriptions and routes of a software bus, kept so that a send goes along the
 //! destinations of its id alone, with the count of what waits ready at each; by the code, a pipe's
-//! number is looked up by halves, and a route at one place (cFE Software Bus).
+//! number is looked up first where it stands while no pipe was deleted, and then by halves, and a
+//! route at one place (cFE Software Bus).
 //!
 //! Contracts see three lists: pipes and subscriptions in order of number, and routes with their
 //! counts. Behind them stand the table of pipes, the subscriptions and the routes, each of a crate

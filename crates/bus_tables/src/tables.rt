@@ -6,7 +6,7 @@ ghost use Rattle.std.specs.Str.{bytes_eq};
 ghost use Rattle.fsw_base.specs.Limits.{limits_of};
 ghost use Rattle.fsw_base.specs.Starts.{start_of};
 ghost use Rattle.bus_words.specs.Bus.{route, is_subscribed};
-ghost use Rattle.bus_words.specs.Pipes.{pipe_at, owns, oldest_on, last_on, with_pipe, after_receive, without_front, without_last, with_bits, new_pipe, IsRising};
+ghost use Rattle.bus_words.specs.Pipes.{pipe_at, owns, oldest_on, last_on, with_pipe, after_receive, without_front, without_last, with_bits, new_pipe, IsRising, without_pipe, is_live, pipe_named, first_owned};
 ghost use Rattle.bus_tables.specs.Rows.{last_row_item, deliver_rows, reached_rows, missed_rows, has_way, counted_in, counted_on, with_route};
 ghost use Rattle.bus_tables.specs.Tables.{opened};
 
@@ -100,14 +100,14 @@ impl BusTables {
         self.pipes.owns(app, number)
     }
 
-    /// The option bits of the live pipe of this number, looked up by halves.
+    /// The option bits of the live pipe of this number.
     pub fn bits(&self, number: u32) -> Option<u8>
         ensures { result ≡ option_map (λ row. row.bits) (pipe_at self.now.pipes number) }
     {
         self.pipes.bits(number)
     }
 
-    /// The name of the live pipe of this number, looked up by halves.
+    /// The name of the live pipe of this number.
     pub fn name(&self, number: u32) -> Option<PipeText>
         ensures { result ≡ option_map (λ row. row.name) (pipe_at self.now.pipes number) }
     {
@@ -117,20 +117,19 @@ impl BusTables {
     /// The number of the live pipe of this name. By the code, goes along the live pipes up to it.
     pub fn find(&self, name: &[u8]) -> Option<u32>
         ensures { result ≡
-            option_map (λ row. row.number)
-            (find (λ row. bytes_eq row.name name.now) self.now.pipes) }
+            option_map (λ row. row.number) (pipe_named self.now.pipes name.now) }
     {
         self.pipes.find(name)
     }
 
-    /// What waits longest on the live pipe of this number, looked up by halves.
+    /// What waits longest on the live pipe of this number.
     pub fn oldest(&self, number: u32) -> Option<ItemRow>
         ensures { result ≡ oldest_on self.now.pipes number }
     {
         item_row(self.pipes.oldest(number))
     }
 
-    /// What was received last on the application's live pipe of this number, looked up by halves.
+    /// What was received last on the application's live pipe of this number.
     pub fn last(&self, app: AppNo, number: u32) -> Option<ItemRow>
         ensures { result ≡ last_row_item self.now.pipes app number }
     {
@@ -217,7 +216,7 @@ impl BusTables {
         requires waits { oldest_on self.old.pipes number ≡ None }
         requires last { last_on self.old.pipes number ≡ None }
         ensures { self.new ≡ record self.old {
-          pipes = filter (λ row. not (row.number == number)) self.old.pipes;
+          pipes = without_pipe number self.old.pipes;
           subscriptions = filter (λ sub. not (sub.pipe == number)) self.old.subscriptions;
         } }
     {
@@ -229,12 +228,12 @@ impl BusTables {
     /// along the live pipes up to it.
     pub fn first_of(&self, app: AppNo) -> Option<u32>
         ensures { result ≡
-            option_map (λ row. row.number) (find (λ row. row.owner == app) self.now.pipes) }
+            option_map (λ row. row.number) (first_owned self.now.pipes app) }
     {
         self.pipes.first_of(app)
     }
 
-    /// Sets the option bits of the live pipe of this number, looked up by halves.
+    /// Sets the option bits of the live pipe of this number.
     pub fn set_bits(&mut self, number: u32, bits: u8)
         ensures { self.new ≡
             record self.old { pipes = with_pipe (with_bits bits) number self.old.pipes } }
@@ -294,7 +293,7 @@ impl BusTables {
     )
         requires first { 1 ≤ id }
         requires last { id ≤ 0x1FFF }
-        requires live { list_any (λ row. row.number == pipe) self.old.pipes ≡ true }
+        requires live { is_live self.old.pipes pipe ≡ true }
         requires new { is_subscribed self.old.subscriptions id pipe ≡ false }
         requires way { has_way self.old.routes id ≡ false →
             length self.old.routes < self.old.room.msgids }

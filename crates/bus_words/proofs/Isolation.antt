@@ -17,7 +17,7 @@ use Rattle.bus_words.specs.Bus.{Item, Pipe, Subscription, State, Sending, Waitin
 use Rattle.bus_words.specs.Refusals.{Refusal, OfBus, OfPools, OfEvents, refusal_answer}
 use Rattle.bus_words.specs.Held.{in_use}
 use Rattle.bus_words.specs.Machine.{sending_from, packet_in, reads_after, delivered, front_of, refused_if, unowned_cause, receive_cause, transmit_buffer_cause, subscribed, sent_along, buffer_gone, passed_along, received, oldest_number, cause, accept, decided, refused_state, step, makes_entry, state_from, LegalFrom, IsLegal}
-use Rattle.bus_words.specs.Alone.{Alone, Input, Send, Received, unmade, solo, solo_receipts, input_alone, given, inputs_of, gets_from, was_made, cut_from, cut, last_on, receipts_from, receipts, received_of, last_of, Gives}
+use Rattle.bus_words.specs.Alone.{Alone, Input, Send, Received, unmade, solo, solo_receipts, input_alone, given, inputs_of, gets_from, was_made, cut_from, cut, last_received, receipts_from, receipts, received_of, last_of, Gives}
 use Rattle.bus_words.proofs.Steps.{AreNumbered, AreNumbered-step, with_subscription, by_bus-none, by_bus-some, transmit_buffer_cause-none}
 use Rattle.bus_words.proofs.Firsts.{AreFirst, AreFirst-step, AreFirst-opening, first-of}
 use Rattle.bus_words.proofs.Ties.{AreTied, AreTied-step}
@@ -499,7 +499,7 @@ gave-step limits history s p e answered =
 -- an entry gives this message, from where a history goes on
 record GivesFrom (limits : Limits) (history : List Entry) (s : State) (p : ℕ) (a : Alone) (es : List Entry) (e : Entry) (message : Received) : Type 0 where
   pub answer : e.answer ≡ Got message.number
-  pub last : last_on (state_from limits history s (es ++ e ∷ [])) p ≡ message ∷ []
+  pub last : last_received (state_from limits history s (es ++ e ∷ [])) p ≡ message ∷ []
   pub newest : solo_receipts a (cut_from limits history s p (es ++ e ∷ [])) ≡ solo_receipts a (cut_from limits history s p es) ++ message ∷ []
 
 gives_from : (limits : Limits) (history : List Entry) (s : State) (p : ℕ) (a : Alone) (own : ℕ → ℕ) (es : List Entry) (e : Entry) → AreOrdered s → Stand own p s a →

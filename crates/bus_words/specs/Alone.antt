@@ -13,7 +13,7 @@ use Rattle.bus_words.specs.declared.calls.BusAnswer.TheVariants.{Done, Number, S
 use Rattle.bus_words.specs.declared.history.Call.{Call}
 use Rattle.bus_words.specs.declared.history.Call.TheVariants.{Create, Delete, SetOpts, Subscribe, Unsubscribe, Transmit, Receive, Pend, Look, TransmitBuffer, Housekeeping, End}
 use Rattle.bus_words.specs.declared.history.Entry.{Entry}
-use Rattle.bus_words.specs.Bus.{Item, Pipe, Subscription, State, opening, pipe_at, owns, with_bits, offered, after_receive}
+use Rattle.bus_words.specs.Bus.{Item, Pipe, Subscription, State, opening, pipe_at, owns, with_bits, offered, after_receive, new_pipe}
 use Rattle.bus_words.specs.Machine.{packet_in, front_of, delivered, step, state_after}
 
 -- What happens to a pipe.
@@ -41,7 +41,7 @@ pub record Alone : Type 0 where
 
 -- a pipe with nothing in it; its own number is 1 and it has no name
 abbrev pub empty_pipe : ℕ → ℕ → Pipe
-empty_pipe owner depth = record { number = 1; name = []; owner = owner; depth = depth; bits = 0; queue = []; last = None }
+empty_pipe owner depth = new_pipe 1 [] owner depth
 
 -- before it is made
 abbrev pub unmade : Alone
@@ -173,14 +173,14 @@ gets_from p e = of_call e.call e.answer
     of_call call answer = false
 
 -- the last message of pipe p
-abbrev pub last_on : State → ℕ → List Received
-last_on s p = option_map_or (λ pipe. last_of pipe.last) (pipe_at s.pipes p) []
+abbrev pub last_received : State → ℕ → List Received
+last_received s p = option_map_or (λ pipe. last_of pipe.last) (pipe_at s.pipes p) []
 
 -- the messages that the entries which follow a history give from pipe p, each the last one after its entry
 abbrev pub receipts_from : Limits → List Entry → State → ℕ → List Entry → List Received
 receipts_from limits history s p [] = []
 receipts_from limits history s p (e ∷ es) =
-    (if gets_from p e then last_on ((step limits history s e.app e.call).1) p else [])
+    (if gets_from p e then last_received ((step limits history s e.app e.call).1) p else [])
     ++ receipts_from limits (history ++ e ∷ []) ((step limits history s e.app e.call).1) p es
 
 -- the messages that a history of so many applications gives from pipe p, in order
@@ -191,5 +191,5 @@ receipts limits apps p history = receipts_from limits [] (opening limits apps) p
 -- alone gives
 pub record Gives (limits : Limits) (apps p : ℕ) (history : List Entry) (e : Entry) (message : Received) : Type 0 where
   pub answer : e.answer ≡ Got message.number
-  pub last : last_on (state_after limits apps (history ++ e ∷ [])) p ≡ message ∷ []
+  pub last : last_received (state_after limits apps (history ++ e ∷ [])) p ≡ message ∷ []
   pub newest : solo_receipts unmade (cut limits apps p (history ++ e ∷ [])) ≡ solo_receipts unmade (cut limits apps p history) ++ message ∷ []

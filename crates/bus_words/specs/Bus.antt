@@ -7,7 +7,7 @@ use Rattle.fsw_base.specs.Limits.{Limits}
 use Rattle.fsw_base.specs.EventDesk.{Desk, new_desk}
 use Rattle.housekeeping.specs.Statistics.{Statistics, no_statistics}
 use Rattle.pool_words.specs.Grants.{Pools, IsCounted}
-pub use Rattle.bus_words.specs.Pipes.{PipeOf, Subscription, Offer, is_in, oldest, pipe_at, is_live, owns, pipe_named, is_named, with_pipe, ignores_own, after_receive, with_bits}
+pub use Rattle.bus_words.specs.Pipes.{PipeOf, Subscription, Offer, is_in, oldest, pipe_at, is_live, owns, pipe_named, is_named, with_pipe, without_pipe, new_pipe, ignores_own, after_receive, with_bits}
 use Rattle.bus_words.specs.declared.verdict.Verdict.{Verdict}
 use Rattle.bus_words.specs.Pipes as words
 
@@ -158,10 +158,6 @@ offered sending sub pipe = words.offered (offer_of sending) sub pipe
 -- the pipes once each of these subscriptions was offered what is sent, in order
 abbrev pub deliver : Sending → List Subscription → List Pipe → List Pipe
 deliver sending subs pipes = words.deliver (offer_of sending) subs pipes
-
--- 1 where the subscription's pipe takes what is sent
-abbrev pub taken_by : Sending → Subscription → List Pipe → ℕ
-taken_by sending sub pipes = words.taken_by (offer_of sending) sub pipes
 
 -- how many of these subscriptions have the verdict In, each as its turn comes
 abbrev pub reached : Sending → List Subscription → List Pipe → ℕ

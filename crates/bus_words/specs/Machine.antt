@@ -25,7 +25,7 @@ use Rattle.bus_words.specs.Held.{account_of, account_drawn}
 use Rattle.bus_words.specs.Events.{Moment, desk_then, desk_told}
 use Rattle.bus_words.specs.Counters.{statistics_then, statistics_told, stats_in}
 pub use Rattle.bus_words.specs.Sends.{Reads, stamped, front_of, sending_from, sending_in, packet_in}
-use Rattle.bus_words.specs.Bus.{Pipe, Subscription, Buffer, State, Standing, Active, Waiting, Ended, Sending, opening, standing_of, pipe_at, pipe_named, is_live, is_named, owns, with_pipe, with_bits, with_standing, route, is_subscribed, has_route, is_empty, others_idle, deliver, reached, oldest, after_receive, has_unsent, unsent_size, with_unsent, without_unsent, without_all_unsent}
+use Rattle.bus_words.specs.Bus.{Pipe, Subscription, Buffer, State, Standing, Active, Waiting, Ended, Sending, opening, standing_of, pipe_at, pipe_named, is_live, is_named, owns, with_pipe, with_bits, with_standing, route, is_subscribed, has_route, is_empty, others_idle, deliver, reached, oldest, after_receive, has_unsent, unsent_size, with_unsent, without_unsent, without_all_unsent, without_pipe, new_pipe}
 
 -- Sequence counts (CCSDS 133.0-B, 4.1.3.4.3). --
 
@@ -194,7 +194,7 @@ abbrev pub created : State → ℕ → ℕ → List ℕ → BusAnswer × State
 created s app depth name = (
   Number (s.pipes_created + 1),
   record s {
-    pipes = s.pipes ++ record { number = s.pipes_created + 1; name = name; owner = app; depth = depth; bits = 0; queue = []; last = None } ∷ [];
+    pipes = s.pipes ++ new_pipe (s.pipes_created + 1) name app depth ∷ [];
     pipes_created = s.pipes_created + 1;
   },
 )
@@ -202,7 +202,7 @@ created s app depth name = (
 -- the pipe and its subscriptions leave
 abbrev pub deleted : State → ℕ → State
 deleted s pipe = record s {
-  pipes = filter (λ other. not (other.number == pipe)) s.pipes;
+  pipes = without_pipe pipe s.pipes;
   subscriptions = filter (λ sub. not (sub.pipe == pipe)) s.subscriptions;
 }
 

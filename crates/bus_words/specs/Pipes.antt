@@ -34,6 +34,7 @@ pub record Offer (item : Type 0) : Type 0 where
   pub subscription_of : item → ℕ
   pub item_for : Subscription → item
 
+-- whether the message is queued
 abbrev pub is_in : Verdict → Bool
 is_in Skip = false
 is_in OverLimit = false
@@ -129,7 +130,7 @@ module _ {item : Type 0} where
   abbrev pub waiting_of : (item → ℕ) → PipeOf item → ℕ → ℕ
   waiting_of subscription_of pipe subscription = count_by (λ queued. subscription_of queued == subscription) pipe.queue
 
-  -- the first of the verdicts that applies to a message of this sender, which is over its subscription's limit or isn't
+  -- the first of the verdicts that applies to a message of this sender, where it is told whether its subscription's limit is reached
   abbrev pub verdict_over : Bool → PipeOf item → ℕ → Verdict
   verdict_over is_over pipe sender =
       if ignores_sender pipe sender then Skip
@@ -141,8 +142,8 @@ module _ {item : Type 0} where
   abbrev pub verdict : (item → ℕ) → PipeOf item → Subscription → ℕ → Verdict
   verdict subscription_of pipe sub sender = verdict_over (nat_le sub.limit (waiting_of subscription_of pipe sub.number)) pipe sender
 
-  -- the pipe once it was offered an item of this sender, which is over its subscription's limit or isn't: with the item as its
-  -- newest where the verdict is In
+  -- the pipe once it was offered an item of this sender, where it is told whether its subscription's limit is reached: with the
+  -- item as its newest where the verdict is In
   abbrev pub offered_over : Bool → ℕ → item → PipeOf item → PipeOf item
   offered_over is_over sender newest pipe =
       if is_in (verdict_over is_over pipe sender) then record pipe { queue = pipe.queue ++ newest ∷ [] } else pipe

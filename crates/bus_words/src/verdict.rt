@@ -6,7 +6,7 @@
 pub enum Verdict {
     /// The pipe ignores its owner's messages, and its owner sent this one.
     Skip,
-    /// As many messages of the subscription wait on the pipe as its limit says.
+    /// At least as many messages of the subscription wait on the pipe as its limit says.
     OverLimit,
     /// As many messages wait on the pipe as its depth says.
     Full,

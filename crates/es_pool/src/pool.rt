@@ -5,12 +5,12 @@ ghost use Rattle.es_pool.specs.Pool.{PoolState, IsWhole, fits, fits_class, Draws
 
 use crate::blocks::{BlockNo, ClassStats, CutBlock, OVERHEAD, zeros};
 use bucket_list::{Ledger, Lists, Steps};
-use fsw_base::{BlockSizes, EsStatus, PoolStats};
+use fsw_base::{BlockSizes, EsStatus, MAX_BLOCK_SIZE, PoolStats};
 use std::alloc::{AllocError, Global};
 use std::marker::Model;
 
 // What a block of the largest size that there may be costs.
-const MOST_COST: u32 = 80_000 + OVERHEAD;
+const MOST_COST: u32 = MAX_BLOCK_SIZE + OVERHEAD;
 
 /// A memory pool, by account: it says which block serves a request, and holds no bytes itself.
 ///

@@ -2,7 +2,7 @@
 ghost use Rattle.std.specs.Prelude.{◌≡◌, ◌==◌, ◌≤◌, ◌+◌, ◌<◌, [], length, Some, None, IfOk, IsSome, false, ◌%◌, ◌&&◌};
 ghost use Rattle.std.specs.Option.{option_map, option_map_or, option_and_then};
 ghost use Rattle.std.specs.Str.{bytes_eq};
-ghost use Rattle.bus_words.specs.Pipes.{oldest, new_pipe, ignores_own, verdict_over, offered_over, with_bits, after_receive, without_front, without_last};
+ghost use Rattle.bus_words.specs.Pipes.{oldest, new_pipe, ignores_sender, verdict_over, offered_over, with_bits, after_receive, without_front, without_last};
 
 use bus_words::{PipeText, Verdict};
 use fsw_base::AppNo;
@@ -206,8 +206,8 @@ impl Place {
         self.queue.set_last(None)
     }
 
-    /// Offers the pipe a message of this sender, over the limit of its subscription or not: queues
-    /// it, unless something is against it.
+    /// Offers the pipe a message of this sender, and is told whether its subscription's limit is
+    /// reached: queues it, unless something is against it.
     pub(crate) fn offer(&mut self, sender: AppNo, is_over: bool, item: Item) -> Verdict
         requires { IsSome self.old.pipe }
         ensures told { option_map (λ pipe. verdict_over is_over pipe sender) self.old.pipe ≡
@@ -233,7 +233,7 @@ impl Place {
     // Whether the pipe ignores what the application sends.
     fn ignores(&self, sender: AppNo) -> bool
         ensures { result ≡
-            option_map_or (λ pipe. ignores_own pipe && pipe.owner == sender) self.now.pipe false }
+            option_map_or (λ pipe. ignores_sender pipe sender) self.now.pipe false }
     {
         match &self.label {
             Some(label) => label.bits % 2 == 1 && label.owner == sender,

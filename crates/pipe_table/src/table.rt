@@ -150,7 +150,7 @@ impl PipeTable {
     }
 
     /// The number of the live pipe that was created first of those with the name. For a creation
-    /// and for finding a pipe by name: it looks at every live pipe.
+    /// and for finding a pipe by name: by the code, it looks at the live pipes up to it.
     pub fn find(&self, name: &[u8]) -> Option<u32>
         ensures { result ≡ option_map (λ pipe. pipe.number) (pipe_named self.now.live name.now) }
     {
@@ -163,7 +163,7 @@ impl PipeTable {
     }
 
     /// The number of the live pipe that was created first of the application's. For an
-    /// application's end: it looks at every live pipe.
+    /// application's end: by the code, it looks at the live pipes up to it.
     pub fn first_of(&self, app: AppNo) -> Option<u32>
         ensures { result ≡ option_map (λ pipe. pipe.number) (first_owned self.now.live app) }
     {
@@ -266,10 +266,10 @@ impl PipeTable {
         }
     }
 
-    /// Offers a live pipe a message of this sender, which is over its subscription's limit or not:
-    /// queues it, unless the pipe ignores the sender, it is over the limit, or as many messages
-    /// wait as the pipe's depth; answers the first of these that holds. Looks once at the pipe's
-    /// place, and at no other.
+    /// Offers a live pipe a message of this sender, and is told whether its subscription's limit is
+    /// reached: queues it, unless the pipe ignores the sender, the limit is reached, or as many
+    /// messages wait as the pipe's depth; answers the first of these that holds. By the code, looks
+    /// once at the pipe's place, and at no other.
     pub fn offer(&mut self, pipe: PipeNo, sender: AppNo, is_over: bool, item: Item) -> Verdict
         requires live { place_of self.old.places pipe.number ≡ Some pipe.place }
         ensures told { option_map (λ pipe. verdict_over is_over pipe sender)

@@ -106,13 +106,13 @@ shown app s t registers handles (ShowPipe pipe) = unwrap_or (receipt_in s app (s
 shown app s t registers handles (ShowTable handle) = unwrap_or (held_in t app (slice_index handles handle)) Nothing ∷ []
 shown app s t registers handles line = []
 
--- Each of these answers the receipts that a line makes, and where the application is behind it; where a history ends before the
--- line's entry, there is no receipt and nothing to go on from.
-
 -- the entries from the one on that settles a call so answered: its own, or the look behind it, where it was left waiting
 abbrev pub settled_from : BusAnswer → Seen → List Seen → List Seen
 settled_from Pending own others = others
 settled_from answer own others = own ∷ others
+
+-- Each of these answers the receipts that a line makes, and where the application is behind it; where a history ends before the
+-- entry that settles the line's call, there is no receipt and nothing to go on from.
 
 -- the entry that settles a call of the bus makes its receipts, and the bus is then as after that entry
 abbrev pub settled_told : ℕ → List Seen → Telling → List Receipt × Option Telling
