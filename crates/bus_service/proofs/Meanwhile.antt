@@ -1,5 +1,5 @@
 -- What others call meanwhile leaves an application as it stands, with what it may still add.
-use Rattle.std.proofs.Common.{◌≡◌, ℕ, ◌≤◌, [], IsTrue, ap, sym, ◌∙◌, subst, arith}
+use Rattle.std.proofs.Common.{◌≡◌, ℕ, ◌≤◌, [], IsTrue, ap, sym, ◌∙◌, subst, arith, List}
 use Rattle.journal_store.specs.declared.allowance.Allowance.{Allowance}
 use Rattle.journal_store.specs.Budgets.{allowance_of, allowances}
 use Rattle.bus_words.specs.declared.history.Call.{Call}
