@@ -1,5 +1,5 @@
 #!/usr/bin/env python3
-"""Asks tshark's CCSDS dissector what it reads in the packets that ccsds_packets prints.
+"""Asks tshark's CCSDS dissector what it reads in the packets that rows_packets prints.
 
     ccsds_tshark.py [--install] [FILE]    compares the packets of FILE, or of standard input
     ccsds_tshark.py --table               prints the packets of the table below, built here

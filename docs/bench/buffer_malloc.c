@@ -1,4 +1,4 @@
-/* What buffer_cost does, with malloc, memcpy and free of the C library: each turn takes a block, copies the message into it,
+/* What cost_buffer does, with malloc, memcpy and free of the C library: each turn takes a block, copies the message into it,
  * reads its first byte and gives it back. The arguments are the number of turns and the bytes. Build with cc -O2. */
 #include <stdio.h>
 #include <stdlib.h>

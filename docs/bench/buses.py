@@ -1,5 +1,5 @@
 #!/usr/bin/env python3
-"""Counts the instructions of a round of bus_cost and of port_cost, beside those of the bus by hand.
+"""Counts the instructions of a round of cost_bus and of cost_port, beside those of the bus by hand.
 
     python3 docs/bench/buses.py [bus|ports|full] ..
 
@@ -18,8 +18,8 @@ from pathlib import Path
 
 HERE = Path(__file__).resolve().parent
 CRATES = HERE.parent.parent / "crates"
-BUS_COST = os.environ.get("BUS_COST", CRATES / "bus_cost/out/bus_cost")
-PORT_COST = os.environ.get("PORT_COST", CRATES / "port_cost/out/port_cost")
+BUS_COST = os.environ.get("BUS_COST", CRATES / "cost_bus/out/cost_bus")
+PORT_COST = os.environ.get("PORT_COST", CRATES / "cost_port/out/cost_port")
 
 # The rounds of the shorter and of the longer run of each word.
 BUS_WORDS = {"send1": (1000, 11000), "fan16": (1000, 11000), "big": (100, 600), "fanbig": (100, 600), "zc": (1000, 11000), "table": (100, 600)}

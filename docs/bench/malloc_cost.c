@@ -1,4 +1,4 @@
-/* What pool_cost does, with malloc and free of the C library: each turn frees the block of 64 turns before and takes one
+/* What cost_pool does, with malloc and free of the C library: each turn frees the block of 64 turns before and takes one
  * of the next size. The argument is the number of turns. Build with cc -O2. */
 #include <stdio.h>
 #include <stdlib.h>

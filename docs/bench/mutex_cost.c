@@ -1,5 +1,5 @@
 /* Locks and unlocks a pthread mutex as often as its argument says, with nobody else at it: what the
-   program turn_cost is timed beside. A second thread sleeps meanwhile, since some C libraries leave
+   program cost_turn is timed beside. A second thread sleeps meanwhile, since some C libraries leave
    the atomic steps out while a process has one thread.
    Build it with: cc -O2 -pthread -o mutex_cost mutex_cost.c */
 #include <pthread.h>

@@ -1,4 +1,4 @@
-/* A bus by hand, for the comparison with bus_cost: a mutex round each call, a message in a block that counts its uses, a ring
+/* A bus by hand, for the comparison with cost_bus: a mutex round each call, a message in a block that counts its uses, a ring
  * of blocks for each pipe, free lists of blocks by size, and a table of two blocks. It does what the bus's core does for the
  * same calls: it checks its arguments, counts what it refuses, keeps the number and the bytes of the blocks in use with their
  * peaks, gives each id its own sequence count, and each subscription its limit. It writes no journal and tells no event.

@@ -34,8 +34,8 @@ use Rattle.tbl_words.proofs.Replay.{state_from-push as tables_from-push}
 use Rattle.tbl_load.specs.Bags.{CalledByOthers as CalledByOthersAtTables}
 use Rattle.tbl_load.specs.Core.{Core as TableCore, IsLegalCore as IsLegalTableCore, apps_of as table_apps_of, state_of as tables_of}
 use Rattle.tbl_load.proofs.Journals.{left_from-push as tables_left_from-push}
-use Rattle.core_calls.specs.Callers.{Caller, Meets, written_in}
-use Rattle.core_calls.specs.TableCallers.{MeetsTables}
+use Rattle.app_calls.specs.Callers.{Caller, Meets, written_in}
+use Rattle.app_calls.specs.TableCallers.{MeetsTables}
 use Rattle.app_run.specs.Lines.{bytes_due}
 use Rattle.app_run.specs.Received.{newest_number, newest_version}
 use Rattle.app_run.specs.Runners.{Progress, Equipped}

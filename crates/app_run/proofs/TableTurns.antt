@@ -32,7 +32,7 @@ use Rattle.tbl_words.specs.Entries.{call_bytes as table_call_bytes}
 use Rattle.tbl_words.specs.Log.{left_of as tables_left_of}
 use Rattle.tbl_words.specs.Machine.{accept, cause, outcome, step, with_new_handle, with_new_table, with_range, with_staged, with_table_of, with_update, with_validated, with_hold}
 use Rattle.tbl_words.specs.Tables.{State as Tables, Staged, Table, has_ended, table_named, table_of, with_handle, with_table}
-use Rattle.tbl_core.specs.Core.{is_range, is_within}
+use Rattle.tbl_plain.specs.Core.{is_range, is_within}
 use Rattle.tbl_blocks.specs.Held.{HeldViews}
 use Rattle.tbl_load.specs.Core.{Core as TableCore, Does as TablesDo, MayCall as MayCallCore, apps_of as table_apps_of, state_of as tables_of}
 use Rattle.tbl_load.proofs.Journals.{left_from-push, length-left_of as length-tables_left_of}
@@ -49,8 +49,8 @@ use Rattle.script_runs.specs.TableTrace.{table_call_of, handles_after}
 use Rattle.script_runs.specs.Told.{addressed_in}
 use Rattle.script_runs.specs.Trace.{call_of}
 use Rattle.script_runs.specs.Written.{bytes_in}
-use Rattle.core_calls.specs.Callers.{Answers, Caller, LeavesBuffers, MayCallBus, Meets, SameServices, written_in}
-use Rattle.core_calls.specs.TableCallers.{HasEndedAtTables, HasOwnTables, KeepsBus, MayCallTables, MeetsTables, TablesAnswer}
+use Rattle.app_calls.specs.Callers.{Answers, Caller, LeavesBuffers, MayCallBus, Meets, SameServices, written_in}
+use Rattle.app_calls.specs.TableCallers.{HasEndedAtTables, HasOwnTables, KeepsBus, MayCallTables, MeetsTables, TablesAnswer}
 use Rattle.app_run.specs.Lines.{IsRun, bytes_due, entries_due}
 use Rattle.app_run.specs.Received.{Remember, RememberHeld, taken_at_tables}
 use Rattle.app_run.specs.Runners.{Progress, Equipped, running_of, standing_for}

@@ -22,7 +22,7 @@ use Rattle.sb_calls.specs.Views.{bytes_seen}
 use Rattle.script_runs.specs.Told.{own_last, got_in}
 use Rattle.script_runs.proofs.OnlyMessages.{own_last-message}
 use Rattle.script_runs.proofs.OwnLasts.{receipt_in-own, tells-number}
-use Rattle.core_calls.specs.Callers.{Caller, HasOwnBag}
+use Rattle.app_calls.specs.Callers.{Caller, HasOwnBag}
 use Rattle.app_run.specs.Received.{taken_from, taken_by, newest_number, Remember}
 
 -- the bag shows the bytes of each own last message

@@ -14,8 +14,8 @@ use Rattle.tbl_load.specs.Core.{Core, Does, apps_of, state_of}
 use Rattle.tbl_load.proofs.Shown.{shown}
 use Rattle.script_runs.specs.Told.{addressed_in, held_in, own_hold}
 use Rattle.script_runs.proofs.HeldReceipts.{held-own}
-use Rattle.core_calls.specs.Callers.{Caller}
-use Rattle.core_calls.specs.TableCallers.{HasOwnTables}
+use Rattle.app_calls.specs.Callers.{Caller}
+use Rattle.app_calls.specs.TableCallers.{HasOwnTables}
 use Rattle.app_run.specs.Received.{held_receipt, held_under, taken_at_tables, newest_version, RememberHeld}
 use Rattle.app_run.proofs.OwnHolds.{bytes-own, own-small, address-version}
 

@@ -9,17 +9,17 @@ use Rattle.std.specs.List.{slice_get, All}
 use Rattle.std.proofs.lemmas.Option.{slice_get_within, get_or_from_slice_get}
 use Rattle.std.proofs.lemmas.List.Elements.{All-get_or}
 use Rattle.bus_words.specs.Bus.{waited_on}
-use Rattle.sb_core.specs.declared.pending.Pended.TheVariants as waits
+use Rattle.sb_plain.specs.declared.pending.Pended.TheVariants as waits
 use Rattle.lend_block.specs.Loan.{LentBytes}
 use Rattle.buf_desc.specs.Held.{Holding}
-use Rattle.core_calls.specs.Callers.{AnswersLook, HasOwnBag, KeepsTables, LeavesBuffers, FindsRoom, Meets, MayWrite, SameServices, Writes, buffers_asked, pipe_waited_on, written_in}
-use Rattle.core_calls.specs.TableCallers.{HasOwnTables, KeepsBus}
+use Rattle.app_calls.specs.Callers.{AnswersLook, HasOwnBag, KeepsTables, LeavesBuffers, FindsRoom, Meets, MayWrite, SameServices, Writes, buffers_asked, pipe_waited_on, written_in}
+use Rattle.app_calls.specs.TableCallers.{HasOwnTables, KeepsBus}
 use Rattle.app_run.specs.Lines.{IsRun, most_receipts}
 use Rattle.app_run.specs.Received.{Remember, RememberHeld, taken_from, taken_by}
 use Rattle.app_run.specs.Turns.{MayTurn, TakesTurnBy, services_of, with_bags}
 use Rattle.app_run.specs.TableLines.{IsRunAtTables, table_line_bytes, table_bytes_due}
 use Rattle.app_run.proofs.AskedLaws.{AskedLine, asked-fewer, asked-line, asked-more, given-step}
-use Rattle.core_calls.proofs.Wrote.{alike-long, alike-none}
+use Rattle.app_calls.proofs.Wrote.{alike-long, alike-none}
 use Rattle.app_run.proofs.Newest.{remember-step, remember-shown}
 use Rattle.app_run.proofs.NewestHeld.{remember_held-got, remember_held-shown}
 use Rattle.app_run.proofs.OthersLaws.{stands-met, met-limits}
@@ -53,7 +53,7 @@ use Rattle.script_runs.specs.Trace.{Registers, call_of, registers_after}
 use Rattle.script_runs.specs.Written.{Written, written_after, written_by}
 use Rattle.script_runs.proofs.Buffers.{length-sent_message}
 use Rattle.std.proofs.Math.Path.{fun_ext}
-use Rattle.core_calls.specs.Callers.{Caller}
+use Rattle.app_calls.specs.Callers.{Caller}
 use Rattle.app_run.specs.Lines.{MayRun, pipe_waited_for, line_bytes, entries_due, bytes_due, AreAsked}
 use Rattle.app_run.specs.Runners.{Place, Progress, Equipped, Services, running_of, standing_for}
 use Rattle.app_run.specs.Turns.{so_far, Stands, StandsAtBus, StandsAtTables, TakesTurn, tells, tells_in, line_tells, other_tells, active_tells}

@@ -10,7 +10,7 @@ use Rattle.script_words.specs.declared.content.Content.TheVariants.{Hex, Fill}
 use Rattle.script_settings.specs.Accounts.{waits_of, sizes_after}
 use Rattle.script_runs.specs.Trace.{Registers}
 use Rattle.script_runs.specs.Written.{Written, bytes_in}
-use Rattle.core_calls.specs.Callers.{Caller, MayCallBus, Answers}
+use Rattle.app_calls.specs.Callers.{Caller, MayCallBus, Answers}
 
 -- the application may make the call of its line, where the line makes one
 abbrev pub MayRun : Caller → Option Call → Type 0

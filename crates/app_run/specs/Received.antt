@@ -18,7 +18,7 @@ use Rattle.tbl_words.specs.declared.history.Call.TheVariants as table_calls
 use Rattle.tbl_words.specs.Receipts.{table_receipt}
 use Rattle.tbl_words.specs.Tables.{State as Tables}
 use Rattle.tbl_load.specs.Core.{state_of as tables_of}
-use Rattle.core_calls.specs.Callers.{Caller}
+use Rattle.app_calls.specs.Callers.{Caller}
 
 -- the receipt of the caller's last message from a pipe, under this send number
 abbrev pub taken_from : Caller → ℕ → ℕ → List Receipt

@@ -14,7 +14,7 @@ use Rattle.script_runs.specs.Histories.{Histories}
 use Rattle.script_runs.specs.TableTrace.{first_handles}
 use Rattle.script_runs.specs.Trace.{Registers, first_registers}
 use Rattle.script_runs.specs.Rotation.{Running}
-use Rattle.core_calls.specs.Callers.{written_in}
+use Rattle.app_calls.specs.Callers.{written_in}
 
 -- Both services: the bus and the tables.
 pub record Services : Type 0 where

@@ -6,8 +6,8 @@ use Rattle.tbl_words.specs.declared.history.Call.{Call}
 use Rattle.script_words.specs.Content.{content_len}
 use Rattle.script_lines.specs.declared.line.Line.{Line}
 use Rattle.script_lines.specs.declared.line.Line.TheVariants.{TableRegister, TableShare, Stage, Load}
-use Rattle.core_calls.specs.Callers.{Caller}
-use Rattle.core_calls.specs.TableCallers.{MayCallTables, TablesAnswer}
+use Rattle.app_calls.specs.Callers.{Caller}
+use Rattle.app_calls.specs.TableCallers.{MayCallTables, TablesAnswer}
 
 -- the application may make the tables' call of its line, where the line makes one
 abbrev pub MayRunAtTables : Caller → Option Call → Type 0

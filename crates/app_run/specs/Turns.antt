@@ -22,8 +22,8 @@ use Rattle.script_runs.specs.Told.{addressed_in, got_in, shown}
 use Rattle.app_run.specs.declared.runner.Turned.{Turned}
 use Rattle.app_run.specs.declared.runner.Turned.TheVariants as turned
 use Rattle.script_settings.specs.Accounts.{buffers_of}
-use Rattle.core_calls.specs.Callers.{Caller, Meets, SameServices, HasOwnBag, written_in}
-use Rattle.core_calls.specs.TableCallers.{MeetsTables, HasOwnTables}
+use Rattle.app_calls.specs.Callers.{Caller, Meets, SameServices, HasOwnBag, written_in}
+use Rattle.app_calls.specs.TableCallers.{MeetsTables, HasOwnTables}
 use Rattle.app_run.specs.Lines.{entries_due, bytes_due, AreAsked}
 use Rattle.app_run.specs.Received.{Remember, RememberHeld}
 use Rattle.app_run.specs.Runners.{Services, Progress, Equipped, standing_in, running_of, going}

@@ -26,7 +26,7 @@ mod rotating;
 mod runner;
 mod table_calls;
 
-pub use core_calls::{Calls, CoreCalls};
+pub use app_calls::{Calls, CoreCalls};
 pub use regions::{Blocks, Regions};
 pub use rotating::{Finished, budgets_of, lockstep, recall_limits};
 pub use runner::{Runner, Turned};

@@ -5,13 +5,13 @@ ghost use Rattle.app_script.specs.Ranges.{IsLineInRange};
 ghost use Rattle.script_runs.specs.Trace.{call_of};
 ghost use Rattle.buf_desc.specs.Held.{bytes_at};
 ghost use Rattle.script_runs.specs.Written.{written_by};
-ghost use Rattle.core_calls.specs.Callers.{MayCallBus, MayWrite, Answers, Writes, written_in};
+ghost use Rattle.app_calls.specs.Callers.{MayCallBus, MayWrite, Answers, Writes, written_in};
 ghost use Rattle.app_run.specs.Lines.{MayRun, IsRun, made_size};
 
 use crate::answers;
 use crate::registers::Registers;
+use app_calls::{Calls, make_message};
 use bus_words::{BusAnswer, Call};
-use core_calls::{Calls, make_message};
 use fsw_base::{EventKind, FilterList, Scope};
 use script_lines::Line;
 

@@ -7,8 +7,8 @@ ghost use Rattle.script_runs.specs.Told.{shown, held_in};
 ghost use Rattle.script_runs.specs.TableTrace.{table_call_of};
 ghost use Rattle.script_runs.specs.Trace.{call_of};
 ghost use Rattle.script_runs.specs.Written.{Written};
-ghost use Rattle.core_calls.specs.Callers.{HasOwnBag};
-ghost use Rattle.core_calls.specs.TableCallers.{HasOwnTables};
+ghost use Rattle.app_calls.specs.Callers.{HasOwnBag};
+ghost use Rattle.app_calls.specs.TableCallers.{HasOwnTables};
 ghost use Rattle.tbl_load.specs.Core.{state_of as tables_of};
 ghost use Rattle.app_run.specs.Lines.{most_receipts};
 ghost use Rattle.app_run.specs.Received.{taken_from, taken_by, number_from, newest_number, Remember};
@@ -17,8 +17,8 @@ ghost use Rattle.app_run.specs.TableLines.{most_table_receipts};
 
 use crate::handles::Handles;
 use crate::registers::Registers;
+use app_calls::Calls;
 use bus_words::{BusAnswer, Head, Receipt, ReceiptList};
-use core_calls::Calls;
 use script_lines::Line;
 use tbl_words::{TableReceipt, TblAnswer};
 

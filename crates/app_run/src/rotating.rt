@@ -15,11 +15,11 @@ ghost use Rattle.app_run.specs.Rounds.{all_beginning, all_going, equipped, AllSt
 
 use crate::regions::{Blocks, Regions};
 use crate::runner::Runner;
+use app_calls::CoreCalls;
 use app_script::Script;
 use bucket_list::{Blank, Ledger, Steps};
 use buf_desc::Held;
 use bus_words::ReceiptList;
-use core_calls::CoreCalls;
 use fsw_base::{AppNo, Budget};
 use sb_calls::{BusCore, bags_stay};
 use std::alloc::{AllocError, Global};

@@ -9,9 +9,9 @@ use crate::line_calls::{run_line, write_line};
 use crate::receipts::{show, take_address, take_got, take_receipt};
 use crate::registers::Registers;
 use crate::table_calls::run_table_line;
+use app_calls::Calls;
 use app_script::Script;
 use bus_words::{BusAnswer, ReceiptList};
-use core_calls::Calls;
 use fsw_base::AppNo;
 use sb_calls::Pended;
 use script_lines::{Content, Line};
@@ -67,7 +67,7 @@ impl<'s> Model for Runner<'s> {
 
 impl<'s> Runner<'s> {
     ghost use Rattle.app_run.specs.Turns.{MayTurn, TakesTurnBy, Turns, turned_of};
-    ghost use Rattle.core_calls.specs.Callers.{SameServices};
+    ghost use Rattle.app_calls.specs.Callers.{SameServices};
 
     /// The application before its first line: its registers are 0, and it has no receipt. By
     /// the code, all memory that its run takes is taken here.

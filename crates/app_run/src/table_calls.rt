@@ -3,12 +3,12 @@ ghost use Rattle.std.specs.Prelude.{◌≡◌, ◌≤◌, length};
 ghost use Rattle.app_script.specs.Ranges.{IsLineInRange};
 ghost use Rattle.script_runs.specs.Messages.{content_bytes};
 ghost use Rattle.script_runs.specs.TableTrace.{table_call_of};
-ghost use Rattle.core_calls.specs.TableCallers.{MayCallTables, TablesAnswer};
+ghost use Rattle.app_calls.specs.TableCallers.{MayCallTables, TablesAnswer};
 ghost use Rattle.app_run.specs.Lines.{filling_size, made_size};
 ghost use Rattle.app_run.specs.TableLines.{MayRunAtTables, IsRunAtTables};
 
 use crate::handles::Handles;
-use core_calls::{Calls, fill_payload};
+use app_calls::{Calls, fill_payload};
 use script_lines::{Content, Line};
 use tbl_words::{Call as TableCall, RuleList, TblAnswer, TblCall};
 

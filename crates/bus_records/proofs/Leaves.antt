@@ -12,8 +12,8 @@ use Rattle.housekeeping.specs.declared.in_use.InUse.{InUse}
 use Rattle.housekeeping.specs.declared.names.CounterName.{CounterName}
 use Rattle.housekeeping.specs.Counters.{ticked}
 use Rattle.housekeeping.specs.Peaks.{greater}
-use Rattle.service_events.specs.declared.event.ServiceEvent.{ServiceEvent}
-use Rattle.service_events.specs.declared.event.ServiceEvent.TheVariants.{DuplicateSubscription, NotSubscribed, NoSubscribers}
+use Rattle.bus_events.specs.declared.event.ServiceEvent.{ServiceEvent}
+use Rattle.bus_events.specs.declared.event.ServiceEvent.TheVariants.{DuplicateSubscription, NotSubscribed, NoSubscribers}
 use Rattle.bus_words.specs.declared.calls.BusAnswer.{BusAnswer}
 use Rattle.bus_words.specs.declared.calls.BusAnswer.TheVariants.{Done, Sent, Sb}
 use Rattle.bus_words.specs.declared.history.Call.{Call}

@@ -5,8 +5,8 @@ use Rattle.std.specs.Option.{option_map_or, option_and_then}
 use Rattle.std.proofs.lemmas.List.{map-append}
 use Rattle.std.proofs.lemmas.List.Sums.{fold-append}
 use Rattle.housekeeping.specs.Counters.{Counts, ticked}
-use Rattle.service_events.specs.declared.event.ServiceEvent.{ServiceEvent}
-use Rattle.service_events.specs.Events.{served_event, served_all}
+use Rattle.bus_events.specs.declared.event.ServiceEvent.{ServiceEvent}
+use Rattle.bus_events.specs.Events.{served_event, served_all}
 use Rattle.bus_words.specs.Bus.{Pipe, Subscription, Sending, verdict, pipe_at, with_pipe, offered}
 use Rattle.bus_words.specs.declared.verdict.Verdict.{Verdict}
 use Rattle.bus_words.specs.declared.verdict.Verdict.TheVariants.{Skip, OverLimit, Full, In}

@@ -7,9 +7,9 @@ use Rattle.housekeeping.specs.declared.names.CounterName.{CounterName}
 use Rattle.housekeeping.specs.Counters.{ticked}
 use Rattle.housekeeping.specs.Peaks.{greater}
 use Rattle.housekeeping.specs.Statistics.{Statistics, no_statistics}
-use Rattle.service_events.specs.declared.event.ServiceEvent.{ServiceEvent}
-use Rattle.service_events.specs.declared.event.ServiceEvent.TheVariants.{MessageLimit, PipeOverflow}
-use Rattle.service_events.specs.Events.{served_event}
+use Rattle.bus_events.specs.declared.event.ServiceEvent.{ServiceEvent}
+use Rattle.bus_events.specs.declared.event.ServiceEvent.TheVariants.{MessageLimit, PipeOverflow}
+use Rattle.bus_events.specs.Events.{served_event}
 use Rattle.bus_words.specs.Counters.{event_counter}
 use Rattle.bus_tables.specs.declared.misses.Miss.{Miss}
 use Rattle.bus_tables.specs.declared.misses.MissCause.{MissCause}

@@ -6,7 +6,7 @@
 //! the records are after a call of the bus, by the bus's definitions, is said by lemmas, a shape of
 //! call each.
 //!
-//! The caller below is proved, in the crate `bus_tests`.
+//! The caller below is proved, in the crate `test_bus`.
 //!
 //! ```
 //! /// Tells that a pipe was subscribed to an id already; what is in use stays.

@@ -4,15 +4,15 @@ ghost use Rattle.std.specs.Result.{result_err};
 ghost use Rattle.fsw_base.specs.EventDesk.{registered, unregistered, sent, reset, send_refusal, reset_refusal, with_mode, cleared};
 ghost use Rattle.housekeeping.specs.Counters.{ticked};
 ghost use Rattle.housekeeping.specs.Packet.{housekeeping_packet};
-ghost use Rattle.service_events.specs.Events.{served_event};
+ghost use Rattle.bus_events.specs.Events.{served_event};
 ghost use Rattle.bus_words.specs.Counters.{event_counter};
 ghost use Rattle.bus_records.specs.Records.{no_recordings, told_event, told_all, miss_event, miss_events, counter_ticked, peaks_raised};
 
+use bus_events::ServiceEvent;
 use bus_tables::{Miss, MissCause};
 use evs_events::EventDesk;
 use fsw_base::{AppNo, EventKind, EvsStatus, FilterList};
 use housekeeping::{CounterName, Counters, InUse, PACKET_BYTES};
-use service_events::ServiceEvent;
 use std::alloc::{AllocError, Global};
 use std::marker::Model;
 

@@ -9,7 +9,7 @@ use Rattle.bus_words.specs.Bus.{Standing, Active, Waiting, Ended, standing_of, w
 use Rattle.bus_words.specs.Entries.{call_bytes}
 use Rattle.bus_words.specs.Log.{left_of}
 use Rattle.bus_words.specs.Machine.{may_call}
-use Rattle.sb_core.specs.Core.{is_within}
+use Rattle.sb_plain.specs.Core.{is_within}
 use Rattle.sb_calls.specs.Core.{Core, MayCall, state_of}
 use Rattle.bus_service.specs.Inside.{Tells, lets}
 use Rattle.bus_service.specs.Ports.{is_look}

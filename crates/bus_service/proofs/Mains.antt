@@ -21,7 +21,7 @@ use Rattle.bus_words.specs.Log.{left_of}
 use Rattle.bus_words.specs.Machine.{may_call}
 use Rattle.lend_block.specs.Loan.{LentBytes}
 use Rattle.buf_desc.specs.Held.{Holding}
-use Rattle.sb_core.specs.Core.{is_within}
+use Rattle.sb_plain.specs.Core.{is_within}
 use Rattle.sb_calls.specs.Bags.{HasBag}
 use Rattle.sb_calls.specs.Core.{Core, MayCall, IsNoted}
 use Rattle.bus_words.proofs.Journals.{length-left_of}

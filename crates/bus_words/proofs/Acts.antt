@@ -14,7 +14,7 @@ use Rattle.fsw_base.specs.Limits.{Limits}
 use Rattle.fsw_base.specs.Starts.{start_of}
 use Rattle.housekeeping.specs.Packet.{housekeeping_id}
 use Rattle.housekeeping.proofs.PacketLemmas.{message_id-housekeeping_packet}
-use Rattle.service_events.specs.declared.event.ServiceEvent.{ServiceEvent}
+use Rattle.bus_events.specs.declared.event.ServiceEvent.{ServiceEvent}
 use Rattle.bus_words.specs.declared.calls.BusAnswer.{BusAnswer}
 use Rattle.bus_words.specs.declared.calls.BusAnswer.TheVariants.{Done, Sent}
 use Rattle.bus_words.specs.declared.history.Call.{Call}

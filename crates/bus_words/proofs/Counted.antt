@@ -10,7 +10,7 @@ use Rattle.housekeeping.specs.Peaks.{nothing_in_use, greater, peak_of}
 use Rattle.housekeeping.specs.Statistics.{Statistics, statistics_of}
 use Rattle.housekeeping.proofs.CounterLemmas.{counts_of-append}
 use Rattle.housekeeping.proofs.PeakLemmas.{peak_of-push, greater-twice}
-use Rattle.service_events.specs.declared.event.ServiceEvent.{ServiceEvent}
+use Rattle.bus_events.specs.declared.event.ServiceEvent.{ServiceEvent}
 use Rattle.bus_words.specs.declared.calls.BusAnswer.{BusAnswer}
 use Rattle.bus_words.specs.declared.calls.BusAnswer.TheVariants.{Sent}
 use Rattle.bus_words.specs.declared.history.Call.{Call}
@@ -20,7 +20,7 @@ use Rattle.bus_words.specs.Bus.{Subscription, State, Sending, opening, route, re
 use Rattle.bus_words.specs.Held.{in_use}
 use Rattle.bus_words.specs.Refusals.{Refusal, OfBus, OfPools, OfEvents, refusal_answer}
 use Rattle.bus_words.specs.Events.{Moment, sent_events, call_events, desk_by}
-use Rattle.service_events.specs.Events.{served_all}
+use Rattle.bus_events.specs.Events.{served_all}
 use Rattle.bus_words.specs.Counters.{event_counter, counters_raised, statistics_by, statistics_then}
 use Rattle.bus_words.specs.Machine.{sending_from, packet_in, sent_along, cause_with, decided_with, recorded, reads_after, step, state_from, state_after, LegalFrom, IsLegal, moments_from, moments, statistics_after}
 use Rattle.bus_words.specs.Acts.{NextCount, Whole, reads_in, moved_on, completed, act}

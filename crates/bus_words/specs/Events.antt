@@ -5,9 +5,9 @@ use Rattle.fsw_base.specs.EventDesk.{Desk, new_desk, registered, unregistered, s
 use Rattle.fsw_base.specs.Limits.{Limits}
 use Rattle.ccsds_msg.specs.Message.{message_id}
 use Rattle.housekeeping.specs.Packet.{housekeeping_id}
-use Rattle.service_events.specs.declared.event.ServiceEvent.{ServiceEvent}
-use Rattle.service_events.specs.declared.event.ServiceEvent.TheVariants.{DuplicateSubscription, NotSubscribed, NoSubscribers, MessageLimit, PipeOverflow}
-use Rattle.service_events.specs.Events.{served_all}
+use Rattle.bus_events.specs.declared.event.ServiceEvent.{ServiceEvent}
+use Rattle.bus_events.specs.declared.event.ServiceEvent.TheVariants.{DuplicateSubscription, NotSubscribed, NoSubscribers, MessageLimit, PipeOverflow}
+use Rattle.bus_events.specs.Events.{served_all}
 use Rattle.bus_words.specs.declared.calls.BusAnswer.{BusAnswer}
 use Rattle.bus_words.specs.declared.calls.BusAnswer.TheVariants.{Sb, Es, Evs}
 use Rattle.bus_words.specs.declared.history.Call.{Call}

@@ -4,7 +4,7 @@
 //! Every reader answers the header's fields exactly, every writer changes its field alone, and
 //! bytes are refused exactly where they are no message.
 //!
-//! The caller below is proved, in the crate `bus_tests`.
+//! The caller below is proved, in the crate `test_bus`.
 //!
 //! ```
 //! /// Makes a telemetry packet of the whole slice, with this sequence count.

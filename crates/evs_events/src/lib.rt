@@ -5,7 +5,7 @@
 //! Each call answers and leaves exactly what the definitions of `EventDesk.antt` (of `fsw_base`)
 //! say. By the code, no call takes memory once the desk is made.
 //!
-//! The caller below is proved, in the crate `bus_tests`.
+//! The caller below is proved, in the crate `test_bus`.
 //!
 //! ```
 //! /// Registers an application, and tells by a service event that it is ready.

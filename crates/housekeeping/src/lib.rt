@@ -6,7 +6,7 @@
 //! seen, and the packet has exactly the bytes of `housekeeping_packet`. By the code, no call takes
 //! memory.
 //!
-//! The caller below is proved, in the crate `bus_tests`.
+//! The caller below is proved, in the crate `test_bus`.
 //!
 //! ```
 //! /// Counts a subscription that stood already, and looks at what is in use.

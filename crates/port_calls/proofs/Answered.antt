@@ -5,8 +5,8 @@ use Rattle.bus_words.specs.declared.calls.BusAnswer.{BusAnswer}
 use Rattle.bus_words.specs.declared.history.Call.{Call}
 use Rattle.bus_words.specs.declared.history.Call.TheVariants as calls
 use Rattle.buf_desc.specs.Held.{bytes_at}
-use Rattle.sb_core.specs.declared.pending.Pended.{Pended}
-use Rattle.sb_core.specs.Answers.{waited}
+use Rattle.sb_plain.specs.declared.pending.Pended.{Pended}
+use Rattle.sb_plain.specs.Answers.{waited}
 use Rattle.sb_calls.specs.Bags.{HasBag}
 use Rattle.bus_words.specs.Bus.{standing_of, waited_on}
 use Rattle.sb_calls.specs.Core.{MayCall, state_of}
@@ -17,10 +17,10 @@ use Rattle.tbl_load.specs.Bags.{HasBag as HasTableBag, CalledByOthers as OthersT
 use Rattle.tbl_load.specs.Core.{MayCall as MayCallTable, Does as DoesTable}
 use Rattle.tbl_service.specs.Ports.{PortView as TablesPortView, Answers as TablesPortAnswers}
 use Rattle.script_runs.specs.Written.{with_bytes}
-use Rattle.core_calls.specs.Buffers.{WritesBag}
-use Rattle.core_calls.specs.Callers.{Caller, HasOwnBag, MayCallBus, MayWrite, Answers, AnswersLook, Writes, LeavesBuffers, pipe_waited_on, written_in}
-use Rattle.core_calls.proofs.BufferCalls.{writes-own, written-sizes}
-use Rattle.core_calls.specs.TableCallers.{MayCallTables, TablesAnswer}
+use Rattle.app_calls.specs.Buffers.{WritesBag}
+use Rattle.app_calls.specs.Callers.{Caller, HasOwnBag, MayCallBus, MayWrite, Answers, AnswersLook, Writes, LeavesBuffers, pipe_waited_on, written_in}
+use Rattle.app_calls.proofs.BufferCalls.{writes-own, written-sizes}
+use Rattle.app_calls.specs.TableCallers.{MayCallTables, TablesAnswer}
 use Rattle.port_calls.specs.Inside.{AreOfOne}
 use Rattle.port_calls.specs.Ports.{caller_of}
 

@@ -6,18 +6,18 @@ use Rattle.buf_desc.specs.Held.{Holding, bytes_at}
 use Rattle.bus_words.specs.declared.calls.BusAnswer.{BusAnswer}
 use Rattle.bus_words.specs.declared.history.Call.{Call}
 use Rattle.bus_words.specs.declared.history.Call.TheVariants as calls
-use Rattle.sb_core.specs.declared.calls.Sent.{Sent}
-use Rattle.sb_core.specs.Answers.{allocated, sent, done}
-use Rattle.sb_core.specs.Bags.{KeepsBuffers}
+use Rattle.sb_plain.specs.declared.calls.Sent.{Sent}
+use Rattle.sb_plain.specs.Answers.{allocated, sent, done}
+use Rattle.sb_plain.specs.Bags.{KeepsBuffers}
 use Rattle.sb_calls.specs.Bags.{HasBag}
 use Rattle.sb_calls.specs.Core.{MayCall}
 use Rattle.sb_calls.proofs.OthersBags.{others_behind}
 use Rattle.bus_service.specs.Ports.{PortView, Answers as PortAnswers}
 use Rattle.bus_service.proofs.Meanwhile.{may_meanwhile}
 use Rattle.script_runs.specs.Written.{written_after}
-use Rattle.core_calls.specs.Callers.{LeavesBuffers, buffers_asked, written_in}
-use Rattle.core_calls.proofs.Answered.{leaves-same}
-use Rattle.core_calls.proofs.BufferCalls.{Called, leaves-given, leaves-sent, leaves-released}
+use Rattle.app_calls.specs.Callers.{LeavesBuffers, buffers_asked, written_in}
+use Rattle.app_calls.proofs.Answered.{leaves-same}
+use Rattle.app_calls.proofs.BufferCalls.{Called, leaves-given, leaves-sent, leaves-released}
 
 -- a call that has nothing to do with buffers leaves them as they are
 pub kept : (old new : PortView) (call : Call) (answer : BusAnswer) → new.bag ≡ old.bag → ((number : ℕ) → written_after (written_in old.bag) call answer number ≡ written_in old.bag number) →

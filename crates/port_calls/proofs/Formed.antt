@@ -11,8 +11,8 @@ use Rattle.bus_store.specs.Bag.{shape_of}
 use Rattle.script_runs.specs.Messages.{sent_message}
 use Rattle.script_runs.specs.Written.{with_bytes}
 use Rattle.script_runs.proofs.Buffers.{length-sent_message}
-use Rattle.core_calls.specs.Buffers.{WritesBag}
-use Rattle.core_calls.specs.Callers.{written_in}
+use Rattle.app_calls.specs.Buffers.{WritesBag}
+use Rattle.app_calls.specs.Callers.{written_in}
 
 -- it is as long as the buffer, which has room for a message
 pub formed-long : (found : Option Unsent) (id fill : ℕ) → is_some found ≡ true →

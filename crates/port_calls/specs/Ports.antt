@@ -2,7 +2,7 @@
 use Rattle.std.specs.Prelude.{false}
 use Rattle.bus_service.specs.Ports.{PortView}
 use Rattle.tbl_service.specs.Ports.{PortView as TablesPortView}
-use Rattle.core_calls.specs.Callers.{Caller}
+use Rattle.app_calls.specs.Callers.{Caller}
 
 -- Who calls through these two ports: their application; both services as the ports have seen them, with its bags in the ports. Who
 -- calls owns the ports, so no names of references tell them apart. Others call the services too.

@@ -5,9 +5,9 @@ ghost use Rattle.port_calls.specs.Ports.{caller_of};
 use crate::locks::Locks;
 use crate::table_calls::make;
 use crate::writing::{form_in, put_bytes_in};
+use app_calls::Calls;
 use bus_service::{Bus, BusPort};
 use bus_words::PipeText;
-use core_calls::Calls;
 use fsw_base::{BusStats, EsStatus, EventKind, EvsStatus, FilterList, PoolStats, SbStatus, Scope};
 use sb_calls::{Pended, Sent};
 use std::marker::{Model, PhantomData};
@@ -37,7 +37,7 @@ pub struct PortCalls<'c, 'r, R: Wait, L: Locks> {
 }
 
 impl<'c, 'r, R: Wait, L: Locks> Model for PortCalls<'c, 'r, R, L> {
-    ghost use Rattle.core_calls.specs.Callers.{Caller};
+    ghost use Rattle.app_calls.specs.Callers.{Caller};
     ghost use Rattle.port_calls.specs.Inside.{AreOfOne};
     ghost use Rattle.port_calls.specs.Ports.{caller_of};
 

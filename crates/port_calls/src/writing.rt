@@ -2,12 +2,12 @@
 ghost use Rattle.std.specs.Prelude.{◌≡◌, ℕ, ◌≤◌, List, length, Some};
 ghost use Rattle.script_runs.specs.Messages.{sent_message};
 ghost use Rattle.script_runs.specs.Written.{with_bytes, put_in};
-ghost use Rattle.core_calls.specs.Buffers.{WritesBag};
-ghost use Rattle.core_calls.specs.Callers.{written_in};
+ghost use Rattle.app_calls.specs.Buffers.{WritesBag};
+ghost use Rattle.app_calls.specs.Callers.{written_in};
 
+use app_calls::make_message;
 use buf_desc::recall_written;
 use bus_service::{BusPort, Writer};
-use core_calls::make_message;
 
 // Writes a message over the whole of a buffer.
 #[derive(Drop)]

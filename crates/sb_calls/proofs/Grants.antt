@@ -7,7 +7,7 @@ use Rattle.pool_words.specs.Grants.{PoolGrants, Pools, new_pool, is_pool, pool_i
 use Rattle.bus_words.specs.declared.history.Call.{Call}
 use Rattle.bus_words.specs.declared.history.Call.TheVariants.{Create, Delete, SetOpts, GetOpts, Find, PipeName, Subscribe, Unsubscribe, Transmit, Receive, Pend, Look, Allocate, TransmitBuffer, Release, PoolCreate, PoolGet, PoolPut, PoolFigures, Register, SendEvent, ResetFilter, LogMode, ClearLog, Housekeeping, Figures, End}
 use Rattle.bus_words.specs.Bus.{ArePools}
-use Rattle.sb_core.specs.Core.{has_grant_numbers}
+use Rattle.sb_plain.specs.Core.{has_grant_numbers}
 
 within : (s : Pools) (pool : ℕ) → is_pool s pool ≡ true → pool - 1 < length s.pools
 within s pool is = grind (arith, nat_tests, is)

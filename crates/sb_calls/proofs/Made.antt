@@ -26,10 +26,10 @@ use Rattle.bus_words.proofs.Unsent.{AreUnsent-after}
 use Rattle.bus_words.proofs.UnsentSteps.{all_gone-unsent}
 use Rattle.bus_words.specs.Pipes.{last_on}
 use Rattle.bus_store.specs.Words.{loan_of, desc_of}
-use Rattle.sb_core.specs.declared.calls.Sent.{Sent}
-use Rattle.sb_core.specs.Answers.{created, found, bits_told, named, done, sent, pool_told, grant_back, figures_told, event_told}
-use Rattle.sb_core.specs.Bags.{HasBag, KeepsAllLoans, KeepsLoans, KeepsOtherLoans, KeepsAllDescs, KeepsOtherDescs}
-use Rattle.sb_core.specs.Core.{Plain, Acts}
+use Rattle.sb_plain.specs.declared.calls.Sent.{Sent}
+use Rattle.sb_plain.specs.Answers.{created, found, bits_told, named, done, sent, pool_told, grant_back, figures_told, event_told}
+use Rattle.sb_plain.specs.Bags.{HasBag, KeepsAllLoans, KeepsLoans, KeepsOtherLoans, KeepsAllDescs, KeepsOtherDescs}
+use Rattle.sb_plain.specs.Core.{Plain, Acts}
 use Rattle.sb_calls.specs.declared.bus_core.BusCore.TheInside.{Inside}
 use Rattle.sb_calls.specs.Inside.{Stands}
 use Rattle.sb_calls.specs.Notes.{NotedLog, note_due, note_seen, gives_buffer}

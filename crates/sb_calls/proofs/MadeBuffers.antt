@@ -22,10 +22,10 @@ use Rattle.bus_words.proofs.UnsentSteps.{gone-unsent}
 use Rattle.bus_store.specs.Bag.{Shape, shape_of}
 use Rattle.bus_store.specs.Store.{BufferDesc}
 use Rattle.bus_store.specs.Words.{desc_of, size_for}
-use Rattle.sb_core.specs.declared.calls.Sent.{Sent as SentTo}
-use Rattle.sb_core.specs.Answers.{allocated, sent, done}
-use Rattle.sb_core.specs.Bags.{HasBag, KeepsAllLoans, KeepsDescs}
-use Rattle.sb_core.specs.Core.{Plain, Acts, with_tick}
+use Rattle.sb_plain.specs.declared.calls.Sent.{Sent as SentTo}
+use Rattle.sb_plain.specs.Answers.{allocated, sent, done}
+use Rattle.sb_plain.specs.Bags.{HasBag, KeepsAllLoans, KeepsDescs}
+use Rattle.sb_plain.specs.Core.{Plain, Acts, with_tick}
 use Rattle.sb_calls.specs.declared.bus_core.BusCore.TheInside.{Inside}
 use Rattle.sb_calls.specs.Inside.{Stands}
 use Rattle.sb_calls.specs.Notes.{NotedLog, note_given, note_told}

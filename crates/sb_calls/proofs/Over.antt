@@ -25,7 +25,7 @@ use Rattle.bus_words.proofs.PoolGrants.{ArePools-after}
 use Rattle.journal_store.proofs.Charges.{entries_left-charged}
 use Rattle.bus_words.specs.Pipes.{last_on}
 use Rattle.bus_store.specs.Words.{loan_of, desc_of}
-use Rattle.sb_core.specs.Core.{Plain, MayAct, Acts, apps_in, has_grant_numbers}
+use Rattle.sb_plain.specs.Core.{Plain, MayAct, Acts, apps_in, has_grant_numbers}
 use Rattle.sb_calls.specs.declared.bus_core.BusCore.TheInside.{Inside}
 use Rattle.sb_calls.specs.Core.{Core, MayCall, Does, IsLegalCore, IsNoted, with_noted, state_of}
 use Rattle.sb_calls.specs.Inside.{core_of, Stands}

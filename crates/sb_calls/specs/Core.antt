@@ -15,10 +15,10 @@ use Rattle.bus_words.specs.Bus.{State, standing_of}
 use Rattle.bus_words.specs.Entries.{call_bytes}
 use Rattle.journal_store.specs.Budgets.{HasRoom}
 use Rattle.bus_words.specs.Log.{Log, left_of, with_entry}
-use Rattle.sb_core.specs.declared.pending.Pended.{Pended}
-use Rattle.sb_core.specs.declared.pending.Pended.TheVariants.{Pending}
-use Rattle.sb_core.specs.Answers.{waited}
-pub use Rattle.sb_core.specs.Core.{is_within}
+use Rattle.sb_plain.specs.declared.pending.Pended.{Pended}
+use Rattle.sb_plain.specs.declared.pending.Pended.TheVariants.{Pending}
+use Rattle.sb_plain.specs.Answers.{waited}
+pub use Rattle.sb_plain.specs.Core.{is_within}
 use Rattle.bus_words.specs.Machine.{IsLegal, may_call, state_after, step}
 use Rattle.sb_calls.specs.Notes.{AreDue, note_due}
 use Rattle.sb_calls.specs.Views.{bytes_seen}

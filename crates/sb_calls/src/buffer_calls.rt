@@ -5,8 +5,8 @@ ghost use Rattle.std.specs.Prelude.{◌≡◌, ℕ, ◌+◌, ◌*◌, ◌<◌, �
 ghost use Rattle.buf_desc.specs.Held.{bytes_at};
 ghost use Rattle.ccsds_msg.specs.Message.{message_id};
 ghost use Rattle.bus_words.specs.Bus.{route};
-ghost use Rattle.sb_core.specs.Answers.{allocated, sent, done};
-ghost use Rattle.sb_core.specs.Bags.{KeepsBuffers};
+ghost use Rattle.sb_plain.specs.Answers.{allocated, sent, done};
+ghost use Rattle.sb_plain.specs.Bags.{KeepsBuffers};
 ghost use Rattle.sb_calls.specs.Bags.{HasBag, KeepsOtherBags};
 ghost use Rattle.sb_calls.specs.Core.{MayCall, Does, state_of};
 
@@ -18,7 +18,7 @@ use buf_desc::Held;
 use bus_words::{BusAnswer, BusCall, BusEntry, Call};
 use fsw_base::{AppNo, SbStatus};
 use lend_block::Note;
-use sb_core::Sent;
+use sb_plain::Sent;
 
 impl<'r> BusCore<'r> {
     /// Gives the caller a buffer of `size` bytes to write a message into, and answers its number,

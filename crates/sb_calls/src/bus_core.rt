@@ -16,7 +16,7 @@ use bus_words::BusJournal;
 use es_pool::Pool;
 use fsw_base::{AppNo, Budget, Config};
 use lend_block::Note;
-use sb_core::SbCore;
+use sb_plain::PlainBus;
 use std::alloc::{AllocError, Global};
 use std::marker::Model;
 
@@ -25,7 +25,7 @@ use std::marker::Model;
 #[derive(Drop)]
 pub struct BusCore<'r> {
     // The bus after the journal's entries.
-    pub(crate) core: SbCore<'r>,
+    pub(crate) core: PlainBus<'r>,
     // Every call with its answer, in order, and what it gave: the loan of a view, or a buffer's
     // descriptor.
     pub(crate) noted: NotedJournal,
@@ -69,7 +69,7 @@ impl<'r> BusCore<'r> {
         // The core is made last: every way out behind it lets it go, which is proved each time.
         Ok(BusCore {
             noted: NotedJournal::new(alloc, budgets)?,
-            core: SbCore::new(alloc, cfg, budgets.len(), region)?,
+            core: PlainBus::new(alloc, cfg, budgets.len(), region)?,
         })
     }
 

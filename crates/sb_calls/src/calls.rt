@@ -5,7 +5,7 @@ ghost use Rattle.ccsds_msg.specs.Message.{message_id};
 ghost use Rattle.bus_words.specs.Bus.{owns, route};
 ghost use Rattle.sb_calls.specs.Bags.{HasBag, KeepsBags, KeepsOtherBags};
 ghost use Rattle.sb_calls.specs.Core.{MayCall, Does, GotAlone, state_of};
-ghost use Rattle.sb_core.specs.Answers.{created, done, sent, got};
+ghost use Rattle.sb_plain.specs.Answers.{created, done, sent, got};
 
 use crate::answers::{of_created, of_done, of_got, of_sent};
 use crate::bus_core::BusCore;
@@ -15,7 +15,7 @@ use buf_desc::Held;
 use bus_words::{BusAnswer, BusCall, BusEntry, Call};
 use fsw_base::{AppNo, SbStatus, Scope};
 use lend_block::Note;
-use sb_core::Sent;
+use sb_plain::Sent;
 
 impl<'r> BusCore<'r> {
     /// Creates a pipe that holds up to `depth` messages, and answers its number. Pipes are numbered

@@ -8,7 +8,7 @@ ghost use Rattle.bus_words.specs.Held.{in_use};
 ghost use Rattle.bus_words.specs.Machine.{statistics_after};
 ghost use Rattle.sb_calls.specs.Bags.{KeepsBags};
 ghost use Rattle.sb_calls.specs.Core.{MayCall, Does, apps_of, state_of};
-ghost use Rattle.sb_core.specs.Answers.{sent};
+ghost use Rattle.sb_plain.specs.Answers.{sent};
 
 use crate::answers::of_sent;
 use crate::bus_core::BusCore;
@@ -17,7 +17,7 @@ use bus_words::{BusAnswer, BusCall, BusEntry, Call, statistics_are_counted};
 use fsw_base::{AppNo, BusStats, SbStatus};
 use housekeeping::{Counters, InUse};
 use lend_block::Note;
-use sb_core::Sent;
+use sb_plain::Sent;
 
 impl<'r> BusCore<'r> {
     /// Sends the housekeeping packet as a message of the caller's, with its id's next sequence

@@ -5,7 +5,7 @@ ghost use Rattle.std.specs.Prelude.{◌≡◌};
 ghost use Rattle.bus_words.specs.Machine.{desk_after};
 ghost use Rattle.sb_calls.specs.Bags.{KeepsBags};
 ghost use Rattle.sb_calls.specs.Core.{MayCall, Does, apps_of, state_of};
-ghost use Rattle.sb_core.specs.Answers.{event_told};
+ghost use Rattle.sb_plain.specs.Answers.{event_told};
 
 use crate::answers::of_event;
 use crate::bus_core::BusCore;

@@ -47,4 +47,4 @@ mod pool_calls;
 
 pub use bus_core::BusCore;
 pub use laws::bags_stay;
-pub use sb_core::{Pended, Sent};
+pub use sb_plain::{Pended, Sent};

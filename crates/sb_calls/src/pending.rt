@@ -3,7 +3,7 @@
 ghost use Rattle.std.specs.Prelude.{◌≡◌, ℕ, ◌+◌, ◌≤◌, Ok, OnErr};
 ghost use Rattle.bus_words.specs.declared.history.Call.TheVariants.{Look};
 ghost use Rattle.bus_words.specs.Bus.{standing_of, waited_on};
-ghost use Rattle.sb_core.specs.Answers.{pended};
+ghost use Rattle.sb_plain.specs.Answers.{pended};
 ghost use Rattle.sb_calls.specs.Bags.{HasBag, KeepsOtherBags};
 ghost use Rattle.sb_calls.specs.Core.{MayCall, Does, Looks, GotAlone, state_of};
 
@@ -14,7 +14,7 @@ use bucket_list::{Ledger, Steps};
 use buf_desc::Held;
 use bus_words::{BusCall, BusEntry, Call};
 use fsw_base::{AppNo, SbStatus};
-use sb_core::Pended;
+use sb_plain::Pended;
 
 impl<'r> BusCore<'r> {
     /// Takes the oldest message that waits on the caller's pipe, and answers its number: its view

@@ -3,7 +3,7 @@
 ghost use Rattle.std.specs.Prelude.{◌≡◌, OnErr};
 ghost use Rattle.sb_calls.specs.Bags.{HasBag, KeepsBags, KeepsOtherBags};
 ghost use Rattle.sb_calls.specs.Core.{MayCall, Does};
-ghost use Rattle.sb_core.specs.Answers.{done, found, bits_told, named};
+ghost use Rattle.sb_plain.specs.Answers.{done, found, bits_told, named};
 
 use crate::answers::{of_bits, of_done, of_found, of_named};
 use crate::bus_core::BusCore;

@@ -6,7 +6,7 @@ ghost use Rattle.es_pool.specs.Account.{IsAccountOf};
 ghost use Rattle.pool_words.specs.Grants.{is_pool, pool_in};
 ghost use Rattle.sb_calls.specs.Bags.{KeepsBags};
 ghost use Rattle.sb_calls.specs.Core.{MayCall, Does, state_of};
-ghost use Rattle.sb_core.specs.Answers.{pool_told, grant_back, figures_told};
+ghost use Rattle.sb_plain.specs.Answers.{pool_told, grant_back, figures_told};
 
 use crate::answers::{of_back, of_figures, of_pool};
 use crate::bus_core::BusCore;

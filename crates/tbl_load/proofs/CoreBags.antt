@@ -5,8 +5,8 @@ use Rattle.tbl_words.specs.Holds.{hold_of}
 use Rattle.tbl_words.specs.Tables.{Handle, Hold, State, handle_at}
 use Rattle.tbl_words.proofs.Orders.{handles_rise}
 use Rattle.tbl_blocks.specs.Held.{HeldViews}
-use Rattle.tbl_core.specs.Core as plain
-use Rattle.tbl_core.specs.Core.{Holds, HoldsVersion, loan_of, view_due, views_due}
+use Rattle.tbl_plain.specs.Core as plain
+use Rattle.tbl_plain.specs.Core.{Holds, HoldsVersion, loan_of, view_due, views_due}
 use Rattle.tbl_load.specs.declared.tables.TblCore.TheInside.{Inside}
 use Rattle.tbl_load.specs.Bags.{HasBag, KeepsBags, AreOneLoan, lent_tables, loans_of}
 use Rattle.tbl_load.specs.Core.{Core, state_of}

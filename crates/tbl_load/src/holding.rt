@@ -3,7 +3,7 @@
 ghost use Rattle.std.specs.Prelude.{◌≡◌, ℕ, ◌==◌, false, OnErr};
 ghost use Rattle.tbl_words.specs.declared.history.Call.TheVariants.{GetAddress, ReleaseAddress};
 ghost use Rattle.tbl_blocks.specs.Held.{held_at};
-ghost use Rattle.tbl_core.specs.Answers.{addressed, done};
+ghost use Rattle.tbl_plain.specs.Answers.{addressed, done};
 ghost use Rattle.tbl_load.specs.Bags.{HasBag, KeepsOtherBags};
 ghost use Rattle.tbl_load.specs.Core.{MayCall, Does};
 

@@ -3,7 +3,7 @@ ghost use Rattle.std.specs.Prelude.{◌≡◌, ℕ, ◌==◌, ◌+◌, ◌*◌, 
 ghost use Rattle.tbl_words.specs.declared.history.Call.TheVariants.{Unregister, End};
 ghost use Rattle.tbl_words.specs.declared.calls.TblAnswer.TheVariants.{Done};
 ghost use Rattle.tbl_blocks.specs.Held.{held_at};
-ghost use Rattle.tbl_core.specs.Answers.{done};
+ghost use Rattle.tbl_plain.specs.Answers.{done};
 ghost use Rattle.tbl_load.specs.Bags.{HasBag, KeepsOtherBags};
 ghost use Rattle.tbl_load.specs.Core.{MayCall, Does, state_of};
 

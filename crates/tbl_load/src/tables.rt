@@ -18,7 +18,7 @@ use fsw_base::{AppNo, Budget, Config};
 use lend_block::Note;
 use std::alloc::{AllocError, Global};
 use std::marker::Model;
-use tbl_core::PlainTables;
+use tbl_plain::PlainTables;
 use tbl_words::{TblJournal, TblUse};
 
 /// The tables of up to 16 applications, with their journal. By the code, all its memory is taken

@@ -9,8 +9,8 @@ use Rattle.tbl_load.specs.Bags.{HasBag as HasTableBag, CalledByOthers as CalledB
 use Rattle.tbl_load.specs.Core.{Core as TableCore, state_of as tables_of}
 use Rattle.bus_service.specs.Ports.{PortView, DoneView}
 use Rattle.tbl_service.specs.Ports.{PortView as TablesPortView, DoneView as TablesDoneView}
-use Rattle.core_calls.specs.Callers.{Caller, Meets}
-use Rattle.core_calls.specs.TableCallers.{MeetsTables}
+use Rattle.app_calls.specs.Callers.{Caller, Meets}
+use Rattle.app_calls.specs.TableCallers.{MeetsTables}
 use Rattle.app_script.specs.Script.{ScriptText, app_at}
 use Rattle.app_run.specs.Rounds.{histories_with}
 use Rattle.app_run.specs.Runners.{Services, Equipped, Progress}

@@ -3,7 +3,7 @@ use Rattle.std.specs.Prelude.{◌≡◌, ℕ, ◌+◌, ◌≤◌, ◌++◌, fals
 use Rattle.atomic_table.specs.Seated.{TableId}
 use Rattle.bus_service.specs.Ports.{PortView}
 use Rattle.tbl_service.specs.Ports.{PortView as TablesPortView}
-use Rattle.core_calls.specs.Callers.{Caller}
+use Rattle.app_calls.specs.Callers.{Caller}
 use Rattle.port_calls.specs.Ports.{caller_of}
 use Rattle.app_script.specs.Script.{ScriptText, app_at}
 use Rattle.script_runs.specs.Histories.{Histories}

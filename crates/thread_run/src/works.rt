@@ -6,15 +6,15 @@ ghost use Rattle.tbl_words.specs.Tables.{has_ended as has_ended_at_tables};
 ghost use Rattle.tbl_load.specs.Core.{state_of as tables_of};
 ghost use Rattle.script_runs.specs.TableTrace.{own_table_entries};
 ghost use Rattle.bus_words.specs.Runs.{own_entries};
-ghost use Rattle.core_calls.specs.Callers.{SameServices};
+ghost use Rattle.app_calls.specs.Callers.{SameServices};
 ghost use Rattle.app_run.specs.Turns.{MayTurn, TakesTurnBy};
 ghost use Rattle.thread_run.specs.Works.{MayWork, IsDone};
 
+use app_calls::Calls;
 use app_run::{Runner, Turned};
 use app_script::Script;
 use bus_service::{Bus, BusDone, BusPort};
 use bus_words::ReceiptList;
-use core_calls::Calls;
 use fsw_base::{AppNo, Gate};
 use port_calls::{Locks, PortCalls};
 use sb_calls::bags_stay;

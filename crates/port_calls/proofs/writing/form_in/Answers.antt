@@ -2,8 +2,8 @@ use Rattle.std.proofs.Common.{length, sym, subst}
 use Rattle.buf_desc.specs.Held.{buffer_at}
 use Rattle.script_runs.specs.Messages.{sent_message}
 use Rattle.script_runs.specs.Written.{with_bytes}
-use Rattle.core_calls.specs.Buffers.{WritesBag}
-use Rattle.core_calls.specs.Callers.{written_in}
+use Rattle.app_calls.specs.Buffers.{WritesBag}
+use Rattle.app_calls.specs.Callers.{written_in}
 use Rattle.bus_service.specs.Ports.{PortView}
 use Rattle.port_calls.proofs.Formed.{formed-long, writes-whole}
 use Rattle.port_calls.proofs.writing.form_in.Goals as goal

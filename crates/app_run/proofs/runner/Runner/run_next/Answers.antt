@@ -9,7 +9,7 @@ use Rattle.script_runs.specs.TableTrace.{table_call_of}
 use Rattle.script_runs.specs.Trace.{call_of}
 use Rattle.script_runs.specs.Written.{written_by}
 use Rattle.sb_calls.specs.Core.{state_of}
-use Rattle.core_calls.specs.Callers.{written_in}
+use Rattle.app_calls.specs.Callers.{written_in}
 use Rattle.app_run.proofs.TurnLaws.{allowed-line, may-run, drop-next, get_at, ran-line, ran-local, run-same, run-bag, run-write, run-remember, run-remember_held, wrote-same, wrote-held, wrote-small, waits-or-got}
 use Rattle.app_run.proofs.TableTurns.{allowed-table_line, few-table_receipts, may-run_tables, ran-table_line, table_run-held, table_run-same, table_run-small}
 use Rattle.app_run.proofs.runner.Runner.run_next.Goals as goal

@@ -1,4 +1,4 @@
-use Rattle.core_calls.proofs.BufferCalls.{leaves-none}
+use Rattle.app_calls.proofs.BufferCalls.{leaves-none}
 use Rattle.port_calls.proofs.Answered.{port-may, port-answers, bus-answered}
 use Rattle.port_calls.proofs.port_calls.PortCallsCalls.bus_end.Goals as goal
 

@@ -1,5 +1,5 @@
 use Rattle.std.proofs.Common.{refl}
-use Rattle.core_calls.proofs.BufferCalls.{leaves-views}
+use Rattle.app_calls.proofs.BufferCalls.{leaves-views}
 use Rattle.port_calls.proofs.Answered.{port-may, port-answers, bus-answered}
 use Rattle.port_calls.proofs.port_calls.PortCallsCalls.delete_pipe.Goals as goal
 

@@ -1,7 +1,7 @@
 use Rattle.std.proofs.Common.{sym, ◌∙◌, subst}
 use Rattle.bus_words.specs.Bus.{standing_of, waited_on}
 use Rattle.bus_words.specs.declared.history.Call.TheVariants.{Look}
-use Rattle.sb_core.specs.Answers.{waited}
+use Rattle.sb_plain.specs.Answers.{waited}
 use Rattle.sb_calls.specs.Core.{MayCall, Looks, state_of}
 use Rattle.sb_calls.specs.Inside.{core_of, Stands}
 use Rattle.sb_calls.proofs.Alone.{looked_alone}

@@ -4,7 +4,7 @@ use Rattle.bus_words.specs.Acts.{opening_whole, whole_after}
 use Rattle.journal_store.specs.Budgets.{entries_left}
 use Rattle.bus_words.specs.Log.{left_of}
 use Rattle.bus_words.specs.Pipes.{last_on}
-use Rattle.sb_core.specs.Core.{Plain}
+use Rattle.sb_plain.specs.Core.{Plain}
 use Rattle.bus_words.specs.Held.{is_unsent}
 use Rattle.sb_calls.specs.Core.{IsLegalCore}
 use Rattle.sb_calls.specs.Notes.{NotedLog, AreDue}

@@ -1,7 +1,7 @@
 use Rattle.std.proofs.Common.{ap}
 use Rattle.bus_words.specs.declared.history.Call.TheVariants.{Pend}
 use Rattle.sb_calls.proofs.Alone.{pended_alone}
-use Rattle.sb_core.specs.Core.{Plain}
+use Rattle.sb_plain.specs.Core.{Plain}
 use Rattle.sb_calls.proofs.CoreBags.{bag_in, bag_out}
 use Rattle.sb_calls.proofs.Made.{made_pend}
 use Rattle.sb_calls.proofs.OthersBags.{others_keep}

@@ -1,0 +1,6 @@
+use Rattle.std.proofs.Common.{refl}
+use Rattle.app_calls.proofs.Answered.{answers-kept}
+use Rattle.app_calls.proofs.app_calls.CoreCallsCalls.subscribe.Goals as goal
+
+pub returns : goal.returns
+returns g c = answers-kept _ _ _ _ c.requires.bag c.subscribe.ensures.does c.subscribe.ensures.bags (λ number. refl)

@@ -1,0 +1,5 @@
+use Rattle.app_calls.proofs.TablesAnswered.{table-answers-held}
+use Rattle.app_calls.proofs.app_calls.CoreCallsCalls.table_call.Goals as goal
+
+pub returns : goal.returns
+returns g c = table-answers-held _ _ _ _ _ c.make.ensures.does c.make.ensures.bag

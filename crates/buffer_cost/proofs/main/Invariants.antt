@@ -1,4 +1,0 @@
-use Rattle.buffer_cost.proofs.main.Given as goal
-
-abbrev pub ghosts-carry : goal.ghosts-carry
-ghosts-carry a = record { name = a.blank.name; parts = a.blank.parts }

@@ -1,8 +1,0 @@
--- 3 calls for each round so far.
-use Rattle.std.proofs.Common.{◌*◌}
-use Rattle.sb_core.specs.Bags.{HasBag}
-use Rattle.bus_cost.specs.Calls.{Made}
-use Rattle.bus_cost.proofs.buffers.carry_all.Given as goal
-
-abbrev pub invariant-loop-round : goal.invariant-loop-round
-invariant-loop-round g l = Made l.initial.core l.core (3 * l.round) × HasBag l.core l.app l.held

@@ -1,4 +1,0 @@
-use Rattle.bus_cost.proofs.buffers.time_buffers.Given as goal
-
-abbrev pub ghosts-run_buffers : goal.ghosts-run_buffers
-ghosts-run_buffers a = record { name = a.blank.name; parts = a.blank.parts }

@@ -1,4 +1,0 @@
-use Rattle.bus_cost.proofs.loads.time_loads.Given as goal
-
-abbrev pub ghosts-run_loads : goal.ghosts-run_loads
-ghosts-run_loads a = record { name = a.blank.name; parts = a.blank.parts }

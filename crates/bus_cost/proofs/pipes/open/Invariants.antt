@@ -1,8 +1,0 @@
--- Two calls for each pipe so far.
-use Rattle.std.proofs.Common.{◌+◌}
-use Rattle.sb_core.specs.Bags.{KeepsBags}
-use Rattle.bus_cost.specs.Calls.{Made}
-use Rattle.bus_cost.proofs.pipes.open.Given as goal
-
-abbrev pub invariant-loop-place : goal.invariant-loop-place
-invariant-loop-place g l = Made l.initial.core l.core (l.place + l.place) × KeepsBags l.initial.core l.core

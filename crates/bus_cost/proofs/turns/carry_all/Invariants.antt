@@ -1,8 +1,0 @@
--- 17 calls for each turn so far.
-use Rattle.std.proofs.Common.{◌≡◌, ◌*◌, length}
-use Rattle.sb_core.specs.Bags.{HasBag}
-use Rattle.bus_cost.specs.Calls.{Made}
-use Rattle.bus_cost.proofs.turns.carry_all.Given as goal
-
-abbrev pub invariant-loop-turn : goal.invariant-loop-turn
-invariant-loop-turn g l = Made l.initial.core l.core (17 * l.turn) × HasBag l.core l.app l.held × (length l.message ≡ length l.initial.message)

@@ -1,6 +1,0 @@
-use Rattle.std.proofs.Common.{refl}
-use Rattle.core_calls.proofs.Answered.{answers-kept}
-use Rattle.core_calls.proofs.core_calls.CoreCallsCalls.set_log_mode.Goals as goal
-
-pub returns : goal.returns
-returns g c = answers-kept _ _ _ _ c.requires.bag c.set_log_mode.ensures.does c.set_log_mode.ensures.bags (λ number. refl)

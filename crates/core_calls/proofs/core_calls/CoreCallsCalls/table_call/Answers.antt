@@ -1,5 +1,0 @@
-use Rattle.core_calls.proofs.TablesAnswered.{table-answers-held}
-use Rattle.core_calls.proofs.core_calls.CoreCallsCalls.table_call.Goals as goal
-
-pub returns : goal.returns
-returns g c = table-answers-held _ _ _ _ _ c.make.ensures.does c.make.ensures.bag

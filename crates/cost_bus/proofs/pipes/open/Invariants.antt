@@ -1,0 +1,8 @@
+-- Two calls for each pipe so far.
+use Rattle.std.proofs.Common.{◌+◌}
+use Rattle.sb_plain.specs.Bags.{KeepsBags}
+use Rattle.cost_bus.specs.Calls.{Made}
+use Rattle.cost_bus.proofs.pipes.open.Given as goal
+
+abbrev pub invariant-loop-place : goal.invariant-loop-place
+invariant-loop-place g l = Made l.initial.core l.core (l.place + l.place) × KeepsBags l.initial.core l.core

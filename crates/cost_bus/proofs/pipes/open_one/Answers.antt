@@ -1,0 +1,12 @@
+use Rattle.std.proofs.Common.{arith}
+use Rattle.cost_bus.proofs.Making.{made_create, made_subscribe, made_more}
+use Rattle.cost_bus.proofs.pipes.open_one.Goals as goal
+
+pub returns-in-Ok-clause-made : goal.returns-in-Ok-clause-made
+returns-in-Ok-clause-made g c =
+    made_more c.args.core.now c.create_pipe.new.self c.subscribe.new.self 1 1 2 (omega arith)
+    (made_create _ _ _ _ _ _ c.create_pipe.ensures.does)
+    (made_subscribe _ _ _ _ _ _ _ _ c.subscribe.ensures.does)
+
+pub returns-in-Ok-clause-bags : goal.returns-in-Ok-clause-bags
+returns-in-Ok-clause-bags g c = λ app bag has. c.subscribe.ensures.bags app bag (c.create_pipe.ensures.bags app bag has)

@@ -1,0 +1,177 @@
+//! Buffers that are written where they are sent from.
+ghost use Rattle.std.specs.Prelude.{◌≡◌, ◌*◌, ◌+◌, ◌<◌, ◌≤◌, [], length};
+ghost use Rattle.fsw_base.specs.Limits.{limits_of};
+ghost use Rattle.bus_words.specs.Acts.{opening_whole};
+ghost use Rattle.buf_desc.specs.Held.{bytes_at};
+ghost use Rattle.sb_plain.specs.Bags.{HasBag};
+ghost use Rattle.cost_bus.specs.Calls.{MayMake, Made};
+ghost use Rattle.cost_bus.specs.Written.{IsWrittenOver};
+
+use crate::pipes::{IDS, id_of, open};
+use bucket_list::{Blank, Ledger, Steps};
+use buf_desc::{Held, recall_written};
+use ccsds_msg::write_header;
+use fsw_base::{AppNo, Config};
+use sb_plain::PlainBus;
+use std::alloc::{AllocError, Global};
+use std::marker::Brand;
+
+// The bytes of a buffer.
+const BUFFER_SIZE: u32 = 64;
+
+/// Sends so many buffers as they lie, and receives them. Answers how many messages were received,
+/// and how many blocks are in use then.
+///
+/// # Errors
+/// Where memory runs out.
+pub fn time_buffers(alloc: Global, rounds: u32) -> Result<(u32, u32), AllocError>
+    requires rounds { rounds ≤ 100000000 }
+{
+    let cfg = Config::usual();
+    let mut region = vec![in alloc; 0; cfg.pool as usize]?;
+    run_buffers::<Brand>(alloc, &cfg, &mut region, rounds, Blank::new(1))
+}
+
+// Makes a bus over the region, and sends so many buffers as they lie, each to one pipe.
+fn run_buffers<L: Ledger>(
+    alloc: Global,
+    cfg: &Config,
+    region: &mut [u8],
+    rounds: u32,
+    blank: Blank,
+) -> Result<(u32, u32), AllocError>
+    requires name { blank.name ≡ L.name }
+    requires parts { blank.parts ≡ L.parts }
+    requires some_part { 0 < blank.parts }
+    requires region { cfg.now.pool ≤ length region.old }
+    requires rounds { rounds ≤ 100000000 }
+{
+    let mut core = PlainBus::new(alloc, cfg, 1, region)?;
+    carry_buffers::<L>(alloc, cfg, &mut core, rounds, blank)
+}
+
+// Sends the buffers on a bus on which no call was made. It is apart from the making of the bus,
+// since every way out behind that lets the bus go, and each is proved.
+fn carry_buffers<'r, L: Ledger>(
+    alloc: Global,
+    cfg: &Config,
+    core: &mut PlainBus<'r>,
+    rounds: u32,
+    blank: Blank,
+) -> Result<(u32, u32), AllocError>
+    requires name { blank.name ≡ L.name }
+    requires parts { blank.parts ≡ L.parts }
+    requires some_part { 0 < blank.parts }
+    requires unused { core.old ≡
+        record {
+          limits = limits_of cfg.now;
+          whole = opening_whole (limits_of cfg.now) 1;
+          loans = [];
+          descs = [];
+        } }
+    requires rounds { rounds ≤ 100000000 }
+{
+    let mut held = Held::new(alloc, cfg.pipes, 1)?;
+    let received = carry::<L>(core, &mut held, rounds, blank);
+    Ok((received, core.pool().blocks_in_use()))
+}
+
+// Has application 1 make a pipe for each message id, then send so many buffers and receive each.
+// Answers how many were received.
+fn carry<'r, L: Ledger>(
+    core: &mut PlainBus<'r>,
+    held: &mut Held<'r>,
+    rounds: u32,
+    blank: Blank,
+) -> u32
+    requires name { blank.name ≡ L.name }
+    requires parts { blank.parts ≡ L.parts }
+    requires some_part { 0 < blank.parts }
+    requires may { MayMake core.old 1 (128 + 3 * rounds) }
+    requires bag { HasBag core.old 1 held.old }
+{
+    let mut steps = Steps::<L>::new(blank);
+    let app = AppNo::try_new(1).unwrap();
+    open(core, app, IDS, &mut steps);
+    carry_all(core, app, held, rounds, &mut steps)
+}
+
+// Sends so many buffers and receives each. Answers how many were received.
+fn carry_all<'r, L: Ledger>(
+    core: &mut PlainBus<'r>,
+    app: AppNo,
+    held: &mut Held<'r>,
+    rounds: u32,
+    steps: &mut Steps<L>,
+) -> u32
+    requires may { MayMake core.old app (3 * rounds) }
+    requires bag { HasBag core.old app held.old }
+{
+    let mut received = 0u32;
+    for round in 0..rounds {
+        let got = carry_one(core, app, held, round % IDS, steps);
+        received = received.saturating_add(got);
+    }
+    received
+}
+
+// Asks for a buffer, where the bag has room for one, writes a message to the id of a place into it,
+// sends it, and receives it. Answers how many messages were received.
+fn carry_one<'r, L: Ledger>(
+    core: &mut PlainBus<'r>,
+    app: AppNo,
+    held: &mut Held<'r>,
+    place: u32,
+    steps: &mut Steps<L>,
+) -> u32
+    requires place { place ≤ 3 }
+    requires may { MayMake core.old app 3 }
+    requires bag { HasBag core.old app held.old }
+    ensures made { Made core.old core.new 3 }
+    ensures bag { HasBag core.new app held.new }
+{
+    if held.buffer_room() == 0 {
+        return 0;
+    }
+    let Ok(number) = core.allocate(app, BUFFER_SIZE, held, steps) else {
+        return 0;
+    };
+    write_message(held, number, id_of(place));
+    send_and_receive(core, app, held, number, place, steps)
+}
+
+// Sends a buffer as it lies, and receives on the pipe of a place. Answers how many messages were
+// received.
+fn send_and_receive<'r, L: Ledger>(
+    core: &mut PlainBus<'r>,
+    app: AppNo,
+    held: &mut Held<'r>,
+    number: u32,
+    place: u32,
+    steps: &mut Steps<L>,
+) -> u32
+    requires place { place ≤ 3 }
+    requires may { MayMake core.old app 2 }
+    requires bag { HasBag core.old app held.old }
+    ensures made { Made core.old core.new 2 }
+    ensures bag { HasBag core.new app held.new }
+{
+    let sent = core.transmit_buffer(app, number, true, held, steps);
+    if sent.is_err() {
+        return 0;
+    }
+    u32::from(core.receive(app, place + 1, held, steps).is_ok())
+}
+
+// Writes the header of a message to an id into a buffer.
+fn write_message(held: &mut Held<'_>, number: u32, id: u16)
+    requires size { (7 ≤ length (bytes_at held.old number)) ×
+        (length (bytes_at held.old number) ≤ 65542) }
+    ensures { IsWrittenOver held.old held.new }
+{
+    // Does nothing; the proof learns of it that the other buffers stay.
+    recall_written();
+    if held.buffer(number).is_some() {
+        write_header(held.bytes_of_mut(number), id, 0);
+    }
+}

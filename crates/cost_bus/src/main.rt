@@ -1,0 +1,128 @@
+//! Makes calls of the bus, without a journal, again and again, so that what they cost, and that
+//! they take no memory, can be measured from outside. The first argument says what a round is; the
+//! second is the number of rounds, at most 100,000,000.
+//!
+//! ```text
+//! send1, fan16    a message of 64 bytes is sent to 1 or 16 pipes, and received on each
+//! big, fanbig     the same with 32768 bytes
+//! full            a message of 64 bytes is sent to 1 pipe, and not received: it is full after 256
+//! zc              a buffer of 64 bytes is asked for, written, sent as it lies, and received
+//! table           16384 bytes are loaded, the address is taken, a byte is read, and it goes back
+//! ```
+//!
+//! There are four message ids, each with pipes of its own, and the rounds take them in turn. What
+//! is printed depends on no time: how many messages were received, or how often the table was read,
+//! and how many blocks are in use then.
+#![tactic(auto)]
+
+ghost use Rattle.std.specs.Prelude.{◌≡◌, ◌<◌, ◌≤◌, ◌*◌, [], length};
+ghost use Rattle.fsw_base.specs.Limits.{limits_of};
+ghost use Rattle.bus_words.specs.Acts.{opening_whole};
+
+mod buffers;
+mod loads;
+mod pipes;
+mod sends;
+mod turns;
+
+use bucket_list::{Blank, Ledger};
+use buf_desc::Held;
+use buffers::time_buffers;
+use fsw_base::Config;
+use loads::time_loads;
+use sb_plain::PlainBus;
+use sends::{Sends, sends_of};
+use std::alloc::{AllocError, Global};
+use std::marker::Brand;
+use std::{env, io};
+
+// The most rounds: there are numbers for all their calls.
+const MOST_ROUNDS: u32 = 100_000_000;
+
+fn main(rt: HostRuntime) -> io::Result<()> {
+    let mut words = env::args(&rt)?.skip(1);
+    let Some(word) = words.next() else {
+        return println!(rt; "a word and a number of rounds are wanted");
+    };
+    let rounds = number_in(words.next()).min(MOST_ROUNDS);
+    let (received, blocks) = if let Some(sends) = sends_of(&word) {
+        time_sends(rt.alloc(), sends, rounds)?
+    } else if word.as_str() == "zc" {
+        time_buffers(rt.alloc(), rounds)?
+    } else if word.as_str() == "table" {
+        time_loads(rt.alloc(), rounds)?
+    } else {
+        return println!(rt; "{word} is none of the words");
+    };
+    println!(rt; "{word} rounds={rounds} received={received} blocks={blocks}")
+}
+
+// The number that a word is, or 0 where there is none.
+fn number_in(word: Option<String>) -> u32 {
+    word.and_then(|word| word.parse().ok()).unwrap_or(0)
+}
+
+// Makes so many sends with their receives. Answers how many messages were received, and how many
+// blocks are in use then.
+fn time_sends(alloc: Global, sends: Sends, rounds: u32) -> Result<(u32, u32), AllocError>
+    requires size { (7 ≤ sends.size) × (sends.size ≤ 32768) }
+    requires dests { sends.dests ≤ 16 }
+    requires reads { sends.reads ≤ 16 }
+    requires rounds { rounds ≤ 100000000 }
+{
+    let cfg = Config::usual();
+    let mut region = vec![in alloc; 0; cfg.pool as usize]?;
+    let mut message = vec![in alloc; 0; sends.size as usize]?;
+    let load = (rounds, sends.dests, sends.reads);
+    let blank = Blank::new(1);
+    run_load::<Brand>(alloc, &cfg, &mut region, &mut message, load, blank)
+}
+
+// Makes a bus over the region, sends the message so many times, each to so many pipes, and receives
+// it on so many of them.
+fn run_load<L: Ledger>(
+    alloc: Global,
+    cfg: &Config,
+    region: &mut [u8],
+    message: &mut [u8],
+    load: (u32, u32, u32),
+    blank: Blank,
+) -> Result<(u32, u32), AllocError>
+    requires name { blank.name ≡ L.name }
+    requires parts { blank.parts ≡ L.parts }
+    requires some_part { 0 < blank.parts }
+    requires region { cfg.now.pool ≤ length region.old }
+    requires message { (7 ≤ length message.old) × (length message.old ≤ 65542) }
+    requires load { (load.0 ≤ 100000000) × (load.1 ≤ 16) × (load.2 ≤ 16) }
+{
+    let mut core = PlainBus::new(alloc, cfg, 1, region)?;
+    carry_load::<L>(alloc, cfg, &mut core, message, load, blank)
+}
+
+// Sends the message on a bus on which no call was made, and receives it. It is apart from the
+// making of the bus, since every way out behind that lets the bus go, and each is proved.
+fn carry_load<'r, L: Ledger>(
+    alloc: Global,
+    cfg: &Config,
+    core: &mut PlainBus<'r>,
+    message: &mut [u8],
+    load: (u32, u32, u32),
+    blank: Blank,
+) -> Result<(u32, u32), AllocError>
+    requires name { blank.name ≡ L.name }
+    requires parts { blank.parts ≡ L.parts }
+    requires some_part { 0 < blank.parts }
+    requires unused { core.old ≡
+        record {
+          limits = limits_of cfg.now;
+          whole = opening_whole (limits_of cfg.now) 1;
+          loans = [];
+          descs = [];
+        } }
+    requires message { (7 ≤ length message.old) × (length message.old ≤ 65542) }
+    requires load { (load.0 ≤ 100000000) × (load.1 ≤ 16) × (load.2 ≤ 16) }
+{
+    let mut held = Held::new(alloc, cfg.pipes, 0)?;
+    let received = turns::carry::<L>(core, &mut held, message, load, blank);
+    Ok((received, core.pool().blocks_in_use()))
+}

@@ -1,0 +1,113 @@
+//! The turns.
+ghost use Rattle.std.specs.Prelude.{◌≡◌, ◌*◌, ◌+◌, ◌<◌, ◌≤◌, length};
+ghost use Rattle.sb_plain.specs.Bags.{HasBag};
+ghost use Rattle.cost_bus.specs.Calls.{MayMake, Made};
+
+use crate::pipes::{IDS, id_of, open};
+use bucket_list::{Blank, Ledger, Steps};
+use buf_desc::Held;
+use ccsds_msg::write_header;
+use fsw_base::AppNo;
+use sb_plain::PlainBus;
+
+/// Has application 1 make the pipes, so many for each message id, then send so many messages and
+/// receive each on so many of its pipes: the load says how many messages, pipes and receives.
+/// Answers how many were received.
+pub fn carry<'r, L: Ledger>(
+    core: &mut PlainBus<'r>,
+    held: &mut Held<'r>,
+    message: &mut [u8],
+    load: (u32, u32, u32),
+    blank: Blank,
+) -> u32
+    requires name { blank.name ≡ L.name }
+    requires parts { blank.parts ≡ L.parts }
+    requires some_part { 0 < blank.parts }
+    requires message { (7 ≤ length message.old) × (length message.old ≤ 65542) }
+    requires dests { load.1 ≤ 16 }
+    requires reads { load.2 ≤ 16 }
+    requires may { MayMake core.old 1 (128 + 17 * load.0) }
+    requires bag { HasBag core.old 1 held.old }
+{
+    let (turns, dests, reads) = load;
+    let mut steps = Steps::<L>::new(blank);
+    let app = AppNo::try_new(1).unwrap();
+    open(core, app, IDS * dests, &mut steps);
+    carry_all(core, app, held, message, turns, reads, &mut steps)
+}
+
+// Sends so many messages and receives each on so many pipes. Answers how many were received.
+fn carry_all<'r, L: Ledger>(
+    core: &mut PlainBus<'r>,
+    app: AppNo,
+    held: &mut Held<'r>,
+    message: &mut [u8],
+    turns: u32,
+    reads: u32,
+    steps: &mut Steps<L>,
+) -> u32
+    requires message { (7 ≤ length message.old) × (length message.old ≤ 65542) }
+    requires reads { reads ≤ 16 }
+    requires may { MayMake core.old app (17 * turns) }
+    requires bag { HasBag core.old app held.old }
+{
+    let mut received = 0u32;
+    for turn in 0..turns {
+        let got = carry_one(core, app, held, message, turn % IDS, reads, steps);
+        received = received.saturating_add(got);
+    }
+    received
+}
+
+// Sends a message to the id of a place and receives it on so many pipes. Answers how many had it.
+fn carry_one<'r, L: Ledger>(
+    core: &mut PlainBus<'r>,
+    app: AppNo,
+    held: &mut Held<'r>,
+    message: &mut [u8],
+    place: u32,
+    reads: u32,
+    steps: &mut Steps<L>,
+) -> u32
+    requires message { (7 ≤ length message.old) × (length message.old ≤ 65542) }
+    requires place { place ≤ 3 }
+    requires reads { reads ≤ 16 }
+    requires may { MayMake core.old app 17 }
+    requires bag { HasBag core.old app held.old }
+    ensures message { length message.new ≡ length message.old }
+    ensures made { Made core.old core.new 17 }
+    ensures bag { HasBag core.new app held.new }
+{
+    write_header(message, id_of(place), 0);
+    if core.transmit(app, message, true, steps).is_err() {
+        return 0;
+    }
+    receive_all(core, app, held, place, reads, steps)
+}
+
+// Receives on so many of the pipes that are subscribed to the id of a place. Answers on how many a
+// message was.
+fn receive_all<'r, L: Ledger>(
+    core: &mut PlainBus<'r>,
+    app: AppNo,
+    held: &mut Held<'r>,
+    place: u32,
+    reads: u32,
+    steps: &mut Steps<L>,
+) -> u32
+    requires place { place ≤ 3 }
+    requires reads { reads ≤ 16 }
+    requires may { MayMake core.old app 16 }
+    requires bag { HasBag core.old app held.old }
+    ensures made { Made core.old core.new 16 }
+    ensures bag { HasBag core.new app held.new }
+{
+    let mut received = 0;
+    for dest in 0..reads {
+        let pipe = place + 1 + IDS * dest;
+        if core.receive(app, pipe, held, steps).is_ok() {
+            received += 1;
+        }
+    }
+    received
+}

@@ -1,4 +1,0 @@
-use Rattle.pool_cost.proofs.main.Given as goal
-
-abbrev pub ghosts-draw_and_return : goal.ghosts-draw_and_return
-ghosts-draw_and_return a = record { name = a.blank.name; parts = a.blank.parts }

@@ -1,5 +1,0 @@
-use Rattle.std.proofs.Common.{◌≡◌}
-use Rattle.port_cost.proofs.ports.receive_all.Given as goal
-
-abbrev pub invariant-loop-dest : goal.invariant-loop-dest
-invariant-loop-dest g l = l.port.lock ≡ l.initial.port.lock

@@ -1,0 +1,45 @@
+use Rattle.std.proofs.Common.{None, ap, refl, sym, ◌∙◌}
+use Rattle.housekeeping.specs.declared.names.CounterName.TheVariants as counters
+use Rattle.bus_words.specs.declared.calls.BusAnswer.TheVariants.{Number}
+use Rattle.bus_words.specs.declared.history.Call.TheVariants.{Allocate}
+use Rattle.bus_words.specs.Machine.{by_bus, allocate_cause}
+use Rattle.bus_store.specs.Store.{Store}
+use Rattle.sb_plain.proofs.After.{acts_looked, seen_keeps, refused_acts}
+use Rattle.sb_plain.proofs.Bags.{others_left, views_still}
+use Rattle.sb_plain.proofs.Buffers.{given_keeps, given_sizes, given_made}
+use Rattle.sb_plain.proofs.Refusals.{at_fields}
+use Rattle.sb_plain.proofs.plain.PlainBus.allocate.Goals as goal
+
+pub returns-in-Some-clause-does : goal.returns-in-Some-clause-does
+returns-in-Some-clause-does g c =
+    refused_acts c.args.self.now c.refuse.new.self c.args.app (Allocate c.args.size) c.in-Some.status counters.Send c.refuse.ensures.ticked c.refuse.ensures.covered
+    (ap by_bus (sym c.allocate_cause.ensures ∙ c.in-Some.is)) refl refl refl
+
+pub invariant_of-self : goal.invariant_of-self
+invariant_of-self g c =
+    let a = c.self.inside in
+    let next = c.allocate-number.new.self in
+    let order = given_keeps a next c.args.app c.args.size c.allocate-number.ensures.after c.self.invariant.order in
+    seen_keeps (record a { store = next; records = c.see.new.records }) a.records order c.see.ensures.seen c.see.ensures.held
+
+pub returns-clause-does : goal.returns-clause-does
+returns-clause-does g c =
+    let a = c.self.inside in
+    let next = c.allocate-number.new.self in
+    let is = c.allocate-number.ensures.after in
+    let number = c.allocate-number.result in
+    let order = given_keeps a next c.args.app c.args.size is c.self.invariant.order in
+    let why = at_fields a c.args.self.now c.self.view_is (λ limits s. allocate_cause limits s c.args.size) None (sym c.allocate_cause.ensures ∙ c.in_default.is) in
+    acts_looked a next a.activities a.pools c.args.self.now c.args.app (Allocate c.args.size) (Number number) c.self.view_is
+    (given_made a next c.args.app c.args.size is c.self.invariant.order number why c.recall_held.ensures c.allocate-number.ensures.number) refl refl refl
+    c.see.new.records c.see.ensures.seen order.pool c.see.ensures.held
+
+pub returns-clause-other_bags : goal.returns-clause-other_bags
+returns-clause-other_bags g c =
+    let a = c.self.inside in
+    let next = c.allocate-number.new.self in
+    let is = c.allocate-number.ensures.after in
+    others_left a c.args.self.now c.self.view_is c.self.invariant.order (record a { store = next; records = c.see.new.records }) refl (ap (λ (o : Store). o.room) is) c.args.app
+    (given_sizes a next c.args.app c.args.size is c.self.invariant.order)
+    (λ other bag apart. views_still a.store next other bag (ap (λ (o : Store). o.pipes) is) (ap (λ (o : Store). o.loans) is) (ap (λ (o : Store). o.room) is))
+    c.allocate-number.ensures.other_bags

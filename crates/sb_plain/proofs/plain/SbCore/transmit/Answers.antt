@@ -1,0 +1,103 @@
+use Rattle.std.proofs.Common.{◌≤◌, length, None, refl, ap, sym, ◌∙◌, arith}
+use Rattle.std.proofs.lemmas.List.{nil_from_length}
+use Rattle.fsw_base.specs.Limits.{limits_of}
+use Rattle.fsw_base.specs.PoolAccounts.{Account}
+use Rattle.ccsds_msg.specs.Message.{message_id}
+use Rattle.housekeeping.specs.declared.names.CounterName.TheVariants as counters
+use Rattle.bus_events.specs.declared.event.ServiceEvent.TheVariants.{NoSubscribers}
+use Rattle.bus_words.specs.declared.calls.BusAnswer.TheVariants.{Sent}
+use Rattle.bus_words.specs.declared.history.Call.TheVariants.{Transmit}
+use Rattle.bus_words.specs.Acts.{reads_in}
+use Rattle.bus_words.specs.Bus.{route}
+use Rattle.bus_words.specs.Machine.{by_bus, transmit_cause}
+use Rattle.bus_records.specs.Records.{Recordings, told_event, peaks_raised}
+use Rattle.bus_records.proofs.Leaves.{unheard_left, sent_left}
+use Rattle.bus_store.specs.Store.{Store}
+use Rattle.sb_plain.specs.Inside.{means}
+use Rattle.sb_plain.specs.Rows.{in_use_at}
+use Rattle.sb_plain.proofs.After.{acts_from, acts_seen, seen_keeps, told_keeps, refused_acts}
+use Rattle.sb_plain.proofs.Bags.{bags_kept}
+use Rattle.sb_plain.proofs.Refusals.{at_fields}
+use Rattle.sb_plain.proofs.Transmits.{request_stays, long_enough, way_of, some_of, nobody_made, sent_keeps, sent_made, sent_told}
+use Rattle.sb_plain.proofs.plain.PlainBus.transmit.Goals as goal
+
+pub returns-in-Some-clause-does : goal.returns-in-Some-clause-does
+returns-in-Some-clause-does g c =
+    refused_acts c.args.self.now c.refuse.new.self c.args.app (Transmit c.args.bytes.now c.args.inc) c.in-Some.status counters.Send c.refuse.ensures.ticked c.refuse.ensures.covered
+    (ap by_bus (sym c.transmit_cause.ensures ∙ c.in-Some.is)) refl refl refl
+
+pub id_of-id-requires : goal.id_of-id-requires
+id_of-id-requires g c =
+    let a = c.self.inside in
+    let bytes = c.args.bytes.now in
+    let why = at_fields a c.args.self.now c.self.view_is (λ limits s. transmit_cause limits s bytes) None (sym c.transmit_cause.ensures ∙ c.in_default.is) in
+    let long : 7 ≤ length bytes = long_enough (limits_of a.config) (means a).bus bytes why in
+    omega (arith, long)
+
+pub invariant_of-self : goal.invariant_of-self
+invariant_of-self g c =
+    told_keeps c.self.inside c.tell.new.self (ap (λ (r : Recordings). r.statistics.peak) c.tell.ensures) c.self.invariant
+
+pub returns-then-dests_of-eq0-clause-does : goal.returns-then-dests_of-eq0-clause-does
+returns-then-dests_of-eq0-clause-does g c =
+    let a = c.self.inside in
+    let limits = limits_of a.config in
+    let w = means a in
+    let bytes = c.args.bytes.now in
+    let why = at_fields a c.args.self.now c.self.view_is (λ limits s. transmit_cause limits s bytes) None (sym c.transmit_cause.ensures ∙ c.in_default.is) in
+    let none = nil_from_length (route a.store.subscriptions (message_id bytes)) (ap (λ n. length (route a.store.subscriptions n)) (sym c.id_of-id.ensures) ∙ sym c.dests_of.ensures ∙ c.if-dests_of-eq0.true) in
+    acts_from a a.store a.activities a.pools c.args.self.now c.args.app (Transmit bytes c.args.inc) (Sent 0 0) c.self.view_is
+    (nobody_made a c.args.app bytes c.args.inc why none) c.tell.new.self
+    (unheard_left limits (reads_in w) w.bus c.args.app bytes c.args.inc 0 0 w.bus none c.self.invariant.covered
+    ∙ ap (λ n. told_event a.records (NoSubscribers n)) (sym c.id_of-id.ensures) ∙ sym c.tell.ensures)
+
+pub send-sent-requires-clause-least : goal.send-sent-requires-clause-least
+send-sent-requires-clause-least g c =
+    let a = c.self.inside in
+    let bytes = c.args.bytes.now in
+    let why = at_fields a c.args.self.now c.self.view_is (λ limits s. transmit_cause limits s bytes) None (sym c.transmit_cause.ensures ∙ c.in_default.is) in
+    long_enough (limits_of a.config) (means a).bus bytes why
+
+pub send-sent-requires-clause-way : goal.send-sent-requires-clause-way
+send-sent-requires-clause-way g c =
+    let a = c.self.inside in
+    let bytes = c.args.bytes.now in
+    let lengths = ap (λ n. length (route a.store.subscriptions n)) (sym c.id_of-id.ensures) ∙ sym c.dests_of.ensures in
+    let someone = some_of (route a.store.subscriptions (message_id bytes)) (λ none. c.if-dests_of-eq0.false (sym lengths ∙ none)) in
+    way_of a.store.routes a.store.subscriptions (message_id bytes) someone.first someone.more c.self.invariant.order.ways someone.is
+
+pub invariant_of-self-2 : goal.invariant_of-self-2
+invariant_of-self-2 g c =
+    let a = c.self.inside in
+    let next = c.send-sent.new.self in
+    let order = sent_keeps a next c.args.app c.args.bytes.now c.args.inc c.send-sent.ensures.after c.self.invariant.order in
+    seen_keeps (record a { store = next; records = c.see.new.records }) c.tell_misses.new.self order c.see.ensures.seen c.see.ensures.held
+
+pub returns-clause-does : goal.returns-clause-does
+returns-clause-does g c =
+    let a = c.self.inside in
+    let limits = limits_of a.config in
+    let w = means a in
+    let bytes = c.args.bytes.now in
+    let next = c.send-sent.new.self in
+    let is = c.send-sent.ensures.after in
+    let number = c.send-sent.result.number in
+    let arrived = c.send-sent.result.reached in
+    let keeps = c.self.invariant.order in
+    let why = at_fields a c.args.self.now c.self.view_is (λ limits s. transmit_cause limits s bytes) None (sym c.transmit_cause.ensures ∙ c.in_default.is) in
+    let lengths = ap (λ n. length (route a.store.subscriptions n)) (sym c.id_of-id.ensures) ∙ sym c.dests_of.ensures in
+    let someone = some_of (route a.store.subscriptions (message_id bytes)) (λ none. c.if-dests_of-eq0.false (sym lengths ∙ none)) in
+    let told = sent_told a next c.args.app bytes c.args.inc is keeps c.tell_misses.new.self c.id_of-id.result c.misses.result.now c.id_of-id.ensures c.misses.ensures c.tell_misses.ensures in
+    acts_seen a next a.activities a.pools c.args.self.now c.args.app (Transmit bytes c.args.inc) (Sent number arrived) c.self.view_is
+    (sent_made a next c.args.app bytes c.args.inc is keeps someone.first someone.more number arrived someone.is why c.recall_held.ensures c.send-sent.ensures.number c.send-sent.ensures.reached)
+    _ c.see.new.records
+    (sent_left limits (reads_in w) w.bus c.args.app bytes c.args.inc number arrived (means (record a { store = next })).bus someone.first someone.more someone.is)
+    (c.see.ensures.seen ∙ ap (λ r. peaks_raised r (in_use_at next)) told)
+    (sent_keeps a next c.args.app bytes c.args.inc is keeps).pool c.see.ensures.held
+
+pub returns-clause-bags : goal.returns-clause-bags
+returns-clause-bags g c =
+    let a = c.self.inside in
+    let is = c.send-sent.ensures.after in
+    bags_kept a c.args.self.now c.self.view_is c.self.invariant.order (record a { store = c.send-sent.new.self; records = c.see.new.records }) refl (ap (λ (o : Store). o.room) is)
+    (record { unsent = ap (λ (o : Store). o.unsent) is; descs = ap (λ (o : Store). o.descs) is; sizes = ap (λ (o : Store). o.account.sizes) is ∙ ap (λ (c : Account). c.sizes) (request_stays a.store.account (length c.args.bytes.now)) }) c.send-sent.ensures.bags

@@ -1,0 +1,127 @@
+//! The calls on a pipe that is there: its end, its option bits, its number and its name.
+ghost use Rattle.std.specs.Prelude.{◌≡◌, ℕ, false, OnErr};
+ghost use Rattle.bus_words.specs.declared.history.Call.TheVariants.{Delete, SetOpts, GetOpts, Find, PipeName};
+ghost use Rattle.bus_words.specs.Bus.{owns};
+ghost use Rattle.sb_plain.specs.Core.{MayAct, Acts, with_tick};
+ghost use Rattle.sb_plain.specs.Answers.{done, found, bits_told, named};
+ghost use Rattle.sb_plain.specs.Bags.{HasBag, KeepsBags, KeepsOtherBags, KeepsAllLoans, KeepsAllDescs, KeepsLoans};
+
+use crate::plain::PlainBus;
+use crate::uses::see;
+use bucket_list::{Ledger, Steps};
+use buf_desc::Held;
+use bus_words::PipeText;
+use fsw_base::{AppNo, SbStatus};
+use housekeeping::CounterName;
+
+impl<'r> PlainBus<'r> {
+    /// Ends the caller's pipe: it leaves with its subscriptions and messages. The view of its last
+    /// message is taken out of the caller's bag, and each block that no other pipe has a message in
+    /// goes back to the pool. No other pipe gets its number.
+    ///
+    /// # Errors
+    /// `BadArgument` for a pipe that isn't live or isn't the caller's; it is counted.
+    pub fn delete_pipe<L: Ledger>(
+        &mut self,
+        app: AppNo,
+        pipe: u32,
+        held: &mut Held<'r>,
+        steps: &mut Steps<L>,
+    ) -> Result<(), SbStatus>
+        requires may { MayAct self.old app (Delete pipe) }
+        requires bag { HasBag self.old app held.old }
+        ensures does { Acts self.old self.new app (Delete pipe) (done result) }
+        ensures unowned { owns self.old.whole.bus.pipes app pipe ≡ false →
+            self.new ≡ with_tick self.old CounterName.Create }
+        ensures bag_refused { OnErr result (held.new ≡ held.old) }
+        ensures loans { KeepsLoans self.old self.new pipe }
+        ensures descs { KeepsAllDescs self.old self.new }
+        ensures bag { HasBag self.new app held.new }
+        ensures other_bags { KeepsOtherBags self.old self.new app }
+        ensures buffers { held.new ≡ record held.old { views = held.new.views } }
+    {
+        if let Some(status) = self.unowned_cause(app, pipe) {
+            self.refuse(CounterName::Create);
+            return Err(status);
+        }
+        // Does nothing; the proof learns of it that no two applications have one pipe.
+        self.store.recall_order();
+        self.store.delete_pipe(app, pipe, held, steps);
+        see(&mut self.records, &self.store);
+        Ok(())
+    }
+
+    /// Sets the option bits of the caller's pipe: with 0x01 the messages that the caller itself
+    /// sends are not for it, with 0 they are.
+    ///
+    /// # Errors
+    /// `BadArgument` for a pipe that isn't live or isn't the caller's, and for any other bit than
+    /// 0x01; it is counted.
+    pub fn set_opts(&mut self, app: AppNo, pipe: u32, bits: u8) -> Result<(), SbStatus>
+        requires may { MayAct self.old app (SetOpts pipe bits) }
+        ensures does { Acts self.old self.new app (SetOpts pipe bits) (done result) }
+        ensures bags { KeepsBags self.old self.new }
+        ensures loans { KeepsAllLoans self.old self.new }
+        ensures descs { KeepsAllDescs self.old self.new }
+    {
+        if let Some(status) = self.set_opts_cause(app, pipe, bits) {
+            self.refuse(CounterName::Opts);
+            return Err(status);
+        }
+        self.store.set_bits(pipe, bits);
+        see(&mut self.records, &self.store);
+        Ok(())
+    }
+
+    /// Answers the option bits of a pipe, whoever's it is: 0, or 0x01 where the messages that its
+    /// owner sends are not for it.
+    ///
+    /// # Errors
+    /// `BadArgument` for a pipe that isn't live; it is counted.
+    pub fn get_opts(&mut self, pipe: u32) -> Result<u8, SbStatus>
+        ensures does { (app : ℕ) → Acts self.old self.new app (GetOpts pipe) (bits_told result) }
+        ensures bags { KeepsBags self.old self.new }
+        ensures loans { KeepsAllLoans self.old self.new }
+        ensures descs { KeepsAllDescs self.old self.new }
+    {
+        let Some(bits) = self.store.bits(pipe) else {
+            self.refuse(CounterName::Opts);
+            return Err(SbStatus::BadArgument);
+        };
+        Ok(bits)
+    }
+
+    /// Answers the number of the live pipe of this name, whoever's it is.
+    ///
+    /// # Errors
+    /// `BadArgument` where no live pipe has the name; it is counted.
+    pub fn find_pipe(&mut self, name: &[u8]) -> Result<u32, SbStatus>
+        ensures does { (app : ℕ) → Acts self.old self.new app (Find name.now) (found result) }
+        ensures bags { KeepsBags self.old self.new }
+        ensures loans { KeepsAllLoans self.old self.new }
+        ensures descs { KeepsAllDescs self.old self.new }
+    {
+        let Some(number) = self.store.find(name) else {
+            self.refuse(CounterName::Find);
+            return Err(SbStatus::BadArgument);
+        };
+        Ok(number)
+    }
+
+    /// Answers the name of a pipe, 1 to 19 bytes, whoever's it is.
+    ///
+    /// # Errors
+    /// `BadArgument` for a pipe that isn't live; it is counted.
+    pub fn pipe_name(&mut self, pipe: u32) -> Result<PipeText, SbStatus>
+        ensures does { (app : ℕ) → Acts self.old self.new app (PipeName pipe) (named result) }
+        ensures bags { KeepsBags self.old self.new }
+        ensures loans { KeepsAllLoans self.old self.new }
+        ensures descs { KeepsAllDescs self.old self.new }
+    {
+        let Some(name) = self.store.name(pipe) else {
+            self.refuse(CounterName::Find);
+            return Err(SbStatus::BadArgument);
+        };
+        Ok(name)
+    }
+}

@@ -1,4 +1,0 @@
-use Rattle.table_cost.proofs.main.Given as goal
-
-abbrev pub ghosts-run_turns : goal.ghosts-run_turns
-ghosts-run_turns a = record { name = a.blank.name; parts = a.blank.parts }

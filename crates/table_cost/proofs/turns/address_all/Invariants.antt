@@ -1,6 +1,0 @@
--- The bag stays the application's.
-use Rattle.tbl_load.specs.Bags.{HasBag}
-use Rattle.table_cost.proofs.turns.address_all.Given as goal
-
-abbrev pub invariant-loop-turn : goal.invariant-loop-turn
-invariant-loop-turn l = HasBag l.core l.app l.held

@@ -1,0 +1,93 @@
+use Rattle.std.proofs.Common.{true, false, refl, ap, sym, ◌∙◌, arith}
+use Rattle.std.proofs.lemmas.Result.{err_from_is_err_and}
+use Rattle.tbl_words.specs.declared.statuses.TblStatus.TheVariants.{InfoNoUpdatePending, NotValidated, InfoTableLocked}
+use Rattle.tbl_words.specs.declared.calls.TblAnswer.TheVariants.{Done}
+use Rattle.tbl_words.specs.declared.history.Call.TheVariants.{Update}
+use Rattle.tbl_words.specs.Tables as state
+use Rattle.tbl_words.specs.Machine.{update_cause, is_locked}
+use Rattle.tbl_registry.specs.Listing.{is_registered}
+use Rattle.tbl_blocks.specs.Blocks.{Stored}
+use Rattle.tbl_blocks.specs.Contents.{content_at, staged_in}
+use Rattle.tbl_plain.specs.Inside.{means}
+use Rattle.tbl_plain.proofs.Called.{table_by, own_content, call_barred, call_asked, call_refused}
+use Rattle.tbl_plain.proofs.Loads.{unstaged_update, update_checked, updated_so, version_left}
+use Rattle.tbl_plain.proofs.Reached.{reaches}
+use Rattle.tbl_plain.proofs.Registers.{none_staged}
+use Rattle.tbl_plain.proofs.Stagings.{locked_alike, unlent}
+use Rattle.tbl_plain.proofs.Updates.{update_keeps, update_acts}
+use Rattle.tbl_plain.proofs.Validations.{none_older}
+use Rattle.tbl_plain.proofs.plain.PlainTables.update.Goals as goal
+
+pub returns-in_err-row : goal.returns-in_err-row
+returns-in_err-row c =
+    let p = err_from_is_err_and c.from_residual.result c.from_residual.ensures.1 in
+    rw (p.1, p.2) (call_barred c.self.inside c.args.self.now c.self.view_is c.recall_ties.ensures c.args.app c.args.handle (Update c.args.handle) (update_cause (means c.self.inside)) refl c.in_err-row.field-0.0 (sym c.own_table.ensures ∙ c.in_err-row.was))
+
+pub overflow_cast-key : goal.overflow_cast-key
+overflow_cast-key c =
+    let has = own_content c.self.inside c.self.invariant c.recall_ties.ensures c.args.app c.args.handle c.in_ok-row.row (sym c.own_table.ensures ∙ c.in_ok-row.was) in
+    omega (arith, has.small)
+
+pub is_staged-requires : goal.is_staged-requires
+is_staged-requires c = (own_content c.self.inside c.self.invariant c.recall_ties.ensures c.args.app c.args.handle c.in_ok-row.row (sym c.own_table.ensures ∙ c.in_ok-row.was)).present
+
+pub returns-then-not-is_staged : goal.returns-then-not-is_staged
+returns-then-not-is_staged c =
+    let a = c.self.inside in
+    let h = c.in_ok-row.row in
+    let is = sym c.own_table.ensures ∙ c.in_ok-row.was in
+    let has = own_content a c.self.invariant c.recall_ties.ensures c.args.app c.args.handle h is in
+    call_refused a c.args.self.now c.self.view_is c.recall_ties.ensures c.args.app c.args.handle (Update c.args.handle) (update_cause (means a)) refl h is has InfoNoUpdatePending
+    (unstaged_update (means a) (is_registered a.registry.handles has.t) has.t (content_at a.blocks.tables h.key) (none_staged (content_at a.blocks.tables h.key).next (sym c.is_staged.ensures ∙ c.if-not-is_staged.true)))
+
+pub returns-then-not-is_validated : goal.returns-then-not-is_validated
+returns-then-not-is_validated c =
+    let a = c.self.inside in
+    let h = c.in_ok-row.row in
+    let is = sym c.own_table.ensures ∙ c.in_ok-row.was in
+    let has = own_content a c.self.invariant c.recall_ties.ensures c.args.app c.args.handle h is in
+    call_refused a c.args.self.now c.self.view_is c.recall_ties.ensures c.args.app c.args.handle (Update c.args.handle) (update_cause (means a)) refl h is has NotValidated
+    (update_checked (means a) (is_registered a.registry.handles has.t) has.t (content_at a.blocks.tables h.key) false (is_locked (means a) (table_by a h has.t)) (sym c.is_staged.ensures ∙ c.if-not-is_staged.false) (sym c.is_validated.ensures ∙ c.if-not-is_validated.true) refl)
+
+pub returns-then-is_lent : goal.returns-then-is_lent
+returns-then-is_lent c =
+    let a = c.self.inside in
+    let h = c.in_ok-row.row in
+    let is = sym c.own_table.ensures ∙ c.in_ok-row.was in
+    let has = own_content a c.self.invariant c.recall_ties.ensures c.args.app c.args.handle h is in
+    let staged = sym c.is_staged.ensures ∙ c.if-not-is_staged.false in
+    call_refused a c.args.self.now c.self.view_is c.recall_ties.ensures c.args.app c.args.handle (Update c.args.handle) (update_cause (means a)) refl h is has InfoTableLocked
+    (update_checked (means a) (is_registered a.registry.handles has.t) has.t (content_at a.blocks.tables h.key) true true staged (sym c.is_validated.ensures ∙ c.if-not-is_validated.false)
+    (locked_alike a h has (λ none. absurd (cc (sym staged ∙ none))) ∙ (sym c.is_lent.ensures ∙ c.if-is_lent.true)))
+
+pub update-requires-clause-room : goal.update-requires-clause-room
+update-requires-clause-room c =
+    version_left c.self.inside c.args.self.now c.self.view_is c.requires.may.versions c.in_ok-row.row
+    (own_content c.self.inside c.self.invariant c.recall_ties.ensures c.args.app c.args.handle c.in_ok-row.row (sym c.own_table.ensures ∙ c.in_ok-row.was))
+
+pub invariant_of-self : goal.invariant_of-self
+invariant_of-self c =
+    let a = c.self.inside in
+    let h = c.in_ok-row.row in
+    let is = sym c.own_table.ensures ∙ c.in_ok-row.was in
+    let has = own_content a c.self.invariant c.recall_ties.ensures c.args.app c.args.handle h is in
+    let content = content_at a.blocks.tables h.key in
+    let staged = sym c.is_staged.ensures ∙ c.if-not-is_staged.false in
+    update_keeps a c.self.invariant c.recall_ties.ensures h has (reaches a c.recall_ties.ensures c.args.app c.args.handle h is).live c.update.new.self (content_at c.update.new.self.tables h.key).present.loan (staged_in content.next).bytes
+    (ap (λ (s : Stored). s.tables) c.update.ensures) (ap (λ (s : Stored). s.pool) c.update.ensures) (ap (λ (s : Stored). s.most) c.update.ensures) (none_older content.next staged) (unlent content (sym c.is_lent.ensures ∙ c.if-is_lent.false))
+
+pub returns : goal.returns
+returns c =
+    let a = c.self.inside in
+    let h = c.in_ok-row.row in
+    let is = sym c.own_table.ensures ∙ c.in_ok-row.was in
+    let has = own_content a c.self.invariant c.recall_ties.ensures c.args.app c.args.handle h is in
+    let content = content_at a.blocks.tables h.key in
+    let staged = sym c.is_staged.ensures ∙ c.if-not-is_staged.false in
+    update_acts a c.self.invariant c.recall_ties.ensures h has (reaches a c.recall_ties.ensures c.args.app c.args.handle h is).live c.update.new.self (content_at c.update.new.self.tables h.key).present.loan (staged_in content.next).bytes
+    (ap (λ (s : Stored). s.tables) c.update.ensures) (ap (λ (s : Stored). s.pool) c.update.ensures) (ap (λ (s : Stored). s.most) c.update.ensures) (none_older content.next staged) (unlent content (sym c.is_lent.ensures ∙ c.if-is_lent.false))
+    c.args.self.now c.self.view_is c.args.app (Update c.args.handle) Done
+    (call_asked a c.args.self.now c.self.view_is c.recall_ties.ensures c.args.app c.args.handle (Update c.args.handle) (update_cause (means a)) refl h is has
+    ∙ update_checked (means a) (is_registered a.registry.handles has.t) has.t content true false staged (sym c.is_validated.ensures ∙ c.if-not-is_validated.false)
+    (locked_alike a h has (λ none. absurd (cc (sym staged ∙ none))) ∙ (sym c.is_lent.ensures ∙ c.if-is_lent.false)))
+    (ap (λ (s : state.State). (Done, s)) (updated_so a c.recall_ties.ensures c.args.handle h (reaches a c.recall_ties.ensures c.args.app c.args.handle h is).own.found has staged))

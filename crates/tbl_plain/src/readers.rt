@@ -1,0 +1,57 @@
+//! What the core tells.
+ghost use Rattle.std.specs.Prelude.{◌≡◌};
+ghost use Rattle.es_pool.specs.Account.{IsAccountOf};
+ghost use Rattle.es_pool.specs.Pool.{in_use_by};
+ghost use Rattle.tbl_words.specs.Machine.{may_call};
+ghost use Rattle.tbl_words.specs.Tables.{account_of, bytes_in_use};
+ghost use Rattle.tbl_words.specs.Uses.{use_of};
+ghost use Rattle.tbl_plain.specs.Core.{AreOneLoan};
+
+use crate::plain::PlainTables;
+use es_pool::Pool;
+use fsw_base::AppNo;
+use tbl_words::TblUse;
+
+impl PlainTables<'_> {
+    /// Whether the application may make calls: it is known, and hasn't ended.
+    pub fn is_open(&self, app: AppNo) -> bool
+        ensures { result ≡ may_call self.now.state app }
+    {
+        match self.ended.get((app.get() - 1) as usize) {
+            Some(ended) => !*ended,
+            None => false,
+        }
+    }
+
+    /// What is in use: the tables that have a handle, the live handles, and the bytes of the
+    /// tables' blocks by their block sizes. By the code, kept and not counted anew.
+    pub fn in_use(&self) -> TblUse
+        ensures { result ≡ use_of self.now.limits self.now.state }
+    {
+        TblUse {
+            tables: self.registry.tables(),
+            handles: self.registry.handles(),
+            bytes: self.pool().bytes_in_use(),
+        }
+    }
+
+    /// Handles that hold one version of one table are lent it by one loan: it lies in one block,
+    /// which all of them read. Does nothing.
+    pub fn recall_loans(&self)
+        ensures { AreOneLoan self.now }
+    {
+        self.registry.recall_ties();
+    }
+
+    /// The pool that the blocks of the tables are drawn from: those of the tables are out, and no
+    /// others.
+    pub fn pool(&self) -> &Pool
+        ensures account { IsAccountOf result.now (account_of self.now.limits self.now.state) }
+        ensures in_use { in_use_by result.now.sizes result.now.blocks ≡
+            bytes_in_use self.now.limits.sizes self.now.state.tables }
+    {
+        let pool = self.blocks.pool();
+        pool.recall_whole();
+        pool
+    }
+}

@@ -1,0 +1,142 @@
+//! Registrations.
+ghost use Rattle.std.specs.Prelude.{◌≡◌, ◌==◌, ◌||◌, ◌+◌, ◌≤◌, None, nat_lt, length};
+ghost use Rattle.tbl_words.specs.declared.history.Call.TheVariants.{Register};
+ghost use Rattle.tbl_words.specs.Rules.{is_misfit, has_misfit};
+ghost use Rattle.tbl_words.specs.Machine.{new_table_cause};
+ghost use Rattle.tbl_plain.specs.Core.{MayAct, Acts};
+ghost use Rattle.tbl_plain.specs.Answers.{registered};
+ghost use Rattle.tbl_plain.specs.Refusals.{unfit_cause};
+
+use crate::plain::PlainTables;
+use bucket_list::{Ledger, Steps};
+use fsw_base::AppNo;
+use tbl_words::{Registered, Rule, RuleList, TblStatus};
+
+impl<'r> PlainTables<'r> {
+    /// Registers a table of `size` bytes for the caller, and answers its owner's handle. A table
+    /// that the caller registered with this name and size is answered as it is. The value is zeros.
+    /// At most 16 steps.
+    ///
+    /// # Errors
+    /// `ErrInvalidName` for a name that hasn't 1 to 15 bytes; `ErrInvalidSize` for 0 bytes or more
+    /// than the configuration allows; `ErrInvalidOptions` for an option past 2, and for a rule
+    /// whose byte isn't below the size, or whose `low` is above its `high`; `ErrDuplicateNotOwned`
+    /// where another application has registered a table of this name; `ErrDuplicateDiffSize` where
+    /// the caller has, of another size; `ErrRegistryFull` where as many tables have a handle as the
+    /// configuration allows, unregistered ones too; `ErrHandlesFull` where as many handles are live
+    /// as it allows; `ErrMemBlockSize` where the pool hasn't the blocks. The first that applies.
+    pub fn register<L: Ledger>(
+        &mut self,
+        app: AppNo,
+        name: &[u8],
+        size: u32,
+        option: u32,
+        rules: &RuleList,
+        steps: &mut Steps<L>,
+    ) -> Result<Registered, TblStatus>
+        requires may { MayAct self.old app (Register name.now size option rules.now) }
+        ensures does { Acts self.old self.new app
+            (Register name.now size option rules.now)
+            (registered result) }
+        ensures cost { steps.new ≤ steps.old + 16 }
+    {
+        self.registry.recall_ties();
+        if let Some(status) = unfit_cause(self.config.tablemax, name, size, option, rules) {
+            return Err(status);
+        }
+        if let Some(key) = self.registry.by_name(name) {
+            let row = self.registry.table(key);
+            if row.app != app {
+                return Err(TblStatus::ErrDuplicateNotOwned);
+            }
+            if row.size != size {
+                return Err(TblStatus::ErrDuplicateDiffSize);
+            }
+            return Ok(Registered::Duplicate(row.handle.unwrap()));
+        }
+        if let Some(status) = self.new_table_cause(size, option) {
+            return Err(status);
+        }
+        self.blocks.pool().recall_whole();
+        let number = self.registry.add_table(app, name, size, option, rules);
+        let owner = self.registry.find(number).unwrap();
+        self.blocks
+            .open(owner.key as u32, size, option, steps)
+            .unwrap();
+        Ok(Registered::New(number))
+    }
+
+    // Why there can't be one table more, of this size and option.
+    fn new_table_cause(&self, size: u32, option: u32) -> Option<TblStatus>
+        ensures { result ≡ new_table_cause self.now.limits self.now.state size option }
+    {
+        self.registry.recall_ties();
+        if self.registry.tables() >= self.config.tables {
+            return Some(TblStatus::ErrRegistryFull);
+        }
+        if self.registry.handles() >= self.config.handles {
+            return Some(TblStatus::ErrHandlesFull);
+        }
+        if !self.blocks.fits(size, option) {
+            return Some(TblStatus::ErrMemBlockSize);
+        }
+        None
+    }
+}
+
+// Why no such table can be registered, whatever others there are.
+fn unfit_cause(
+    most: u32,
+    name: &[u8],
+    size: u32,
+    option: u32,
+    rules: &RuleList,
+) -> Option<TblStatus>
+    ensures { result ≡ unfit_cause most name.now size option rules.now None }
+{
+    if is_bad_name(name) {
+        return Some(TblStatus::ErrInvalidName);
+    }
+    if is_bad_size(most, size) {
+        return Some(TblStatus::ErrInvalidSize);
+    }
+    if are_bad_options(size, option, rules.as_slice()) {
+        return Some(TblStatus::ErrInvalidOptions);
+    }
+    None
+}
+
+// Whether the name hasn't 1 to 15 bytes.
+fn is_bad_name(name: &[u8]) -> bool
+    ensures { result ≡ (length name.now == 0 || nat_lt 15 (length name.now)) }
+{
+    name.is_empty() || name.len() > 15
+}
+
+// Whether the size isn't 1 to the most.
+fn is_bad_size(most: u32, size: u32) -> bool
+    ensures { result ≡ (size == 0 || nat_lt most size) }
+{
+    size == 0 || size > most
+}
+
+// Whether there is no such option, or no table of this size can have one of the rules.
+fn are_bad_options(size: u32, option: u32, rules: &[Rule]) -> bool
+    ensures { result ≡ (nat_lt 2 option || has_misfit size rules.now) }
+{
+    option > 2 || has_misfit(size, rules)
+}
+
+// Whether no table of this size can have one of the rules.
+fn has_misfit(size: u32, rules: &[Rule]) -> bool
+    ensures { result ≡ has_misfit size rules.now }
+{
+    rules.iter().any(|rule| is_misfit(size, *rule))
+}
+
+// Whether no table of this size can have the rule.
+fn is_misfit(size: u32, rule: Rule) -> bool
+    ensures { result ≡ is_misfit size rule }
+{
+    rule.offset >= size || rule.low > rule.high
+}

@@ -1,5 +1,0 @@
-use Rattle.std.proofs.Common.{rules}
-use Rattle.turn_cost.proofs.turns.note_turn.Goals as goal
-
-pub leave-requires-clause-entry : goal.leave-requires-clause-entry
-leave-requires-clause-entry g c marked = (c.args.number, search rules)
