@@ -37,7 +37,7 @@ pub use guards::{SinkGuard, SourceGuard};
 pub use memory::{MemSink, MemSource};
 pub use outside::{Gate, OpenGate, ReadAnswer, Sink, Source, WriteAnswer};
 pub use reserved::extend_reserved;
-pub use rows_faults::{FaultKind, ScriptFault, WriteFault};
+pub use script_faults::{FaultKind, ScriptFault, WriteFault};
 pub use sizes::{
     MAX_MESSAGE_BYTES, MAX_NAME_BYTES, MAX_SCRIPT_BYTES, MAX_TABLE_BYTES, MAX_TEXT_BYTES,
 };
