@@ -26,6 +26,8 @@ pub record Limits : Type 0 where
   pub sizes : List ℕ
   -- message ids and the sequence counts at which they start
   pub starts : List (ℕ × ℕ)
+  -- the version of the bus, 1 or 2
+  pub version : ℕ
 
 -- the limits of a configuration
 abbrev pub limits_of : Config → Limits
@@ -43,6 +45,7 @@ limits_of c = record {
   tablepool = c.tablepool;
   sizes = c.sizes;
   starts = c.starts;
+  version = c.version;
 }
 
 -- the limits where nothing is configured
@@ -61,4 +64,5 @@ usual_limits = record {
   tablepool = 524288;
   sizes = usual_sizes;
   starts = [];
+  version = 1;
 }

@@ -34,6 +34,8 @@ pub struct Config {
     pub sizes: BlockSizes,
     /// The sequence counts at which message ids start.
     pub starts: CountStarts,
+    /// Which version of the bus a run has, 1 or 2. In version 2 a pipe has the option to drop its oldest message.
+    pub version: u32,
 
     pub ghost msgids_in_range: { (1 ≤ msgids) × (msgids ≤ 1024) },
     pub ghost pipes_in_range: { (1 ≤ pipes) × (pipes ≤ 256) },
@@ -46,12 +48,13 @@ pub struct Config {
     pub ghost handles_in_range: { (1 ≤ handles) × (handles ≤ 1024) },
     pub ghost tablemax_in_range: { (1 ≤ tablemax) × (tablemax ≤ 65536) },
     pub ghost tablepool_in_range: { (24 ≤ tablepool) × (tablepool ≤ 16777216) },
+    pub ghost version_in_range: { (1 ≤ version) × (version ≤ 2) },
 }
 
 impl Config {
     ghost use Rattle.fsw_base.specs.Limits.{limits_of, usual_limits};
 
-    /// The usual limits of a mission, the usual block sizes, and every count starting at 0.
+    /// The usual limits of a mission, the usual block sizes, every count starting at 0, and version 1.
     pub fn usual() -> Config
         ensures { limits_of result ≡ usual_limits }
     {
@@ -69,6 +72,7 @@ impl Config {
             tablepool: 524288,
             sizes: BlockSizes::usual(),
             starts: CountStarts::none(),
+            version: 1,
         }
     }
 
@@ -90,6 +94,7 @@ impl Config {
             tablepool: self.tablepool,
             sizes: self.sizes.again(),
             starts: self.starts.again(),
+            version: self.version,
         }
     }
 }
