@@ -1,24 +1,33 @@
 #!/usr/bin/env python3
-"""Compares docs/DEFINITIONS.md with the crates: each definition that a clause of a public function cites stands there, under
-its crate and its file, and each name there is a definition of that file.
+"""Makes the second part of docs/DEFINITIONS.md from the comments in crates/*/specs, and checks the whole page.
 
-On the page `## ... `crate`` begins a crate and `### `specs/File.antt`` a file; an entry is `- `name`, `name`: words`, and
-the names in backticks before its first colon are those that it explains. What is behind the colon is prose.
+The page has two parts. The first, above the heading `## Every definition`, is written by hand: the definitions that carry the
+model. An entry there is
+
+    - `name`, `name` (`crate/specs/File.antt`): words
+
+The second part has every other definition that a public clause cites, by crate and file, each with the comment above it. Where a
+definition has no comment of its own, it has the one at the head of its file.
 
 A public clause is a `requires` or `ensures` of a `pub fn`, or of a method of a public trait or of a trait's impl, and the
 `Value` of an `impl Model`. A name in it is resolved by the file's `ghost use` lines.
 
-`--mend` adds an entry for each name that is missing, with the comment that stands above its definition, and takes out the
-names that are defined nowhere; what it wrote is to be read, and put into plain words.
+Without words the check fails if the second part isn't what the specs give, if a cited definition has no comment, or if the first
+part names what no file defines. `--mend` writes the second part anew. In the first part it follows a definition that moved to
+another file, and takes out a name that is defined nowhere; it prints what it took out, since that has to be read.
 """
 import re
 import sys
 from collections import defaultdict
+from itertools import takewhile, zip_longest
 from pathlib import Path
 
 TOP = Path(__file__).resolve().parent.parent
 PAGE = TOP / 'docs' / 'DEFINITIONS.md'
 WORD = r"[^\W\d][\w'-]*|◌\S*◌|◌\S+"
+HAND = re.compile(r'- ((?:`[^`]+`(?:, )?)+) \(`(\w+)/specs/([\w/]+)\.antt`\): (.*)$')
+HEADING = '## Every definition'
+MADE = '`.ci/definitions.py --mend` makes this part from the comments in `crates/*/specs`. Change a comment there, and make it anew.'
 IMPORT = re.compile(r'ghost\s+use\s+Rattle\.([\w.]+?)\.\{([^}]*)\}\s*;')
 FILE_ALIAS = re.compile(r'ghost\s+use\s+Rattle\.([\w.]+)\s+as\s+(\w+)\s*;')
 
@@ -159,140 +168,121 @@ def defined(crate, name):
     return set(re.findall(r"^(?:\s*(?:abbrev |unfoldable )+pub |\s*pub (?:record |data )|pub )(" + WORD + ")", path.read_text(), re.M))
 
 
+def line_of(lines, word):
+    """Where a definition begins, of these lines; None where they have none. One that stands by itself comes before a record's part."""
+    for indent in ('', r'\s+'):
+        begins = re.compile(rf"{indent}(?:abbrev |unfoldable )*pub\s+(?:record |data )?{re.escape(word)}(?=[\s:({{]|$)")
+        for at, line in enumerate(lines):
+            if begins.match(line):
+                return at
+    return None
+
+
 def comment_on(crate, name, word):
-    """The comment above a definition, in one line."""
+    """The comment above a definition, or else the one at its file's head, in one line; None where there is neither."""
     lines = (TOP / 'crates' / crate / 'specs' / f'{name}.antt').read_text().splitlines()
+    begin = at = line_of(lines, word)
+    if at is None:
+        return None
+    while begin > 0 and lines[begin - 1].lstrip().startswith('--'):
+        begin -= 1
+    return sentence(lines[begin:at]) or sentence(list(takewhile(lambda one: one.startswith('--'), lines)))
+
+
+def sentence(comment):
+    """A comment's lines as one line that begins small, as it goes on behind a colon."""
+    text = ' '.join(line.strip().strip('-').strip() for line in comment)
+    if text and not text[1:2].isupper():
+        text = text[0].lower() + text[1:]
+    return text and text.rstrip('.') + '.'
+
+
+def places(word):
+    """The files of definitions that define a word: crate, file."""
+    for path in sorted(TOP.glob('crates/*/specs/**/*.antt')):
+        crate, name = path.relative_to(TOP).parts[1], path.relative_to(TOP).with_suffix('').as_posix().split('/specs/')[1]
+        if word in defined(crate, name):
+            yield crate, name
+
+
+def by_hand(lines):
+    """The entries of the page's first part: place in the page, names, crate, file, words."""
     for at, line in enumerate(lines):
-        if re.match(r"\s*(?:abbrev |unfoldable )*pub\s+(?:record |data )?" + re.escape(word) + r"(?=[\s:({]|$)", line):
-            above = []
-            while at > 0 and lines[at - 1].lstrip().startswith('--'):
-                at -= 1
-                above.insert(0, lines[at].strip().strip('-').strip())
-            if above:
-                text = ' '.join(above)
-                return text[0].lower() + text[1:].rstrip('.') + '.'
-    return '?'
+        entry = HAND.match(line)
+        if entry:
+            yield at, re.findall(r'`([^`]+)`', entry[1]), entry[2], entry[3], entry[4]
 
 
-def placed(lines):
-    """Each line with the crate and the file of definitions that it stands under; None where it is under none."""
-    crate = name = None
-    for line in lines:
-        if line.startswith('## '):
-            named = re.search(r'`(\w+)`', line)
-            crate, name = (named.group(1) if named else None), None
-        elif line.startswith('### '):
-            named = re.search(r'`specs/([\w/]+)\.antt`', line)
-            name = named.group(1) if named else None
-        yield line, crate, name
+def followed(lines):
+    """The first part, with definitions that moved where they are now, and without those that are gone; and what was taken out."""
+    out, gone = list(lines), []
+    for at, words, crate, name, told in by_hand(lines):
+        lost = [word for word in words if word not in (defined(crate, name) or ())]
+        if not lost:
+            continue
+        to = set.intersection(*(set(places(word)) for word in lost))
+        if lost == words and len(to) == 1:
+            (crate, name), lost = to.pop(), []
+        gone += [f'`{word}` of crates/{crate}/specs/{name}.antt: {told}' for word in lost]
+        kept = [word for word in words if word not in lost]
+        out[at] = kept and '- ' + ', '.join(f'`{word}`' for word in kept) + f' (`{crate}/specs/{name}.antt`): {told}'
+    return [line for line in out if line != []], gone
 
 
-def is_entry(line, crate, name):
-    return line.startswith('- ') and crate and name
+def layers():
+    """The crates as crates.txt has them, the lowest first."""
+    named = re.findall(r'^(\w+):', (TOP / 'crates.txt').read_text(), re.M)
+    return [crate for crate in named if crate in crates()] + [crate for crate in crates() if crate not in named]
 
 
-def moved(lines, missing, gone):
-    """For names that stand in another file now: the entry that they have there, by place."""
-    to = defaultdict(list)
-    for crate, name, word in missing:
-        to[word].append((crate, name))
-    entries = []
-    for line, crate, name in placed(lines):
-        if is_entry(line, crate, name):
-            head, colon, words = line.partition(':')
-            lost = [word for word in re.findall(r'`([^`]+)`', head) if (crate, name, word) in gone]
-            for place in sorted({to[word][0] for word in lost if len(to[word]) == 1}):
-                found = [word for word in lost if word in defined(*place)]
-                entries.append((place, found, '- ' + ', '.join(f'`{word}`' for word in found) + colon + words))
-    return entries
-
-
-def put(out, crate, name, entry):
-    """Puts an entry at the end of its file's, under headings of its own where there are none."""
-    parts = [at for at, line in enumerate(out) if line.startswith('## ') and re.search(rf'`{crate}`', line)]
-    if not parts:
-        out += ['', f'## `{crate}`', '', f'### `specs/{name}.antt`', '', entry]
-        return
-    end = next((at for at in range(parts[0] + 1, len(out)) if out[at].startswith('## ')), len(out))
-    files = [at for at in range(parts[0], end) if out[at].startswith('### ') and f'`specs/{name}.antt`' in out[at]]
-    if not files:
-        while not out[end - 1]:
-            end -= 1
-        out[end:end] = ['', f'### `specs/{name}.antt`', '', entry]
-        return
-    last = files[0] + 1
-    for at in range(files[0] + 1, end):
-        if out[at].startswith('### '):
-            break
-        if out[at].startswith('- '):
-            last = at
-    out.insert(last + 1, entry)
-
-
-def mended(lines, missing, gone):
-    """The page's lines with an entry for each missing name, and without the names that are defined nowhere."""
-    out = []
-    for line, crate, name in placed(lines):
-        if is_entry(line, crate, name):
-            head, colon, words = line.partition(':')
-            named = re.findall(r'`([^`]+)`', head)
-            kept = [word for word in named if (crate, name, word) not in gone]
-            if named and not kept:
-                continue
-            if len(kept) < len(named):
-                line = '- ' + ', '.join(f'`{word}`' for word in kept) + colon + words
-        out.append(line)
-    told = set()
-    for (crate, name), words, entry in moved(lines, missing, gone):
-        put(out, crate, name, entry)
-        told |= {(crate, name, word) for word in words}
-    for crate, name, word in missing:
-        if (crate, name, word) not in told:
-            put(out, crate, name, f'- `{word}`: {comment_on(crate, name, word)}')
-    # a heading under which nothing is left
-    return [line for at, line in enumerate(out) if not (line.startswith('### ') and not any(
-        one for one in out[at + 1:next((to for to in range(at + 1, len(out)) if out[to].startswith(('## ', '### '))), len(out))]))]
-
-
-def page():
-    """The page's entries: ((crate, file, name), line); and lines that are out of place."""
-    entries, faults = {}, []
-    for number, (line, crate, name) in enumerate(placed(PAGE.read_text().splitlines()), 1):
-        where = f'docs/DEFINITIONS.md:{number}'
-        if line.startswith('### ') and crate and name and defined(crate, name) is None:
-            faults.append(f'{where}: crates/{crate} has no specs/{name}.antt')
-        elif is_entry(line, crate, name):
-            for word in re.findall(r'`([^`]+)`', line.split(':', 1)[0]):
-                if (crate, name, word) in entries:
-                    faults.append(f'{where}: `{word}` stands twice')
-                entries[crate, name, word] = where
-            if line.endswith(': ?'):
-                faults.append(f'{where}: an entry without words')
-    return entries, faults
+def second_part(needed, explained):
+    """The second part's lines, and a fault for each definition without a comment."""
+    files = defaultdict(lambda: defaultdict(list))
+    for crate, name, word in needed:
+        if (crate, name, word) not in explained:
+            files[crate][name].append(word)
+    out, faults = [HEADING, '', MADE], []
+    for crate in layers():
+        if files[crate]:
+            out += ['', f'### `{crate}`']
+        for name in sorted(files[crate]):
+            out += ['', f'`specs/{name}.antt`', '']
+            lines = (TOP / 'crates' / crate / 'specs' / f'{name}.antt').read_text().splitlines()
+            for word in sorted(files[crate][name], key=lambda word: line_of(lines, word) or 0):
+                comment = comment_on(crate, name, word)
+                if not comment:
+                    faults.append(f'crates/{crate}/specs/{name}.antt: {word}: no comment says what it is')
+                out.append(f'- `{word}`: {comment}')
+    return out, faults
 
 
 def main():
-    entries, faults = page()
+    lines = PAGE.read_text().splitlines()
+    first = lines[:lines.index(HEADING)] if HEADING in lines else lines + ['']
     needed = {}
     for crate in crates():
         for at, where, function, clause in cited(crate):
             needed.setdefault(at, (where, function, clause))
+    faults = [f'{where}: {function}, {clause}: cites `{word}`, which crates/{crate}/specs/{name}.antt does not define'
+              for (crate, name, word), (where, function, clause) in sorted(needed.items()) if word not in (defined(crate, name) or ())]
+    needed = {at for at in needed if at[2] in (defined(at[0], at[1]) or ())}
+    mended, gone = followed(first)
+    explained = {(crate, name, word) for _, words, crate, name, _ in by_hand(mended) for word in words}
+    second, unexplained = second_part(needed, explained)
+    faults += unexplained
+    whole = mended + second
     if sys.argv[1:] == ['--mend']:
-        gone = {at for at in entries if at[2] not in (defined(at[0], at[1]) or ())}
-        missing = [at for at in sorted(needed) if at not in entries]
-        PAGE.write_text('\n'.join(mended(PAGE.read_text().splitlines(), missing, gone)) + '\n')
-        print(f'definitions: {len(missing)} entries added, {len(gone)} names taken out')
-        return 0
-    for (crate, name, word), (where, function, clause) in sorted(needed.items()):
-        if (crate, name, word) not in entries:
-            faults.append(f'{where}: {function}, {clause}: cites `{word}` of crates/{crate}/specs/{name}.antt, which the page lacks')
-    for (crate, name, word), where in sorted(entries.items()):
-        names = defined(crate, name)
-        if names is not None and word not in names:
-            faults.append(f'{where}: crates/{crate}/specs/{name}.antt defines no `{word}`')
+        PAGE.write_text('\n'.join(whole) + '\n')
+        for entry in gone:
+            print(f'taken out: {entry}')
+    else:
+        for at, (is_line, wanted) in enumerate(zip_longest(lines, whole), 1):
+            if is_line != wanted:
+                faults.append(f'docs/DEFINITIONS.md:{at}: is not what the specs give; .ci/definitions.py --mend writes it anew')
+                break
     for fault in faults:
         print(fault)
-    print(f'definitions: {len(needed)} are cited by public clauses, {len(entries)} stand on the page, {len(faults)} faults')
+    print(f'definitions: {len(needed)} are cited by public clauses, {len(explained)} are explained by hand, {len(faults)} faults')
     return 1 if faults else 0
 
 
