@@ -14,6 +14,7 @@ pub mod Journals
 pub mod KeptPipes
 pub mod Lasts
 pub mod LegalSteps
+pub mod Numbers
 pub mod OwnEntries
 pub mod OwnStandings
 pub mod Owners

@@ -8,6 +8,7 @@ pub mod Events
 pub mod Held
 pub mod Log
 pub mod Machine
+pub mod Numbers
 pub mod ReceiptLists
 pub mod Receipts
 pub mod Refusals

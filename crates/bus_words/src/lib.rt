@@ -17,6 +17,7 @@ mod history;
 mod journal;
 mod laws;
 mod message_receipts;
+mod number_laws;
 mod pipe_text;
 mod receipts;
 mod verdict;
@@ -30,6 +31,7 @@ pub use laws::{
     histories_are_runs, housekeeping_is_a_send, own_entries_decide, pipes_stand_alone,
     pools_are_counted, states_are_enough, statistics_are_counted,
 };
+pub use number_laws::send_numbers_are_new;
 pub use pipe_text::{NAME_BYTES, PipeText};
 pub use receipts::{HEAD_BYTES, Head, Receipt, ReceiptList};
 pub use verdict::Verdict;

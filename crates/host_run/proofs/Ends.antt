@@ -12,7 +12,7 @@ use Rattle.script_runs.specs.Rotation.{rotation}
 use Rattle.app_script.specs.Script.{ScriptText}
 use Rattle.script_runs.specs.Told.{receipts_told}
 use Rattle.script_runs.specs.Runs.{IsRunOf}
-use Rattle.script_runs.proofs.EndsCome.{run-comes-to}
+use Rattle.script_runs.proofs.EndsCome.{run-guarantees}
 use Rattle.script_runs.proofs.Merged.{rotation-legal}
 use Rattle.script_runs.proofs.TablesMerged.{rotation-legal_tables, rotation-merges_both}
 use Rattle.host_run.proofs.Sizes.{length-grammar}
@@ -147,7 +147,7 @@ headline-input : (how : Way) (found : Result ScriptText ScriptFault) (bytes : Li
 headline-input how (Err fault) bytes fed fed' old new built whole ends = absurd ends
 headline-input how (Ok script) bytes fed fed' old new built whole ends =
     let run = run-left how script ends.0 ends.1 in
-    λ done. (bytes, script, ends.0, whole, built, run, run-comes-to script ends.0 run, ends.2.shown, ends.2.written)
+    λ done. (bytes, script, ends.0, whole, built, run, run-guarantees script ends.0 run, ends.2.shown, ends.2.written)
 
 pub headline-runs : (result : HostStatus) (how : Way) (fed fed' : Fed) (old new : Made) → Runs how result fed fed' old new → Headline result fed fed' old new
 headline-runs result how fed fed' old new (Read bytes whole ends) = λ done.

@@ -17,7 +17,7 @@ use Rattle.run_report.specs.CounterText.{BusFigures, TableFigures}
 use Rattle.run_report.specs.Report.{ending_text, figures_shown, table_figures_shown, report_text}
 use Rattle.app_script.specs.Grammar.{grammar}
 use Rattle.script_runs.specs.Histories.{Histories}
-use Rattle.script_runs.specs.Runs.{IsRunOf, ComesTo}
+use Rattle.script_runs.specs.Runs.{IsRunOf, Guarantees}
 use Rattle.script_runs.specs.Rotation.{rotation}
 use Rattle.app_script.specs.Script.{ScriptText}
 use Rattle.script_runs.specs.Told.{receipts_told}
@@ -259,16 +259,17 @@ CompletesUnread result old new = ¬ Rose old.faults new.faults → (result ≡ s
 -- The headline, of runs on threads and in rotation alike: where all was done, the whole input was read and is a script, and there are a
 -- history of the bus and one of the tables, both legal under the script's limits, so that each answer is the machine's and each refusal its
 -- named cause's, which merge the calls of the script's applications, each once and in script order. By these each pipe's receipts are
--- those of a list machine over the accepted sends, under the pipe's own limits and depth; the pool's bytes in use are at each time those
--- of the held buffers, zero at the end; and held tables never change. No held buffer is handed out again: each gets a number that none had
--- before, and a core has a block for each number that is held, and no others. These two histories the audit was shown, by the cores
--- that have them, and the report of these was written.
+-- those of a list machine over the accepted sends, under the pipe's own limits and depth; each send number that is given is new; at no
+-- time are more blocks of the bus's pool out than were made, or more bytes in use than it has; and at the end nothing is held, no byte is
+-- in use and no table is left. That the pool itself has just the blocks that these histories hold is said at each time by the bus's
+-- readers (`pool`, clause `in_use`; `desk`, clause `blocks`), and that what is held never changes by what a port reads (`held`, `last`).
+-- These two histories the audit was shown, by the cores that have them, and the report of these was written.
 abbrev pub Headline : HostStatus → Fed → Fed → Made → Made → Type 0
 Headline result fed fed' old new =
     result ≡ status.Done → (bytes : List ℕ) × (script : ScriptText) × (histories : Histories)
     × IsWhole bytes fed.left fed'.left
     × (grammar bytes ≡ Ok script)
     × IsRunOf script histories
-    × ComesTo script histories
+    × Guarantees script histories
     × IsShown old.shown new.shown histories
     × Grew old.written new.written (report script histories)

@@ -375,7 +375,19 @@ reads_back (lines.LogMode mode) h = logmode_back mode h
 reads_back lines.ClearLog h = logclear_back
 reads_back lines.Housekeeping h = hk_back
 reads_back lines.Figures h = stats_back
-reads_back (lines.TableRegister handle name size option rules) h = treg_back handle name size option rules (and_first (nat_lt handle 64) (is_name name) (and_first (nat_lt handle 64 && is_name name) (nat_le size 1000000) (and_first (nat_lt handle 64 && is_name name && nat_le size 1000000) (nat_le option 7) (and_first (nat_lt handle 64 && is_name name && nat_le size 1000000 && nat_le option 7) (nat_le (length rules) 8) (and_first (nat_lt handle 64 && is_name name && nat_le size 1000000 && nat_le option 7 && nat_le (length rules) 8) (list_all is_rule rules) h))))) (and_second (nat_lt handle 64) (is_name name) (and_first (nat_lt handle 64 && is_name name) (nat_le size 1000000) (and_first (nat_lt handle 64 && is_name name && nat_le size 1000000) (nat_le option 7) (and_first (nat_lt handle 64 && is_name name && nat_le size 1000000 && nat_le option 7) (nat_le (length rules) 8) (and_first (nat_lt handle 64 && is_name name && nat_le size 1000000 && nat_le option 7 && nat_le (length rules) 8) (list_all is_rule rules) h))))) (and_second (nat_lt handle 64 && is_name name) (nat_le size 1000000) (and_first (nat_lt handle 64 && is_name name && nat_le size 1000000) (nat_le option 7) (and_first (nat_lt handle 64 && is_name name && nat_le size 1000000 && nat_le option 7) (nat_le (length rules) 8) (and_first (nat_lt handle 64 && is_name name && nat_le size 1000000 && nat_le option 7 && nat_le (length rules) 8) (list_all is_rule rules) h)))) (and_second (nat_lt handle 64 && is_name name && nat_le size 1000000) (nat_le option 7) (and_first (nat_lt handle 64 && is_name name && nat_le size 1000000 && nat_le option 7) (nat_le (length rules) 8) (and_first (nat_lt handle 64 && is_name name && nat_le size 1000000 && nat_le option 7 && nat_le (length rules) 8) (list_all is_rule rules) h))) (and_second (nat_lt handle 64 && is_name name && nat_le size 1000000 && nat_le option 7) (nat_le (length rules) 8) (and_first (nat_lt handle 64 && is_name name && nat_le size 1000000 && nat_le option 7 && nat_le (length rules) 8) (list_all is_rule rules) h)) (and_second (nat_lt handle 64 && is_name name && nat_le size 1000000 && nat_le option 7 && nat_le (length rules) 8) (list_all is_rule rules) h)
+reads_back (lines.TableRegister handle name size option rules) h =
+    let one = nat_lt handle 64 in
+    let two = one && is_name name in
+    let three = two && nat_le size 1000000 in
+    let four = three && nat_le option 7 in
+    let five = four && nat_le (length rules) 8 in
+    let to_five : five ≡ true = and_first five (list_all is_rule rules) h in
+    let to_four : four ≡ true = and_first four (nat_le (length rules) 8) to_five in
+    let to_three : three ≡ true = and_first three (nat_le option 7) to_four in
+    let to_two : two ≡ true = and_first two (nat_le size 1000000) to_three in
+    treg_back handle name size option rules (and_first one (is_name name) to_two) (and_second one (is_name name) to_two)
+    (and_second two (nat_le size 1000000) to_three) (and_second three (nat_le option 7) to_four) (and_second four (nat_le (length rules) 8) to_five)
+    (and_second five (list_all is_rule rules) h)
 reads_back (lines.TableShare handle name) h = tshare_back handle name (and_first (nat_lt handle 64) (is_name name) h) (and_second (nat_lt handle 64) (is_name name) h)
 reads_back (lines.TableUnregister handle) h = tunreg_back handle h
 reads_back (lines.Stage handle offset (Hex bytes)) h = tstage_hex_back handle offset bytes (and_first (nat_lt handle 64) (nat_le offset 65536) (and_first (nat_lt handle 64 && nat_le offset 65536) (is_content (Hex bytes)) h)) (and_second (nat_lt handle 64) (nat_le offset 65536) (and_first (nat_lt handle 64 && nat_le offset 65536) (is_content (Hex bytes)) h)) (and_second (nat_lt handle 64 && nat_le offset 65536) (is_content (Hex bytes)) h)

@@ -1,15 +1,22 @@
 -- Histories that merge a script's calls end each of its applications, so that nothing is held behind them.
-use Rattle.std.proofs.Common.{◌≡◌, ◌⊎◌, inl, inr, ⊎_elim, ℕ, zero, suc, ◌-◌, ◌≤◌, ◌==◌, Bool, true, false, true≢false, cond, eqb-true, IsTrue, List, [], ◌∷◌, ◌++◌, length, slice_index_or, slice_set, Option, Some, None, refl, ap, sym, ◌∙◌, subst, arith}
+use Rattle.std.proofs.Common.{◌≡◌, ◌⊎◌, inl, inr, ⊎_elim, ℕ, zero, suc, ◌+◌, ◌*◌, ◌-◌, ◌<◌, ◌≤◌, ◌==◌, Bool, true, false, true≢false, cond, eqb-true, IsTrue, List, [], ◌∷◌, ◌++◌, length, length-append, slice_index_or, slice_set, Option, Some, None, refl, ap, sym, ◌∙◌, subst, arith}
+use Rattle.std.specs.Prelude.{slice_index}
+use native.Mathlib.Nat.{mul-le-mul}
 use Rattle.fsw_base.specs.Limits.{Limits}
+use Rattle.fsw_base.specs.PoolAccounts.{cost_of, overhead}
 use Rattle.bus_words.specs.declared.calls.BusAnswer.{BusAnswer}
 use Rattle.bus_words.specs.declared.calls.BusAnswer.TheVariants.{Done, Number, Name, Sent, Got, TimeOut, Pending, Pool, Bus, Sb, Es, Evs}
 use Rattle.bus_words.specs.declared.history.Call.{Call}
 use Rattle.bus_words.specs.declared.history.Call.TheVariants as calls
 use Rattle.bus_words.specs.declared.history.Entry.{Entry}
 use Rattle.bus_words.specs.Bus.{State, Ended, opening, standing_of, has_ended}
+use Rattle.bus_words.specs.Held.{account_of, bytes_of, numbers_to}
+use Rattle.bus_words.specs.Numbers.{numbers_in}
 use Rattle.bus_words.specs.Machine.{IsLegal, LegalFrom, state_after, state_from, step}
-use Rattle.bus_words.proofs.HeldBlocks.{bytes_of_sends, holds_nothing}
+use Rattle.bus_words.proofs.Balance.{IsAccounted-after}
+use Rattle.bus_words.proofs.HeldBlocks.{holds_nothing}
 use Rattle.bus_words.proofs.Isolation.{stands_alone}
+use Rattle.bus_words.proofs.Numbers.{numbers_in_order}
 use Rattle.bus_words.proofs.LegalSteps.{standing-ended, standing-step}
 use Rattle.bus_words.proofs.Owners.{AreOwned-after, AreHanded-after, none_left, none_handed, all_ended}
 use Rattle.bus_words.proofs.Steps.{length-standings}
@@ -27,7 +34,7 @@ use Rattle.tbl_words.proofs.Replay.{state_from-push}
 use Rattle.script_lines.specs.declared.line.Line.{Line}
 use Rattle.app_script.specs.Script.{ScriptText, app_at}
 use Rattle.script_runs.specs.Histories.{Histories}
-use Rattle.script_runs.specs.Runs.{IsRunOf, ComesTo, KeepsHolds}
+use Rattle.script_runs.specs.Runs.{IsRunOf, Guarantees, StaysInPool}
 use Rattle.script_runs.specs.TableTrace.{TableLineEntries, TableTrace, IsTableEnd, first_handles, handles_after, own_table_entries, table_call_of}
 use Rattle.script_runs.specs.Trace.{AfterAnswer, IsEnd, LineEntries, Registers, Trace, call_of, first_registers, own_entries, registers_after}
 use Rattle.script_runs.specs.Written.{Written, first_written, written_after, written_by}
@@ -226,18 +233,44 @@ ended-after_at_tables limits apps app history some = ended-from_at_tables limits
 
 -- Runs. --
 
--- one entry more is one step
-keeps-holds : (script : ScriptText) (history : List TableEntry) (e : TableEntry) → KeepsHolds script history e
-keeps-holds script history e =
-    let opened = no_tables script.limits (length script.apps) in
-    let before = tables_from script.limits opened history in
-    λ handle stays.
-    ap (λ (s : Tables). hold_of s.handles handle) (state_from-push script.limits opened history e)
-    ∙ holds_stay script.limits before e.app e.call handle stays
+-- blocks that were made are paid for, so those that are out are within the pool
+out-paid : (out made sizes : List ℕ) → ((class : ℕ) → class < length sizes → slice_index out class ≤ slice_index made class) → bytes_of out sizes ≤ cost_of made sizes
+out-paid [] made sizes most = omega arith
+out-paid (o ∷ out) made [] most = omega arith
+out-paid (o ∷ out) [] (size ∷ sizes) most = omega (arith, none o size (most 0 (omega arith)), out-paid out [] sizes (λ class past. most (suc class) (omega (arith, past))))
+  where
+    none : (o size : ℕ) → o ≤ 0 → o * size ≡ 0
+    none zero size least = omega arith
+    none (suc o) size least = absurd (omega (arith, least))
+out-paid (o ∷ out) (m ∷ made) (size ∷ sizes) most =
+    omega (arith, mul-le-mul (most 0 (omega arith)) wider, out-paid out made sizes (λ class past. most (suc class) (omega (arith, past))))
+  where
+    wider : size ≤ size + overhead
+    wider = omega arith
 
--- What runs come to, by the laws of both machines, at applications that have all ended.
-pub run-comes-to : (script : ScriptText) (histories : Histories) → IsRunOf script histories → ComesTo script histories
-run-comes-to script histories run =
+-- after any entries the pool keeps within what it has
+stays_in_pool : (script : ScriptText) (history : List Entry) → StaysInPool script history
+stays_in_pool script history =
+    let s = state_after script.limits (length script.apps) history in
+    let accounted = IsAccounted-after script.limits (length script.apps) history in
+    record {
+      blocks = accounted.most;
+      bytes = omega (arith, accounted.paid, out-paid (account_of script.limits s).out s.made script.limits.sizes accounted.most);
+    }
+
+length-numbers_to : (n : ℕ) → length (numbers_to n) ≡ n
+length-numbers_to zero = refl
+length-numbers_to (suc n) = omega (arith, length-append (numbers_to n) (suc n ∷ []), length-numbers_to n)
+
+-- send numbers are as many as are given
+numbers_given_all : (limits : Limits) (apps : ℕ) (history : List Entry) → IsLegal limits apps history → numbers_in history ≡ numbers_to (length (numbers_in history))
+numbers_given_all limits apps history legal =
+    let order = numbers_in_order limits apps history legal in
+    order ∙ ap numbers_to (sym (ap length order ∙ length-numbers_to (state_after limits apps history).numbers_given))
+
+-- What runs guarantee, by the laws of both machines, at applications that have all ended.
+pub run-guarantees : (script : ScriptText) (histories : Histories) → IsRunOf script histories → Guarantees script histories
+run-guarantees script histories run =
     let apps = length script.apps in
     let s = state_after script.limits apps histories.bus in
     let over : (app : ℕ) → 1 ≤ app → app ≤ apps → has_ended (standing_of s app) ≡ true =
@@ -246,8 +279,8 @@ run-comes-to script histories run =
     let all = all_ended s apps (length-standings script.limits apps histories.bus) over in
     record {
       alone = λ pipe. stands_alone script.limits apps pipe histories.bus run.legal;
-      bytes = λ front rest is. bytes_of_sends script.limits (state_after script.limits apps front);
-      holds = λ front rest e is. keeps-holds script front e;
+      numbers = numbers_given_all script.limits apps histories.bus run.legal;
+      pool = λ front rest is. stays_in_pool script front;
       nothing = holds_nothing script.limits s
           (none_left s s.pipes (AreOwned-after script.limits apps histories.bus run.legal) all)
           (none_handed s (AreHanded-after script.limits apps histories.bus run.legal) all);

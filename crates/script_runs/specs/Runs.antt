@@ -1,11 +1,10 @@
 -- What every run of a script leaves, whatever runs it.
-use Rattle.std.specs.Prelude.{◌≡◌, ℕ, false, List, [], ◌∷◌, ◌++◌, length, sum_by}
+use Rattle.std.specs.Prelude.{◌≡◌, ℕ, ◌<◌, ◌≤◌, List, ◌++◌, length, slice_index}
 use Rattle.bus_words.specs.declared.history.Entry.{Entry}
 use Rattle.bus_words.specs.Alone.{cut, receipts, solo_receipts, unmade}
-use Rattle.bus_words.specs.Held.{HoldsNothing, account_of, block_of, bytes_in_use, held}
+use Rattle.bus_words.specs.Held.{HoldsNothing, account_of, bytes_in_use, numbers_to}
 use Rattle.bus_words.specs.Machine.{IsLegal, state_after}
-use Rattle.tbl_words.specs.declared.history.Entry.{Entry as TableEntry}
-use Rattle.tbl_words.specs.Holds.{hold_of, moves_hold}
+use Rattle.bus_words.specs.Numbers.{numbers_in}
 use Rattle.tbl_words.specs.Leaves.{HoldsNothing as HoldsNoTables}
 use Rattle.tbl_words.specs.Machine.{IsLegal as AreLegalTables, state_after as tables_after}
 use Rattle.app_script.specs.Script.{ScriptText}
@@ -19,29 +18,23 @@ pub record IsRunOf (script : ScriptText) (histories : Histories) : Type 0 where
   pub legal_tables : AreLegalTables script.limits (length script.apps) histories.tables
   pub merges : Merges script histories
 
--- After these entries, the bytes in use of the bus's pool are those of the blocks that are held.
-abbrev pub BytesAreHeld : ScriptText → List Entry → Type 0
-BytesAreHeld script history =
-    let s = state_after script.limits (length script.apps) history in
-    bytes_in_use (account_of script.limits s) ≡ sum_by (block_of script.limits.sizes s.pipes s.unsent) (held s.pipes s.unsent s.numbers_given)
+-- After these entries, no more blocks of a size are out of the bus's pool than were made, and no more of its bytes are in use than it has.
+pub record StaysInPool (script : ScriptText) (history : List Entry) : Type 0 where
+  pub blocks :
+      (class : ℕ) → class < length script.limits.sizes →
+      let s = state_after script.limits (length script.apps) history in
+      slice_index (account_of script.limits s).out class ≤ slice_index s.made class
+  pub bytes : bytes_in_use (account_of script.limits (state_after script.limits (length script.apps) history)) ≤ script.limits.pool
 
--- After these entries of the tables, one more leaves each handle what it holds, version and value, unless its call is one by which the
--- handle's own application moves that.
-abbrev pub KeepsHolds : ScriptText → List TableEntry → TableEntry → Type 0
-KeepsHolds script history e =
-    let before = tables_after script.limits (length script.apps) history in
-    let after = tables_after script.limits (length script.apps) (history ++ e ∷ []) in
-    (handle : ℕ) → moves_hold before.handles e.app e.call handle ≡ false → hold_of after.handles handle ≡ hold_of before.handles handle
-
--- What such histories come to: each pipe's receipts are those of the pipe alone, a list machine under its own limits and depth over the
--- accepted sends; at each time the pool's bytes in use are those of the blocks that are held; no entry changes what others hold of a
--- table; and behind the last entries no pipe is live, no message and no buffer is held, no byte is in use, and no table and no handle is
--- left.
-pub record ComesTo (script : ScriptText) (histories : Histories) : Type 0 where
+-- What holds of such histories: each pipe's receipts are those of the pipe alone, a list machine under its own limits and depth over the
+-- accepted sends; the send numbers that are given are 1, 2, 3 and so on, so each is new; at no time are more blocks of the bus's pool
+-- out than were made, or more of its bytes in use than it has; and behind the last entries no pipe is live, no message and no buffer
+-- is held, no byte is in use, and no table and no handle is left.
+pub record Guarantees (script : ScriptText) (histories : Histories) : Type 0 where
   pub alone :
       (pipe : ℕ) →
       receipts script.limits (length script.apps) pipe histories.bus ≡ solo_receipts unmade (cut script.limits (length script.apps) pipe histories.bus)
-  pub bytes : (front rest : List Entry) → histories.bus ≡ front ++ rest → BytesAreHeld script front
-  pub holds : (front rest : List TableEntry) (e : TableEntry) → histories.tables ≡ front ++ e ∷ rest → KeepsHolds script front e
+  pub numbers : numbers_in histories.bus ≡ numbers_to (length (numbers_in histories.bus))
+  pub pool : (front rest : List Entry) → histories.bus ≡ front ++ rest → StaysInPool script front
   pub nothing : HoldsNothing script.limits (state_after script.limits (length script.apps) histories.bus)
   pub no_tables : HoldsNoTables script.limits (tables_after script.limits (length script.apps) histories.tables)

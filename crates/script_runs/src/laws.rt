@@ -15,7 +15,7 @@ ghost use Rattle.app_script.specs.Script.{ScriptText};
 ghost use Rattle.script_runs.specs.Histories.{Histories};
 ghost use Rattle.script_runs.specs.Merges.{Merges};
 ghost use Rattle.script_runs.specs.Rotation.{before_all, enough, rotation, rotations};
-ghost use Rattle.script_runs.specs.Runs.{IsRunOf, ComesTo};
+ghost use Rattle.script_runs.specs.Runs.{IsRunOf, Guarantees};
 ghost use Rattle.script_runs.specs.Told.{held_in};
 
 /// What an application tells of a pipe's last message changes by its own calls alone: an entry of
@@ -67,13 +67,13 @@ pub fn rotations_merge()
         (tables_after script.limits (length script.apps) (rotation script).tables) }
 {}
 
-/// What histories come to that a run of a script may have left, whatever ran it: each pipe gave
-/// what it gives alone, the pool's bytes in use were at each time those of the blocks that were
-/// held, no entry changed what others held of a table, and behind them nothing is held or left at
-/// either service.
-pub fn runs_come_to()
+/// What holds of histories that a run of a script may have left, whatever ran it: each pipe gave
+/// what it gives alone, each send number that was given was new, at no time were more blocks of the
+/// bus's pool out than were made or more of its bytes in use than it has, and behind them nothing
+/// is held or left at either service.
+pub fn runs_guarantee()
     ensures { (script : ScriptText) (histories : Histories) → IsRunOf script histories →
-        ComesTo script histories }
+        Guarantees script histories }
 {}
 
 /// Strict rotation is such a run.

@@ -22,5 +22,5 @@
 mod laws;
 
 pub use laws::{
-    held_receipts_stay, last_messages_stay, rotations_are_runs, rotations_merge, runs_come_to,
+    held_receipts_stay, last_messages_stay, rotations_are_runs, rotations_merge, runs_guarantee,
 };

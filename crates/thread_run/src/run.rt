@@ -4,7 +4,7 @@ ghost use Rattle.std.specs.List.{range_with_len};
 ghost use Rattle.app_run.specs.Openings.{HaveRoom};
 ghost use Rattle.app_run.specs.Runners.{histories_of};
 ghost use Rattle.sb_calls.specs.Core.{apps_of};
-ghost use Rattle.script_runs.specs.Runs.{IsRunOf, ComesTo};
+ghost use Rattle.script_runs.specs.Runs.{IsRunOf, Guarantees};
 ghost use Rattle.script_runs.specs.Told.{receipts_told};
 ghost use Rattle.tbl_load.specs.Core.{apps_of as table_apps_of};
 
@@ -15,7 +15,7 @@ use crate::works::RunParts;
 use app_run::{Finished, Regions};
 use app_script::Script;
 use fsw_base::Gate;
-use script_runs::runs_come_to;
+use script_runs::runs_guarantee;
 use std::alloc::{AllocError, Global};
 use std::sync::Wait;
 use std::thread::Threads;
@@ -45,8 +45,8 @@ pub fn run_threads<'r, R: Threads + Wait + Sync, G: Gate>(
     // script order, each answered as the machines answer it.
     ensures run { IfOk result
         (λ finished. IsRunOf script.now (histories_of finished.bus finished.tables)) }
-    ensures comes_to { IfOk result
-        (λ finished. ComesTo script.now (histories_of finished.bus finished.tables)) }
+    ensures guarantees { IfOk result
+        (λ finished. Guarantees script.now (histories_of finished.bus finished.tables)) }
     ensures receipts { IfOk result
         (λ finished. map (λ list. list.receipts) finished.receipts.items ≡
         map (receipts_told script.now (histories_of finished.bus finished.tables))
@@ -59,8 +59,8 @@ pub fn run_threads<'r, R: Threads + Wait + Sync, G: Gate>(
     ensures table_apps { IfOk result
         (λ finished. table_apps_of finished.tables ≡ length script.now.apps) }
 {
-    // Does nothing; the proof learns of it what histories of a run come to.
-    runs_come_to();
+    // Does nothing; the proof learns of it what histories of a run guarantee.
+    runs_guarantee();
     let OpenServices {
         bus,
         mut bus_main,
