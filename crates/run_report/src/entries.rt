@@ -1,14 +1,15 @@
 //! The lines on the calls of the software bus.
-ghost use Rattle.std.specs.Prelude.{◌≡◌, ℕ, ◌++◌, codes, decimal};
+ghost use Rattle.std.specs.Prelude.{◌≡◌, ℕ, ◌≤◌, ◌++◌, false, true, codes, decimal, OnOk, OnErr};
+ghost use Rattle.fsw_base.specs.Outside.{Rose};
 ghost use Rattle.bus_words.specs.declared.history.Call.TheVariants.{Create, Find, Subscribe, Unsubscribe, Transmit, TransmitBuffer, SendEvent};
-ghost use Rattle.bus_words.specs.Entries.{call_of, lent_of};
-ghost use Rattle.text_page.specs.Pieces.{Puts};
+ghost use Rattle.bus_words.specs.Entries.{call_of, entry_of, lent_of};
+ghost use Rattle.text_page.specs.Pieces.{CutShort, Grew, Puts};
 ghost use Rattle.run_report.specs.BusText.{scope_text, mode_text, call_text, figures_text, stats_text, answer_text, entry_text, entries_text};
 
 use crate::sums::sum_of;
-use bus_words::{BusAnswer, BusCall, BusJournal, LentEntry};
-use fsw_base::{BusStats, EventKind, PoolStats, Scope, Sink, SinkGuard};
-use text_page::{Page, put, put_hex_id, put_name, put_number};
+use bus_words::{BusAnswer, BusCall, BusEntry, BusJournal, LentEntry};
+use fsw_base::{AppNo, BusStats, EventKind, PoolStats, Scope, Sink, SinkGuard, WriteFault};
+use text_page::{Page, finish, put, put_hex_id, put_name, put_number};
 
 /// Puts the lines of a journal, whose entries are numbered from 1.
 pub fn put_entries<K: Sink>(sink: &mut SinkGuard<'_, K>, page: &mut Page, journal: &BusJournal)
@@ -19,7 +20,41 @@ pub fn put_entries<K: Sink>(sink: &mut SinkGuard<'_, K>, page: &mut Page, journa
     }
 }
 
-// Puts the line of one entry.
+/// Writes the line of one entry of the bus, under this number.
+///
+/// No memory is taken. No write through this guard may have failed before.
+///
+/// # Errors
+/// `WriteFault` as [`crate::write_report`].
+pub fn write_bus_entry<K: Sink>(
+    number: u32,
+    entry: &BusEntry<'_>,
+    sink: &mut SinkGuard<'_, K>,
+) -> Result<(), WriteFault>
+    requires { sink.old.failed ≡ false }
+    ensures ok { OnOk result (Grew sink.old.written sink.new.written
+        (entry_text number (entry_of entry.now))) }
+    ensures none_failed { OnOk result (sink.new.failed ≡ false) }
+    ensures err { OnErr result (CutShort sink.old.written sink.new.written
+        (entry_text number (entry_of entry.now))) }
+    ensures failed { OnErr result (sink.new.failed ≡ true) }
+    ensures cause { OnErr result (Rose sink.old.faults sink.new.faults) }
+    ensures never_falls { sink.old.faults ≤ sink.new.faults }
+    ensures same_sink { sink.new.sink ≡ sink.old.sink }
+{
+    let mut page = Page::new();
+    put_line(
+        sink,
+        &mut page,
+        number,
+        entry.app,
+        &entry.call,
+        &entry.answer,
+    );
+    finish(sink, &mut page)
+}
+
+// Puts the line of one entry of a journal.
 fn put_entry<K: Sink>(
     sink: &mut SinkGuard<'_, K>,
     page: &mut Page,
@@ -28,13 +63,28 @@ fn put_entry<K: Sink>(
 )
     ensures { Puts sink.old sink.new page.old page.new (entry_text number (lent_of entry.now)) }
 {
+    put_line(sink, page, number, entry.app, &entry.call, entry.answer);
+}
+
+// Puts the line of an application's call with its answer.
+fn put_line<K: Sink>(
+    sink: &mut SinkGuard<'_, K>,
+    page: &mut Page,
+    number: u32,
+    app: AppNo,
+    call: &BusCall<'_>,
+    answer: &BusAnswer,
+)
+    ensures { Puts sink.old sink.new page.old page.new (entry_text number
+        (record { app = app; call = call_of call.now; answer = answer.now })) }
+{
     put_number(sink, page, number);
     put(sink, page, b" a");
-    put_number(sink, page, entry.app.get());
+    put_number(sink, page, app.get());
     put(sink, page, b" ");
-    put_call(sink, page, &entry.call);
+    put_call(sink, page, call);
     put(sink, page, b" -> ");
-    put_answer(sink, page, entry.answer);
+    put_answer(sink, page, answer);
     put(sink, page, b"\n");
 }
 

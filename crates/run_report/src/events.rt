@@ -1,12 +1,13 @@
 //! The lines on the event log.
-ghost use Rattle.std.specs.Prelude.{◌≡◌};
+ghost use Rattle.std.specs.Prelude.{◌≡◌, ◌≤◌, false, true, OnOk, OnErr};
+ghost use Rattle.fsw_base.specs.Outside.{Rose};
 ghost use Rattle.evs_events.specs.Views.{line_shown};
-ghost use Rattle.text_page.specs.Pieces.{Puts};
+ghost use Rattle.text_page.specs.Pieces.{CutShort, Grew, Puts};
 ghost use Rattle.run_report.specs.EventText.{behind_blank, log_line_text, log_text};
 
 use evs_events::{EventDesk, LogLine};
-use fsw_base::{Sink, SinkGuard};
-use text_page::{Page, put, put_number};
+use fsw_base::{Sink, SinkGuard, WriteFault};
+use text_page::{Page, finish, put, put_number};
 
 /// Puts the lines of the event log, the oldest first.
 pub fn put_log<K: Sink>(sink: &mut SinkGuard<'_, K>, page: &mut Page, desk: &EventDesk)
@@ -15,6 +16,32 @@ pub fn put_log<K: Sink>(sink: &mut SinkGuard<'_, K>, page: &mut Page, desk: &Eve
     for i in 0..desk.log_len() {
         put_log_line(sink, page, &desk.log_at(i));
     }
+}
+
+/// Writes the line of one event.
+///
+/// No memory is taken. No write through this guard may have failed before.
+///
+/// # Errors
+/// `WriteFault` as [`crate::write_report`].
+pub fn write_log_line<K: Sink>(
+    line: &LogLine<'_>,
+    sink: &mut SinkGuard<'_, K>,
+) -> Result<(), WriteFault>
+    requires { sink.old.failed ≡ false }
+    ensures ok { OnOk result (Grew sink.old.written sink.new.written
+        (log_line_text (line_shown line.now))) }
+    ensures none_failed { OnOk result (sink.new.failed ≡ false) }
+    ensures err { OnErr result (CutShort sink.old.written sink.new.written
+        (log_line_text (line_shown line.now))) }
+    ensures failed { OnErr result (sink.new.failed ≡ true) }
+    ensures cause { OnErr result (Rose sink.old.faults sink.new.faults) }
+    ensures never_falls { sink.old.faults ≤ sink.new.faults }
+    ensures same_sink { sink.new.sink ≡ sink.old.sink }
+{
+    let mut page = Page::new();
+    put_log_line(sink, &mut page, line);
+    finish(sink, &mut page)
 }
 
 // Puts the line of one event.

@@ -24,6 +24,10 @@ mod sums;
 mod table_entries;
 mod writer;
 
+pub use entries::write_bus_entry;
+pub use events::write_log_line;
 pub use laws::reports_tell_applications_and_answers;
 pub use readings::{BusReadings, TableReadings};
+pub use receipts::write_receipt;
+pub use table_entries::write_tbl_entry;
 pub use writer::{write_ending, write_report};

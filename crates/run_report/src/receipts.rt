@@ -1,11 +1,12 @@
 //! The lines on what each application received and held.
-ghost use Rattle.std.specs.Prelude.{◌≡◌, ℕ, map};
-ghost use Rattle.text_page.specs.Pieces.{Puts};
+ghost use Rattle.std.specs.Prelude.{◌≡◌, ℕ, ◌≤◌, false, true, map, OnOk, OnErr};
+ghost use Rattle.fsw_base.specs.Outside.{Rose};
+ghost use Rattle.text_page.specs.Pieces.{CutShort, Grew, Puts};
 ghost use Rattle.run_report.specs.ReceiptText.{seen_text, receipt_text, application_text, receipts_text};
 
 use bus_words::{Receipt, ReceiptList};
-use fsw_base::{Sink, SinkGuard};
-use text_page::{Page, put, put_hex_bytes, put_hex_id, put_number};
+use fsw_base::{AppNo, Sink, SinkGuard, WriteFault};
+use text_page::{Page, finish, put, put_hex_bytes, put_hex_id, put_number};
 
 /// Puts the receipts of the applications 1, 2, 3 and so on.
 pub fn put_receipts<K: Sink>(sink: &mut SinkGuard<'_, K>, page: &mut Page, receipts: &[ReceiptList])
@@ -15,6 +16,33 @@ pub fn put_receipts<K: Sink>(sink: &mut SinkGuard<'_, K>, page: &mut Page, recei
     for (i, list) in receipts.iter().enumerate() {
         put_application(sink, page, i + 1, list);
     }
+}
+
+/// Writes the line of one receipt of an application.
+///
+/// No memory is taken. No write through this guard may have failed before.
+///
+/// # Errors
+/// `WriteFault` as [`crate::write_report`].
+pub fn write_receipt<K: Sink>(
+    app: AppNo,
+    receipt: &Receipt,
+    sink: &mut SinkGuard<'_, K>,
+) -> Result<(), WriteFault>
+    requires { sink.old.failed ≡ false }
+    ensures ok { OnOk result (Grew sink.old.written sink.new.written
+        (receipt_text app receipt.now)) }
+    ensures none_failed { OnOk result (sink.new.failed ≡ false) }
+    ensures err { OnErr result (CutShort sink.old.written sink.new.written
+        (receipt_text app receipt.now)) }
+    ensures failed { OnErr result (sink.new.failed ≡ true) }
+    ensures cause { OnErr result (Rose sink.old.faults sink.new.faults) }
+    ensures never_falls { sink.old.faults ≤ sink.new.faults }
+    ensures same_sink { sink.new.sink ≡ sink.old.sink }
+{
+    let mut page = Page::new();
+    put_receipt(sink, &mut page, app.get() as usize, receipt);
+    finish(sink, &mut page)
 }
 
 // Puts the receipts of one application, in its own order.

@@ -1,14 +1,15 @@
 //! The lines on the calls of the tables.
-ghost use Rattle.std.specs.Prelude.{◌≡◌, ℕ, ◌++◌, decimal};
+ghost use Rattle.std.specs.Prelude.{◌≡◌, ℕ, ◌≤◌, ◌++◌, false, true, decimal, OnOk, OnErr};
+ghost use Rattle.fsw_base.specs.Outside.{Rose};
 ghost use Rattle.tbl_words.specs.declared.history.Call.TheVariants.{Register, Share};
 ghost use Rattle.tbl_words.specs.Entries.{call_of, entry_of};
-ghost use Rattle.text_page.specs.Pieces.{Puts};
+ghost use Rattle.text_page.specs.Pieces.{CutShort, Grew, Puts};
 ghost use Rattle.run_report.specs.TableText.{load_text, table_call_text, told_text, flag_text, table_figures_text, failed_rule_text, table_answer_text, table_entry_text, table_entries_text};
 
 use crate::sums::sum_of;
-use fsw_base::{Sink, SinkGuard};
+use fsw_base::{Sink, SinkGuard, WriteFault};
 use tbl_words::{RuleList, TblAnswer, TblCall, TblEntry, TblJournal, TblState, TblStatus, Told};
-use text_page::{Page, put, put_name, put_number};
+use text_page::{Page, finish, put, put_name, put_number};
 
 /// Puts the lines of a journal of the tables, whose entries are numbered from 1.
 pub fn put_table_entries<K: Sink>(
@@ -21,6 +22,33 @@ pub fn put_table_entries<K: Sink>(
     for i in 0..journal.len() {
         put_table_entry(sink, page, i + 1, &journal.get(i));
     }
+}
+
+/// Writes the line of one entry of the tables, under this number.
+///
+/// No memory is taken. No write through this guard may have failed before.
+///
+/// # Errors
+/// `WriteFault` as [`crate::write_report`].
+pub fn write_tbl_entry<K: Sink>(
+    number: u32,
+    entry: &TblEntry<'_>,
+    sink: &mut SinkGuard<'_, K>,
+) -> Result<(), WriteFault>
+    requires { sink.old.failed ≡ false }
+    ensures ok { OnOk result (Grew sink.old.written sink.new.written
+        (table_entry_text number (entry_of entry.now))) }
+    ensures none_failed { OnOk result (sink.new.failed ≡ false) }
+    ensures err { OnErr result (CutShort sink.old.written sink.new.written
+        (table_entry_text number (entry_of entry.now))) }
+    ensures failed { OnErr result (sink.new.failed ≡ true) }
+    ensures cause { OnErr result (Rose sink.old.faults sink.new.faults) }
+    ensures never_falls { sink.old.faults ≤ sink.new.faults }
+    ensures same_sink { sink.new.sink ≡ sink.old.sink }
+{
+    let mut page = Page::new();
+    put_table_entry(sink, &mut page, number, entry);
+    finish(sink, &mut page)
 }
 
 // Puts the line of one entry.

@@ -1,6 +1,6 @@
 use Rattle.std.proofs.Common.{decimal, ap}
 use Rattle.text_page.proofs.Putting.{◌▸◌, puts_as}
-use Rattle.run_report.proofs.entries.put_entry.Goals as goal
+use Rattle.run_report.proofs.entries.put_line.Goals as goal
 
 pub returns : goal.returns
 returns g c =

@@ -1,0 +1,5 @@
+mod Traces
+mod TableTraces
+mod Entries
+mod TableEntries
+mod Reports

@@ -1,0 +1,4 @@
+pub mod Begun
+pub mod Openings
+pub mod Checks
+pub mod Determined

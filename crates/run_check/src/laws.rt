@@ -1,0 +1,12 @@
+//! A script and the report of a run of it determine the run.
+ghost use Rattle.run_check.specs.Determined.{ReportsTellRuns, NextEntriesAreOne, NextTableEntriesAreOne};
+
+/// Two runs of a script have the same report only where they have the same histories, of the bus
+/// and of the tables. For behind a history that is under way each application has one next entry:
+/// its script says which call it makes, and the machine what it is answered. So the number of the
+/// application, with which a line on an entry begins, says which entry it is.
+pub fn reports_tell_runs()
+    ensures reports { ReportsTellRuns }
+    ensures next { NextEntriesAreOne }
+    ensures next_at_tables { NextTableEntriesAreOne }
+{}

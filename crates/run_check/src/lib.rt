@@ -1,0 +1,10 @@
+//! Checks of reports: whether a report is that of a run of a script, whoever made it.
+//!
+//! It promises that a script and the report of a run of it determine both histories of the run.
+#![tactic(auto)]
+
+mod laws;
+mod verdict;
+
+pub use laws::reports_tell_runs;
+pub use verdict::Verdict;
