@@ -254,7 +254,8 @@ def second_part(needed, explained):
                 if not comment:
                     faults.append(f'crates/{crate}/specs/{name}.antt: {word}: no comment says what it is')
                 named[comment].append(f'`{word}`')
-            out += [f'- {", ".join(words)}: {comment}' for comment, words in named.items()]
+            entries = [f'{", ".join(words)}: {comment}' for comment, words in named.items()]
+            out += [entry + '\\' for entry in entries[:-1]] + entries[-1:]
     return out, faults
 
 
