@@ -168,6 +168,15 @@ def defined(crate, name):
     return set(re.findall(r"^(?:\s*(?:abbrev |unfoldable )+pub |\s*pub (?:record |data )|pub )(" + WORD + ")", path.read_text(), re.M))
 
 
+def type_of(crate, name, word):
+    """The definition that a word belongs to: of a variant its data type, of any other word itself."""
+    path = TOP / 'crates' / crate / 'specs' / f'{name}.antt'
+    for data, variants in re.findall(r'^pub data (\w+)[^\n]*where\n((?:[ \t]+[^\n]*\n)*)', path.read_text() if path.is_file() else '', re.M):
+        if re.search(rf'^\s+{re.escape(word)} :', variants, re.M):
+            return crate, name, data
+    return crate, name, word
+
+
 def line_of(lines, word):
     """Where a definition begins, of these lines; None where they have none. One that stands by itself comes before a record's part."""
     for indent in ('', r'\s+'):
@@ -266,7 +275,7 @@ def main():
     for crate in crates():
         if (TOP / 'crates' / crate / 'src' / 'lib.rt').is_file() or crate == 'host_run':
             for at, where, function, clause in cited(crate):
-                needed.setdefault(at, (where, function, clause))
+                needed.setdefault(type_of(*at), (where, function, clause))
     faults = [f'{where}: {function}, {clause}: cites `{word}`, which crates/{crate}/specs/{name}.antt does not define'
               for (crate, name, word), (where, function, clause) in sorted(needed.items()) if word not in (defined(crate, name) or ())]
     needed = {at for at in needed if at[2] in (defined(at[0], at[1]) or ())}
