@@ -6,11 +6,11 @@ model. An entry there is
 
     - `name`, `name` (`crate/specs/File.antt`): words
 
-The second part has every other definition that a public clause cites, by crate and file, each with the comment above it. Where a
-definition has no comment of its own, it has the one at the head of its file.
+The second part has every other definition that a public clause cites, by crate and file, each with the first sentence of the
+comment above it, or at the head of its file, if it has none of its own.
 
 A public clause is a `requires` or `ensures` of a `pub fn`, or of a method of a public trait or of a trait's impl, and the
-`Value` of an `impl Model`. A name in it is resolved by the file's `ghost use` lines.
+`Value` of an `impl Model`, of a library or of `host_run`; the small programs have no callers. A name in it is resolved by the file's `ghost use` lines.
 
 Without words the check fails if the second part isn't what the specs give, if a cited definition has no comment, or if the first
 part names what no file defines. `--mend` writes the second part anew. In the first part it follows a definition that moved to
@@ -168,6 +168,15 @@ def defined(crate, name):
     return set(re.findall(r"^(?:\s*(?:abbrev |unfoldable )+pub |\s*pub (?:record |data )|pub )(" + WORD + ")", path.read_text(), re.M))
 
 
+def type_of(crate, name, word):
+    """The definition that a word belongs to: of a variant its data type, of any other word itself."""
+    path = TOP / 'crates' / crate / 'specs' / f'{name}.antt'
+    for data, variants in re.findall(r'^pub data (\w+)[^\n]*where\n((?:[ \t]+[^\n]*\n)*)', path.read_text() if path.is_file() else '', re.M):
+        if re.search(rf'^\s+{re.escape(word)} :', variants, re.M):
+            return crate, name, data
+    return crate, name, word
+
+
 def line_of(lines, word):
     """Where a definition begins, of these lines; None where they have none. One that stands by itself comes before a record's part."""
     for indent in ('', r'\s+'):
@@ -190,8 +199,8 @@ def comment_on(crate, name, word):
 
 
 def sentence(comment):
-    """A comment's lines as one line that begins small, as it goes on behind a colon."""
-    text = ' '.join(line.strip().strip('-').strip() for line in comment)
+    """A comment's first sentence, in one line that begins small, as it goes on behind a colon."""
+    text = re.split(r'(?<=\w\.) (?=[A-Z])', ' '.join(line.strip().strip('-').strip() for line in comment))[0]
     if text and not text[1:2].isupper():
         text = text[0].lower() + text[1:]
     return text and text.rstrip('.') + '.'
@@ -248,11 +257,14 @@ def second_part(needed, explained):
         for name in sorted(files[crate]):
             out += ['', f'`specs/{name}.antt`', '']
             lines = (TOP / 'crates' / crate / 'specs' / f'{name}.antt').read_text().splitlines()
+            named = defaultdict(list)
             for word in sorted(files[crate][name], key=lambda word: line_of(lines, word) or 0):
                 comment = comment_on(crate, name, word)
                 if not comment:
                     faults.append(f'crates/{crate}/specs/{name}.antt: {word}: no comment says what it is')
-                out.append(f'- `{word}`: {comment}')
+                named[comment].append(f'`{word}`')
+            entries = [f'{", ".join(words)}: {comment}' for comment, words in named.items()]
+            out += [entry + '\\' for entry in entries[:-1]] + entries[-1:]
     return out, faults
 
 
@@ -261,8 +273,9 @@ def main():
     first = lines[:lines.index(HEADING)] if HEADING in lines else lines + ['']
     needed = {}
     for crate in crates():
-        for at, where, function, clause in cited(crate):
-            needed.setdefault(at, (where, function, clause))
+        if (TOP / 'crates' / crate / 'src' / 'lib.rt').is_file() or crate == 'host_run':
+            for at, where, function, clause in cited(crate):
+                needed.setdefault(type_of(*at), (where, function, clause))
     faults = [f'{where}: {function}, {clause}: cites `{word}`, which crates/{crate}/specs/{name}.antt does not define'
               for (crate, name, word), (where, function, clause) in sorted(needed.items()) if word not in (defined(crate, name) or ())]
     needed = {at for at in needed if at[2] in (defined(at[0], at[1]) or ())}

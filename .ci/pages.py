@@ -60,7 +60,7 @@ def readme():
         if f'`{crate}`' not in text:
             yield f'README.md: names no `{crate}`'
     known = set(re.findall(r'(?:ensures|fn|struct|trait|enum) ([A-Za-z_]\w*)', code))
-    known |= set(re.findall(r'pub (?:record |data )?([A-Za-z_]\w*)', specs)) | crates | {'Option', 'Result'}
+    known |= set(re.findall(r'pub (?:record |data )?([A-Za-z_]\w*)', specs)) | crates | {'Option', 'Result', 'AllocError'}
     known |= set(re.findall(r'\w+', (TOP / 'crates.txt').read_text()))
     for name in sorted(set(re.findall(r'`(?:\w+::)?([a-z]\w*_\w+|[A-Z]\w*[a-z]\w*)`', text)) - known):
         if not re.search(rf'^\s*{name}\b', code, re.M):
