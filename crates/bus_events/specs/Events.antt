@@ -5,7 +5,7 @@ use Rattle.fsw_base.specs.declared.events.EventKind.TheVariants.{Information, Er
 use Rattle.fsw_base.specs.EventDesk.{Desk, served}
 use Rattle.text_page.specs.Texts.{hex_id}
 use Rattle.bus_events.specs.declared.event.ServiceEvent.{ServiceEvent}
-use Rattle.bus_events.specs.declared.event.ServiceEvent.TheVariants.{DuplicateSubscription, NotSubscribed, NoSubscribers, MessageLimit, PipeOverflow}
+use Rattle.bus_events.specs.declared.event.ServiceEvent.TheVariants.{DuplicateSubscription, NotSubscribed, NoSubscribers, MessageLimit, PipeOverflow, OldestDropped}
 
 -- the event's id
 abbrev pub event_number : ServiceEvent → ℕ
@@ -14,20 +14,22 @@ event_number (NotSubscribed id pipe) = 2
 event_number (NoSubscribers id) = 3
 event_number (MessageLimit id pipe sender) = 4
 event_number (PipeOverflow id pipe sender) = 5
+event_number (OldestDropped id pipe sender) = 6
 
--- what it tells of: a message that a pipe missed is an error
+-- what it tells of: a message that a pipe missed is an error, one that it dropped as it was configured is not
 abbrev pub event_kind : ServiceEvent → EventKind
 event_kind (DuplicateSubscription id pipe) = Information
 event_kind (NotSubscribed id pipe) = Information
 event_kind (NoSubscribers id) = Information
 event_kind (MessageLimit id pipe sender) = Error
 event_kind (PipeOverflow id pipe sender) = Error
+event_kind (OldestDropped id pipe sender) = Information
 
 -- a message id and a pipe
 abbrev pub pair_text : ℕ → ℕ → List ℕ
 pair_text id pipe = hex_id id ++ codes " pipe " ++ decimal pipe
 
--- a message id, the pipe that missed its message, and who sent it
+-- the message id, the pipe that the message was for, and who sent it
 abbrev pub missed_text : ℕ → ℕ → ℕ → List ℕ
 missed_text id pipe sender = pair_text id pipe ++ codes " sender " ++ decimal sender
 
@@ -38,6 +40,7 @@ event_text (NotSubscribed id pipe) = codes "not subscribed id " ++ pair_text id 
 event_text (NoSubscribers id) = codes "no subscribers id " ++ hex_id id
 event_text (MessageLimit id pipe sender) = codes "limit id " ++ missed_text id pipe sender
 event_text (PipeOverflow id pipe sender) = codes "overflow id " ++ missed_text id pipe sender
+event_text (OldestDropped id pipe sender) = codes "oldest id " ++ missed_text id pipe sender
 
 -- the event desk once it was told the event
 abbrev pub served_event : Desk → ServiceEvent → Desk

@@ -47,10 +47,20 @@ pub enum ServiceEvent {
         /// Who sent it.
         sender: AppNo,
     },
+    /// A full pipe dropped its oldest message and took a new one. cFE has no such event and no
+    /// such pipe: both are of our own.
+    OldestDropped {
+        /// The new message's id.
+        id: u16,
+        /// The pipe that dropped its oldest message.
+        pipe: u32,
+        /// Who sent the new one.
+        sender: AppNo,
+    },
 }
 
 impl ServiceEvent {
-    /// The event's id, 1 to 5.
+    /// The event's id, 1 to 6.
     pub fn number(&self) -> u16
         ensures { result ≡ event_number self.now }
     {
@@ -60,6 +70,7 @@ impl ServiceEvent {
             ServiceEvent::NoSubscribers { .. } => 3,
             ServiceEvent::MessageLimit { .. } => 4,
             ServiceEvent::PipeOverflow { .. } => 5,
+            ServiceEvent::OldestDropped { .. } => 6,
         }
     }
 
@@ -73,6 +84,7 @@ impl ServiceEvent {
             ServiceEvent::NoSubscribers { .. } => EventKind::Information,
             ServiceEvent::MessageLimit { .. } => EventKind::Error,
             ServiceEvent::PipeOverflow { .. } => EventKind::Error,
+            ServiceEvent::OldestDropped { .. } => EventKind::Information,
         }
     }
 
@@ -90,6 +102,10 @@ impl ServiceEvent {
                 recall_digits(sender.get());
             }
             ServiceEvent::PipeOverflow { pipe, sender, .. } => {
+                recall_digits(pipe);
+                recall_digits(sender.get());
+            }
+            ServiceEvent::OldestDropped { pipe, sender, .. } => {
                 recall_digits(pipe);
                 recall_digits(sender.get());
             }
@@ -112,6 +128,9 @@ impl ServiceEvent {
             }
             ServiceEvent::PipeOverflow { id, pipe, sender } => {
                 missed_text(b"overflow id ", id, pipe, sender)
+            }
+            ServiceEvent::OldestDropped { id, pipe, sender } => {
+                missed_text(b"oldest id ", id, pipe, sender)
             }
         }
     }
