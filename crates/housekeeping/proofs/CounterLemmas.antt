@@ -2,7 +2,7 @@
 use Rattle.std.proofs.Common.{rules, ◌≡◌, List, [], ◌∷◌, ◌++◌, fold, refl, sym, ap, ◌∙◌, append_assoc, append-nil, arith}
 use Rattle.std.proofs.lemmas.Grind.{common_steps}
 use Rattle.housekeeping.specs.declared.names.CounterName.{CounterName}
-use Rattle.housekeeping.specs.declared.names.CounterName.TheVariants.{Nosub, Send, Recv, Create, Sub, Opts, Find, Dup, Limit, Overflow}
+use Rattle.housekeeping.specs.declared.names.CounterName.TheVariants.{Nosub, Send, Recv, Create, Sub, Opts, Find, Dup, Limit, Overflow, Oldest}
 use Rattle.housekeeping.specs.Counters.{count_of, ticked, times, shown, counts_of}
 
 -- one event more is one tick more
@@ -29,3 +29,4 @@ count_of-counts_of events Find = refl
 count_of-counts_of events Dup = refl
 count_of-counts_of events Limit = refl
 count_of-counts_of events Overflow = refl
+count_of-counts_of events Oldest = refl

@@ -1,5 +1,5 @@
 -- The bytes of the housekeeping packet, and how its parts come to their places.
-use Rattle.std.proofs.Common.{◌≡◌, ℕ, List, [], ◌∷◌, ◌++◌, length, drop, refl, sym, ap, ◌∙◌, append_assoc, append-nil, arith}
+use Rattle.std.proofs.Common.{◌≡◌, ℕ, List, [], ◌∷◌, ◌++◌, length, take, drop, refl, sym, ap, ◌∙◌, append_assoc, append-nil, arith}
 use Rattle.std.proofs.lemmas.Grind.{common_steps}
 use Rattle.std.proofs.lemmas.List.{take_at, drop_at, drop_all, drop-drop}
 use borrow.Rule.Slice.PartMut.{put_mid}
@@ -9,10 +9,10 @@ use Rattle.housekeeping.specs.Counters.{Counts}
 use Rattle.housekeeping.specs.Packet.{housekeeping_id, counts_told, housekeeping_packet}
 use Rattle.housekeeping.specs.Inside.{counts_in}
 
--- ten numbers are the counts that they stand for, in the packet's order
-pub counts_told-counts_in : (numbers : List ℕ) → length numbers ≡ 10 → counts_told (counts_in numbers) ≡ numbers
-counts_told-counts_in (a ∷ b ∷ c ∷ d ∷ e ∷ f ∷ g ∷ h ∷ i ∷ j ∷ []) ten = refl
-counts_told-counts_in numbers ten = absurd (omega arith)
+-- of eleven numbers the first ten are the packet's counts that they stand for, in its order
+pub counts_told-counts_in : (numbers : List ℕ) → length numbers ≡ 11 → counts_told (counts_in numbers) ≡ take 10 numbers
+counts_told-counts_in (a ∷ b ∷ c ∷ d ∷ e ∷ f ∷ g ∷ h ∷ i ∷ j ∷ k ∷ []) eleven = refl
+counts_told-counts_in numbers eleven = absurd (omega arith)
 
 -- a part written right behind a front
 placed : (front rest part : List ℕ) (at size : ℕ) → length front ≡ at →

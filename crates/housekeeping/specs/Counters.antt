@@ -1,8 +1,8 @@
--- The ten counters of a software bus (cFE Software Bus, housekeeping telemetry).
+-- The counters of a software bus (cFE Software Bus, housekeeping telemetry), and one of our own.
 use Rattle.std.specs.Prelude.{ℕ, ◌==◌, min, List, count_by}
 use Rattle.fsw_base.specs.PoolAccounts.{counted}
 use Rattle.housekeeping.specs.declared.names.CounterName.{CounterName}
-use Rattle.housekeeping.specs.declared.names.CounterName.TheVariants.{Nosub, Send, Recv, Create, Sub, Opts, Find, Dup, Limit, Overflow}
+use Rattle.housekeeping.specs.declared.names.CounterName.TheVariants.{Nosub, Send, Recv, Create, Sub, Opts, Find, Dup, Limit, Overflow, Oldest}
 
 -- what each counter shows, at most 4294967295
 pub record Counts : Type 0 where
@@ -26,10 +26,12 @@ pub record Counts : Type 0 where
   pub limit : ℕ
   -- messages that a full pipe kept out
   pub overflow : ℕ
+  -- messages for which a full pipe dropped its oldest one
+  pub oldest : ℕ
 
 -- nothing was counted yet
 abbrev pub no_counts : Counts
-no_counts = record { nosub = 0; send = 0; recv = 0; create = 0; sub = 0; opts = 0; find = 0; dup = 0; limit = 0; overflow = 0 }
+no_counts = record { nosub = 0; send = 0; recv = 0; create = 0; sub = 0; opts = 0; find = 0; dup = 0; limit = 0; overflow = 0; oldest = 0 }
 
 -- what the counter of a name shows
 abbrev pub count_of : Counts → CounterName → ℕ
@@ -43,6 +45,7 @@ count_of counts Find = counts.find
 count_of counts Dup = counts.dup
 count_of counts Limit = counts.limit
 count_of counts Overflow = counts.overflow
+count_of counts Oldest = counts.oldest
 
 -- one more on the counter of a name, which stops at its last value; the others stay
 abbrev pub ticked : Counts → CounterName → Counts
@@ -56,6 +59,7 @@ ticked counts Find = record counts { find = counted counts.find }
 ticked counts Dup = record counts { dup = counted counts.dup }
 ticked counts Limit = record counts { limit = counted counts.limit }
 ticked counts Overflow = record counts { overflow = counted counts.overflow }
+ticked counts Oldest = record counts { oldest = counted counts.oldest }
 
 -- the counters' numbers, from 0, by which a name is told from the others
 abbrev pub counter_number : CounterName → ℕ
@@ -69,6 +73,7 @@ counter_number Find = 6
 counter_number Dup = 7
 counter_number Limit = 8
 counter_number Overflow = 9
+counter_number Oldest = 10
 
 -- how often a name stands among those of the events so far
 abbrev pub times : CounterName → List CounterName → ℕ
@@ -91,4 +96,5 @@ counts_of events = record {
   dup = shown (times Dup events);
   limit = shown (times Limit events);
   overflow = shown (times Overflow events);
+  oldest = shown (times Oldest events);
 }

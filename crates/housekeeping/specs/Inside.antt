@@ -15,4 +15,5 @@ counts_in numbers = record {
   dup = slice_index numbers 7;
   limit = slice_index numbers 8;
   overflow = slice_index numbers 9;
+  oldest = slice_index numbers 10;
 }

@@ -9,7 +9,7 @@ use Rattle.housekeeping.specs.Counters.{Counts}
 abbrev pub housekeeping_id : ℕ
 housekeeping_id = 0x0803
 
--- the counts in the order in which the packet has them
+-- the ten counts that the packet has, in its order; it does not have the oldest messages that were dropped
 abbrev pub counts_told : Counts → List ℕ
 counts_told counts =
     counts.nosub ∷ counts.send ∷ counts.recv ∷ counts.create ∷ counts.sub ∷ counts.opts ∷ counts.find ∷ counts.dup ∷ counts.limit ∷ counts.overflow ∷ []

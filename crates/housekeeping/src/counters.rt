@@ -6,7 +6,7 @@ ghost use Rattle.housekeeping.specs.Peaks.{greater};
 ghost use Rattle.housekeeping.specs.Statistics.{no_statistics};
 
 use crate::in_use::InUse;
-use crate::names::{COUNTERS, CounterName};
+use crate::names::{COUNTERS, CounterName, PACKET_COUNTERS};
 use byteorder::{BigEndian, ByteOrder};
 use ccsds_msg::write_header;
 use std::marker::Model;
@@ -76,14 +76,14 @@ impl Counters {
         self.peak
     }
 
-    /// Writes the housekeeping packet: a header of 6 bytes with sequence count 0, then the ten
-    /// counts in the order of their names, and then of what is in use now the ids, pipes,
+    /// Writes the housekeeping packet: a header of 6 bytes with sequence count 0, then the first
+    /// ten counts in the order of their names, and then of what is in use now the ids, pipes,
     /// subscriptions and bytes. Each number has 4 bytes, the highest first; two zeros end it.
     pub fn packet(&self, now: InUse, out: &mut [u8; PACKET_BYTES])
         ensures { out.new ≡ housekeeping_packet self.now.counts now }
     {
         write_header(out, PACKET_ID, 0);
-        BigEndian::write_u32_into(&self.counts, &mut out[6..46]);
+        BigEndian::write_u32_into(&self.counts[..PACKET_COUNTERS], &mut out[6..46]);
         let uses = [now.msgids, now.pipes, now.subs, now.bytes];
         BigEndian::write_u32_into(&uses, &mut out[46..62]);
         out[62..].copy_from_slice(&[0; 2]);

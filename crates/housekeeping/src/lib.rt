@@ -1,4 +1,4 @@
-//! The housekeeping of a software bus, as cFE's has it: ten counters, the peaks of what was in use,
+//! The housekeeping of a software bus, as cFE's has it: its counters, the peaks of what was in use,
 //! and the packet that tells the counters and what is in use now. It knows nothing of the bus, only
 //! what it is told.
 //!

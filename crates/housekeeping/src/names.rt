@@ -1,9 +1,12 @@
 //! The names of the counters.
 
 /// How many counters there are.
-pub(crate) const COUNTERS: usize = 10;
+pub(crate) const COUNTERS: usize = 11;
 
-/// A counter of the bus, in the order in which the housekeeping packet has them. Beside each
+/// How many of them the housekeeping packet has: the first ones.
+pub(crate) const PACKET_COUNTERS: usize = 10;
+
+/// A counter of the bus. The housekeeping packet has the first ten, in this order; beside each
 /// stands the field of cFE's Software Bus housekeeping telemetry that it is like.
 #[derive(Clone, Copy, Debug, PartialEq, Eq)]
 pub enum CounterName {
@@ -27,4 +30,6 @@ pub enum CounterName {
     Limit,
     /// Messages that a full pipe kept out (`PipeOverflowErrorCounter`).
     Overflow,
+    /// Messages for which a full pipe dropped its oldest one. cFE has no such counter.
+    Oldest,
 }

@@ -1,4 +1,4 @@
-use Rattle.std.proofs.Common.{rules, ◌≡◌, flat_map, ◌++◌, ◌∷◌, [], length, drop, refl, sym, ap, ◌∙◌, arith}
+use Rattle.std.proofs.Common.{rules, ◌≡◌, flat_map, ◌++◌, ◌∷◌, [], length, take, drop, refl, sym, ap, ◌∙◌, arith}
 use Rattle.std.proofs.lemmas.Grind.{common_steps}
 use Rattle.byteorder.specs.Endian.{big_bytes}
 use Rattle.ccsds_msg.specs.Message.{header_bytes}
@@ -11,9 +11,9 @@ use Rattle.housekeeping.proofs.counters.Counters.packet.Goals as goal
 pub returns : goal.returns
 unfolding housekeeping_packet
 returns c =
-    let ten : length c.self.inside.counts ≡ 10 = search rules in
+    let eleven : length c.self.inside.counts ≡ 11 = search rules in
     let whole : length c.args.out.now ≡ 64 = search rules in
-    let told : counts_told c.args.self.now.counts ≡ c.self.inside.counts = ap (λ s. counts_told s.counts) (sym c.self.view_is) ∙ counts_told-counts_in c.self.inside.counts ten in
+    let told : counts_told c.args.self.now.counts ≡ take 10 c.self.inside.counts = ap (λ s. counts_told s.counts) (sym c.self.view_is) ∙ counts_told-counts_in c.self.inside.counts eleven in
     let counts : c.write_u32_into.new.dst ≡ flat_map (big_bytes 4) (counts_told c.args.self.now.counts) = c.write_u32_into.ensures ∙ ap (flat_map (big_bytes 4)) (sym told) in
     let uses : c.write_u32_into-2.new.dst ≡ flat_map (big_bytes 4) (uses_told c.args.now) = c.write_u32_into-2.ensures in
     let zeros : c.copy_from_slice.new.self ≡ 0 ∷ 0 ∷ [] = c.copy_from_slice.ensures.after in
