@@ -60,7 +60,7 @@ sub_alone a id limit =
       made = a.made + 1;
     })
 
--- the message is queued where the pipe has a live subscription to its id whose verdict is In
+-- the pipe is offered the message where it has a live subscription to its id: it makes of it what the verdict says
 abbrev pub sent_alone : Alone → ℕ → ℕ → ℕ → List ℕ → Alone
 sent_alone a sender id number message =
     option_map_or (λ sub. record a { pipe = offered (record { sender = sender; number = number; asked = 0; message = message }) sub a.pipe }) (own_subscription a id) a

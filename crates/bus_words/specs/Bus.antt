@@ -7,7 +7,7 @@ use Rattle.fsw_base.specs.Limits.{Limits}
 use Rattle.fsw_base.specs.EventDesk.{Desk, new_desk}
 use Rattle.housekeeping.specs.Statistics.{Statistics, no_statistics}
 use Rattle.pool_words.specs.Grants.{Pools, IsCounted}
-pub use Rattle.bus_words.specs.Pipes.{PipeOf, Subscription, Offer, is_in, oldest, pipe_at, is_live, owns, pipe_named, is_named, with_pipe, without_pipe, new_pipe, ignores_own, after_receive, with_bits}
+pub use Rattle.bus_words.specs.Pipes.{PipeOf, Subscription, Offer, is_queued, is_oldest, all_bits, oldest, pipe_at, is_live, owns, pipe_named, is_named, with_pipe, without_pipe, new_pipe, ignores_own, after_receive, with_bits}
 use Rattle.bus_words.specs.declared.verdict.Verdict.{Verdict}
 use Rattle.bus_words.specs.Pipes as words
 
@@ -159,9 +159,13 @@ offered sending sub pipe = words.offered (offer_of sending) sub pipe
 abbrev pub deliver : Sending → List Subscription → List Pipe → List Pipe
 deliver sending subs pipes = words.deliver (offer_of sending) subs pipes
 
--- how many of these subscriptions have the verdict In, each as its turn comes
+-- how many of these subscriptions have the verdict In or Oldest, each as its turn comes
 abbrev pub reached : Sending → List Subscription → List Pipe → ℕ
 reached sending subs pipes = words.reached (offer_of sending) subs pipes
+
+-- how many of them have the verdict Oldest
+abbrev pub drops : Sending → List Subscription → List Pipe → ℕ
+drops sending subs pipes = words.drops (offer_of sending) subs pipes
 
 -- whether no message is queued on the pipe of this number
 abbrev pub is_empty : List Pipe → ℕ → Bool

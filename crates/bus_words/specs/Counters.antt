@@ -10,7 +10,7 @@ use Rattle.housekeeping.specs.Counters.{ticked}
 use Rattle.housekeeping.specs.Peaks.{greater}
 use Rattle.housekeeping.specs.Statistics.{Statistics, statistics_of}
 use Rattle.bus_events.specs.declared.event.ServiceEvent.{ServiceEvent}
-use Rattle.bus_events.specs.declared.event.ServiceEvent.TheVariants.{DuplicateSubscription, NotSubscribed, NoSubscribers, MessageLimit, PipeOverflow}
+use Rattle.bus_events.specs.declared.event.ServiceEvent.TheVariants.{DuplicateSubscription, NotSubscribed, NoSubscribers, MessageLimit, PipeOverflow, OldestDropped}
 use Rattle.bus_words.specs.declared.calls.BusAnswer.{BusAnswer}
 use Rattle.bus_words.specs.declared.calls.BusAnswer.TheVariants.{Sb}
 use Rattle.bus_words.specs.declared.history.Call.{Call}
@@ -28,6 +28,7 @@ event_counter (NotSubscribed id pipe) = []
 event_counter (NoSubscribers id) = counters.Nosub ∷ []
 event_counter (MessageLimit id pipe sender) = counters.Limit ∷ []
 event_counter (PipeOverflow id pipe sender) = counters.Overflow ∷ []
+event_counter (OldestDropped id pipe sender) = counters.Oldest ∷ []
 
 -- the counter that a refused call raises; a receive that found no message raises none
 abbrev pub refusal_counter : Call → BusAnswer → List CounterName

@@ -6,7 +6,7 @@ use Rattle.fsw_base.specs.Limits.{Limits}
 use Rattle.ccsds_msg.specs.Message.{message_id}
 use Rattle.housekeeping.specs.Packet.{housekeeping_id}
 use Rattle.bus_events.specs.declared.event.ServiceEvent.{ServiceEvent}
-use Rattle.bus_events.specs.declared.event.ServiceEvent.TheVariants.{DuplicateSubscription, NotSubscribed, NoSubscribers, MessageLimit, PipeOverflow}
+use Rattle.bus_events.specs.declared.event.ServiceEvent.TheVariants.{DuplicateSubscription, NotSubscribed, NoSubscribers, MessageLimit, PipeOverflow, OldestDropped}
 use Rattle.bus_events.specs.Events.{served_all}
 use Rattle.bus_words.specs.declared.calls.BusAnswer.{BusAnswer}
 use Rattle.bus_words.specs.declared.calls.BusAnswer.TheVariants.{Sb, Es, Evs}
@@ -15,7 +15,7 @@ use Rattle.bus_words.specs.declared.history.Call.TheVariants.{Subscribe, Unsubsc
 use Rattle.bus_words.specs.declared.history.Entry.{Entry}
 use Rattle.bus_words.specs.Bus.{Pipe, Subscription, State, Sending, verdict, pipe_at, with_pipe, offered, route, is_subscribed}
 use Rattle.bus_words.specs.declared.verdict.Verdict.{Verdict}
-use Rattle.bus_words.specs.declared.verdict.Verdict.TheVariants.{Skip, OverLimit, Full, In}
+use Rattle.bus_words.specs.declared.verdict.Verdict.TheVariants.{Skip, OverLimit, In, Oldest, Full}
 use Rattle.bus_words.specs.Sends.{Reads, sending_from, sending_in, packet_in}
 
 -- An entry of a history at its moment: what its call saw beside the bus, the bus before it, the entry, and the bus after it.
@@ -27,12 +27,14 @@ pub record Moment : Type 0 where
 
 -- Sends. --
 
--- what is told of a destination with this verdict: that its pipe misses the message, by its limit or by its depth
+-- what is told of a destination with this verdict: that its pipe misses the message, by its limit or by its depth, or that it
+-- dropped its oldest one
 abbrev pub verdict_events : Verdict → ℕ → ℕ → ℕ → List ServiceEvent
 verdict_events Skip id pipe sender = []
 verdict_events OverLimit id pipe sender = MessageLimit id pipe sender ∷ []
-verdict_events Full id pipe sender = PipeOverflow id pipe sender ∷ []
 verdict_events In id pipe sender = []
+verdict_events Oldest id pipe sender = OldestDropped id pipe sender ∷ []
+verdict_events Full id pipe sender = PipeOverflow id pipe sender ∷ []
 
 -- what is told of one destination of a message of this id
 abbrev pub destination_events : ℕ → Sending → Subscription → List Pipe → List ServiceEvent
@@ -45,7 +47,8 @@ delivery_events id sending [] pipes = []
 delivery_events id sending (sub ∷ subs) pipes =
     destination_events id sending sub pipes ++ delivery_events id sending subs (with_pipe (offered sending sub) sub.pipe pipes)
 
--- what is told of a send of this id that isn't refused: that nobody subscribes to the id, or which pipes miss the message
+-- what is told of a send of this id that isn't refused: that nobody subscribes to the id, or which pipes miss the message or
+-- dropped their oldest one for it
 abbrev pub send_events : ℕ → Sending → List Subscription → List Pipe → List ServiceEvent
 send_events id sending [] pipes = NoSubscribers id ∷ []
 send_events id sending (sub ∷ subs) pipes = delivery_events id sending (sub ∷ subs) pipes

@@ -25,7 +25,7 @@ use Rattle.bus_words.specs.Held.{account_of, account_drawn}
 use Rattle.bus_words.specs.Events.{Moment, desk_then, desk_told}
 use Rattle.bus_words.specs.Counters.{statistics_then, statistics_told, stats_in}
 pub use Rattle.bus_words.specs.Sends.{Reads, stamped, front_of, sending_from, sending_in, packet_in}
-use Rattle.bus_words.specs.Bus.{Pipe, Subscription, Buffer, State, Standing, Active, Waiting, Ended, Sending, opening, standing_of, pipe_at, pipe_named, is_live, is_named, owns, with_pipe, with_bits, with_standing, route, is_subscribed, has_route, is_empty, others_idle, deliver, reached, oldest, after_receive, has_unsent, unsent_size, with_unsent, without_unsent, without_all_unsent, without_pipe, new_pipe}
+use Rattle.bus_words.specs.Bus.{Pipe, Subscription, Buffer, State, Standing, Active, Waiting, Ended, Sending, all_bits, opening, standing_of, pipe_at, pipe_named, is_live, is_named, owns, with_pipe, with_bits, with_standing, route, is_subscribed, has_route, is_empty, others_idle, deliver, reached, oldest, after_receive, has_unsent, unsent_size, with_unsent, without_unsent, without_all_unsent, without_pipe, new_pipe}
 
 -- Sequence counts (CCSDS 133.0-B, 4.1.3.4.3). --
 
@@ -65,9 +65,9 @@ create_cause limits s depth name =
 abbrev pub unowned_cause : State → ℕ → ℕ → Option SbStatus
 unowned_cause s app pipe = refused_if (not (owns s.pipes app pipe)) BadArgument None
 
--- where the pipe isn't a live one of the application's own, or the bits are above 1
-abbrev pub set_opts_cause : State → ℕ → ℕ → ℕ → Option SbStatus
-set_opts_cause s app pipe bits = refused_if (not (owns s.pipes app pipe) || nat_lt 1 bits) BadArgument None
+-- where the pipe isn't a live one of the application's own, or a bit is set that the version doesn't have
+abbrev pub set_opts_cause : Limits → State → ℕ → ℕ → ℕ → Option SbStatus
+set_opts_cause limits s app pipe bits = refused_if (not (owns s.pipes app pipe) || nat_lt (all_bits limits.version) bits) BadArgument None
 
 -- where no pipe of this number is live
 abbrev pub dead_cause : State → ℕ → Option SbStatus
@@ -157,7 +157,7 @@ by_events why = option_map OfEvents why
 abbrev pub cause_with : Reads → Limits → State → ℕ → Call → Option Refusal
 cause_with reads limits s app (Create depth name) = by_bus (create_cause limits s depth name)
 cause_with reads limits s app (Delete pipe) = by_bus (unowned_cause s app pipe)
-cause_with reads limits s app (SetOpts pipe bits) = by_bus (set_opts_cause s app pipe bits)
+cause_with reads limits s app (SetOpts pipe bits) = by_bus (set_opts_cause limits s app pipe bits)
 cause_with reads limits s app (GetOpts pipe) = by_bus (dead_cause s pipe)
 cause_with reads limits s app (Find name) = by_bus (find_cause s name)
 cause_with reads limits s app (PipeName pipe) = by_bus (dead_cause s pipe)

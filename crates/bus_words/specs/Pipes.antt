@@ -1,12 +1,12 @@
 -- Pipes of the software bus (cFE Software Bus), whatever they queue: an item may be of any kind that tells its subscription. What
 -- becomes of a message that pipes are offered, and what a receive leaves, is said here alone.
-use Rattle.std.specs.Prelude.{ℕ, ◌+◌, ◌%◌, ◌<◌, ◌==◌, ◌&&◌, not, nat_le, Bool, true, false, List, [], ◌∷◌, ◌++◌, length, drop, map, filter, find, count_by, Option, Some, None, if◌then◌else◌}
+use Rattle.std.specs.Prelude.{ℕ, ◌+◌, ◌/◌, ◌%◌, ◌<◌, ◌==◌, ◌&&◌, not, nat_le, nat_lt, Bool, true, false, List, [], ◌∷◌, ◌++◌, length, drop, map, filter, find, count_by, Option, Some, None, if◌then◌else◌}
 use Rattle.std.specs.List.{list_any}
 use Rattle.std.specs.Option.{option_map, option_map_or, option_and_then}
 use Rattle.std.specs.Str.{bytes_eq}
 use Rattle.fsw_base.specs.declared.config.Scope.{Scope}
 use Rattle.bus_words.specs.declared.verdict.Verdict.{Verdict}
-use Rattle.bus_words.specs.declared.verdict.Verdict.TheVariants.{Skip, OverLimit, Full, In}
+use Rattle.bus_words.specs.declared.verdict.Verdict.TheVariants.{Skip, OverLimit, In, Oldest, Full}
 
 -- A pipe: number, name, owner, how many messages it may hold (its depth), option bits, what it queues, oldest first, and the item
 -- received last.
@@ -35,11 +35,24 @@ pub record Offer (item : Type 0) : Type 0 where
   pub item_for : Subscription → item
 
 -- whether the message is queued
-abbrev pub is_in : Verdict → Bool
-is_in Skip = false
-is_in OverLimit = false
-is_in Full = false
-is_in In = true
+abbrev pub is_queued : Verdict → Bool
+is_queued Skip = false
+is_queued OverLimit = false
+is_queued In = true
+is_queued Oldest = true
+is_queued Full = false
+
+-- whether the message that waits longest leaves for it
+abbrev pub is_oldest : Verdict → Bool
+is_oldest Skip = false
+is_oldest OverLimit = false
+is_oldest In = false
+is_oldest Oldest = true
+is_oldest Full = false
+
+-- the option bits that a version has, added up: 0x01 in version 1, 0x01 and 0x02 in version 2
+abbrev pub all_bits : ℕ → ℕ
+all_bits version = if version == 2 then 3 else 1
 
 -- the oldest item that is queued
 abbrev pub oldest : {item : Type 0} → List item → Option item
@@ -126,6 +139,10 @@ module _ {item : Type 0} where
   abbrev pub ignores_sender : PipeOf item → ℕ → Bool
   ignores_sender pipe sender = ignores_own pipe && pipe.owner == sender
 
+  -- option bit 0x02: a full pipe drops its oldest item for a newer one
+  abbrev pub drops_oldest : PipeOf item → Bool
+  drops_oldest pipe = pipe.bits / 2 % 2 == 1
+
   -- how many items of a subscription are queued in the pipe
   abbrev pub waiting_of : (item → ℕ) → PipeOf item → ℕ → ℕ
   waiting_of subscription_of pipe subscription = count_by (λ queued. subscription_of queued == subscription) pipe.queue
@@ -135,18 +152,26 @@ module _ {item : Type 0} where
   verdict_over is_over pipe sender =
       if ignores_sender pipe sender then Skip
       else if is_over then OverLimit
-      else if length pipe.queue == pipe.depth then Full
-      else In
+      else if nat_lt (length pipe.queue) pipe.depth then In
+      else if drops_oldest pipe then Oldest
+      else Full
 
   -- the verdict on a message of this sender for the subscription
   abbrev pub verdict : (item → ℕ) → PipeOf item → Subscription → ℕ → Verdict
   verdict subscription_of pipe sub sender = verdict_over (nat_le sub.limit (waiting_of subscription_of pipe sub.number)) pipe sender
 
-  -- the pipe once it was offered an item of this sender, where it is told whether its subscription's limit is reached: with the
-  -- item as its newest where the verdict is In
+  -- what is queued once an item was offered that got this verdict: at Oldest the item that waits longest leaves, and at In and at
+  -- Oldest the new one goes last
+  abbrev pub queue_after : Verdict → item → List item → List item
+  queue_after Skip newest queue = queue
+  queue_after OverLimit newest queue = queue
+  queue_after In newest queue = queue ++ newest ∷ []
+  queue_after Oldest newest queue = drop 1 queue ++ newest ∷ []
+  queue_after Full newest queue = queue
+
+  -- the pipe once it was offered an item of this sender, where it is told whether its subscription's limit is reached
   abbrev pub offered_over : Bool → ℕ → item → PipeOf item → PipeOf item
-  offered_over is_over sender newest pipe =
-      if is_in (verdict_over is_over pipe sender) then record pipe { queue = pipe.queue ++ newest ∷ [] } else pipe
+  offered_over is_over sender newest pipe = record pipe { queue = queue_after (verdict_over is_over pipe sender) newest pipe.queue }
 
   -- the pipe once a subscription of its own was offered the message
   abbrev pub offered : Offer item → Subscription → PipeOf item → PipeOf item
@@ -157,15 +182,24 @@ module _ {item : Type 0} where
   deliver offer [] pipes = pipes
   deliver offer (sub ∷ subs) pipes = deliver offer subs (with_pipe (offered offer sub) sub.pipe pipes)
 
-  -- 1 where the subscription's pipe takes the message
-  abbrev pub taken_by : Offer item → Subscription → List (PipeOf item) → ℕ
-  taken_by offer sub pipes =
-      option_map_or (λ pipe. if is_in (verdict offer.subscription_of pipe sub offer.sender) then 1 else 0) (pipe_at pipes sub.pipe) 0
+  -- 1 where the verdict on the message for the subscription is one of these
+  abbrev pub counted_by : (Verdict → Bool) → Offer item → Subscription → List (PipeOf item) → ℕ
+  counted_by test offer sub pipes =
+      option_map_or (λ pipe. if test (verdict offer.subscription_of pipe sub offer.sender) then 1 else 0) (pipe_at pipes sub.pipe) 0
 
-  -- how many of these subscriptions have the verdict In, each as its turn comes
+  -- how many of these subscriptions have such a verdict, each as its turn comes
+  abbrev pub verdicts_of : (Verdict → Bool) → Offer item → List Subscription → List (PipeOf item) → ℕ
+  verdicts_of test offer [] pipes = 0
+  verdicts_of test offer (sub ∷ subs) pipes =
+      counted_by test offer sub pipes + verdicts_of test offer subs (with_pipe (offered offer sub) sub.pipe pipes)
+
+  -- how many of these subscriptions have the verdict In or Oldest, each as its turn comes
   abbrev pub reached : Offer item → List Subscription → List (PipeOf item) → ℕ
-  reached offer [] pipes = 0
-  reached offer (sub ∷ subs) pipes = taken_by offer sub pipes + reached offer subs (with_pipe (offered offer sub) sub.pipe pipes)
+  reached offer subs pipes = verdicts_of is_queued offer subs pipes
+
+  -- how many of them have the verdict Oldest
+  abbrev pub drops : Offer item → List Subscription → List (PipeOf item) → ℕ
+  drops offer subs pipes = verdicts_of is_oldest offer subs pipes
 
 -- a pipe, with each of its items read in this way
 abbrev pub pipe_by : {item other : Type 0} → (item → other) → PipeOf item → PipeOf other

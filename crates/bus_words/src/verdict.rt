@@ -8,8 +8,11 @@ pub enum Verdict {
     Skip,
     /// At least as many messages of the subscription wait on the pipe as its limit says.
     OverLimit,
-    /// As many messages wait on the pipe as its depth says.
-    Full,
-    /// The pipe queues it.
+    /// Fewer messages wait on the pipe than its depth says: the pipe queues it.
     In,
+    /// The pipe is full and drops its oldest message for a newer one: the message that waits
+    /// longest leaves, and then the pipe queues this one.
+    Oldest,
+    /// The pipe is full.
+    Full,
 }
