@@ -1,15 +1,18 @@
 -- A pipe of the bus beside the pipe alone: when they are alike, and how each change keeps them so.
-use Rattle.std.proofs.Common.{◌≡◌, ℕ, ◌+◌, ◌%◌, ◌<◌, ◌≤◌, ◌==◌, ◌&&◌, not, Bool, true, false, cond, true≢false, eqb-true, eq-eqb, ne_eqb, List, [], ◌∷◌, ◌++◌, length, drop, map, filter, fold, count_by, Option, Some, None, refl, ap, sym, ◌∙◌, subst, arith}
-use Rattle.std.specs.Prelude.{find, nat_le, if◌then◌else◌}
+use Rattle.std.proofs.Common.{◌≡◌, ℕ, ◌+◌, ◌/◌, ◌%◌, ◌<◌, ◌≤◌, ◌==◌, ◌&&◌, not, Bool, true, false, cond, true≢false, eqb-true, eq-eqb, ne_eqb, List, [], ◌∷◌, ◌++◌, length, drop, map, filter, fold, count_by, Option, Some, None, refl, ap, sym, ◌∙◌, subst, arith}
+use Rattle.std.specs.Prelude.{find, nat_le, nat_lt, if◌then◌else◌}
 use Rattle.std.specs.List.{list_any}
 use Rattle.std.specs.Option.{option_map, option_map_or, is_some}
 use Rattle.std.proofs.lemmas.List.{map_push, length-map}
 use Rattle.fsw_base.specs.declared.config.Scope.{Scope}
 use Rattle.fsw_base.specs.declared.config.Scope.TheVariants.{Global}
-use Rattle.bus_words.specs.Bus.{Item, Pipe, Subscription, Sending, verdict, waiting_of, is_in, item_for, offered, oldest, after_receive, with_bits}
+use Rattle.bus_words.specs.Bus.{Item, Pipe, Subscription, Sending, verdict, waiting_of, item_for, offered, oldest, after_receive, with_bits}
 use Rattle.bus_words.specs.declared.verdict.Verdict.{Verdict}
-use Rattle.bus_words.specs.declared.verdict.Verdict.TheVariants.{Skip, OverLimit, Full, In}
+use Rattle.bus_words.specs.declared.verdict.Verdict.TheVariants.{Skip, OverLimit, In, Oldest, Full}
 use Rattle.bus_words.specs.Alone.{Alone, Stop, empty_pipe, sub_alone, sent_alone, input_alone, last_of}
+use Rattle.bus_words.specs.Pipes.{queue_after}
+use Rattle.bus_words.proofs.PipeItems.{queue_after-map}
+use Rattle.bus_words.proofs.Items.{Each-queue_after}
 use Rattle.bus_words.proofs.Finds.{Each, Each-push, Each-drop, Each-filter, map-each, filter-map, any-map, find-map, same-self}
 
 -- a subscription of the bus as the pipe alone has it, its number changed
@@ -225,8 +228,9 @@ abbrev judged : (bits owner waiting queued depth limit sender : ℕ) → Verdict
 judged bits owner waiting queued depth limit sender =
     if bits % 2 == 1 && owner == sender then Skip
     else if nat_le limit waiting then OverLimit
-    else if queued == depth then Full
-    else In
+    else if nat_lt queued depth then In
+    else if bits / 2 % 2 == 1 then Oldest
+    else Full
 
 count-map : (own : ℕ → ℕ) (top made n a : ℕ) (queue : List Item) → AreOwn own top made → 1 ≤ own n → Each (λ item. 1 ≤ own item.subscription) queue →
     fold (λ a (item : Item). a + cond {A = ℕ} (item.subscription == own n) 1 0) a (map (item_as own) queue) ≡ fold (λ a (item : Item). a + cond {A = ℕ} (item.subscription == n) 1 0) a queue
@@ -260,20 +264,17 @@ sent_as sending = record { sender = sending.sender; number = sending.number; ask
 offered-same : (own : ℕ → ℕ) (top made : ℕ) (live pipe : Pipe) (sub : Subscription) (sending : Sending) → AreOwn own top made → 1 ≤ own sub.number → AreSame own live pipe →
     AreSame own (offered sending sub live) (offered (sent_as sending) (sub_as own sub) pipe)
 offered-same own top made live pipe sub sending numbers one same =
-    let more : Pipe = record pipe { queue = pipe.queue ++ item_for (sent_as sending) (sub_as own sub) ∷ [] } in
-    let grown : Pipe = record live { queue = live.queue ++ item_for sending sub ∷ [] } in
-    subst (λ v. AreSame own (offered sending sub live) (cond {A = Pipe} (is_in v) more pipe)) (sym (verdict-same own top made live pipe sub sending.sender numbers one same))
-    (elim (is_in (verdict live sub sending.sender)) as (λ b. AreSame own (cond {A = Pipe} b grown live) (cond {A = Pipe} b more pipe)) [
-      | true ↦ record {
-        owner = same.owner;
-        depth = same.depth;
-        bits = same.bits;
-        queue = ap (λ q. q ++ item_for (sent_as sending) (sub_as own sub) ∷ []) same.queue ∙ sym (map_push (item_as own) live.queue (item_for sending sub));
-        known = Each-push (λ (item : Item). 1 ≤ own item.subscription) live.queue (item_for sending sub) same.known one;
-        last = same.last;
-      }
-      | false ↦ same
-    ])
+    let verdict_live : Verdict = verdict live sub sending.sender in
+    let alone : Item = item_for (sent_as sending) (sub_as own sub) in
+    subst (λ v. AreSame own (offered sending sub live) (record pipe { queue = queue_after v alone pipe.queue })) (sym (verdict-same own top made live pipe sub sending.sender numbers one same))
+    (record {
+      owner = same.owner;
+      depth = same.depth;
+      bits = same.bits;
+      queue = ap (queue_after verdict_live alone) same.queue ∙ sym (queue_after-map (item_as own) verdict_live (item_for sending sub) live.queue);
+      known = Each-queue_after (λ (item : Item). 1 ≤ own item.subscription) verdict_live (item_for sending sub) live.queue same.known one;
+      last = same.last;
+    })
 
 found-each : (P : Subscription → Type 0) (test : Subscription → Bool) (subs : List Subscription) (sub : Subscription) → Each P subs → find test subs ≡ Some sub → P sub
 found-each P test [] sub each is = absurd (true≢false (sym (ap is_some is)))

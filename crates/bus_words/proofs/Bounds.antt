@@ -1,5 +1,5 @@
 -- The bounds that the limits set hold after every history.
-use Rattle.std.proofs.Common.{◌≡◌, ℕ, ◌+◌, ◌<◌, ◌≤◌, ◌==◌, ◌&&◌, ◌||◌, not, Bool, true, false, cond, if◌then◌else◌, List, [], ◌∷◌, ◌++◌, length, filter, Option, None, refl, ap, ◌∙◌, subst, arith, length-append}
+use Rattle.std.proofs.Common.{◌≡◌, ℕ, ◌+◌, ◌<◌, ◌≤◌, ◌==◌, ◌&&◌, ◌||◌, not, Bool, true, false, cond, if◌then◌else◌, List, [], ◌∷◌, ◌++◌, length, filter, drop, Option, None, refl, ap, ◌∙◌, subst, arith, length-append}
 use Rattle.std.specs.Prelude.{nat_le, nat_lt}
 use Rattle.std.specs.List.{AllByRecursion}
 use Rattle.std.proofs.lemmas.List.{length-map, length-drop, length_push}
@@ -12,8 +12,9 @@ use Rattle.fsw_base.specs.Limits.{Limits}
 use Rattle.ccsds_msg.specs.Message.{is_valid_id}
 use Rattle.bus_words.specs.declared.history.Call.{Call}
 use Rattle.bus_words.specs.declared.history.Entry.{Entry}
-use Rattle.bus_words.specs.Bus.{Pipe, Subscription, State, Sending, opening, owns, with_pipe, with_bits, is_named, route, is_subscribed, has_route, ignores_own, waiting_of, is_in, item_for, offered, deliver, after_receive}
-use Rattle.bus_words.specs.declared.verdict.Verdict.TheVariants.{Skip, OverLimit, Full, In}
+use Rattle.bus_words.specs.Bus.{Pipe, Subscription, State, Sending, opening, owns, with_pipe, with_bits, is_named, route, is_subscribed, has_route, ignores_own, waiting_of, item_for, offered, deliver, after_receive}
+use Rattle.bus_words.specs.Pipes.{drops_oldest, queue_after}
+use Rattle.bus_words.specs.declared.verdict.Verdict.TheVariants.{Skip, OverLimit, In, Oldest, Full}
 use Rattle.bus_words.specs.Machine.{refused_if, create_cause, subscribe_cause, step, state_after}
 use Rattle.bus_words.proofs.Steps.{refused_if-none, after_step, state_from-keeps}
 
@@ -29,8 +30,8 @@ le-false a b is = grind (arith, nat_tests)
 lt-false : (a b : ℕ) → nat_lt a b ≡ false → b ≤ a
 lt-false a b is = grind (arith, nat_tests)
 
-eq-false : (a b : ℕ) → (a == b) ≡ false → a ≤ b → a < b
-eq-false a b is below = grind (arith, nat_tests)
+lt-true : (a b : ℕ) → nat_lt a b ≡ true → a < b
+lt-true a b is = grind (arith, nat_tests)
 
 eq-true : (a b : ℕ) → (a == b) ≡ true → a ≡ b
 eq-true a b is = grind (arith, nat_tests)
@@ -71,21 +72,21 @@ pub record PipeFits (limits : Limits) (pipe : Pipe) : Type 0 where
 
 -- every such pipe stays one when it is offered a message
 pub PipeFits-offered : (limits : Limits) (sending : Sending) (sub : Subscription) (pipe : Pipe) → PipeFits limits pipe → PipeFits limits (offered sending sub pipe)
-PipeFits-offered limits sending sub pipe fits =
-    at (ignores_own pipe && pipe.owner == sending.sender) (nat_le sub.limit (waiting_of pipe sub.number)) (length pipe.queue == pipe.depth) refl
+PipeFits-offered limits sending sub pipe fits = record {
+  some = fits.some;
+  depth = fits.depth;
+  named = fits.named;
+  name = fits.name;
+  queue = at (ignores_own pipe && pipe.owner == sending.sender) (nat_le sub.limit (waiting_of pipe sub.number)) (nat_lt (length pipe.queue) pipe.depth) (drops_oldest pipe) refl;
+}
   where
-    at : (skips over full : Bool) → (length pipe.queue == pipe.depth) ≡ full →
-        PipeFits limits (cond {A = Pipe} (is_in (if skips then Skip else if over then OverLimit else if full then Full else In)) (record pipe { queue = pipe.queue ++ item_for sending sub ∷ [] }) pipe)
-    at true over full is = fits
-    at false true full is = fits
-    at false false true is = fits
-    at false false false is = record {
-      some = fits.some;
-      depth = fits.depth;
-      named = fits.named;
-      name = fits.name;
-      queue = omega (arith, length_push pipe.queue (item_for sending sub), eq-false (length pipe.queue) pipe.depth is fits.queue);
-    }
+    at : (skips over room drops : Bool) → nat_lt (length pipe.queue) pipe.depth ≡ room →
+        length (queue_after (if skips then Skip else if over then OverLimit else if room then In else if drops then Oldest else Full) (item_for sending sub) pipe.queue) ≤ pipe.depth
+    at true over room drops is = fits.queue
+    at false true room drops is = fits.queue
+    at false false true drops is = omega (arith, length_push pipe.queue (item_for sending sub), lt-true (length pipe.queue) pipe.depth is)
+    at false false false true is = omega (arith, length_push (drop 1 pipe.queue) (item_for sending sub), length-drop 1 pipe.queue, fits.queue, fits.some)
+    at false false false false is = fits.queue
 
 -- and when a message is received on it
 pub PipeFits-after_receive : (limits : Limits) (pipe : Pipe) → PipeFits limits pipe → PipeFits limits (after_receive pipe)

@@ -4,7 +4,10 @@ use Rattle.std.specs.Prelude.{count_by, sum_by, drop}
 use Rattle.std.specs.Option.{option_to_list}
 use Rattle.std.proofs.lemmas.Bool.Decides.{nat_tests}
 use Rattle.std.proofs.lemmas.List.Sums.{sum_by-append, sum_by-cons}
-use Rattle.bus_words.specs.Bus.{Item, Pipe, Buffer, Subscription, Sending, is_in, verdict, item_for, offered, oldest, after_receive}
+use Rattle.bus_words.specs.Bus.{Item, Pipe, Buffer, Subscription, Sending, verdict, item_for, offered, oldest, after_receive}
+use Rattle.bus_words.specs.Pipes.{queue_after}
+use Rattle.bus_words.specs.declared.verdict.Verdict.{Verdict}
+use Rattle.bus_words.specs.declared.verdict.Verdict.TheVariants.{Skip, OverLimit, In, Oldest, Full}
 use Rattle.bus_words.specs.Held.{names, named_by, is_on_pipes, is_unsent, is_held, items_of, buffers_in}
 use Rattle.bus_words.proofs.Buffers.{OtherBuffer, was_unsent}
 use Rattle.bus_words.proofs.Finds.{Each, Each-push, Each-drop, Each-append, Each-front, Each-back}
@@ -19,24 +22,31 @@ pub record OfPipe (P : Item → Type 0) (pipe : Pipe) : Type 0 where
 pub OfPipe-drop : (P Q : Item → Type 0) → ((item : Item) → P item → Q item) → (pipe : Pipe) → OfPipe P pipe → OfPipe Q pipe
 OfPipe-drop P Q gives pipe of = record { queue = Each-drop P Q pipe.queue gives of.queue; last = Each-drop P Q (option_to_list pipe.last) gives of.last }
 
-pub OfPipe-receive : (P : Item → Type 0) (pipe : Pipe) → OfPipe P pipe → OfPipe P (after_receive pipe)
-OfPipe-receive P pipe of = record { queue = rest pipe.queue of.queue; last = first pipe.queue of.queue }
-  where
-    rest : (queue : List Item) → Each P queue → Each P (drop 1 queue)
-    rest [] each = tt
-    rest (item ∷ queue) each = each.1
+Each-rest : (P : Item → Type 0) (queue : List Item) → Each P queue → Each P (drop 1 queue)
+Each-rest P [] each = tt
+Each-rest P (item ∷ queue) each = each.1
 
+pub OfPipe-receive : (P : Item → Type 0) (pipe : Pipe) → OfPipe P pipe → OfPipe P (after_receive pipe)
+OfPipe-receive P pipe of = record { queue = Each-rest P pipe.queue of.queue; last = first pipe.queue of.queue }
+  where
     first : (queue : List Item) → Each P queue → Each P (option_to_list (oldest queue))
     first [] each = tt
     first (item ∷ queue) each = (each.0, tt)
 
+-- what is queued once an item was offered
+pub Each-queue_after : (P : Item → Type 0) (verdict : Verdict) (newest : Item) (queue : List Item) → Each P queue → P newest → Each P (queue_after verdict newest queue)
+Each-queue_after P Skip newest queue each new = each
+Each-queue_after P OverLimit newest queue each new = each
+Each-queue_after P In newest queue each new = Each-push P queue newest each new
+Each-queue_after P Oldest newest queue each new = Each-push P (drop 1 queue) newest (Each-rest P queue each) new
+Each-queue_after P Full newest queue each new = each
+
 pub OfPipe-offer : (P : Item → Type 0) (sending : Sending) → ((sub : Subscription) → P (item_for sending sub)) → (sub : Subscription) (pipe : Pipe) →
     OfPipe P pipe → OfPipe P (offered sending sub pipe)
-OfPipe-offer P sending new sub pipe of =
-    elim (is_in (verdict pipe sub sending.sender)) as (λ b. OfPipe P (cond {A = Pipe} b (record pipe { queue = pipe.queue ++ item_for sending sub ∷ [] }) pipe)) [
-      | true ↦ record { queue = Each-push P pipe.queue (item_for sending sub) of.queue (new sub); last = of.last }
-      | false ↦ of
-    ]
+OfPipe-offer P sending new sub pipe of = record {
+  queue = Each-queue_after P (verdict pipe sub sending.sender) (item_for sending sub) pipe.queue of.queue (new sub);
+  last = of.last;
+}
 
 pub to_items : (P : Item → Type 0) (pipes : List Pipe) → Each (OfPipe P) pipes → Each P (items_of pipes)
 to_items P [] each = tt

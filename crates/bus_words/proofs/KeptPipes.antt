@@ -1,7 +1,7 @@
 -- What a change of one application's pipes leaves as it is of another's: who owns which, and the last messages.
 use Rattle.std.proofs.Common.{◌≡◌, ℕ, ◌≤◌, ◌==◌, ◌&&◌, ◌||◌, not, Bool, true, false, cond, true≢false, eqb-true, ne_eqb, List, [], ◌∷◌, ◌++◌, map, filter, Option, Some, refl, ap, sym, ◌∙◌, arith}
 use Rattle.std.specs.Option.{option_and_then}
-use Rattle.bus_words.specs.Bus.{Pipe, Subscription, Sending, pipe_at, is_live, owns, with_pipe, offered, deliver, is_in, verdict, item_for, after_receive}
+use Rattle.bus_words.specs.Bus.{Pipe, Subscription, Sending, pipe_at, is_live, owns, with_pipe, offered, deliver, after_receive}
 use Rattle.bus_words.proofs.Finds.{same-sym, any-push, find-filter}
 use Rattle.bus_words.proofs.Steps.{AreRising, number-offered}
 use Rattle.bus_words.proofs.Ties.{is_live-owns}
@@ -126,14 +126,12 @@ kept-then pipes between now app number first second = record {
 }
 
 pub owner-offered : (sending : Sending) (sub : Subscription) (pipe : Pipe) → (offered sending sub pipe).owner ≡ pipe.owner
-owner-offered sending sub pipe =
-    elim (is_in (verdict pipe sub sending.sender)) as (λ b. (cond {A = Pipe} b (record pipe { queue = pipe.queue ++ item_for sending sub ∷ [] }) pipe).owner ≡ pipe.owner) [ true ↦ refl | false ↦ refl ]
+owner-offered sending sub pipe = refl
 
 pub last-offered : (sending : Sending) (sub : Subscription) (pipe : Pipe) → (offered sending sub pipe).last ≡ pipe.last
-last-offered sending sub pipe =
-    elim (is_in (verdict pipe sub sending.sender)) as (λ b. (cond {A = Pipe} b (record pipe { queue = pipe.queue ++ item_for sending sub ∷ [] }) pipe).last ≡ pipe.last) [ true ↦ refl | false ↦ refl ]
+last-offered sending sub pipe = refl
 
--- a delivery queues messages, and no more
+-- a delivery changes what is queued, and no more
 pub kept-deliver : (sending : Sending) (subs : List Subscription) (pipes : List Pipe) (app number : ℕ) → IsKept pipes (deliver sending subs pipes) app number
 kept-deliver sending [] pipes app number = kept-same pipes app number
 kept-deliver sending (sub ∷ subs) pipes app number =

@@ -5,7 +5,7 @@ use Rattle.std.proofs.lemmas.List.{get_or-set_other, get_or_past}
 use Rattle.fsw_base.specs.Limits.{Limits}
 use Rattle.bus_words.specs.declared.history.Call.{Call}
 use Rattle.bus_words.specs.declared.history.Entry.{Entry}
-use Rattle.bus_words.specs.Bus.{Pipe, Buffer, Subscription, State, Standing, Active, Waiting, Ended, Sending, opening, standing_of, owns, route, with_pipe, with_bits, with_standing, has_ended, is_in, verdict, item_for, offered, deliver, after_receive, unsent_of, without_all_unsent}
+use Rattle.bus_words.specs.Bus.{Pipe, Buffer, Subscription, State, Standing, Active, Waiting, Ended, Sending, opening, standing_of, owns, route, with_pipe, with_bits, with_standing, has_ended, offered, deliver, after_receive, unsent_of, without_all_unsent}
 use Rattle.bus_words.specs.Held.{buffers_in}
 use Rattle.bus_words.specs.Machine.{ended, step, state_from, state_after, may_call, LegalFrom, IsLegal}
 use Rattle.bus_words.proofs.Finds.{Each, Each-push, Each-filter, Each-drop, Each-kept, not_true}
@@ -23,11 +23,7 @@ Each-with_pipe P change keeps number (pipe ∷ pipes) each = (
 
 -- an offer keeps the pipe's owner
 owner-offered : (P : ℕ → Type 0) (sending : Sending) (sub : Subscription) (pipe : Pipe) → P pipe.owner → P (offered sending sub pipe).owner
-owner-offered P sending sub pipe is =
-    elim (is_in (verdict pipe sub sending.sender)) as (λ b. P (cond {A = Pipe} b (record pipe { queue = pipe.queue ++ item_for sending sub ∷ [] }) pipe).owner) [
-      | true ↦ is
-      | false ↦ is
-    ]
+owner-offered P sending sub pipe is = is
 
 pub Each-deliver : (P : Pipe → Type 0) (sending : Sending) → ((sub : Subscription) (pipe : Pipe) → P pipe → P (offered sending sub pipe)) →
     (subs : List Subscription) (pipes : List Pipe) → Each P pipes → Each P (deliver sending subs pipes)

@@ -1,13 +1,14 @@
 -- What is delivered commutes with a map of items: where items of one kind stand for items of another, pipes of these stand for
 -- pipes of those, and each change of the one is that change of the other.
 use Rattle.std.proofs.Common.{◌≡◌, ℕ, ◌+◌, Bool, true, false, ◌&&◌, cond, eqb, leb, List, [], ◌∷◌, ◌++◌, map, count_by, drop, Option, Some, None, refl, ap, sym, ◌∙◌}
+use Rattle.std.specs.Prelude.{nat_lt}
 use Rattle.std.specs.Option.{option_map, option_map_or, option_and_then}
 use Rattle.std.proofs.lemmas.List.{length-map, map_push}
 use Rattle.std.proofs.lemmas.List.Sums.{sum_by-cons}
 use Rattle.fsw_base.proofs.Lists.{find-map, list_any-map}
-use Rattle.bus_words.specs.Pipes.{PipeOf, Subscription, Offer, is_in, oldest, pipe_at, owns, with_pipe, oldest_on, last_on, IsRising, after_receive, ignores_sender, waiting_of, verdict_over, verdict, offered_over, offered, deliver, taken_by, reached, pipe_by}
+use Rattle.bus_words.specs.Pipes.{PipeOf, Subscription, Offer, is_queued, is_oldest, oldest, pipe_at, owns, with_pipe, oldest_on, last_on, IsRising, after_receive, ignores_sender, drops_oldest, waiting_of, verdict_over, verdict, queue_after, offered_over, offered, deliver, counted_by, verdicts_of, reached, drops, pipe_by}
 use Rattle.bus_words.specs.declared.verdict.Verdict.{Verdict}
-use Rattle.bus_words.specs.declared.verdict.Verdict.TheVariants.{Skip, OverLimit, Full, In}
+use Rattle.bus_words.specs.declared.verdict.Verdict.TheVariants.{Skip, OverLimit, In, Oldest, Full}
 
 -- a change of a pipe is that change of the one that it stands for
 pub with_pipe-map : {A B : Type 0} (read : A → B) (change : PipeOf A → PipeOf A) (next : PipeOf B → PipeOf B) →
@@ -95,21 +96,26 @@ waiting_of-map read of_from of_to same pipe number =
 -- the verdict on a message whose subscription's limit is known to be reached or not
 pub verdict_over-map : {A B : Type 0} (read : A → B) (is_over : Bool) (pipe : PipeOf A) (sender : ℕ) → verdict_over is_over (pipe_by read pipe) sender ≡ verdict_over is_over pipe sender
 verdict_over-map read is_over pipe sender =
-    ap (λ n. cond {A = Verdict} (ignores_sender pipe sender) Skip (cond {A = Verdict} is_over OverLimit (cond {A = Verdict} (eqb n pipe.depth) Full In)))
+    ap (λ n. cond {A = Verdict} (ignores_sender pipe sender) Skip (cond {A = Verdict} is_over OverLimit (cond {A = Verdict} (nat_lt n pipe.depth) In (cond {A = Verdict} (drops_oldest pipe) Oldest Full))))
     (length-map pipe.queue read)
+
+-- what is queued then
+pub queue_after-map : {A B : Type 0} (read : A → B) (verdict : Verdict) (newest : A) (queue : List A) →
+    map read (queue_after verdict newest queue) ≡ queue_after verdict (read newest) (map read queue)
+queue_after-map read Skip newest queue = refl
+queue_after-map read OverLimit newest queue = refl
+queue_after-map read In newest queue = map_push read queue newest
+queue_after-map read Oldest newest [] = refl
+queue_after-map read Oldest newest (item ∷ items) = map_push read items newest
+queue_after-map read Full newest queue = refl
 
 -- an offer
 pub offered_over-map : {A B : Type 0} (read : A → B) (is_over : Bool) (sender : ℕ) (newest : A) (pipe : PipeOf A) →
     pipe_by read (offered_over is_over sender newest pipe) ≡ offered_over is_over sender (read newest) (pipe_by read pipe)
 offered_over-map {A} {B} read is_over sender newest pipe =
-    by_test (is_in (verdict_over is_over pipe sender))
-    ∙ ap (λ v. cond {A = PipeOf B} (is_in v) (record (pipe_by read pipe) { queue = map read pipe.queue ++ read newest ∷ [] }) (pipe_by read pipe)) (sym (verdict_over-map read is_over pipe sender))
-  where
-    by_test : (b : Bool) →
-        pipe_by read (cond {A = PipeOf A} b (record pipe { queue = pipe.queue ++ newest ∷ [] }) pipe)
-        ≡ cond {A = PipeOf B} b (record (pipe_by read pipe) { queue = map read pipe.queue ++ read newest ∷ [] }) (pipe_by read pipe)
-    by_test true = ap (λ queue. record (pipe_by read pipe) { queue = queue }) (map_push read pipe.queue newest)
-    by_test false = refl
+    let with_queue : List B → PipeOf B = λ queue. record (pipe_by read pipe) { queue = queue } in
+    ap with_queue (queue_after-map read (verdict_over is_over pipe sender) newest pipe.queue)
+    ∙ ap (λ v. with_queue (queue_after v (read newest) (map read pipe.queue))) (sym (verdict_over-map read is_over pipe sender))
 
 module _ {A B : Type 0} (read : A → B) (from : Offer A) (to : Offer B) (is : IsOffer read from to) where
   pub verdict-map : (sub : Subscription) (pipe : PipeOf A) →
@@ -133,22 +139,29 @@ module _ {A B : Type 0} (read : A → B) (from : Offer A) (to : Offer B) (is : I
       deliver-map subs (with_pipe (offered from sub) sub.pipe pipes)
       ∙ ap (deliver to subs) (with_pipe-map read (offered from sub) (offered to sub) (offered-map sub) sub.pipe pipes)
 
-  taken_by-map : (sub : Subscription) (pipes : List (PipeOf A)) → taken_by from sub pipes ≡ taken_by to sub (map (pipe_by read) pipes)
-  taken_by-map sub pipes =
+  counted_by-map : (test : Verdict → Bool) (sub : Subscription) (pipes : List (PipeOf A)) → counted_by test from sub pipes ≡ counted_by test to sub (map (pipe_by read) pipes)
+  counted_by-map test sub pipes =
       by_pipe (pipe_at pipes sub.pipe)
-      ∙ ap (λ o. option_map_or {U = ℕ} (λ (pipe : PipeOf B). cond (is_in (verdict to.subscription_of pipe sub to.sender)) 1 0) o 0) (sym (pipe_at-map read pipes sub.pipe))
+      ∙ ap (λ o. option_map_or {U = ℕ} (λ (pipe : PipeOf B). cond (test (verdict to.subscription_of pipe sub to.sender)) 1 0) o 0) (sym (pipe_at-map read pipes sub.pipe))
     where
       by_pipe : (o : Option (PipeOf A)) →
-          ◌≡◌ {A = ℕ} (option_map_or (λ (pipe : PipeOf A). cond (is_in (verdict from.subscription_of pipe sub from.sender)) 1 0) o 0)
-          (option_map_or (λ (pipe : PipeOf B). cond (is_in (verdict to.subscription_of pipe sub to.sender)) 1 0) (option_map (pipe_by read) o) 0)
+          ◌≡◌ {A = ℕ} (option_map_or (λ (pipe : PipeOf A). cond (test (verdict from.subscription_of pipe sub from.sender)) 1 0) o 0)
+          (option_map_or (λ (pipe : PipeOf B). cond (test (verdict to.subscription_of pipe sub to.sender)) 1 0) (option_map (pipe_by read) o) 0)
       by_pipe None = refl
-      by_pipe (Some pipe) = ap (λ v. cond {A = ℕ} (is_in v) 1 0) (sym (verdict-map sub pipe))
+      by_pipe (Some pipe) = ap (λ v. cond {A = ℕ} (test v) 1 0) (sym (verdict-map sub pipe))
 
-  -- how many take it
+  -- how many have such a verdict
+  pub verdicts_of-map : (test : Verdict → Bool) (subs : List Subscription) (pipes : List (PipeOf A)) →
+      verdicts_of test from subs pipes ≡ verdicts_of test to subs (map (pipe_by read) pipes)
+  verdicts_of-map test [] pipes = refl
+  verdicts_of-map test (sub ∷ subs) pipes =
+      ap (λ n. n + verdicts_of test from subs (with_pipe (offered from sub) sub.pipe pipes)) (counted_by-map test sub pipes)
+      ∙ ap (λ n. counted_by test to sub (map (pipe_by read) pipes) + n)
+      (verdicts_of-map test subs (with_pipe (offered from sub) sub.pipe pipes)
+      ∙ ap (verdicts_of test to subs) (with_pipe-map read (offered from sub) (offered to sub) (offered-map sub) sub.pipe pipes))
+
   pub reached-map : (subs : List Subscription) (pipes : List (PipeOf A)) → reached from subs pipes ≡ reached to subs (map (pipe_by read) pipes)
-  reached-map [] pipes = refl
-  reached-map (sub ∷ subs) pipes =
-      ap (λ n. n + reached from subs (with_pipe (offered from sub) sub.pipe pipes)) (taken_by-map sub pipes)
-      ∙ ap (λ n. taken_by to sub (map (pipe_by read) pipes) + n)
-      (reached-map subs (with_pipe (offered from sub) sub.pipe pipes)
-      ∙ ap (reached to subs) (with_pipe-map read (offered from sub) (offered to sub) (offered-map sub) sub.pipe pipes))
+  reached-map subs pipes = verdicts_of-map is_queued subs pipes
+
+  pub drops-map : (subs : List Subscription) (pipes : List (PipeOf A)) → drops from subs pipes ≡ drops to subs (map (pipe_by read) pipes)
+  drops-map subs pipes = verdicts_of-map is_oldest subs pipes

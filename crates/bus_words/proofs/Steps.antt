@@ -16,7 +16,7 @@ use Rattle.pool_words.proofs.Following.{Follow, follows_create, follows_get, fol
 use Rattle.bus_words.specs.declared.history.Call.{Call}
 use Rattle.bus_words.specs.declared.history.Call.TheVariants.{Create, Delete, SetOpts, GetOpts, Find, PipeName, Subscribe, Unsubscribe, Transmit, Receive, Pend, Look, Allocate, TransmitBuffer, Release, PoolCreate, PoolGet, PoolPut, PoolFigures, Register, SendEvent, ResetFilter, LogMode, ClearLog, Housekeeping, Figures, End}
 use Rattle.bus_words.specs.declared.history.Entry.{Entry}
-use Rattle.bus_words.specs.Bus.{Pipe, Subscription, State, Standing, Active, Waiting, Ended, Sending, opening, with_pipe, with_bits, with_standing, has_ended, is_empty, others_idle, route, is_subscribed, has_route, offered, deliver, is_in, verdict, item_for, after_receive, owns, has_unsent, unsent_size}
+use Rattle.bus_words.specs.Bus.{Pipe, Subscription, State, Standing, Active, Waiting, Ended, Sending, opening, with_pipe, with_bits, with_standing, has_ended, is_empty, others_idle, route, is_subscribed, has_route, offered, deliver, after_receive, owns, has_unsent, unsent_size}
 use Rattle.bus_words.specs.Held.{account_of, account_drawn}
 use Rattle.bus_words.specs.Refusals.{Refusal, OfBus, OfPools, OfEvents}
 use Rattle.bus_words.specs.Machine.{sending_from, packet_in, transmitted, recorded, by_bus, created, deleted, unsubscribed, sent_along, allocated, buffer_gone, passed_along, stamped, front_of, reads_after, received, ended, cause, create_cause, subscribe_cause, unowned_cause, set_opts_cause, unsubscribe_cause, transmit_cause, allocate_cause, transmit_buffer_cause, release_cause, refused_if, accept, refused_state, decided, step, state_from, state_after}
@@ -102,7 +102,7 @@ pub record Keeps (F : State → Type 0) (limits : Limits) (s : State) (app : ℕ
       has_room (account_of limits s) sending.asked ≡ true → F (with_sent limits s sending (route s.subscriptions id))
   pub receives : (pipe : ℕ) → F (received s pipe)
   pub deletes : (pipe : ℕ) → unowned_cause s app pipe ≡ None → F (deleted s pipe)
-  pub sets : (pipe bits : ℕ) → set_opts_cause s app pipe bits ≡ None → F (record s { pipes = with_pipe (with_bits bits) pipe s.pipes })
+  pub sets : (pipe bits : ℕ) → set_opts_cause limits s app pipe bits ≡ None → F (record s { pipes = with_pipe (with_bits bits) pipe s.pipes })
   pub unsubscribes : (id pipe : ℕ) → unsubscribe_cause s app id pipe ≡ None → F (unsubscribed s id pipe)
   pub stands : (pipe : ℕ) (standing : Standing) → has_ended standing ≡ false → F (with_standing (received s pipe) app standing)
   pub ends : F (ended s app)
@@ -186,7 +186,7 @@ after_accepted : (F : State → Type 0) (limits : Limits) (history : List Entry)
     cause limits history s app call ≡ None → Keeps F limits s app → F ((accept limits history s app call).1)
 after_accepted F limits history s app (Create depth name) none keeps = keeps.creates depth name (by_bus-none (create_cause limits s depth name) none)
 after_accepted F limits history s app (Delete pipe) none keeps = keeps.deletes pipe (by_bus-none (unowned_cause s app pipe) none)
-after_accepted F limits history s app (SetOpts pipe bits) none keeps = keeps.sets pipe bits (by_bus-none (set_opts_cause s app pipe bits) none)
+after_accepted F limits history s app (SetOpts pipe bits) none keeps = keeps.sets pipe bits (by_bus-none (set_opts_cause limits s app pipe bits) none)
 after_accepted F limits history s app (GetOpts pipe) none keeps = keeps.same
 after_accepted F limits history s app (Find name) none keeps = keeps.same
 after_accepted F limits history s app (PipeName pipe) none keeps = keeps.same
@@ -321,11 +321,7 @@ pipe_numbers-with_pipe change keeps number (pipe ∷ pipes) =
 
 -- an offer keeps the pipe's number
 pub number-offered : (sending : Sending) (sub : Subscription) (pipe : Pipe) → (offered sending sub pipe).number ≡ pipe.number
-number-offered sending sub pipe =
-    elim (is_in (verdict pipe sub sending.sender)) as (λ b. (cond {A = Pipe} b (record pipe { queue = pipe.queue ++ item_for sending sub ∷ [] }) pipe).number ≡ pipe.number) [
-      | true ↦ refl
-      | false ↦ refl
-    ]
+number-offered sending sub pipe = refl
 
 -- a delivery keeps the numbers
 pub pipe_numbers-deliver : (sending : Sending) (subs : List Subscription) (pipes : List Pipe) →
