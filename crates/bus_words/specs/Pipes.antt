@@ -169,6 +169,14 @@ module _ {item : Type 0} where
   queue_after Oldest newest queue = drop 1 queue ++ newest ∷ []
   queue_after Full newest queue = queue
 
+  -- what leaves of the queue then: at Oldest the item that waits longest
+  abbrev pub dropped_at : Verdict → List item → Option item
+  dropped_at Skip queue = None
+  dropped_at OverLimit queue = None
+  dropped_at In queue = None
+  dropped_at Oldest queue = oldest queue
+  dropped_at Full queue = None
+
   -- the pipe once it was offered an item of this sender, where it is told whether its subscription's limit is reached
   abbrev pub offered_over : Bool → ℕ → item → PipeOf item → PipeOf item
   offered_over is_over sender newest pipe = record pipe { queue = queue_after (verdict_over is_over pipe sender) newest pipe.queue }

@@ -65,7 +65,7 @@ impl PipeQueue {
     /// # Errors
     /// `Full` if and only if as many items wait as the depth says; then nothing changes.
     pub fn try_put(&mut self, item: Item) -> Result<(), Full>
-        ensures full { IsErr result ↔ (length self.old.queue ≡ self.old.depth) }
+        ensures full { IsErr result ↔ (self.old.depth ≤ length self.old.queue) }
         ensures put { OnOk result
             (self.new ≡ record self.old { queue = self.old.queue ++ item ∷ [] }) }
         ensures same { OnErr result (self.new ≡ self.old) }
@@ -75,6 +75,19 @@ impl PipeQueue {
         }
         let _ = self.ring.try_push_back(item);
         Ok(())
+    }
+
+    /// Takes out the item that waits longest, and queues this one as the newest: of a started queue
+    /// that is full, the oldest item leaves for a newer one. Answers the one that left.
+    pub fn put_for_oldest(&mut self, item: Item) -> Option<Item>
+        requires started { 1 ≤ self.old.depth }
+        ensures first { result ≡ slice_get self.old.queue 0 }
+        ensures put { self.new ≡
+            record self.old { queue = drop 1 self.old.queue ++ item ∷ [] } }
+    {
+        let oldest = self.ring.pop_front();
+        let _ = self.ring.try_push_back(item);
+        oldest
     }
 
     /// Takes out the item that waits longest; None exactly where none waits.

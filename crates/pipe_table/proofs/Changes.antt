@@ -7,7 +7,7 @@ use Rattle.std.proofs.lemmas.List.{length-set, length_push}
 use Rattle.std.proofs.lemmas.List.Edits.{length-remove}
 use Rattle.std.proofs.lemmas.List.Elements.{All-set, All-weaker, All-nil, All-cons, All-head, All-tail}
 use Rattle.pipe_queue.specs.declared.item.Item.{Item}
-use Rattle.bus_words.specs.Pipes.{PipeOf, is_in, with_pipe, without_pipe, verdict_over, offered_over}
+use Rattle.bus_words.specs.Pipes.{PipeOf, with_pipe, without_pipe, offered_over}
 use Rattle.pipe_table.specs.Table.{without_place}
 use Rattle.pipe_table.specs.Inside.{PlaceState, pipe_in, pipe_of, number_of, place_under, live_in, table_of, AreFiled, IsFree, AreKept}
 use Rattle.pipe_table.proofs.Filing.{StandsAt, nowhere, is_same, pipe_here, ordered, under_index, stands_under, as_many, changed, filed_changed, live_apart, filed_apart, free_apart, removed, filed_removed, removed_apart, pipe_elsewhere, pipe_there, IsApart, pairs_push, pairs_without, pairs_removed}
@@ -106,11 +106,7 @@ module _ (depth : ℕ) (places : List PlaceState) (numbers at frees : List ℕ) 
 
 -- an offer leaves the number
 pub same-offered_over : (is_over : Bool) (sender : ℕ) (item : Item) (pipe : PipeOf Item) → (offered_over is_over sender item pipe).number ≡ pipe.number
-same-offered_over is_over sender item pipe = by_test (is_in (verdict_over is_over pipe sender))
-  where
-    by_test : (b : Bool) → (cond {A = PipeOf Item} b (record pipe { queue = pipe.queue ++ item ∷ [] }) pipe).number ≡ pipe.number
-    by_test true = refl
-    by_test false = refl
+same-offered_over is_over sender item pipe = refl
 
 -- Creating one. --
 

@@ -2,7 +2,8 @@
 use Rattle.std.specs.Prelude.{◌≡◌, ℕ, eqb, ◌+◌, ◌==◌, if◌then◌else◌, ◌<◌, ◌≤◌, All, List, [], ◌∷◌, ◌++◌, length, zip, Option, Some, None, slice_index_or}
 use Rattle.std.specs.Option.{option_map, option_to_list}
 use Rattle.std.specs.List.{IsDistinct}
-use Rattle.bus_words.specs.Pipes.{PipeOf}
+use Rattle.bus_words.specs.declared.verdict.Verdict.{Verdict}
+use Rattle.bus_words.specs.Pipes.{PipeOf, queue_after}
 use Rattle.pipe_queue.specs.declared.item.Item.{Item}
 use Rattle.pipe_table.specs.Table.{Pipes}
 
@@ -10,6 +11,10 @@ use Rattle.pipe_table.specs.Table.{Pipes}
 pub record PlaceState : Type 0 where
   pub pipe : Option (PipeOf Item)
   pub room : ℕ
+
+-- the pipe once it was offered an item that got this verdict
+abbrev pub judged : Verdict → Item → PipeOf Item → PipeOf Item
+judged verdict item pipe = record pipe { queue = queue_after verdict item pipe.queue }
 
 -- the pipe in a place
 abbrev pub pipe_in : List PlaceState → ℕ → Option (PipeOf Item)

@@ -21,9 +21,11 @@
 //! ```
 #![tactic(auto)]
 
+mod offered;
 mod pipe_no;
 mod place;
 mod table;
 
+pub use offered::Offered;
 pub use pipe_no::PipeNo;
 pub use table::PipeTable;

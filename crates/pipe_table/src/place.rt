@@ -1,9 +1,11 @@
 //! A place for a pipe.
-ghost use Rattle.std.specs.Prelude.{◌≡◌, ◌==◌, ◌≤◌, ◌+◌, ◌<◌, [], length, Some, None, IfOk, IsSome, false, ◌%◌, ◌&&◌};
+ghost use Rattle.std.specs.Prelude.{◌≡◌, ◌==◌, ◌≤◌, ◌+◌, ◌<◌, [], length, Some, None, IfOk, IsSome, false, ◌/◌, ◌%◌, ◌&&◌, if◌then◌else◌};
 ghost use Rattle.std.specs.Option.{option_map, option_map_or, option_and_then};
 ghost use Rattle.std.specs.Str.{bytes_eq};
-ghost use Rattle.bus_words.specs.Pipes.{oldest, new_pipe, ignores_sender, verdict_over, offered_over, with_bits, after_receive, without_front, without_last};
+ghost use Rattle.bus_words.specs.Pipes.{oldest, new_pipe, ignores_sender, verdict_over, offered_over, with_bits, after_receive, without_front, without_last, drops_oldest, dropped_at};
+ghost use Rattle.pipe_table.specs.Inside.{judged};
 
+use crate::offered::Offered;
 use bus_words::{PipeText, Verdict};
 use fsw_base::AppNo;
 use pipe_queue::{Full, Item, PipeQueue};
@@ -33,7 +35,7 @@ pub(crate) struct Place {
 }
 
 impl Model for Place {
-    ghost use Rattle.std.specs.Prelude.{◌≡◌, [], None, Some};
+    ghost use Rattle.std.specs.Prelude.{◌≡◌, ◌≤◌, [], None, Some, IsSome};
     ghost use Rattle.std.specs.Option.{option_map};
     ghost use Rattle.pipe_table.specs.Inside.{PlaceState};
 
@@ -52,7 +54,8 @@ impl Model for Place {
       room = p.queue.room;
     } };
 
-    ghost invariant = { λ p. p.label ≡ None → (p.queue.queue ≡ []) × (p.queue.last ≡ None) };
+    ghost invariant = { λ p. (p.label ≡ None → (p.queue.queue ≡ []) × (p.queue.last ≡ None)) ×
+        (IsSome p.label → 1 ≤ p.queue.depth) };
 }
 
 impl Place {
@@ -207,11 +210,14 @@ impl Place {
     }
 
     /// Offers the pipe a message of this sender, and is told whether its subscription's limit is
-    /// reached: queues it, unless something is against it.
-    pub(crate) fn offer(&mut self, sender: AppNo, is_over: bool, item: Item) -> Verdict
+    /// reached: queues it, unless something is against it. Of a full pipe that drops its oldest
+    /// message, that one leaves.
+    pub(crate) fn offer(&mut self, sender: AppNo, is_over: bool, item: Item) -> Offered
         requires { IsSome self.old.pipe }
         ensures told { option_map (λ pipe. verdict_over is_over pipe sender) self.old.pipe ≡
-            Some result }
+            Some result.verdict }
+        ensures dropped { result.dropped ≡
+            option_and_then (λ pipe. dropped_at result.verdict pipe.queue) self.old.pipe }
         ensures after { self.new ≡
             record
             self.old {
@@ -219,14 +225,44 @@ impl Place {
             } }
     {
         if self.ignores(sender) {
-            return Verdict::Skip;
+            return Offered::dropping_none(Verdict::Skip);
         }
         if is_over {
-            return Verdict::OverLimit;
+            return Offered::dropping_none(Verdict::OverLimit);
         }
         match self.queue.try_put(item) {
-            Ok(()) => Verdict::In,
-            Err(Full) => Verdict::Full,
+            Ok(()) => Offered::dropping_none(Verdict::In),
+            Err(Full) => self.offer_where_full(item),
+        }
+    }
+
+    // Offers the pipe, which is full, a message: where the pipe drops its oldest one for it, that
+    // one leaves, and the message is queued.
+    fn offer_where_full(&mut self, item: Item) -> Offered
+        requires { IsSome self.old.pipe }
+        ensures told { option_map (λ pipe. if drops_oldest pipe then Verdict.Oldest else Verdict.Full)
+            self.old.pipe ≡ Some result.verdict }
+        ensures dropped { result.dropped ≡
+            option_and_then (λ pipe. dropped_at result.verdict pipe.queue) self.old.pipe }
+        ensures after { self.new ≡
+            record self.old { pipe = option_map (judged result.verdict item) self.old.pipe } }
+    {
+        if !self.drops_oldest() {
+            return Offered::dropping_none(Verdict::Full);
+        }
+        Offered {
+            verdict: Verdict::Oldest,
+            dropped: self.queue.put_for_oldest(item),
+        }
+    }
+
+    // Whether the pipe drops its oldest message where it is full.
+    fn drops_oldest(&self) -> bool
+        ensures { result ≡ option_map_or drops_oldest self.now.pipe false }
+    {
+        match &self.label {
+            Some(label) => label.bits / 2 % 2 == 1,
+            None => false,
         }
     }
 

@@ -1,14 +1,15 @@
 //! The table.
 ghost use Rattle.std.specs.Prelude.{◌≡◌, ℕ, ◌==◌, ◌+◌, ◌<◌, ◌≤◌, ◌^◌, ◌↔◌, ◌++◌, ◌∷◌, [], length, map, replicate, true, false, All, IfOk, IsErr, IsSome, IfSome, IsTrue, slice_index, slice_index_or, None, Some, vec_len, vec_capacity};
 ghost use Rattle.std.specs.List.{list_any, range_with_len};
-ghost use Rattle.std.specs.Option.{option_map, option_map_or, option_to_list};
-ghost use Rattle.bus_words.specs.Pipes.{pipe_at, is_live, owns, pipe_named, first_owned, oldest_on, last_on, IsRising, with_pipe, without_pipe, new_pipe, with_bits, after_receive, without_front, without_last, verdict_over, offered_over};
+ghost use Rattle.std.specs.Option.{option_map, option_map_or, option_and_then, option_to_list};
+ghost use Rattle.bus_words.specs.Pipes.{pipe_at, is_live, owns, pipe_named, first_owned, oldest_on, last_on, IsRising, with_pipe, without_pipe, new_pipe, with_bits, after_receive, without_front, without_last, verdict_over, dropped_at, offered_over};
 ghost use Rattle.pipe_table.specs.Table.{Pipes, place_of, without_place};
 ghost use Rattle.pipe_table.specs.Inside.{pipe_in, live_in, place_under, AreRising, AreOrdered, AreFiled};
 
+use crate::offered::Offered;
 use crate::pipe_no::PipeNo;
 use crate::place::Place;
-use bus_words::{PipeText, Verdict};
+use bus_words::PipeText;
 use fsw_base::AppNo;
 use pipe_queue::Item;
 use std::alloc::{AllocError, Global};
@@ -267,13 +268,17 @@ impl PipeTable {
     }
 
     /// Offers a live pipe a message of this sender, and is told whether its subscription's limit is
-    /// reached: queues it, unless the pipe ignores the sender, the limit is reached, or as many
-    /// messages wait as the pipe's depth; answers the first of these that holds. By the code, looks
-    /// once at the pipe's place, and at no other.
-    pub fn offer(&mut self, pipe: PipeNo, sender: AppNo, is_over: bool, item: Item) -> Verdict
+    /// reached. The pipe queues it, unless it ignores the sender, the limit is reached, or as many
+    /// messages wait as its depth: these are asked in this order, and the first that holds is
+    /// answered. A full pipe whose option bits say so drops the message that waits longest, and
+    /// queues the new one. By the code, looks once at the pipe's place, and at no other.
+    pub fn offer(&mut self, pipe: PipeNo, sender: AppNo, is_over: bool, item: Item) -> Offered
         requires live { place_of self.old.places pipe.number ≡ Some pipe.place }
         ensures told { option_map (λ pipe. verdict_over is_over pipe sender)
-            (pipe_at self.old.live pipe.number) ≡ Some result }
+            (pipe_at self.old.live pipe.number) ≡ Some result.verdict }
+        ensures dropped { result.dropped ≡
+            option_and_then (λ pipe. dropped_at result.verdict pipe.queue)
+            (pipe_at self.old.live pipe.number) }
         ensures after { self.new ≡
             record
             self.old {

@@ -1,8 +1,8 @@
 -- The pipe lies in the place that it goes by.
 use Rattle.std.proofs.Common.{Option, refl, ap, sym, ◌∙◌, subst, arith}
-use Rattle.std.specs.Option.{IsSome, option_map}
+use Rattle.std.specs.Option.{IsSome, option_map, option_and_then}
 use Rattle.std.proofs.lemmas.List.{get_or_default, length-set}
-use Rattle.bus_words.specs.Pipes.{PipeOf, pipe_at, with_pipe, verdict_over, offered_over}
+use Rattle.bus_words.specs.Pipes.{PipeOf, pipe_at, with_pipe, verdict_over, dropped_at, offered_over}
 use Rattle.pipe_queue.specs.declared.item.Item.{Item}
 use Rattle.pipe_table.specs.Table.{Pipes, place_of}
 use Rattle.pipe_table.specs.Inside.{PlaceState}
@@ -56,6 +56,17 @@ returns-clause-told c =
     let read = c.index_mut.ensures.value ∙ get_or_default a.places.items p _ nowhere (stands_under 0 a.places.items a.live.items a.at.items number p kept.filed under).there in
     let seen = seen_at a.places.items a.live.items a.at.items number p _ kept.filed under read ∙ ap (λ (t : Pipes). pipe_at t.live number) c.self.view_is in
     ap (option_map (λ pipe. verdict_over c.args.is_over pipe c.args.sender)) (sym seen) ∙ c.offer.ensures.told
+
+pub returns-clause-dropped : goal.returns-clause-dropped
+returns-clause-dropped c =
+    let a = c.self.inside in
+    let number = c.args.pipe.number in
+    let p = c.args.pipe.place in
+    let kept = c.self.invariant.0 in
+    let under = place_seen a.live.items a.at.items number ∙ ap (λ (t : Pipes). place_of t.places number) c.self.view_is ∙ c.requires.live in
+    let read = c.index_mut.ensures.value ∙ get_or_default a.places.items p _ nowhere (stands_under 0 a.places.items a.live.items a.at.items number p kept.filed under).there in
+    let seen = seen_at a.places.items a.live.items a.at.items number p _ kept.filed under read ∙ ap (λ (t : Pipes). pipe_at t.live number) c.self.view_is in
+    c.offer.ensures.dropped ∙ ap (option_and_then (λ pipe. dropped_at c.offer.result.verdict pipe.queue)) seen
 
 pub returns-clause-after : goal.returns-clause-after
 returns-clause-after c =

@@ -1,0 +1,27 @@
+//! What became of a message that a pipe was offered.
+ghost use Rattle.std.specs.Prelude.{◌≡◌, None};
+
+use bus_words::Verdict;
+use pipe_queue::Item;
+
+/// What became of a message that a pipe was offered.
+#[derive(Clone, Copy, Debug, PartialEq, Eq)]
+pub struct Offered {
+    /// Whether the pipe queued it, and why it didn't.
+    pub verdict: Verdict,
+    /// The message that left for it, which waited longest: one if and only if the verdict is
+    /// Oldest.
+    pub dropped: Option<Item>,
+}
+
+impl Offered {
+    /// This verdict, for which no message left.
+    pub(crate) fn dropping_none(verdict: Verdict) -> Offered
+        ensures { result ≡ record { verdict = verdict; dropped = None } }
+    {
+        Offered {
+            verdict,
+            dropped: None,
+        }
+    }
+}
