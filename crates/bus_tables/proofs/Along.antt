@@ -19,7 +19,7 @@ use Rattle.bus_tables.specs.declared.misses.Miss.{Miss}
 use Rattle.bus_tables.specs.declared.misses.MissCause.{MissCause}
 use Rattle.bus_words.specs.Pipes.{with_pipe, pipe_at, verdict}
 use Rattle.bus_tables.specs.declared.tables.ItemRow.{ItemRow}
-use Rattle.bus_tables.specs.Rows.{Row, offered_row, row_takes, deliver_rows, reached_rows, row_misses, missed_rows}
+use Rattle.bus_tables.specs.Rows.{Row, offered_row, row_takes, deliver_rows, reached_rows, row_misses, missed_rows, row_drops, dropped_rows}
 use Rattle.bus_tables.specs.Inside.{row_in, sub_in, uncounted, still, frame, of_id, AreQueued, AreRouted}
 use Rattle.bus_tables.proofs.OffersLists.{all_both, Rises, all_above}
 use Rattle.bus_tables.proofs.OffersSubs.{subs_rise, live_still}
@@ -119,9 +119,11 @@ pub record Walked (old : Pipes) (first : Subscribed) (routing : Routing) (id way
   pub same : still subs ≡ still first
   pub queued : AreQueued pipes.live subs
 
--- So many destinations are done: the pipes told so far, and those that what is left will tell, are those that the whole tells.
+-- So many destinations are done: the pipes told so far, and those that what is left will tell, are those that the whole tells;
+-- and so are the items that left.
 pub record Told (old : Pipes) (first : Subscribed) (id : ℕ) (message : Message) (start : Missed) (k : ℕ) (pipes : Pipes) (misses : Missed) : Type 0 where
   pub told : misses.items ++ missed_rows message (map sub_in (drop k (of_id id first))) (map row_in pipes.live) ≡ missed_rows message (map sub_in (of_id id first)) (map row_in old.live)
+  pub dropped : misses.dropped ++ dropped_rows message (map sub_in (drop k (of_id id first))) (map row_in pipes.live) ≡ dropped_rows message (map sub_in (of_id id first)) (map row_in old.live)
   pub short : length misses.items ≤ k
   pub room : misses.room ≡ start.room
 
@@ -134,9 +136,9 @@ one_told message sub rows = by_cause (option_and_then (λ (row : Row). cause_of 
     by_cause (Some cause) = omega arith
 
 -- before the first
-pub told_first : (old : Pipes) (first : Subscribed) (id : ℕ) (message : Message) (start misses : Missed) → misses ≡ record start { items = [] } → Told old first id message start 0 old misses
+pub told_first : (old : Pipes) (first : Subscribed) (id : ℕ) (message : Message) (start misses : Missed) → misses ≡ record start { items = []; dropped = [] } → Told old first id message start 0 old misses
 told_first old first id message start misses is =
-    subst (λ m. Told old first id message start 0 old m) (sym is) (record { told = refl; short = omega arith; room = refl })
+    subst (λ m. Told old first id message start 0 old m) (sym is) (record { told = refl; dropped = refl; short = omega arith; room = refl })
 
 module _ (old : Pipes) (first : Subscribed) (routing : Routing) (id way : ℕ) (message : Message)
     (order : AreInOrder first) (routed : AreRouted first routing) (is : route_of routing.routes id ≡ Some way) where
@@ -229,7 +231,7 @@ module _ (old : Pipes) (first : Subscribed) (routing : Routing) (id way : ℕ) (
 
     -- what is told after one more
     pub told_more : (start misses after_misses : Missed) (after : Pipes) → Told old first id message start k pipes misses →
-        ((s : Subscription) → live_at subs sub ≡ Some s → after_misses ≡ record misses { items = misses.items ++ row_misses message (sub_in s) (map row_in pipes.live) }) →
+        ((s : Subscription) → live_at subs sub ≡ Some s → after_misses ≡ record misses { items = misses.items ++ row_misses message (sub_in s) (map row_in pipes.live); dropped = misses.dropped ++ row_drops message (sub_in s) (map row_in pipes.live) }) →
         ((s : Subscription) → live_at subs sub ≡ Some s → map row_in after.live ≡ with_pipe (offered_row message (sub_in s)) s.pipe (map row_in pipes.live)) →
         Told old first id message start (k + 1) after after_misses
     told_more start misses after_misses after told missed rows =
@@ -239,8 +241,10 @@ module _ (old : Pipes) (first : Subscribed) (routing : Routing) (id way : ℕ) (
         let changed : map row_in after.live ≡ with_pipe (offered_row message (sub_in s)) s.pipe (map row_in pipes.live) =
         rows now.0 now.1 ∙ ap (λ t. with_pipe (offered_row message t) t.pipe (map row_in pipes.live)) now.2 in
         let one : List Miss = row_misses message (sub_in s) (map row_in pipes.live) in
-        let is : after_misses ≡ record misses { items = misses.items ++ one } =
-        missed now.0 now.1 ∙ ap (λ t. let m : Missed = record misses { items = misses.items ++ row_misses message t (map row_in pipes.live) } in m) now.2 in
+        let gone : List ItemRow = row_drops message (sub_in s) (map row_in pipes.live) in
+        let is : after_misses ≡ record misses { items = misses.items ++ one; dropped = misses.dropped ++ gone } =
+        missed now.0 now.1
+        ∙ ap (λ t. let m : Missed = record misses { items = misses.items ++ row_misses message t (map row_in pipes.live); dropped = misses.dropped ++ row_drops message t (map row_in pipes.live) } in m) now.2 in
         subst (λ m. Told old first id message start (k + 1) after m) (sym is)
         (record {
           told =
@@ -248,6 +252,11 @@ module _ (old : Pipes) (first : Subscribed) (routing : Routing) (id way : ℕ) (
               ∙ ap (λ r. misses.items ++ (one ++ missed_rows message rest r)) changed
               ∙ ap (λ l. misses.items ++ missed_rows message l (map row_in pipes.live)) (sym here)
               ∙ told.told;
+          dropped =
+              append_assoc misses.dropped gone (dropped_rows message rest (map row_in after.live))
+              ∙ ap (λ r. misses.dropped ++ (gone ++ dropped_rows message rest r)) changed
+              ∙ ap (λ l. misses.dropped ++ dropped_rows message l (map row_in pipes.live)) (sym here)
+              ∙ told.dropped;
           short = omega (arith, length-append misses.items one, one_told message (sub_in s) (map row_in pipes.live), told.short);
           room = told.room;
         })
@@ -274,14 +283,26 @@ module _ (old : Pipes) (first : Subscribed) (routing : Routing) (id way : ℕ) (
         omega (arith, zero, walked.reached)
         ∙ ap (λ l. reached_rows message l (map row_in old.live)) (sym (route_seen first id))
 
-    pub all_told : (start misses : Missed) → Told old first id message start k pipes misses → misses ≡ record start { items = missed_rows message (route (map sub_in first.live) id) (map row_in old.live) }
+    pub all_told : (start misses : Missed) → Told old first id message start k pipes misses →
+        misses ≡ record start {
+          items = missed_rows message (route (map sub_in first.live) id) (map row_in old.live);
+          dropped = dropped_rows message (route (map sub_in first.live) id) (map row_in old.live);
+        }
     all_told start misses told =
-        ap (λ l. let m : Missed = record { items = l; room = misses.room } in m)
+        ap (λ l. let m : Missed = record { items = l; dropped = misses.dropped; room = misses.room } in m)
         (sym (append-nil misses.items)
         ∙ ap (λ l. misses.items ++ missed_rows message (map sub_in l) (map row_in pipes.live)) (sym none_due)
         ∙ told.told
         ∙ ap (λ l. missed_rows message l (map row_in old.live)) (sym (route_seen first id)))
-        ∙ ap (λ n. let m : Missed = record { items = missed_rows message (route (map sub_in first.live) id) (map row_in old.live); room = n } in m) told.room
+        ∙ ap (λ l. let m : Missed = record { items = all_missed; dropped = l; room = misses.room } in m)
+        (sym (append-nil misses.dropped)
+        ∙ ap (λ l. misses.dropped ++ dropped_rows message (map sub_in l) (map row_in pipes.live)) (sym none_due)
+        ∙ told.dropped
+        ∙ ap (λ l. dropped_rows message l (map row_in old.live)) (sym (route_seen first id)))
+        ∙ ap (λ n. let m : Missed = record { items = all_missed; dropped = dropped_rows message (route (map sub_in first.live) id) (map row_in old.live); room = n } in m) told.room
+      where
+        all_missed : List Miss
+        all_missed = missed_rows message (route (map sub_in first.live) id) (map row_in old.live)
 
 -- nothing is left behind the last
 pub none_left : (k : ℕ) (dests : List Dest) → first_dest (drop k dests) ≡ None → drop k dests ≡ []

@@ -1,14 +1,15 @@
 -- A message that is offered to one subscription: what its pipe makes of it, and what waits then.
 use Rattle.std.proofs.Common.{◌≡◌, ℕ, ◌+◌, ◌≤◌, Bool, true, false, cond, eqb, leb, List, [], ◌∷◌, ◌++◌, Option, Some, None, map, refl, ap, sym, ◌∙◌, subst, arith}
 use Rattle.std.specs.List.{All}
-use Rattle.std.specs.Option.{option_map, option_map_or, option_and_then}
+use Rattle.std.specs.Option.{option_map, option_map_or, option_and_then, option_to_list}
 use Rattle.std.proofs.lemmas.Bool.{eqb-true, eq-eqb, and_parts, both_ways, false_from_ne_true}
 use Rattle.std.proofs.lemmas.List.Elements.{All-map, All-weaker, All-push}
 use Rattle.std.proofs.lemmas.List.Sums.{sum_by_push}
 use Rattle.pipe_queue.specs.declared.item.Item.{Item}
 use Rattle.bus_words.specs.declared.verdict.Verdict.{Verdict}
-use Rattle.bus_words.specs.Pipes.{PipeOf, IsRising, pipe_at, with_pipe, is_in, waiting_of, verdict_over, verdict, offered_over}
-use Rattle.bus_words.proofs.PipeItems.{waiting_of-map, verdict_over-map, offered_over-map}
+use Rattle.bus_words.specs.Pipes.{PipeOf, IsRising, pipe_at, with_pipe, is_queued, waiting_of, verdict_over, verdict, queue_after, dropped_at, without_front, oldest, oldest_on, offered_over}
+use Rattle.bus_words.specs.declared.verdict.Verdict.TheVariants as verdicts
+use Rattle.bus_words.proofs.PipeItems.{waiting_of-map, verdict_over-map, dropped_at-map, offered_over-map}
 use Rattle.pipe_table.specs.Table.{place_of}
 use Rattle.subscriptions.specs.declared.words.SubNo.{SubNo}
 use denote.Enum.Bare.{sameb}
@@ -21,10 +22,10 @@ use Rattle.bus_tables.specs.declared.message.Message.{Message}
 use Rattle.bus_tables.specs.declared.misses.Miss.{Miss}
 use Rattle.bus_tables.specs.declared.tables.ItemRow.{ItemRow}
 use Rattle.bus_tables.specs.Missed.{cause_of}
-use Rattle.bus_tables.specs.Rows.{Row, item_of, offered_row, row_takes, row_misses}
+use Rattle.bus_tables.specs.Rows.{Row, item_of, offered_row, row_takes, row_misses, row_drops}
 use Rattle.bus_tables.specs.Inside.{item_in, row_in, sub_in, waiting_at, still, IsCounted, IsPlaced, ArePlaced, IsOf, IsQueued, AreQueued}
 use Rattle.bus_tables.proofs.OffersLists.{all_both, found_is, found_passes}
-use Rattle.bus_tables.proofs.OffersRows.{changed, only_row, pipe_row-with_row, of_row_kept, row_of-rows, rows_changed, rows_kept, rows_alike}
+use Rattle.bus_tables.proofs.OffersRows.{changed, only_row, pipe_row-with_row, of_row_kept, row_of-rows, rows_changed, rows_kept, rows_alike, one_by_one}
 use Rattle.bus_tables.proofs.OffersSubs.{only_sub, still-with_change, all_still, queued_still}
 
 -- a subscription has the slot and number that it goes by
@@ -88,10 +89,10 @@ module _ (rows : List (PipeOf Item)) (s : Subscription) (row : PipeOf Item) (pip
       ap (λ b. verdict_over b row message.sender) (sym limit) ∙ plain
 
   -- whether the message reaches the pipe
-  pub taken_is : row_takes message (sub_in s) (map row_in rows) ≡ cond {A = ℕ} (is_in verdict_here) 1 0
+  pub taken_is : row_takes message (sub_in s) (map row_in rows) ≡ cond {A = ℕ} (is_queued verdict_here) 1 0
   taken_is =
-      let F : Option Row → ℕ = λ o. option_map_or (λ (r : Row). cond {A = ℕ} (is_in (verdict (λ (i : ItemRow). i.subscription) r (sub_in s) message.sender)) 1 0) o 0 in
-      ap F (row_of-rows rows s.pipe ∙ ap (option_map row_in) pipe.here) ∙ ap (λ v. cond {A = ℕ} (is_in v) 1 0) verdict_seen
+      let F : Option Row → ℕ = λ o. option_map_or (λ (r : Row). cond {A = ℕ} (is_queued (verdict (λ (i : ItemRow). i.subscription) r (sub_in s) message.sender)) 1 0) o 0 in
+      ap F (row_of-rows rows s.pipe ∙ ap (option_map row_in) pipe.here) ∙ ap (λ v. cond {A = ℕ} (is_queued v) 1 0) verdict_seen
 
   -- what is told of the pipe
   pub missed_is : row_misses message (sub_in s) (map row_in rows) ≡ told_by s.pipe verdict_here
@@ -109,17 +110,53 @@ module _ (rows : List (PipeOf Item)) (s : Subscription) (row : PipeOf Item) (pip
       ∙ ap (λ i. offered_over (leb s.limit (waiting_of (λ (i : ItemRow). i.subscription) (row_in row) s.number)) message.sender i (row_in row)) same)
       pipe.only
 
+  -- what leaves the pipe
+  pub dropped_is : row_drops message (sub_in s) (map row_in rows) ≡ option_to_list (option_map item_in (dropped_at verdict_here row.queue))
+  dropped_is =
+      let F : Option Row → List ItemRow = λ o. option_to_list (option_and_then (λ (r : Row). dropped_at (verdict (λ (i : ItemRow). i.subscription) r (sub_in s) message.sender) r.queue) o) in
+      ap F (row_of-rows rows s.pipe ∙ ap (option_map row_in) pipe.here)
+      ∙ ap (λ v. option_to_list (dropped_at v (row_in row).queue)) verdict_seen
+      ∙ ap (λ o. option_to_list o) (dropped_at-map item_in verdict_here row.queue)
+
+  -- what the pipe tells of that
+  pub left_is : (n : ℕ) (told : Verdict) (dropped : Option Item) → n ≡ s.pipe → verdict_here ≡ told →
+      dropped ≡ option_and_then (λ (p : PipeOf Item). dropped_at told p.queue) (pipe_at rows n) → dropped ≡ dropped_at verdict_here row.queue
+  left_is n told dropped at same is =
+      is
+      ∙ ap (λ o. option_and_then (λ (p : PipeOf Item). dropped_at told p.queue) o) (ap (pipe_at rows) at ∙ pipe.here)
+      ∙ ap (λ v. dropped_at v row.queue) (sym same)
+
   -- a pipe that doesn't take it stays
-  pub stays : (item : Item) → is_in verdict_here ≡ false → with_pipe (offered_over (leb s.limit s.waiting) message.sender item) s.pipe rows ≡ rows
+  pub stays : (item : Item) → is_queued verdict_here ≡ false → with_pipe (offered_over (leb s.limit s.waiting) message.sender item) s.pipe rows ≡ rows
   stays item out =
       rows_kept (offered_over (leb s.limit s.waiting) message.sender item) s.pipe row rows pipe.number
-      (ap (λ b. cond {A = PipeOf Item} b (with_item item row) row) out) pipe.only
+      (ap (λ q. let r : PipeOf Item = record row { queue = q } in r) (by_verdict verdict_here out)) pipe.only
+    where
+      by_verdict : (told : Verdict) → is_queued told ≡ false → queue_after told item row.queue ≡ row.queue
+      by_verdict verdicts.Skip none = refl
+      by_verdict verdicts.OverLimit none = refl
+      by_verdict verdicts.In none = absurd (cc (none))
+      by_verdict verdicts.Oldest none = absurd (cc (none))
+      by_verdict verdicts.Full none = refl
 
-  -- one that takes it has it last
-  pub goes_on : (item : Item) → is_in verdict_here ≡ true → with_pipe (offered_over (leb s.limit s.waiting) message.sender item) s.pipe rows ≡ with_pipe (with_item item) s.pipe rows
+  -- one that has room has it last
+  pub goes_on : (item : Item) → verdict_here ≡ verdicts.In → with_pipe (offered_over (leb s.limit s.waiting) message.sender item) s.pipe rows ≡ with_pipe (with_item item) s.pipe rows
   goes_on item takes =
       rows_alike (offered_over (leb s.limit s.waiting) message.sender item) (with_item item) s.pipe row rows pipe.number
-      (ap (λ b. cond {A = PipeOf Item} b (with_item item row) row) takes) pipe.only
+      (ap (λ v. let r : PipeOf Item = record row { queue = queue_after v item row.queue } in r) takes) pipe.only
+
+  -- one that drops its oldest item has it last too, and that one leaves first
+  pub makes_way : (item : Item) → verdict_here ≡ verdicts.Oldest →
+      with_pipe (offered_over (leb s.limit s.waiting) message.sender item) s.pipe rows ≡ with_pipe (with_item item) s.pipe (with_pipe without_front s.pipe rows)
+  makes_way item drops =
+      rows_alike (offered_over (leb s.limit s.waiting) message.sender item) (λ r. with_item item (without_front r)) s.pipe row rows pipe.number
+      (ap (λ v. let r : PipeOf Item = record row { queue = queue_after v item row.queue } in r) drops) pipe.only
+      ∙ one_by_one without_front (with_item item) s.pipe rows (λ r. refl)
+
+  -- what such a pipe drops is what waits longest there
+  pub oldest_there : (dropped : Option Item) → verdict_here ≡ verdicts.Oldest → dropped ≡ dropped_at verdict_here row.queue → oldest_on rows s.pipe ≡ dropped
+  oldest_there dropped drops is =
+      ap (λ o. option_and_then (λ (r : PipeOf Item). oldest r.queue) o) pipe.here ∙ sym (is ∙ ap (λ v. dropped_at v row.queue) drops)
 
 -- What waits then. --
 
@@ -220,6 +257,12 @@ pub pipe_is : (subs : Subscribed) (sub : SubNo) (s : Subscription) (row : SubRow
 pipe_is subs sub s row is live =
     let same : row_of s ≡ row = cc (is, live) in
     ap (λ (r : SubRow). r.pipe) (sym same)
+
+-- how many of its messages wait
+pub waiting_is : (subs : Subscribed) (sub : SubNo) (s : Subscription) (row : SubRow) → option_map row_of (live_at subs sub) ≡ Some row → live_at subs sub ≡ Some s → row.waiting ≡ s.waiting
+waiting_is subs sub s row is live =
+    let same : row_of s ≡ row = cc (is, live) in
+    ap (λ (r : SubRow). r.waiting) (sym same)
 
 -- the number that it goes by
 pub own_number : (subs : Subscribed) (sub : SubNo) (s : Subscription) → live_at subs sub ≡ Some s → sub.number ≡ s.number

@@ -1,5 +1,5 @@
 -- A change of one pipe, in the table's rows and in those that contracts see.
-use Rattle.std.proofs.Common.{◌≡◌, ℕ, Bool, true, false, cond, eqb, List, [], ◌∷◌, Option, Some, None, map, refl, ap, sym, ◌∙◌, subst}
+use Rattle.std.proofs.Common.{◌≡◌, ℕ, ◌<◌, Bool, true, false, cond, eqb, List, [], ◌∷◌, Option, Some, None, map, refl, ap, sym, ◌∙◌, subst}
 use Rattle.std.specs.List.{All}
 use Rattle.std.specs.Option.{option_map}
 use Rattle.std.proofs.lemmas.Bool.{eqb-true}
@@ -80,6 +80,34 @@ rows_alike f g number row (r ∷ rows) is same only =
         let it : r ≡ row = All-head (λ o. o.number ≡ row.number → o ≡ row) r rows only (eqb-true r.number number here ∙ sym is) in
         subst (λ o. f o ≡ g o) (sym it) same
     by_test false here = refl
+
+-- two changes, one after the other
+pub one_by_one : (f g : PipeOf Item → PipeOf Item) (number : ℕ) (rows : List (PipeOf Item)) → ((row : PipeOf Item) → (f row).number ≡ row.number) →
+    with_pipe (λ row. g (f row)) number rows ≡ with_pipe g number (with_pipe f number rows)
+one_by_one f g number [] same = refl
+one_by_one f g number (row ∷ rows) same =
+    ap (λ x. x ∷ with_pipe (λ r. g (f r)) number rows) (by_test (eqb row.number number) refl)
+    ∙ ap (λ l. changed g number (changed f number row) ∷ l) (one_by_one f g number rows same)
+  where
+    by_test : (b : Bool) → eqb row.number number ≡ b →
+        cond {A = PipeOf Item} b (g (f row)) row ≡ changed g number (cond {A = PipeOf Item} b (f row) row)
+    by_test true here = sym (ap (λ b. cond {A = PipeOf Item} b (g (f row)) (f row)) (ap (λ n. eqb n number) (same row) ∙ here))
+    by_test false here = sym (ap (λ b. cond {A = PipeOf Item} b (g row) row) here)
+
+-- the numbers still rise
+pub rising_after : (f : PipeOf Item → PipeOf Item) (number below : ℕ) (rows : List (PipeOf Item)) → ((row : PipeOf Item) → (f row).number ≡ row.number) →
+    IsRising below rows → IsRising below (with_pipe f number rows)
+rising_after f number below [] same rising = tt
+rising_after f number below (row ∷ rows) same rising =
+    let kept : (changed f number row).number ≡ row.number = by_test (eqb row.number number) in
+    (
+      subst (λ n. below < n) (sym kept) rising.0,
+      subst (λ n. IsRising n (with_pipe f number rows)) (sym kept) (rising_after f number row.number rows same rising.1),
+    )
+  where
+    by_test : (b : Bool) → (cond {A = PipeOf Item} b (f row) row).number ≡ row.number
+    by_test true = same row
+    by_test false = refl
 
 -- what a change keeps of each pipe, it keeps of the one of a number
 pub of_row_kept : {X : Type 0} (w : PipeOf Item → X) (f : PipeOf Item → PipeOf Item) (number other : ℕ) (rows : List (PipeOf Item)) →

@@ -1,5 +1,5 @@
 -- The message that waits longest leaves a pipe's queue: what waits then is counted, and contracts see the row after a receive.
-use Rattle.std.proofs.Common.{◌≡◌, ℕ, ◌+◌, ◌-◌, ◌≤◌, Bool, true, false, cond, eqb, List, [], ◌∷◌, drop, map, Option, Some, None, count_by, refl, ap, sym, ◌∙◌, subst, arith}
+use Rattle.std.proofs.Common.{◌≡◌, ℕ, ◌+◌, ◌-◌, ◌≤◌, Bool, true, false, cond, eqb, List, [], ◌∷◌, drop, map, find, Option, Some, None, count_by, refl, ap, sym, ◌∙◌, subst, arith}
 use Rattle.std.specs.List.{All}
 use Rattle.std.specs.Option.{IfSome, ForSome, option_map, option_and_then}
 use Rattle.std.proofs.lemmas.Bool.{eqb-true, eq-eqb, both_ways, and_from, false_from_ne_true}
@@ -7,6 +7,7 @@ use Rattle.std.proofs.lemmas.List.Elements.{All-head, All-map, All-weaker, All-d
 use Rattle.std.proofs.lemmas.List.Sums.{sum_by-cons}
 use Rattle.pipe_queue.specs.declared.item.Item.{Item}
 use Rattle.pipe_table.specs.Table.{Pipes}
+use Rattle.subscriptions.specs.declared.words.SubNo.{SubNo}
 use Rattle.subscriptions.specs.Subs.{Subscribed, Subscription, goes_by, live_at, one_fewer, with_change}
 use Rattle.routing.specs.Routing.{Routing}
 use Rattle.bus_tables.specs.declared.tables.BusTables.TheInside.{Inside}
@@ -207,9 +208,56 @@ module _ (f : PipeOf Item → PipeOf Item) (front : TakesFront f) (rows : List (
   queued_if None is = none_taken is
   queued_if (Some item) is = one_taken item is
 
+-- a live subscription stays, with as many of its messages waiting, or one fewer
+pub live_fewer : (subs : Subscribed) (sub : SubNo) (s : Subscription) (item : Option Item) → live_at subs sub ≡ Some s →
+    (t : Subscription) × (live_at (fewer_by item subs) sub ≡ Some t) × (t.waiting ≤ s.waiting) × (t.pipe ≡ s.pipe)
+live_fewer subs sub s None live = (s, live, omega arith, refl)
+live_fewer subs sub s (Some item) live = by_list subs.live live
+  where
+    then : Subscription → Subscription
+    then t = cond {A = Subscription} (goes_by item.sub t) (one_fewer t) t
+
+    by_test : (t : Subscription) (b : Bool) → goes_by sub (cond {A = Subscription} b (one_fewer t) t) ≡ goes_by sub t
+    by_test t true = refl
+    by_test t false = refl
+
+    fewer_waits : (t : Subscription) (b : Bool) → (cond {A = Subscription} b (one_fewer t) t).waiting ≤ t.waiting
+    fewer_waits t true = omega arith
+    fewer_waits t false = omega arith
+
+    same_pipe : (t : Subscription) (b : Bool) → (cond {A = Subscription} b (one_fewer t) t).pipe ≡ t.pipe
+    same_pipe t true = refl
+    same_pipe t false = refl
+
+    by_list : (live : List Subscription) → find (goes_by sub) live ≡ Some s →
+        (t : Subscription) × (find (goes_by sub) (map then live) ≡ Some t) × (t.waiting ≤ s.waiting) × (t.pipe ≡ s.pipe)
+    by_list [] none = absurd (cc (none))
+    by_list (x ∷ live) some = by_first (goes_by sub x) refl some (λ rest. by_list live rest)
+      where
+        by_first : (b : Bool) → goes_by sub x ≡ b → cond {A = Option Subscription} b (Some x) (find (goes_by sub) live) ≡ Some s →
+            (find (goes_by sub) live ≡ Some s → (t : Subscription) × (find (goes_by sub) (map then live) ≡ Some t) × (t.waiting ≤ s.waiting) × (t.pipe ≡ s.pipe)) →
+            (t : Subscription) × (cond {A = Option Subscription} (goes_by sub (then x)) (Some (then x)) (find (goes_by sub) (map then live)) ≡ Some t) × (t.waiting ≤ s.waiting) × (t.pipe ≡ s.pipe)
+        by_first true here is later =
+            let it : x ≡ s = cc (is) in
+            subst (λ (y : Subscription). (t : Subscription) × (cond {A = Option Subscription} (goes_by sub (then x)) (Some (then x)) (find (goes_by sub) (map then live)) ≡ Some t) × (t.waiting ≤ y.waiting) × (t.pipe ≡ y.pipe)) it
+            (
+              then x,
+              ap (λ b. cond {A = Option Subscription} b (Some (then x)) (find (goes_by sub) (map then live))) (by_test x (goes_by item.sub x) ∙ here),
+              fewer_waits x (goes_by item.sub x),
+              same_pipe x (goes_by item.sub x),
+            )
+        by_first false here is later =
+            let rest = later is in
+            (
+              rest.0,
+              ap (λ b. cond {A = Option Subscription} b (Some (then x)) (find (goes_by sub) (map then live))) (by_test x (goes_by item.sub x) ∙ here) ∙ rest.1,
+              rest.2,
+              rest.3,
+            )
+
 -- The tables then. --
 
-still_fewer : (subs : Subscribed) (item : Option Item) → still (fewer_by item subs) ≡ still subs
+pub still_fewer : (subs : Subscribed) (item : Option Item) → still (fewer_by item subs) ≡ still subs
 still_fewer subs None = refl
 still_fewer subs (Some item) = still-with_change subs item.sub one_fewer (λ s. refl)
 

@@ -2,12 +2,13 @@
 use Rattle.std.specs.Prelude.{ℕ, ◌+◌, ◌%◌, ◌==◌, Bool, List, [], ◌∷◌, ◌++◌, map, find, Option, None, if◌then◌else◌}
 use Rattle.std.specs.List.{list_any}
 use Rattle.std.specs.Option.{option_map_or}
-use Rattle.bus_words.specs.Pipes.{PipeOf, Subscription, Offer, is_in, owns, last_on}
+use Rattle.bus_words.specs.Pipes.{PipeOf, Subscription, Offer, is_queued, owns, last_on}
 use Rattle.bus_words.specs.Pipes as words
+use Rattle.bus_words.specs.declared.verdict.Verdict.{Verdict}
 use Rattle.bus_tables.specs.declared.message.Message.{Message}
 use Rattle.bus_tables.specs.declared.tables.ItemRow.{ItemRow}
 use Rattle.bus_tables.specs.declared.misses.Miss.{Miss}
-use Rattle.bus_tables.specs.Missed.{misses_by, misses_of}
+use Rattle.bus_tables.specs.Missed.{misses_by, misses_of, drops_by, dropped_of}
 
 -- Pipes. --
 
@@ -27,9 +28,9 @@ item_of message sub = record { number = message.number; desc = message.desc; sub
 abbrev pub offer_of : Message → Offer ItemRow
 offer_of message = record { sender = message.sender; subscription_of = λ item. item.subscription; item_for = item_of message }
 
--- whether the pipe takes a message of this sender for the subscription
-abbrev pub takes : Row → Subscription → ℕ → Bool
-takes row sub sender = is_in (words.verdict (λ item. item.subscription) row sub sender)
+-- the verdict on a message of this sender for the subscription
+abbrev pub verdict_on : Row → Subscription → ℕ → Verdict
+verdict_on row sub sender = words.verdict (λ item. item.subscription) row sub sender
 
 -- the row once it was offered a message for the subscription
 abbrev pub offered_row : Message → Subscription → Row → Row
@@ -37,7 +38,7 @@ offered_row message sub row = words.offered (offer_of message) sub row
 
 -- 1 where the subscription's pipe takes the message
 abbrev pub row_takes : Message → Subscription → List Row → ℕ
-row_takes message sub rows = words.taken_by (offer_of message) sub rows
+row_takes message sub rows = words.counted_by is_queued (offer_of message) sub rows
 
 -- the rows once each subscription was offered the message, in order
 abbrev pub deliver_rows : Message → List Subscription → List Row → List Row
@@ -47,15 +48,27 @@ deliver_rows message subs rows = words.deliver (offer_of message) subs rows
 abbrev pub reached_rows : Message → List Subscription → List Row → ℕ
 reached_rows message subs rows = words.reached (offer_of message) subs rows
 
+-- how many of them drop their oldest item for it
+abbrev pub drops_rows : Message → List Subscription → List Row → ℕ
+drops_rows message subs rows = words.drops (offer_of message) subs rows
+
 -- Misses. --
 
--- the subscription's pipe and why it misses the message, where it does
+-- the subscription's pipe and why a message is missed there for this one, where one is
 abbrev pub row_misses : Message → Subscription → List Row → List Miss
 row_misses message sub rows = misses_by (offer_of message) sub rows
 
--- the pipes that miss the message, in the order of the subscriptions, each as its turn comes
+-- these pipes, in the order of the subscriptions, each as its turn comes
 abbrev pub missed_rows : Message → List Subscription → List Row → List Miss
 missed_rows message subs rows = misses_of (offer_of message) subs rows
+
+-- the item that leaves the subscription's pipe for the message, where one does
+abbrev pub row_drops : Message → Subscription → List Row → List ItemRow
+row_drops message sub rows = drops_by (offer_of message) sub rows
+
+-- the items that leave, in the order of the subscriptions, each as its turn comes
+abbrev pub dropped_rows : Message → List Subscription → List Row → List ItemRow
+dropped_rows message subs rows = dropped_of (offer_of message) subs rows
 
 -- Routes. --
 

@@ -8,9 +8,13 @@ abbrev pub item_use : ℕ → Option ItemRow → ℕ
 item_use number None = 0
 item_use number (Some item) = if item.number == number then 1 else 0
 
+-- how many of these items are of the send
+abbrev pub uses_among : ℕ → List ItemRow → ℕ
+uses_among number items = count_by (λ item. item.number == number) items
+
 -- how often a pipe names the send
 abbrev pub uses_in : ℕ → Row → ℕ
-uses_in number row = count_by (λ item. item.number == number) row.queue + item_use number row.last
+uses_in number row = uses_among number row.queue + item_use number row.last
 
 -- how often the pipes name it
 abbrev pub uses_of : ℕ → List Row → ℕ

@@ -4,9 +4,10 @@ ghost use Rattle.std.specs.Option.{ForSome};
 ghost use Rattle.bus_words.specs.Bus.{route};
 ghost use Rattle.subscriptions.specs.Subs.{live_at};
 ghost use Rattle.bus_words.specs.Pipes.{with_pipe};
-ghost use Rattle.bus_tables.specs.Rows.{offered_row, row_takes, deliver_rows, reached_rows, row_misses, missed_rows};
+ghost use Rattle.bus_tables.specs.Rows.{offered_row, row_takes, deliver_rows, reached_rows, row_misses, missed_rows, row_drops, dropped_rows};
 ghost use Rattle.bus_tables.specs.Inside.{AreQueued, ArePlaced, AreRouted, row_in, sub_in, still, frame};
 
+use crate::making::{count_down, item_row};
 use crate::message::Message;
 use crate::misses::{MissCause, Misses};
 use bucket_list::{Ledger, Steps};
@@ -43,6 +44,8 @@ pub(crate) fn along<L: Ledger>(
         misses.old {
           items = missed_rows message.now (route (map sub_in subs.old.live) id)
               (map row_in pipes.old.live);
+          dropped = dropped_rows message.now (route (map sub_in subs.old.live) id)
+              (map row_in pipes.old.live);
         } }
     ensures frame { frame pipes.new ≡ frame pipes.old }
     ensures subs { still subs.new ≡ still subs.old }
@@ -70,7 +73,7 @@ pub(crate) fn along<L: Ledger>(
 }
 
 // Offers the message to a live subscription: 1 where its pipe takes it, else 0. Adds the pipe to
-// those that miss it, where it does.
+// those that miss it, where it does, or where it dropped its oldest message for it.
 fn offer(
     pipes: &mut PipeTable,
     subs: &mut Subs,
@@ -91,6 +94,8 @@ fn offer(
         (λ s. misses.new ≡
         record misses.old {
           items = misses.old.items ++ row_misses message.now (sub_in s) (map row_in pipes.old.live);
+          dropped = misses.old.dropped ++
+              row_drops message.now (sub_in s) (map row_in pipes.old.live);
         }) }
     ensures once { result ≤ 1 }
     ensures frame { frame pipes.new ≡ frame pipes.old }
@@ -112,19 +117,29 @@ fn offer(
         sub,
     };
     let is_over = row.verdict() == subscriptions::Verdict::OverLimit;
-    match pipes.offer(pipe, message.sender, is_over, item) {
+    let offered = pipes.offer(pipe, message.sender, is_over, item);
+    match offered.verdict {
         Verdict::Skip => 0,
         Verdict::OverLimit => {
             misses.push(row.pipe, MissCause::OverLimit);
             0
         }
-        Verdict::Full => {
-            misses.push(row.pipe, MissCause::Full);
-            0
-        }
         Verdict::In => {
             subs.queued(sub);
             1
+        }
+        Verdict::Oldest => {
+            prove!(row.waiting < u32::MAX);
+            count_down(subs, offered.dropped);
+            // Does nothing, as above.
+            subs.recall_order();
+            subs.queued(sub);
+            misses.push_drop(row.pipe, item_row(offered.dropped));
+            1
+        }
+        Verdict::Full => {
+            misses.push(row.pipe, MissCause::Full);
+            0
         }
     }
 }

@@ -1,43 +1,57 @@
-//! The pipes that miss a message.
-ghost use Rattle.std.specs.Prelude.{◌≡◌, ◌<◌, ◌++◌, ◌∷◌, [], length, IfOk};
+//! The pipes at which a message is missed.
+ghost use Rattle.std.specs.Prelude.{◌≡◌, ◌<◌, ◌++◌, ◌∷◌, [], length, IfOk, None};
+ghost use Rattle.std.specs.Option.{option_to_list};
 ghost use Rattle.bus_tables.specs.Missed.{Missed};
 
+use crate::tables::ItemRow;
 use std::alloc::{AllocError, Global};
 use std::marker::Model;
 
-/// Why a pipe misses a message of a subscription.
+/// Why a message is missed at a pipe: the one sent, or one that waited.
 #[derive(Clone, Copy, Debug, PartialEq, Eq)]
 pub enum MissCause {
     /// As many messages of the subscription wait there as its limit says, or more.
     OverLimit,
     /// As many messages wait there as the pipe's depth says.
     Full,
+    /// As many wait there, and the pipe dropped the one that waited longest for the one sent.
+    Oldest,
 }
 
-/// A pipe that misses a message.
+/// A pipe at which a message is missed.
 #[derive(Clone, Copy, Debug, PartialEq, Eq)]
 pub struct Miss {
     /// The number of the pipe.
     pub pipe: u32,
-    /// Why it misses the message.
+    /// Why.
     pub cause: MissCause,
 }
 
-/// The pipes that missed the message sent last, in the order of its destinations. Contracts see the
-/// list, and how many pipes there is room for.
+/// What the message sent last left to be told and done: the pipes that missed it, or dropped their
+/// oldest message for it, in the order of its destinations; and those oldest messages. Contracts
+/// see both lists, and how many pipes there is room for.
 #[derive(Drop)]
 pub struct Misses {
     /// The pipes, with room for as many as a message can have destinations.
     items: Vec<Miss>,
+    /// The messages that were dropped: at most one for each of the pipes, and room for as many.
+    dropped: Vec<ItemRow>,
 }
 
 impl Model for Misses {
-    ghost use Rattle.std.specs.Prelude.{vec_capacity};
+    ghost use Rattle.std.specs.Prelude.{◌≤◌, length, vec_capacity};
     ghost use Rattle.bus_tables.specs.Missed.{Missed};
 
     ghost Value = { Missed };
 
-    ghost view = { λ m. record { items = m.items.items; room = vec_capacity m.items } };
+    ghost view = { λ m. record {
+      items = m.items.items;
+      dropped = m.dropped.items;
+      room = vec_capacity m.items;
+    } };
+
+    ghost invariant = { λ m. (length m.dropped.items ≤ length m.items.items) ×
+        (vec_capacity m.items ≤ vec_capacity m.dropped) };
 }
 
 impl Misses {
@@ -47,10 +61,12 @@ impl Misses {
     /// # Errors
     /// Where memory runs out.
     pub fn new(alloc: Global, room: u32) -> Result<Misses, AllocError>
-        ensures { IfOk result (λ misses. misses ≡ record { items = []; room = room }) }
+        ensures { IfOk result
+            (λ misses. misses ≡ record { items = []; dropped = []; room = room }) }
     {
         Ok(Misses {
             items: Vec::with_capacity(alloc, room as usize)?,
+            dropped: Vec::with_capacity(alloc, room as usize)?,
         })
     }
 
@@ -61,14 +77,25 @@ impl Misses {
         &self.items
     }
 
-    /// Forgets the pipes of an earlier message.
-    pub(crate) fn clear(&mut self)
-        ensures { self.new ≡ record self.old { items = [] } }
+    /// Takes one of the messages that pipes dropped out of the list; None if and only if none is
+    /// left there. Whoever shares messages among pipes lets each of them go.
+    pub fn take_dropped(&mut self) -> Option<ItemRow>
+        ensures taken { self.old.dropped ≡ self.new.dropped ++ option_to_list result }
+        ensures none { result ≡ None → self.new.dropped ≡ [] }
+        ensures same { self.new ≡ record self.old { dropped = self.new.dropped } }
     {
-        self.items.clear();
+        self.dropped.pop()
     }
 
-    /// Adds a pipe.
+    /// Forgets what an earlier message left.
+    pub(crate) fn clear(&mut self)
+        ensures { self.new ≡ record self.old { items = []; dropped = [] } }
+    {
+        self.items.clear();
+        self.dropped.clear();
+    }
+
+    /// Adds a pipe that missed the message.
     pub(crate) fn push(&mut self, pipe: u32, cause: MissCause)
         requires { length self.old.items < self.old.room }
         ensures { self.new ≡ record self.old {
@@ -76,5 +103,22 @@ impl Misses {
         } }
     {
         self.items.push_reserved(Miss { pipe, cause });
+    }
+
+    /// Adds a pipe that dropped its oldest message, and that message.
+    pub(crate) fn push_drop(&mut self, pipe: u32, oldest: Option<ItemRow>)
+        requires { length self.old.items < self.old.room }
+        ensures { self.new ≡ record self.old {
+          items = self.old.items ++ record { pipe = pipe; cause = MissCause.Oldest } ∷ [];
+          dropped = self.old.dropped ++ option_to_list oldest;
+        } }
+    {
+        self.items.push_reserved(Miss {
+            pipe,
+            cause: MissCause::Oldest,
+        });
+        if let Some(oldest) = oldest {
+            self.dropped.push_reserved(oldest);
+        }
     }
 }

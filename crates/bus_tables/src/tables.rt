@@ -7,7 +7,7 @@ ghost use Rattle.fsw_base.specs.Limits.{limits_of};
 ghost use Rattle.fsw_base.specs.Starts.{start_of};
 ghost use Rattle.bus_words.specs.Bus.{route, is_subscribed};
 ghost use Rattle.bus_words.specs.Pipes.{pipe_at, owns, oldest_on, last_on, with_pipe, after_receive, without_front, without_last, with_bits, new_pipe, IsRising, without_pipe, is_live, pipe_named, first_owned};
-ghost use Rattle.bus_tables.specs.Rows.{last_row_item, deliver_rows, reached_rows, missed_rows, has_way, counted_in, counted_on, with_route};
+ghost use Rattle.bus_tables.specs.Rows.{last_row_item, deliver_rows, reached_rows, missed_rows, dropped_rows, has_way, counted_in, counted_on, with_route};
 ghost use Rattle.bus_tables.specs.Tables.{opened};
 
 use crate::delivery::along;
@@ -360,10 +360,11 @@ impl BusTables {
     }
 
     /// Offers the message to the subscriptions of its id, in order. Answers how many pipes took it,
-    /// and leaves in `misses` those that missed it, with the cause of each. A pipe takes it where
-    /// it doesn't ignore the sender, fewer messages of the subscription wait than its limit says,
-    /// and fewer in all than its depth. Goes along the id's subscriptions alone: at most 2 steps
-    /// for each, and 2 more.
+    /// and leaves in `misses` those that missed it, or dropped their oldest message for it, with
+    /// the cause of each, and the messages that were dropped. A pipe takes it where it doesn't
+    /// ignore the sender, fewer messages of the subscription wait than its limit says, and fewer in
+    /// all than its depth, or its option bits say that it drops the oldest of them. Goes along the
+    /// id's subscriptions alone: at most 2 steps for each, and 2 more.
     pub fn deliver<L: Ledger>(
         &mut self,
         id: u16,
@@ -385,6 +386,8 @@ impl BusTables {
             record
             misses.old {
               items = missed_rows message.now (route self.old.subscriptions id) self.old.pipes;
+              dropped = dropped_rows message.now (route self.old.subscriptions id)
+                  self.old.pipes;
             } }
         ensures cost { steps.new ≤ steps.old + 2 * length (route self.old.subscriptions id) + 2 }
     {

@@ -3,19 +3,20 @@ ghost use Rattle.std.specs.Prelude.{◌≡◌, ℕ, ◌+◌, ◌==◌, if◌then
 ghost use Rattle.std.specs.Option.{option_map_or};
 ghost use Rattle.bus_words.specs.Bus.{Subscription};
 ghost use Rattle.bus_words.specs.Pipes.{pipe_at, with_pipe, after_receive, without_front, without_last, oldest_on, last_on, IsRising};
-ghost use Rattle.bus_tables.specs.Rows.{Row, deliver_rows, reached_rows};
+ghost use Rattle.bus_tables.specs.Rows.{Row, deliver_rows, reached_rows, dropped_rows};
 ghost use Rattle.bus_tables.specs.declared.message.Message.{Message};
-ghost use Rattle.bus_tables.specs.Uses.{item_use, uses_of};
+ghost use Rattle.bus_tables.specs.Uses.{item_use, uses_among, uses_of};
 
 /// Counting the uses of a send: a delivery adds one for each pipe that it reached, to its own send
-/// alone; where the next message of a pipe is taken, the send of the one received last loses one;
+/// alone, and each message that a pipe dropped for it loses one; where the next message of a pipe is taken, the send of the one received last loses one;
 /// and where the message that waits longest, or the one received last, is taken out of a pipe, its
 /// own send does. No other send's count changes. Does nothing.
 pub fn recall_uses()
     ensures delivered { (number : ℕ) (message : Message) (subs : List Subscription)
         (rows : List Row) →
         IsRising 0 rows →
-        uses_of number (deliver_rows message subs rows) ≡
+        uses_of number (deliver_rows message subs rows) + uses_among number
+        (dropped_rows message subs rows) ≡
         uses_of number rows +
         (if message.number == number then reached_rows message subs rows else 0) }
     ensures taken { (number pipe : ℕ) (rows : List Row) → IsRising 0 rows →

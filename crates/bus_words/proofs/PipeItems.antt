@@ -6,7 +6,7 @@ use Rattle.std.specs.Option.{option_map, option_map_or, option_and_then}
 use Rattle.std.proofs.lemmas.List.{length-map, map_push}
 use Rattle.std.proofs.lemmas.List.Sums.{sum_by-cons}
 use Rattle.fsw_base.proofs.Lists.{find-map, list_any-map}
-use Rattle.bus_words.specs.Pipes.{PipeOf, Subscription, Offer, is_queued, is_oldest, oldest, pipe_at, owns, with_pipe, oldest_on, last_on, IsRising, after_receive, ignores_sender, drops_oldest, waiting_of, verdict_over, verdict, queue_after, offered_over, offered, deliver, counted_by, verdicts_of, reached, drops, pipe_by}
+use Rattle.bus_words.specs.Pipes.{PipeOf, Subscription, Offer, is_queued, is_oldest, oldest, pipe_at, owns, with_pipe, oldest_on, last_on, IsRising, after_receive, ignores_sender, drops_oldest, waiting_of, verdict_over, verdict, queue_after, dropped_at, offered_over, offered, deliver, counted_by, verdicts_of, reached, drops, pipe_by}
 use Rattle.bus_words.specs.declared.verdict.Verdict.{Verdict}
 use Rattle.bus_words.specs.declared.verdict.Verdict.TheVariants.{Skip, OverLimit, In, Oldest, Full}
 
@@ -108,6 +108,14 @@ queue_after-map read In newest queue = map_push read queue newest
 queue_after-map read Oldest newest [] = refl
 queue_after-map read Oldest newest (item ∷ items) = map_push read items newest
 queue_after-map read Full newest queue = refl
+
+-- and what leaves
+pub dropped_at-map : {A B : Type 0} (read : A → B) (verdict : Verdict) (queue : List A) → dropped_at verdict (map read queue) ≡ option_map read (dropped_at verdict queue)
+dropped_at-map read Skip queue = refl
+dropped_at-map read OverLimit queue = refl
+dropped_at-map read In queue = refl
+dropped_at-map read Oldest queue = oldest-map read queue
+dropped_at-map read Full queue = refl
 
 -- an offer
 pub offered_over-map : {A B : Type 0} (read : A → B) (is_over : Bool) (sender : ℕ) (newest : A) (pipe : PipeOf A) →

@@ -2,7 +2,7 @@ use Rattle.std.proofs.Common.{◌≡◌, ◌+◌, drop, take, map, Some, ap, sym
 use Rattle.std.proofs.lemmas.List.{drop_all}
 use Rattle.routing.specs.Routing.{route_of, dests_at}
 use Rattle.bus_tables.specs.Missed.{Missed}
-use Rattle.bus_tables.specs.Rows.{deliver_rows, reached_rows, missed_rows}
+use Rattle.bus_tables.specs.Rows.{deliver_rows, reached_rows, missed_rows, dropped_rows}
 use Rattle.bus_tables.specs.Inside.{row_in}
 use Rattle.bus_tables.proofs.Along.{Walked, route_within, no_route, as_many, stands, is_live, walked_more, told_more, all_rows, all_reached, all_told, none_left}
 use Rattle.bus_tables.proofs.Placed.{placed_after}
@@ -24,7 +24,7 @@ pub returns-in_default-clause-missed : goal.returns-in_default-clause-missed
 returns-in_default-clause-missed g c =
     let a = c.args in
     c.clear.ensures
-    ∙ ap (λ l. let m : Missed = record a.misses.now { items = missed_rows a.message.now l (map row_in a.pipes.now.live) } in m)
+    ∙ ap (λ l. let m : Missed = record a.misses.now { items = missed_rows a.message.now l (map row_in a.pipes.now.live); dropped = dropped_rows a.message.now l (map row_in a.pipes.now.live) } in m)
     (sym (no_route a.subs.now a.routes.now a.id c.requires.routed (sym c.route_of.ensures ∙ c.in_default.is)))
 
 -- Along its route. --

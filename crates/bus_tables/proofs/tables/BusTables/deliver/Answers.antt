@@ -1,7 +1,7 @@
 use Rattle.std.proofs.Common.{◌≤◌, map, ap, sym, ◌∙◌, subst}
 use Rattle.bus_words.specs.Bus.{route}
 use Rattle.bus_tables.specs.Missed.{Missed}
-use Rattle.bus_tables.specs.Rows.{deliver_rows, missed_rows}
+use Rattle.bus_tables.specs.Rows.{deliver_rows, missed_rows, dropped_rows}
 use Rattle.bus_tables.specs.Tables.{Tables}
 use Rattle.bus_tables.specs.Inside.{row_in, sub_in}
 use Rattle.bus_tables.proofs.Takings.{tables_after, tied_after}
@@ -24,7 +24,7 @@ returns-clause-after g c =
 pub returns-clause-missed : goal.returns-clause-missed
 returns-clause-missed g c =
     c.along.ensures.missed
-    ∙ ap (λ (t : Tables). let m : Missed = record c.args.misses.now { items = missed_rows c.args.message.now (route t.subscriptions c.args.id) t.pipes } in m) c.self.view_is
+    ∙ ap (λ (t : Tables). let m : Missed = record c.args.misses.now { items = missed_rows c.args.message.now (route t.subscriptions c.args.id) t.pipes; dropped = dropped_rows c.args.message.now (route t.subscriptions c.args.id) t.pipes } in m) c.self.view_is
 
 pub along-requires-clause-room : goal.along-requires-clause-room
 along-requires-clause-room g c = subst (λ (t : Tables). t.room.dests ≤ c.args.misses.now.room) (sym c.self.view_is) c.requires.room
