@@ -68,6 +68,10 @@ sent_alone account size reached = by_reached (leb 1 reached)
     by_reached true = refl
     by_reached false = returned_alone account size
 
+-- one such change after another
+pub alone_then : (first next last : Account) → OutAlone first next → OutAlone next last → OutAlone first last
+alone_then first next last a b = b ∙ ap (λ (c : Account). let v : Account = record c { out = last.out } in v) a
+
 -- an account that is the same as one of those
 pub alone_as : (old next new : Account) → OutAlone old next → new ≡ next → OutAlone old new
 alone_as old next new alone is = is ∙ alone ∙ ap (λ (c : Account). let v : Account = record old { out = c.out } in v) (sym is)

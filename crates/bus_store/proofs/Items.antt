@@ -1,5 +1,5 @@
 -- What is true of each item of the pipes, and what changes of the pipes leave of it.
-use Rattle.std.proofs.Common.{◌≡◌, ℕ, ◌+◌, ◌≤◌, Bool, true, false, cond, eqb, List, [], ◌∷◌, ◌++◌, length, map, count_by, Option, Some, None, refl, ap, ◌∙◌, arith}
+use Rattle.std.proofs.Common.{◌≡◌, ℕ, ◌+◌, ◌≤◌, Bool, true, false, cond, eqb, List, [], ◌∷◌, ◌++◌, length, map, drop, count_by, Option, Some, None, refl, ap, ◌∙◌, arith}
 use Rattle.std.specs.List.{All}
 use Rattle.std.specs.Option.{IfSome, option_map, option_map_or, option_and_then, option_to_list}
 use Rattle.std.proofs.lemmas.Bool.{eqb-true}
@@ -11,8 +11,10 @@ use Rattle.bus_words.specs.Bus.{Item, Subscription}
 use Rattle.bus_words.specs.Held.{items_of}
 use Rattle.bus_tables.specs.declared.message.Message.{Message}
 use Rattle.bus_tables.specs.declared.tables.ItemRow.{ItemRow}
-use Rattle.bus_words.specs.Pipes.{pipe_at, with_pipe, after_receive, without_front, without_last, oldest, oldest_on, last_on, IsRising}
-use Rattle.bus_tables.specs.Rows.{Row, takes, item_of, offered_row, deliver_rows}
+use Rattle.bus_words.specs.Pipes.{pipe_at, with_pipe, after_receive, without_front, without_last, oldest, oldest_on, last_on, IsRising, queue_after, dropped_at}
+use Rattle.bus_words.specs.declared.verdict.Verdict.{Verdict}
+use Rattle.bus_words.specs.declared.verdict.Verdict.TheVariants.{Skip, OverLimit, In, Oldest, Full}
+use Rattle.bus_tables.specs.Rows.{Row, verdict_on, item_of, offered_row, row_drops, deliver_rows, dropped_rows}
 use Rattle.bus_tables.specs.Uses.{item_use, uses_in, uses_of}
 use Rattle.bus_tables.proofs.UsesCounted.{with_row_sum}
 use Rattle.bus_store.specs.Inside.{item_in, pipes_in, OfItems, AllItems, lasts_of}
@@ -99,16 +101,51 @@ items_fronted P number rows all =
 pub items_unlasted : (P : ItemRow → Type 0) (number : ℕ) (rows : List Row) → AllItems P rows → AllItems P (with_pipe without_last number rows)
 items_unlasted P number rows all = items_with_row P without_last number (λ row one. record { queue = one.queue; last = tt }) rows all
 
+-- an offer
+offered_items : (P : ItemRow → Type 0) (message : Message) → ((sub : Subscription) → P (item_of message sub)) → (sub : Subscription) (row : Row) → OfItems P row → OfItems P (offered_row message sub row)
+offered_items P message new sub row one = record { queue = queued (verdict_on row sub message.sender); last = one.last }
+  where
+    queued : (v : Verdict) → All P (queue_after v (item_of message sub) row.queue)
+    queued Skip = one.queue
+    queued OverLimit = one.queue
+    queued In = All-push P row.queue (item_of message sub) one.queue (new sub)
+    queued Oldest = All-push P (drop 1 row.queue) (item_of message sub) (All-drop P 1 row.queue one.queue) (new sub)
+    queued Full = one.queue
+
 pub items_delivered : (P : ItemRow → Type 0) (message : Message) → ((sub : Subscription) → P (item_of message sub)) →
     (subs : List Subscription) (rows : List Row) → AllItems P rows → AllItems P (deliver_rows message subs rows)
 items_delivered P message new [] rows all = all
 items_delivered P message new (sub ∷ subs) rows all =
     items_delivered P message new subs (with_pipe (offered_row message sub) sub.pipe rows)
-    (items_with_row P (offered_row message sub) sub.pipe (λ row one. offered row (takes row sub message.sender) one) rows all)
+    (items_with_row P (offered_row message sub) sub.pipe (offered_items P message new sub) rows all)
+
+-- and the items that leave have it too
+all_if_some : (P : ItemRow → Type 0) (o : Option ItemRow) → IfSome o P → All P (option_to_list o)
+all_if_some P None one = All-nil P
+all_if_some P (Some i) one = All-cons P i [] one (All-nil P)
+
+row_dropped : (P : ItemRow → Type 0) (message : Message) (sub : Subscription) (rows : List Row) → AllItems P rows → All P (row_drops message sub rows)
+row_dropped P message sub rows all =
+    all_if_some P (option_and_then (λ (row : Row). dropped_at (verdict_on row sub message.sender) row.queue) (pipe_at rows sub.pipe)) (at (pipe_at rows sub.pipe) (items_found P rows sub.pipe all))
   where
-    offered : (row : Row) (b : Bool) → OfItems P row → OfItems P (cond {A = Row} b (record row { queue = row.queue ++ item_of message sub ∷ [] }) row)
-    offered row true one = record { queue = All-push P row.queue (item_of message sub) one.queue (new sub); last = one.last }
-    offered row false one = one
+    leaving : (v : Verdict) (queue : List ItemRow) → All P queue → IfSome (dropped_at v queue) P
+    leaving Skip queue one = tt
+    leaving OverLimit queue one = tt
+    leaving In queue one = tt
+    leaving Oldest queue one = first_of P queue one
+    leaving Full queue one = tt
+
+    at : (o : Option Row) → IfSome o (OfItems P) → IfSome (option_and_then (λ (row : Row). dropped_at (verdict_on row sub message.sender) row.queue) o) P
+    at None one = tt
+    at (Some row) one = leaving (verdict_on row sub message.sender) row.queue one.queue
+
+pub items_dropped : (P : ItemRow → Type 0) (message : Message) → ((sub : Subscription) → P (item_of message sub)) →
+    (subs : List Subscription) (rows : List Row) → AllItems P rows → All P (dropped_rows message subs rows)
+items_dropped P message new [] rows all = All-nil P
+items_dropped P message new (sub ∷ subs) rows all =
+    All-append P (row_drops message sub rows) (dropped_rows message subs (with_pipe (offered_row message sub) sub.pipe rows)) (row_dropped P message sub rows all)
+    (items_dropped P message new subs (with_pipe (offered_row message sub) sub.pipe rows)
+    (items_with_row P (offered_row message sub) sub.pipe (offered_items P message new sub) rows all))
 
 -- Uses. --
 
@@ -126,7 +163,7 @@ no_use n i other = at (eqb i.number n) refl
     at false e = refl
 
 -- a send of no use is no item's
-queue_unused : (n : ℕ) (queue : List ItemRow) → count_by (λ i. eqb i.number n) queue ≡ 0 → All (IsOther n) queue
+pub queue_unused : (n : ℕ) (queue : List ItemRow) → count_by (λ i. eqb i.number n) queue ≡ 0 → All (IsOther n) queue
 queue_unused n [] none = All-nil (IsOther n)
 queue_unused n (i ∷ queue) none =
     let split = sum_by-cons (λ (x : ItemRow). cond {A = ℕ} (eqb x.number n) 1 0) i queue in
@@ -203,11 +240,7 @@ pub lasts_delivered : (n : ℕ) (message : Message) (subs : List Subscription) (
 lasts_delivered n message [] rows = refl
 lasts_delivered n message (sub ∷ subs) rows =
     lasts_delivered n message subs (with_pipe (offered_row message sub) sub.pipe rows)
-    ∙ lasts_kept n (offered_row message sub) sub.pipe (λ row. by_test row (takes row sub message.sender)) rows
-  where
-    by_test : (row : Row) (b : Bool) → (cond {A = Row} b (record row { queue = row.queue ++ item_of message sub ∷ [] }) row).last ≡ row.last
-    by_test row true = refl
-    by_test row false = refl
+    ∙ lasts_kept n (offered_row message sub) sub.pipe (λ row. refl) rows
 
 pub lasts_fronted : (n number : ℕ) (rows : List Row) → lasts_of n (with_pipe without_front number rows) ≡ lasts_of n rows
 lasts_fronted n number rows = lasts_kept n without_front number (λ row. refl) rows

@@ -4,7 +4,7 @@ use Rattle.std.specs.Option.{option_map, option_map_or, option_and_then}
 use Rattle.std.proofs.lemmas.List.Sums.{sum_by-cons}
 use Rattle.lend_block.specs.Loan.{LentBytes}
 use Rattle.buf_desc.specs.Held.{Holding}
-use Rattle.bus_words.specs.Bus.{Item, Pipe, Subscription, Sending, pipe_at, owns, with_pipe, offered, verdict, is_in, deliver, item_for}
+use Rattle.bus_words.specs.Bus.{Item, Pipe, Subscription, Sending, pipe_at, owns, with_pipe, offered, deliver}
 use Rattle.bus_tables.specs.Tables.{Room}
 use Rattle.bus_store.specs.Store.{Store, LastLoan}
 use Rattle.bus_words.specs.Pipes.{last_on}
@@ -18,23 +18,7 @@ pub record Keeping (change : Pipe → Pipe) : Type 0 where
   pub last : (pipe : Pipe) → (change pipe).last ≡ pipe.last
 
 keeps_offer : (sending : Sending) (sub : Subscription) → Keeping (offered sending sub)
-keeps_offer sending sub = record {
-  number = λ pipe. number pipe (is_in (verdict pipe sub sending.sender));
-  owner = λ pipe. owner pipe (is_in (verdict pipe sub sending.sender));
-  last = λ pipe. last pipe (is_in (verdict pipe sub sending.sender));
-}
-  where
-    number : (pipe : Pipe) (b : Bool) → (cond {A = Pipe} b (record pipe { queue = pipe.queue ++ item_for sending sub ∷ [] }) pipe).number ≡ pipe.number
-    number pipe true = refl
-    number pipe false = refl
-
-    owner : (pipe : Pipe) (b : Bool) → (cond {A = Pipe} b (record pipe { queue = pipe.queue ++ item_for sending sub ∷ [] }) pipe).owner ≡ pipe.owner
-    owner pipe true = refl
-    owner pipe false = refl
-
-    last : (pipe : Pipe) (b : Bool) → (cond {A = Pipe} b (record pipe { queue = pipe.queue ++ item_for sending sub ∷ [] }) pipe).last ≡ pipe.last
-    last pipe true = refl
-    last pipe false = refl
+keeps_offer sending sub = record { number = λ pipe. refl; owner = λ pipe. refl; last = λ pipe. refl }
 
 module _ (change : Pipe → Pipe) (keeps : Keeping change) (number : ℕ) where
   owns-kept : (pipes : List Pipe) (app other : ℕ) → owns (with_pipe change number pipes) app other ≡ owns pipes app other

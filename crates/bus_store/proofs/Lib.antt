@@ -6,6 +6,7 @@ pub mod BlocksShown
 pub mod Changes
 pub mod Counted
 pub mod Created
+pub mod Drops
 pub mod Emptied
 pub mod Exchanged
 pub mod FirstReceives

@@ -4,14 +4,14 @@ use Rattle.std.specs.List.{All}
 use Rattle.std.specs.Option.{IfSome, option_map}
 use Rattle.std.proofs.lemmas.List.Elements.{All-head, All-tail}
 use Rattle.buf_desc.specs.declared.slot.Slot.{Slot}
-use Rattle.bus_words.specs.Bus.{Item, Subscription, Sending, item_for, deliver, reached}
+use Rattle.bus_words.specs.Bus.{Item, Subscription, Sending, item_for, deliver, reached, drops}
 use Rattle.bus_words.specs.Bus as bus
 use Rattle.bus_words.specs.Pipes.{pipe_by}
-use Rattle.bus_words.proofs.PipeItems.{IsOffer, deliver-map, reached-map}
+use Rattle.bus_words.proofs.PipeItems.{IsOffer, deliver-map, reached-map, drops-map}
 use Rattle.bus_tables.specs.declared.message.Message.{Message}
 use Rattle.bus_tables.specs.declared.tables.ItemRow.{ItemRow}
 use Rattle.bus_tables.specs.Missed.{missed}
-use Rattle.bus_tables.specs.Rows.{Row, offer_of, deliver_rows, reached_rows, missed_rows}
+use Rattle.bus_tables.specs.Rows.{Row, offer_of, deliver_rows, reached_rows, drops_rows, missed_rows}
 use Rattle.bus_tables.proofs.MissedItems.{misses_of-map}
 use Rattle.bus_store.specs.Inside.{item_in, OfItems, AllItems}
 
@@ -56,6 +56,10 @@ module _ (slots : List Slot) (sending : Sending) (desc : ℕ) (is : IsSending sl
   pub reached-rows : (subs : List Subscription) (rows : List Row) →
       reached_rows (message_of sending desc) subs rows ≡ reached sending subs (map (pipe_by (item_in slots)) rows)
   reached-rows subs rows = reached-map (item_in slots) (offer_of (message_of sending desc)) (bus.offer_of sending) same subs rows
+
+  pub drops-rows : (subs : List Subscription) (rows : List Row) →
+      drops_rows (message_of sending desc) subs rows ≡ drops sending subs (map (pipe_by (item_in slots)) rows)
+  drops-rows subs rows = drops-map (item_in slots) (offer_of (message_of sending desc)) (bus.offer_of sending) same subs rows
 
   pub missed-rows : (subs : List Subscription) (rows : List Row) →
       missed_rows (message_of sending desc) subs rows ≡ missed sending subs (map (pipe_by (item_in slots)) rows)

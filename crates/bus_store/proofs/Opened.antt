@@ -34,9 +34,9 @@ pub lists_are : (limits : Limits) (apps blocks : ℕ) (l : Held) → l ≡ recor
     l ≡ record { descs = most_cut (uncut limits.pool limits.sizes).pool; lists = replicate apps [] }
 lists_are limits apps blocks l is most = is ∙ ap (λ n. let v : Held = record { descs = n; lists = replicate apps [] } in v) most
 
-module _ (a : Inside) (limits : Limits) (apps : ℕ) (t : a.tables ≡ tables.opened limits) (d : a.desk ≡ uncut limits.pool limits.sizes) (m : a.misses ≡ record { items = []; room = limits.dests }) (l : a.lists ≡ record { descs = most_cut (uncut limits.pool limits.sizes).pool; lists = replicate apps [] }) (g : a.given ≡ 0) where
+module _ (a : Inside) (limits : Limits) (apps : ℕ) (t : a.tables ≡ tables.opened limits) (d : a.desk ≡ uncut limits.pool limits.sizes) (m : a.misses ≡ record { items = []; dropped = []; room = limits.dests }) (l : a.lists ≡ record { descs = most_cut (uncut limits.pool limits.sizes).pool; lists = replicate apps [] }) (g : a.given ≡ 0) where
   abbrev first : Inside
-  first = record { tables = tables.opened limits; desk = uncut limits.pool limits.sizes; misses = record { items = []; room = limits.dests }; lists = record { descs = most_cut (uncut limits.pool limits.sizes).pool; lists = replicate apps [] }; given = 0 }
+  first = record { tables = tables.opened limits; desk = uncut limits.pool limits.sizes; misses = record { items = []; dropped = []; room = limits.dests }; lists = record { descs = most_cut (uncut limits.pool limits.sizes).pool; lists = replicate apps [] }; given = 0 }
 
   is_first : a ≡ first
   is_first =

@@ -85,6 +85,11 @@ class_set blocks n other b e = at (cases_eq n other) (cases_lt n (length blocks)
 pub class_given_back : (pool : PoolState) (d other : ℕ) → class_at (given_back pool d) other ≡ class_at pool other
 class_given_back pool d other = class_set pool.blocks d other (block (class_at pool d) false) refl
 
+-- another block stays out
+pub out_given_back : (pool : PoolState) (d other : ℕ) → (d ≡ other → ⊥) → is_out (given_back pool d) other ≡ is_out pool other
+out_given_back pool d other apart =
+    ap (λ (x : CutBlock). x.out) (get_or-set_other pool.blocks d other (block (class_at pool d) false) (block 0 false) (λ e. apart (sym e)))
+
 out_within : (pool : PoolState) (d : ℕ) → is_out pool d ≡ true → d < length pool.blocks
 out_within pool d e = at (cases_lt d (length pool.blocks))
   where

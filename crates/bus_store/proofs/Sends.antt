@@ -1,5 +1,6 @@
 -- What a send leaves of the blocks, the pipes and the account.
 use Rattle.std.proofs.Common.{◌≡◌, ℕ, ◌+◌, ◌≤◌, ◌⊎◌, inl, inr, Some, Bool, true, false, cond, eqb, leb, List, [], ◌∷◌, ◌++◌, map, refl, ap, sym, ◌∙◌, subst, arith}
+use Rattle.std.specs.List.{All}
 use Rattle.std.proofs.lemmas.Bool.{cases_eq}
 use Rattle.std.proofs.lemmas.Bool.Decides.{nat_tests}
 use Rattle.fsw_base.specs.Blocks.{class_of}
@@ -12,19 +13,20 @@ use Rattle.buf_desc.specs.Desk.{Buffers, resealed, freed, after_settle}
 use Rattle.buf_desc.specs.declared.slot.Slot.{Slot}
 use Rattle.buf_desc.specs.declared.slot.Slot.TheVariants.{Free, Sealed}
 use Rattle.buf_desc.proofs.Others.{numbers_changed}
-use Rattle.bus_words.specs.Bus.{Subscription, Sending, deliver, reached}
+use Rattle.bus_words.specs.Bus.{Subscription, Sending, deliver, reached, drops}
 use Rattle.bus_tables.specs.declared.message.Message.{Message}
 use Rattle.bus_tables.specs.declared.tables.ItemRow.{ItemRow}
 use Rattle.bus_words.specs.Pipes.{with_pipe, IsRising}
-use Rattle.bus_tables.specs.Rows.{Row, takes, item_of, offered_row, deliver_rows, reached_rows, missed_rows}
-use Rattle.bus_tables.specs.Uses.{uses_of}
+use Rattle.bus_tables.specs.Rows.{Row, offered_row, deliver_rows, reached_rows, missed_rows, dropped_rows, drops_rows}
+use Rattle.bus_tables.specs.Uses.{uses_among, uses_of}
 use Rattle.bus_tables.proofs.UsesCounted.{delivered_uses}
 use Rattle.bus_store.specs.Store.{LastLoan}
 use Rattle.bus_store.specs.Words.{missed}
 use Rattle.bus_store.specs.Blocks.{IsGiven}
 use Rattle.bus_store.specs.Inside.{pipes_in, loan_in, account_in, AllItems, IsNamed, lasts_of, AreTied, Backed, Seals, returned, after_send}
-use Rattle.bus_store.proofs.Items.{items_weaker, items_both, items_delivered, no_uses, unused, lasts_few, lasts_delivered}
-use Rattle.bus_store.proofs.Meaning.{IsSending, message_of, deliver-rows, reached-rows, missed-rows}
+use Rattle.bus_store.proofs.Drops.{HaveLoose}
+use Rattle.bus_store.proofs.Items.{items_weaker, items_both, items_delivered, items_dropped, no_uses, unused, queue_unused, lasts_few, lasts_delivered}
+use Rattle.bus_store.proofs.Meaning.{IsSending, message_of, deliver-rows, reached-rows, drops-rows, missed-rows}
 use Rattle.bus_store.proofs.Pool.{returned_for}
 use Rattle.bus_store.proofs.Tied.{Stays, Moves, sealed_live, sealed_number, here_set, others_set, stays_apart, stays_freed, pipes_stay, named_stay, loans_stay, tied_moved, tied_freed}
 
@@ -34,15 +36,14 @@ loans_delivered slots message [] rows = refl
 loans_delivered slots message (sub ∷ subs) rows =
     loans_delivered slots message subs (with_pipe (offered_row message sub) sub.pipe rows) ∙ one_offer rows
   where
-    offer : (row : Row) (mine take : Bool) → loan_in slots (cond {A = Row} mine (cond {A = Row} take (record row { queue = row.queue ++ item_of message sub ∷ [] }) row) row) ≡ loan_in slots row
-    offer row true true = refl
-    offer row true false = refl
-    offer row false take = refl
+    offer : (row : Row) (mine : Bool) → loan_in slots (cond {A = Row} mine (offered_row message sub row) row) ≡ loan_in slots row
+    offer row true = refl
+    offer row false = refl
 
     one_offer : (xs : List Row) → map (loan_in slots) (with_pipe (offered_row message sub) sub.pipe xs) ≡ map (loan_in slots) xs
     one_offer [] = refl
     one_offer (row ∷ xs) =
-        ap (λ (l : LastLoan). l ∷ map (loan_in slots) (with_pipe (offered_row message sub) sub.pipe xs)) (offer row (eqb row.number sub.pipe) (takes row sub message.sender))
+        ap (λ (l : LastLoan). l ∷ map (loan_in slots) (with_pipe (offered_row message sub) sub.pipe xs)) (offer row (eqb row.number sub.pipe))
         ∙ ap (λ (l : List LastLoan). loan_in slots row ∷ l) (one_offer xs)
 
 -- what is known once a message's block was sealed, for a number that no item has
@@ -58,13 +59,14 @@ pub record Begins (b mid : Buffers) (sending : Sending) (desc given given' : ℕ
   pub others : (other : ℕ) → (desc ≡ other → ⊥) → is_live (slot_at b.slots other) ≡ true → class_at mid.pool other ≡ class_at b.pool other
   pub account : IsAccountOf mid.pool (account_in mid.pool)
 
--- what a send leaves
+-- what a send leaves, before the messages are let go that pipes dropped for it
 pub record IsSent (b mid final : Buffers) (rows : List Row) (subs : List Subscription) (sending : Sending) (given' desc count : ℕ) : Type 0 where
-  pub backed : Backed final (deliver_rows (message_of sending desc) subs rows) given'
+  pub have : HaveLoose final (deliver_rows (message_of sending desc) subs rows) (dropped_rows (message_of sending desc) subs rows) given'
   pub pipes : pipes_in final.slots (deliver_rows (message_of sending desc) subs rows) ≡ deliver sending subs (pipes_in b.slots rows)
   pub loans : map (loan_in final.slots) (deliver_rows (message_of sending desc) subs rows) ≡ map (loan_in b.slots) rows
   pub account : account_in final.pool ≡ after_send (account_in mid.pool) sending.asked count
   pub arrived : count ≡ reached sending subs (pipes_in b.slots rows)
+  pub dropped : drops_rows (message_of sending desc) subs rows ≡ drops sending subs (pipes_in b.slots rows)
   pub misses : missed_rows (message_of sending desc) subs rows ≡ missed sending subs (pipes_in b.slots rows)
   pub others : (other : ℕ) → (desc ≡ other → ⊥) → slot_at final.slots other ≡ slot_at b.slots other
   pub closed : is_open (slot_at final.slots desc) ≡ false
@@ -80,6 +82,13 @@ module _ (b mid : Buffers) (rows : List Row) (subs : List Subscription) (sending
 
   abbrev after : List Row
   after = deliver_rows message subs rows
+
+  -- the items that pipes dropped, and the uses with theirs
+  abbrev gone_items : List ItemRow
+  gone_items = dropped_rows message subs rows
+
+  abbrev due : ℕ → ℕ
+  due n = uses_of n after + uses_among n gone_items
 
   abbrev sent : SealedBlock
   sent = record (sealed_at mid.slots desc) { uses = count }
@@ -123,13 +132,13 @@ module _ (b mid : Buffers) (rows : List Row) (subs : List Subscription) (sending
       at false e = refl
       at true e = absurd (apart (grind (arith, nat_tests)))
 
-  uses_here : uses_of sending.number after ≡ count
+  uses_here : due sending.number ≡ count
   uses_here =
       delivered_uses sending.number message 0 subs rows rises
       ∙ ap (λ c. uses_of sending.number rows + cond {A = ℕ} c (reached_rows message subs rows) 0) (eqb_same sending.number)
       ∙ omega (arith, not_used, took)
 
-  uses_there : (n : ℕ) → (sending.number ≡ n → ⊥) → uses_of n after ≡ uses_of n rows
+  uses_there : (n : ℕ) → (sending.number ≡ n → ⊥) → due n ≡ uses_of n rows
   uses_there n apart =
       let e = delivered_uses n message 0 subs rows rises in
       let off = ap (λ c. cond {A = ℕ} c (reached_rows message subs rows) 0) (eqb_new n apart) in
@@ -154,10 +163,16 @@ module _ (b mid : Buffers) (rows : List Row) (subs : List Subscription) (sending
       (λ sub. record { sealed = ap is_sealed here; number = ap (λ s. (sealed_in s).number) here ∙ numbered }) subs rows
       (named_stay b.slots counted.slots rows stay)
 
-  moves : Moves b counted desc (λ n. uses_of n rows) (λ n. lasts_of n rows) (λ n. uses_of n after) (λ n. lasts_of n after) given given'
+  -- what pipes dropped is named still
+  loose_named : All (IsNamed counted.slots) gone_items
+  loose_named = items_dropped (IsNamed counted.slots) message
+      (λ sub. record { sealed = ap is_sealed here; number = ap (λ s. (sealed_in s).number) here ∙ numbered }) subs rows
+      (named_stay b.slots counted.slots rows stay)
+
+  moves : Moves b counted desc (λ n. uses_of n rows) (λ n. lasts_of n rows) due (λ n. lasts_of n after) given given'
   moves = record {
     others = others;
-    uses_here = λ _. ap (λ s. (sealed_in s).uses) here ∙ sym uses_here ∙ sym (ap (λ n. uses_of n after) (ap (λ s. (sealed_in s).number) here ∙ numbered));
+    uses_here = λ _. ap (λ s. (sealed_in s).uses) here ∙ sym uses_here ∙ sym (ap due (ap (λ s. (sealed_in s).number) here ∙ numbered));
     views_here = λ _. ap (λ s. (sealed_in s).views) here ∙ ap (λ (s : SealedBlock). s.views) begins.seals.sent ∙ sym lasts_here ∙ sym (ap (λ n. lasts_of n after) (ap (λ s. (sealed_in s).number) here ∙ numbered));
     number = λ _. subst (IsGiven given') (sym (ap number_in here ∙ numbered)) begins.number_given;
     size = λ _.
@@ -173,8 +188,8 @@ module _ (b mid : Buffers) (rows : List Row) (subs : List Subscription) (sending
     account = begins.account;
   }
 
-  tied : AreTied counted after (λ n. uses_of n after) (λ n. lasts_of n after) given'
-  tied = tied_moved b counted desc rows after (λ n. uses_of n rows) (λ n. lasts_of n rows) (λ n. uses_of n after) (λ n. lasts_of n after) given given' backed.tied moves named
+  tied : AreTied counted after due (λ n. lasts_of n after) given'
+  tied = tied_moved b counted desc rows after (λ n. uses_of n rows) (λ n. lasts_of n rows) due (λ n. lasts_of n after) given given' backed.tied moves named
 
   is_sending : IsSending counted.slots sending desc
   is_sending = record {
@@ -196,6 +211,9 @@ module _ (b mid : Buffers) (rows : List Row) (subs : List Subscription) (sending
   arrived_is : count ≡ reached sending subs (pipes_in b.slots rows)
   arrived_is = took ∙ reached-rows counted.slots sending desc is_sending subs rows ∙ ap (reached sending subs) was
 
+  dropped_is : drops_rows message subs rows ≡ drops sending subs (pipes_in b.slots rows)
+  dropped_is = drops-rows counted.slots sending desc is_sending subs rows ∙ ap (drops sending subs) was
+
   missed_is : missed_rows message subs rows ≡ missed sending subs (pipes_in b.slots rows)
   missed_is = missed-rows counted.slots sending desc is_sending subs rows ∙ ap (missed sending subs) was
 
@@ -213,11 +231,12 @@ module _ (b mid : Buffers) (rows : List Row) (subs : List Subscription) (sending
   -- where some pipe took it
   sent_some : leb 1 count ≡ true → IsSent b mid counted rows subs sending given' desc count
   sent_some is = record {
-    backed = record { tied = tied; used = λ other sealed. used other sealed (cases_eq desc other) };
+    have = record { tied = tied; used = λ other sealed. used other sealed (cases_eq desc other); named = loose_named };
     pipes = pipes_are;
     loans = loans_are;
     account = sym (ap (λ c. cond {A = Account} c (account_in mid.pool) (returned (account_in mid.pool) sending.asked)) is);
     arrived = arrived_is;
+    dropped = dropped_is;
     misses = missed_is;
     others = others;
     closed = ap is_open here;
@@ -238,10 +257,14 @@ module _ (b mid : Buffers) (rows : List Row) (subs : List Subscription) (sending
 
   sent_none : leb 1 count ≡ false → IsSent b mid gone rows subs sending given' desc count
   sent_none is = record {
-    backed = record {
-      tied = tied_freed counted desc after after (λ n. uses_of n after) (λ n. lasts_of n after) (λ n. uses_of n after) (λ n. lasts_of n after) given'
+    have = record {
+      tied = tied_freed counted desc after after due (λ n. lasts_of n after) due (λ n. lasts_of n after) given'
           tied (sealed_live (slot_at counted.slots desc) is_sealed_here) out (λ n apart. refl) (λ n apart. refl) (named_stay counted.slots gone.slots after stay_gone);
       used = λ other sealed. used other sealed (cases_eq desc other);
+      named = λ k e within.
+          (stays_freed counted.slots desc slot is_sealed_here _
+          (λ same. queue_unused sending.number gone_items (omega (arith, nothing)) k e within (same ∙ ap (λ s. (sealed_in s).number) here ∙ numbered))
+          (loose_named k e within)).named;
     };
     pipes = pipes_stay counted.slots gone.slots after stay_gone ∙ pipes_are;
     loans = loans_stay counted.slots gone.slots after stay_gone ∙ loans_are;
@@ -249,6 +272,7 @@ module _ (b mid : Buffers) (rows : List Row) (subs : List Subscription) (sending
         (returned_for mid.pool sending.asked desc begins.account out begins.here).account
         ∙ sym (ap (λ c. cond {A = Account} c (account_in mid.pool) (returned (account_in mid.pool) sending.asked)) is);
     arrived = arrived_is;
+    dropped = dropped_is;
     misses = missed_is;
     others = λ other apart. others_set counted.slots desc slot (sealed_live (slot_at counted.slots desc) is_sealed_here) other apart ∙ others other apart;
     closed = ap is_open clear;
@@ -259,11 +283,14 @@ module _ (b mid : Buffers) (rows : List Row) (subs : List Subscription) (sending
       slot : Slot
       slot = Free (size_at mid.pool desc)
 
+      nothing : uses_of sending.number after + uses_among sending.number gone_items ≡ 0
+      nothing = uses_here ∙ none count is
+
       stay_gone : AllItems (Stays counted.slots gone.slots) after
       stay_gone =
           items_weaker (λ i. IsNamed counted.slots i × (i.number ≡ sending.number → ⊥)) (Stays counted.slots gone.slots)
           (λ i both. stays_freed counted.slots desc slot is_sealed_here i (λ e. both.1 (e ∙ ap (λ s. (sealed_in s).number) here ∙ numbered)) both.0) after
-          (items_both (IsNamed counted.slots) (λ i. i.number ≡ sending.number → ⊥) after named (unused sending.number after (uses_here ∙ none count is)))
+          (items_both (IsNamed counted.slots) (λ i. i.number ≡ sending.number → ⊥) after named (unused sending.number after (omega (arith, nothing))))
 
       off : (c : Bool) → c ≡ false → c ≡ true → ⊥
       off c x y = cc

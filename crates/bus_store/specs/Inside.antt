@@ -1,5 +1,5 @@
 -- How the pipes' items and the blocks belong together, and what the fields stand for.
-use Rattle.std.specs.Prelude.{◌≡◌, ℕ, ◌+◌, ◌-◌, ◌^◌, ◌<◌, ◌≤◌, nat_le, true, false, List, length, map, flat_map, sum_by, Option, Some, None, IfSome, if◌then◌else◌}
+use Rattle.std.specs.Prelude.{◌≡◌, ℕ, ◌+◌, ◌-◌, ◌^◌, ◌<◌, ◌≤◌, ◌==◌, nat_le, true, false, List, [], ◌∷◌, length, map, flat_map, sum_by, count_by, Option, Some, None, IfSome, if◌then◌else◌}
 use Rattle.std.specs.List.{All}
 use Rattle.std.specs.Option.{option_map_or}
 use Rattle.fsw_base.specs.Blocks.{class_of}
@@ -160,6 +160,22 @@ pub record Keeps (a : Inside) : Type 0 where
   pub pipes_few : a.tables.room.pipes ≤ 256
   pub subscriptions_live : length a.tables.subscriptions ≤ a.tables.subscriptions_made
   pub subscriptions_made : a.tables.subscriptions_made < 2 ^ 32
+
+-- Messages that pipes dropped. --
+
+-- how many of these items lie in the block
+abbrev pub blocks_among : ℕ → List ItemRow → ℕ
+blocks_among desc items = count_by (λ item. item.desc == desc) items
+
+-- the blocks once a use was dropped for each of these items, one after the other
+abbrev pub all_dropped : Buffers → List ItemRow → Buffers
+all_dropped buffers [] = buffers
+all_dropped buffers (item ∷ items) = all_dropped (after_drop buffers item.desc) items
+
+-- each of these items has a use of its block, beside those of the views that are out
+pub record AreLoose (buffers : Buffers) (items : List ItemRow) : Type 0 where
+  pub sealed : All (λ item. is_sealed (slot_at buffers.slots item.desc) ≡ true) items
+  pub used : (desc : ℕ) → is_sealed (slot_at buffers.slots desc) ≡ true → (sealed_at buffers.slots desc).views + blocks_among desc items ≤ (sealed_at buffers.slots desc).uses
 
 -- Steps. --
 

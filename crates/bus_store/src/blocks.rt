@@ -1,5 +1,5 @@
 //! What becomes of the block of one message, or of one buffer.
-ghost use Rattle.std.specs.Prelude.{◌≡◌, ℕ, replicate, ◌+◌, ◌-◌, ◌<◌, ◌≤◌, true, Some, None, length, if◌then◌else◌, ◌==◌, is_some, IfSome};
+ghost use Rattle.std.specs.Prelude.{◌≡◌, ℕ, replicate, ◌+◌, ◌-◌, ◌*◌, ◌<◌, ◌≤◌, true, Some, None, length, if◌then◌else◌, ◌==◌, is_some, IfSome};
 ghost use Rattle.std.specs.Option.{option_map, option_map_or};
 ghost use Rattle.ccsds_msg.specs.Message.{message_id, message_size, with_count};
 ghost use Rattle.bus_words.specs.Machine.{front_of};
@@ -7,7 +7,7 @@ ghost use Rattle.es_pool.specs.Pool.{fits};
 ghost use Rattle.buf_desc.specs.Desk.{Takes, IsOf, resealed, after_settle};
 ghost use Rattle.buf_desc.specs.Held.{view_at};
 ghost use Rattle.buf_desc.specs.Slots.{slot_at, sealed_at, is_sealed, HaveOwnNumbers};
-ghost use Rattle.bus_store.specs.Inside.{Adds, Seals, let_go, shown, view_in};
+ghost use Rattle.bus_store.specs.Inside.{Adds, Seals, AreLoose, all_dropped, let_go, shown, view_in};
 
 use bucket_list::{Ledger, Steps};
 use buf_desc::{Block, Desk, Held};
@@ -133,6 +133,17 @@ pub(crate) fn settle_message<L: Ledger>(
 {
     desk.add_uses(desc, reached);
     desk.settle(desc, steps);
+}
+
+/// Lets messages go that pipes dropped: drops a use of the block of each. At most 8 steps for each.
+pub(crate) fn drop_uses<L: Ledger>(desk: &mut Desk<'_>, items: &[ItemRow], steps: &mut Steps<L>)
+    requires loose { AreLoose desk.old items.now }
+    ensures dropped { desk.new ≡ all_dropped desk.old items.now }
+    ensures cost { steps.new ≤ steps.old + 8 * length items.now }
+{
+    for oldest in items {
+        desk.drop_use(oldest.desc, steps);
+    }
 }
 
 // Gives the view of an item's message back, and then drops that use of its block. At most 8 steps.

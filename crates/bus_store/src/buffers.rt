@@ -4,14 +4,14 @@ ghost use Rattle.ccsds_msg.specs.Message.{message_id, front_fault};
 ghost use Rattle.fsw_base.specs.PoolAccounts.{has_room, after_request};
 ghost use Rattle.lend_block.specs.Loan.{LentBytes};
 ghost use Rattle.buf_desc.specs.Held.{Holding, buffer_at, bytes_at, with_bytes_at};
-ghost use Rattle.bus_words.specs.Bus.{Pipe, Buffer, route, deliver, reached, has_unsent, unsent_of, with_unsent, without_unsent, without_all_unsent};
+ghost use Rattle.bus_words.specs.Bus.{Pipe, Buffer, route, deliver, reached, drops, has_unsent, unsent_of, with_unsent, without_unsent, without_all_unsent};
 ghost use Rattle.bus_tables.specs.Missed.{missed};
 ghost use Rattle.bus_tables.specs.Rows.{has_way};
 ghost use Rattle.bus_store.specs.Bag.{HoldsViews, HoldsBuffers};
 ghost use Rattle.bus_store.specs.Store.{LastLoan, BufferDesc};
 ghost use Rattle.bus_store.specs.Words.{desc_of, passing_of, counted_up, with_held};
 
-use crate::blocks::{drawn_empty, seal_front, settle_message};
+use crate::blocks::{drawn_empty, drop_uses, seal_front, settle_message};
 use crate::sending::{Sent, next_count};
 use crate::store::BusStore;
 use bucket_list::{Ledger, Steps};
@@ -135,7 +135,9 @@ impl<'r> BusStore<'r> {
         ensures count { length held.new.buffers ≤ length held.old.buffers }
         ensures cost { steps.new
             ≤ steps.old + 32 + 4 * length
-            (route self.old.subscriptions (message_id (bytes_at held.old buf))) }
+            (route self.old.subscriptions (message_id (bytes_at held.old buf))) +
+            8 * drops (passing_of self.old app buf (bytes_at held.old buf) inc)
+            (route self.old.subscriptions (message_id (bytes_at held.old buf))) self.old.pipes }
     {
         // Do nothing; the proof learns of them that the pipes stand in order, and, here and below,
         // which blocks are out.
@@ -154,6 +156,8 @@ impl<'r> BusStore<'r> {
         };
         let reached = self.tables.deliver(id, &message, &mut self.misses, steps);
         settle_message(&mut self.desk, desc, reached, steps);
+        self.desk.recall_live();
+        drop_uses(&mut self.desk, self.misses.dropped(), steps);
         self.desk.recall_live();
         Sent {
             number: buf,

@@ -2,7 +2,7 @@
 ghost use Rattle.std.specs.Prelude.{◌≡◌, ℕ, ◌+◌, ◌*◌, ◌<◌, ◌≤◌, ◌^◌, true, length, map, Some, None, IfSome, if◌then◌else◌};
 ghost use Rattle.ccsds_msg.specs.Message.{message_id};
 ghost use Rattle.fsw_base.specs.PoolAccounts.{has_room, after_request};
-ghost use Rattle.bus_words.specs.Bus.{route, deliver, reached};
+ghost use Rattle.bus_words.specs.Bus.{route, deliver, reached, drops};
 ghost use Rattle.bus_tables.specs.Missed.{missed};
 ghost use Rattle.bus_tables.specs.Rows.{has_way};
 ghost use Rattle.bus_words.specs.Acts.{next_in};
@@ -11,7 +11,7 @@ ghost use Rattle.lend_block.specs.Loan.{LentBytes};
 ghost use Rattle.bus_store.specs.Bag.{HoldsViews};
 ghost use Rattle.bus_store.specs.Words.{next_of, sending_of, counted_up, with_held};
 
-use crate::blocks::{put_message, settle_message};
+use crate::blocks::{drop_uses, put_message, settle_message};
 use crate::store::BusStore;
 use bucket_list::{Ledger, Steps};
 use bus_tables::{BusTables, Message, Miss};
@@ -51,8 +51,8 @@ impl<'r> BusStore<'r> {
         self.given
     }
 
-    /// The pipes that missed the message sent last, in order of its id's subscriptions, with the
-    /// cause of each.
+    /// The pipes that missed the message sent last, or dropped their oldest one for it, in order of
+    /// its id's subscriptions, with the cause of each.
     pub fn misses(&self) -> &[Miss]
         ensures { result.now ≡ self.now.missed }
     {
@@ -69,7 +69,9 @@ impl<'r> BusStore<'r> {
     /// Sends a message, whose id has a route, under the next send number: each pipe that takes it
     /// gets it queued. Its bytes are written once, into one block. With `inc` it gets the id's next
     /// sequence count (CCSDS 133.0-B, 4.1.3.4.3). Where no pipe takes it, its block goes back at
-    /// once. No bag changes. At most 4 steps for each subscription of the id, and 32 more.
+    /// once. A message that a full pipe drops for it is let go behind that: its block goes back
+    /// where no other pipe has a use for it. No bag changes. At most 4 steps for each subscription
+    /// of the id, 8 more for each whose pipe drops a message, and 32 more.
     pub fn send<L: Ledger>(
         &mut self,
         sender: AppNo,
@@ -100,7 +102,9 @@ impl<'r> BusStore<'r> {
             HoldsViews self.old.pipes self.old.loans self.old.room.pipes app bag →
             HoldsViews self.new.pipes self.new.loans self.new.room.pipes app bag }
         ensures cost { steps.new
-            ≤ steps.old + 32 + 4 * length (route self.old.subscriptions (message_id bytes.now)) }
+            ≤ steps.old + 32 + 4 * length (route self.old.subscriptions (message_id bytes.now)) +
+            8 * drops (sending_of self.old sender bytes.now inc)
+            (route self.old.subscriptions (message_id bytes.now)) self.old.pipes }
     {
         // Do nothing; the proof learns of them that the pipes stand in order, and, here and below,
         // which blocks are out.
@@ -118,6 +122,8 @@ impl<'r> BusStore<'r> {
         };
         let reached = self.tables.deliver(id, &message, &mut self.misses, steps);
         settle_message(&mut self.desk, desc, reached, steps);
+        self.desk.recall_live();
+        drop_uses(&mut self.desk, self.misses.dropped(), steps);
         self.desk.recall_live();
         self.given = number;
         Sent { number, reached }

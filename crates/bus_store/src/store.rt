@@ -24,8 +24,8 @@ pub struct BusStore<'r> {
     pub(crate) tables: BusTables,
     // The blocks.
     pub(crate) desk: Desk<'r>,
-    // The pipes that missed the message sent last; room for as many as an id may have
-    // subscriptions.
+    // The pipes that missed the message sent last or dropped one for it, and those that they
+    // dropped; room for as many as an id may have subscriptions.
     pub(crate) misses: Misses,
     // The blocks that are unsent buffers, by application; room for all that may be cut.
     pub(crate) lists: HeldLists,

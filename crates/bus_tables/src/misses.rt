@@ -1,5 +1,5 @@
 //! The pipes at which a message is missed.
-ghost use Rattle.std.specs.Prelude.{◌≡◌, ◌<◌, ◌++◌, ◌∷◌, [], length, IfOk, None};
+ghost use Rattle.std.specs.Prelude.{◌≡◌, ◌<◌, ◌++◌, ◌∷◌, [], length, IfOk};
 ghost use Rattle.std.specs.Option.{option_to_list};
 ghost use Rattle.bus_tables.specs.Missed.{Missed};
 
@@ -77,14 +77,12 @@ impl Misses {
         &self.items
     }
 
-    /// Takes one of the messages that pipes dropped out of the list; None if and only if none is
-    /// left there. Whoever shares messages among pipes lets each of them go.
-    pub fn take_dropped(&mut self) -> Option<ItemRow>
-        ensures taken { self.old.dropped ≡ self.new.dropped ++ option_to_list result }
-        ensures none { result ≡ None → self.new.dropped ≡ [] }
-        ensures same { self.new ≡ record self.old { dropped = self.new.dropped } }
+    /// The messages that pipes dropped, in the order of the destinations: whoever shares messages
+    /// among pipes lets each of them go.
+    pub fn dropped(&self) -> &[ItemRow]
+        ensures { result.now ≡ self.now.dropped }
     {
-        self.dropped.pop()
+        &self.dropped
     }
 
     /// Forgets what an earlier message left.

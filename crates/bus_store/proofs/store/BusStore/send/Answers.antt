@@ -1,9 +1,13 @@
-use Rattle.std.proofs.Common.{◌+◌, length, refl, ap, ◌∙◌}
+use Rattle.std.proofs.Common.{◌+◌, length, refl, ap, sym, ◌∙◌, subst, arith}
 use Rattle.fsw_base.specs.PoolAccounts.{has_room}
 use Rattle.buf_desc.specs.Slots.{slot_at}
+use Rattle.ccsds_msg.specs.Message.{message_id}
+use Rattle.bus_words.specs.Bus.{route}
+use Rattle.bus_tables.specs.Tables.{Tables}
 use Rattle.bus_store.specs.Store.{Store}
+use Rattle.bus_store.specs.Inside.{AreLoose, all_dropped}
 use Rattle.bus_store.proofs.Pool.{room_counted}
-use Rattle.bus_store.proofs.Stores.{sent_keeps, sent_reached, sent_held, sent_bags}
+use Rattle.bus_store.proofs.Stores.{sent_keeps, sent_reached, sent_loose, sent_drops, sent_held, sent_bags}
 use Rattle.bus_store.proofs.Tied.{sealed_live}
 use Rattle.bus_store.proofs.store.BusStore.send.Goals as goal
 
@@ -22,6 +26,7 @@ invariant_of-self g c =
     c.put_message-desc.ensures.added c.recall_live.ensures.live c.recall_live-2.ensures.live
     c.deliver-reached.ensures.after c.deliver-reached.ensures.reached c.deliver-reached.ensures.missed c.settle_message.ensures.after
     (sealed_live (slot_at c.put_message-desc.new.desk.slots c.put_message-desc.result) c.put_message-desc.ensures.added.seals.sealed)
+    c.drop_uses.new.desk c.recall_live-3.ensures.live (c.drop_uses.ensures.dropped ∙ ap (all_dropped c.settle_message.new.desk) c.dropped.ensures)
 
 pub returns-clause-reached : goal.returns-clause-reached
 returns-clause-reached g c =
@@ -39,7 +44,8 @@ returns-clause-after g c =
     c.self.view_is c.self.invariant c.recall_order.ensures c.requires.least c.requires.room c.id_of-id.ensures c.next_count-count.ensures.count c.next_count-count.ensures.after refl
     c.put_message-desc.ensures.added c.recall_live.ensures.live c.recall_live-2.ensures.live
     c.deliver-reached.ensures.after c.deliver-reached.ensures.reached c.deliver-reached.ensures.missed c.settle_message.ensures.after
-    (sealed_live (slot_at c.put_message-desc.new.desk.slots c.put_message-desc.result) c.put_message-desc.ensures.added.seals.sealed) c.recall_live-3.ensures.live
+    (sealed_live (slot_at c.put_message-desc.new.desk.slots c.put_message-desc.result) c.put_message-desc.ensures.added.seals.sealed)
+    c.drop_uses.new.desk c.recall_live-3.ensures.live (c.drop_uses.ensures.dropped ∙ ap (all_dropped c.settle_message.new.desk) c.dropped.ensures) c.recall_live-4.ensures.live
 
 pub returns-clause-bags : goal.returns-clause-bags
 returns-clause-bags g c =
@@ -49,3 +55,29 @@ returns-clause-bags g c =
     c.put_message-desc.ensures.added c.recall_live.ensures.live c.recall_live-2.ensures.live
     c.deliver-reached.ensures.after c.deliver-reached.ensures.reached c.deliver-reached.ensures.missed c.settle_message.ensures.after
     (sealed_live (slot_at c.put_message-desc.new.desk.slots c.put_message-desc.result) c.put_message-desc.ensures.added.seals.sealed)
+    c.drop_uses.new.desk c.recall_live-3.ensures.live (c.drop_uses.ensures.dropped ∙ ap (all_dropped c.settle_message.new.desk) c.dropped.ensures)
+
+pub drop_uses-requires : goal.drop_uses-requires
+drop_uses-requires g c =
+    record { loose = subst (AreLoose c.settle_message.new.desk) (sym c.dropped.ensures)
+    (sent_loose c.self.inside c.args.self.now c.args.sender c.args.bytes.now c.args.inc c.id_of-id.result (c.self.inside.given + 1) c.put_message-desc.result c.deliver-reached.result c.next_count-count.result
+    c.put_message-desc.new.desk c.settle_message.new.desk c.next_count-count.new.tables c.deliver-reached.new.self c.deliver-reached.new.misses
+    c.self.view_is c.self.invariant c.recall_order.ensures c.requires.least c.requires.room c.id_of-id.ensures c.next_count-count.ensures.count c.next_count-count.ensures.after refl
+    c.put_message-desc.ensures.added c.recall_live.ensures.live c.recall_live-2.ensures.live
+    c.deliver-reached.ensures.after c.deliver-reached.ensures.reached c.deliver-reached.ensures.missed c.settle_message.ensures.after
+    (sealed_live (slot_at c.put_message-desc.new.desk.slots c.put_message-desc.result) c.put_message-desc.ensures.added.seals.sealed)) }
+
+pub returns-clause-cost : goal.returns-clause-cost
+returns-clause-cost g c =
+    let few =
+    sent_drops c.self.inside c.args.self.now c.args.sender c.args.bytes.now c.args.inc c.id_of-id.result (c.self.inside.given + 1) c.put_message-desc.result c.deliver-reached.result c.next_count-count.result
+    c.put_message-desc.new.desk c.settle_message.new.desk c.next_count-count.new.tables c.deliver-reached.new.self c.deliver-reached.new.misses
+    c.self.view_is c.self.invariant c.recall_order.ensures c.requires.least c.requires.room c.id_of-id.ensures c.next_count-count.ensures.count c.next_count-count.ensures.after refl
+    c.put_message-desc.ensures.added c.recall_live.ensures.live c.recall_live-2.ensures.live
+    c.deliver-reached.ensures.after c.deliver-reached.ensures.reached c.deliver-reached.ensures.missed c.settle_message.ensures.after
+    (sealed_live (slot_at c.put_message-desc.new.desk.slots c.put_message-desc.result) c.put_message-desc.ensures.added.seals.sealed) in
+    let same =
+    ap (λ (t : Tables). length (route t.subscriptions c.id_of-id.result)) c.next_count-count.ensures.after
+    ∙ ap (λ i. length (route c.self.inside.tables.subscriptions i)) c.id_of-id.ensures
+    ∙ ap (λ (o : Store). length (route o.subscriptions (message_id c.args.bytes.now))) c.self.view_is in
+    omega (arith, few, same, ap length c.dropped.ensures, c.drop_uses.ensures.cost, c.settle_message.ensures.cost, c.deliver-reached.ensures.cost, c.put_message-desc.ensures.cost)

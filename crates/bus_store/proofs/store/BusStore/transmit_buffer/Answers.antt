@@ -1,16 +1,18 @@
-use Rattle.std.proofs.Common.{◌≡◌, ◌-◌, ◌<◌, set, length, List, ℕ, None, ap, sym, ◌∙◌, subst, arith}
+use Rattle.std.proofs.Common.{◌≡◌, ◌-◌, ◌<◌, ◌≤◌, set, length, List, ℕ, None, ap, sym, ◌∙◌, subst, arith}
 use Rattle.ccsds_msg.specs.Message.{message_id, front_fault}
 use Rattle.bucket_list.specs.Lists.{times_in}
 use Rattle.zero_copy.specs.Held.{Held, held_by, without}
 use Rattle.buf_desc.specs.Desk.{resealed, after_settle}
 use Rattle.buf_desc.specs.Held.{bytes_at}
 use Rattle.buf_desc.specs.Slots.{sealed_at}
-use Rattle.bus_words.specs.Bus.{route, reached}
+use Rattle.bus_words.specs.Bus.{route, reached, drops}
 use Rattle.bus_tables.specs.Missed.{Missed}
-use Rattle.bus_tables.specs.Rows.{deliver_rows, reached_rows, missed_rows}
+use Rattle.bus_tables.specs.Rows.{deliver_rows, reached_rows, missed_rows, dropped_rows}
 use Rattle.bus_tables.specs.Tables.{Tables}
+use Rattle.bus_store.specs.Store.{Store}
 use Rattle.bus_store.specs.Words.{passing_of}
-use Rattle.bus_store.proofs.Passed.{front_long, passed_keeps, passed_reached, passed_at, passed_views, passed_descs, passed_others, passed_bag}
+use Rattle.bus_store.specs.Inside.{AreLoose, all_dropped}
+use Rattle.bus_store.proofs.Passed.{front_long, passed_keeps, passed_reached, passed_loose, passed_drops, passed_at, passed_views, passed_descs, passed_others, passed_bag}
 use Rattle.bus_store.proofs.Relisted.{list_of}
 use Rattle.bus_store.proofs.Taken.{given_number, own_block, in_list, numbered_block, size_block, bytes_are, seals_as}
 use Rattle.bus_store.proofs.store.BusStore.transmit_buffer.Goals as goal
@@ -46,8 +48,9 @@ invariant_of-self g c =
     c.seal_front-desc.ensures.pool c.seal_front-desc.ensures.numbers c.recall_live-2.ensures.live
     (c.deliver-reached.ensures.after ∙ ap (λ d. let v : Tables = record c.next_count-count.new.tables { pipes = deliver_rows (record { sender = c.args.app; number = c.args.buf; desc = d }) (route c.next_count-count.new.tables.subscriptions c.id_of-id.result) c.next_count-count.new.tables.pipes } in v) c.seal_front-desc.ensures.desc)
     (c.deliver-reached.ensures.reached ∙ ap (λ d. reached_rows (record { sender = c.args.app; number = c.args.buf; desc = d }) (route c.next_count-count.new.tables.subscriptions c.id_of-id.result) c.next_count-count.new.tables.pipes) c.seal_front-desc.ensures.desc)
-    (c.deliver-reached.ensures.missed ∙ ap (λ d. let v : Missed = record c.self.inside.misses { items = missed_rows (record { sender = c.args.app; number = c.args.buf; desc = d }) (route c.next_count-count.new.tables.subscriptions c.id_of-id.result) c.next_count-count.new.tables.pipes } in v) c.seal_front-desc.ensures.desc)
+    (c.deliver-reached.ensures.missed ∙ ap (λ d. let v : Missed = record c.self.inside.misses { items = missed_rows (record { sender = c.args.app; number = c.args.buf; desc = d }) (route c.next_count-count.new.tables.subscriptions c.id_of-id.result) c.next_count-count.new.tables.pipes; dropped = dropped_rows (record { sender = c.args.app; number = c.args.buf; desc = d }) (route c.next_count-count.new.tables.subscriptions c.id_of-id.result) c.next_count-count.new.tables.pipes } in v) c.seal_front-desc.ensures.desc)
     (c.settle_message.ensures.after ∙ ap (λ d. after_settle (resealed c.seal_front-desc.new.desk d (record (sealed_at c.seal_front-desc.new.desk.slots d) { uses = c.deliver-reached.result })) d) c.seal_front-desc.ensures.desc)
+    c.drop_uses.new.desk c.recall_live-3.ensures.live (c.drop_uses.ensures.dropped ∙ ap (all_dropped c.settle_message.new.desk) c.dropped.ensures)
 
 pub returns-clause-reached : goal.returns-clause-reached
 returns-clause-reached g c =
@@ -61,7 +64,7 @@ returns-clause-reached g c =
     c.seal_front-desc.ensures.pool c.seal_front-desc.ensures.numbers c.recall_live-2.ensures.live
     (c.deliver-reached.ensures.after ∙ ap (λ d. let v : Tables = record c.next_count-count.new.tables { pipes = deliver_rows (record { sender = c.args.app; number = c.args.buf; desc = d }) (route c.next_count-count.new.tables.subscriptions c.id_of-id.result) c.next_count-count.new.tables.pipes } in v) c.seal_front-desc.ensures.desc)
     (c.deliver-reached.ensures.reached ∙ ap (λ d. reached_rows (record { sender = c.args.app; number = c.args.buf; desc = d }) (route c.next_count-count.new.tables.subscriptions c.id_of-id.result) c.next_count-count.new.tables.pipes) c.seal_front-desc.ensures.desc)
-    (c.deliver-reached.ensures.missed ∙ ap (λ d. let v : Missed = record c.self.inside.misses { items = missed_rows (record { sender = c.args.app; number = c.args.buf; desc = d }) (route c.next_count-count.new.tables.subscriptions c.id_of-id.result) c.next_count-count.new.tables.pipes } in v) c.seal_front-desc.ensures.desc)
+    (c.deliver-reached.ensures.missed ∙ ap (λ d. let v : Missed = record c.self.inside.misses { items = missed_rows (record { sender = c.args.app; number = c.args.buf; desc = d }) (route c.next_count-count.new.tables.subscriptions c.id_of-id.result) c.next_count-count.new.tables.pipes; dropped = dropped_rows (record { sender = c.args.app; number = c.args.buf; desc = d }) (route c.next_count-count.new.tables.subscriptions c.id_of-id.result) c.next_count-count.new.tables.pipes } in v) c.seal_front-desc.ensures.desc)
     (c.settle_message.ensures.after ∙ ap (λ d. after_settle (resealed c.seal_front-desc.new.desk d (record (sealed_at c.seal_front-desc.new.desk.slots d) { uses = c.deliver-reached.result })) d) c.seal_front-desc.ensures.desc))
 
 pub returns-clause-after : goal.returns-clause-after
@@ -75,9 +78,10 @@ returns-clause-after g c =
     c.seal_front-desc.ensures.pool c.seal_front-desc.ensures.numbers c.recall_live-2.ensures.live
     (c.deliver-reached.ensures.after ∙ ap (λ d. let v : Tables = record c.next_count-count.new.tables { pipes = deliver_rows (record { sender = c.args.app; number = c.args.buf; desc = d }) (route c.next_count-count.new.tables.subscriptions c.id_of-id.result) c.next_count-count.new.tables.pipes } in v) c.seal_front-desc.ensures.desc)
     (c.deliver-reached.ensures.reached ∙ ap (λ d. reached_rows (record { sender = c.args.app; number = c.args.buf; desc = d }) (route c.next_count-count.new.tables.subscriptions c.id_of-id.result) c.next_count-count.new.tables.pipes) c.seal_front-desc.ensures.desc)
-    (c.deliver-reached.ensures.missed ∙ ap (λ d. let v : Missed = record c.self.inside.misses { items = missed_rows (record { sender = c.args.app; number = c.args.buf; desc = d }) (route c.next_count-count.new.tables.subscriptions c.id_of-id.result) c.next_count-count.new.tables.pipes } in v) c.seal_front-desc.ensures.desc)
+    (c.deliver-reached.ensures.missed ∙ ap (λ d. let v : Missed = record c.self.inside.misses { items = missed_rows (record { sender = c.args.app; number = c.args.buf; desc = d }) (route c.next_count-count.new.tables.subscriptions c.id_of-id.result) c.next_count-count.new.tables.pipes; dropped = dropped_rows (record { sender = c.args.app; number = c.args.buf; desc = d }) (route c.next_count-count.new.tables.subscriptions c.id_of-id.result) c.next_count-count.new.tables.pipes } in v) c.seal_front-desc.ensures.desc)
     (c.settle_message.ensures.after ∙ ap (λ d. after_settle (resealed c.seal_front-desc.new.desk d (record (sealed_at c.seal_front-desc.new.desk.slots d) { uses = c.deliver-reached.result })) d) c.seal_front-desc.ensures.desc)
-    (bytes_at c.args.held.now c.args.buf) (bytes_are c.self.inside c.args.self.now c.args.app c.args.buf c.self.view_is c.self.invariant c.requires.has c.args.held.now c.requires.bag c.unwrap-block.result (sym c.unwrap-block.ensures ∙ c.take_buffer.ensures.found)) c.recall_live-3.ensures.live
+    c.drop_uses.new.desk c.recall_live-3.ensures.live (c.drop_uses.ensures.dropped ∙ ap (all_dropped c.settle_message.new.desk) c.dropped.ensures)
+    (bytes_at c.args.held.now c.args.buf) (bytes_are c.self.inside c.args.self.now c.args.app c.args.buf c.self.view_is c.self.invariant c.requires.has c.args.held.now c.requires.bag c.unwrap-block.result (sym c.unwrap-block.ensures ∙ c.take_buffer.ensures.found)) c.recall_live-4.ensures.live
 
 pub returns-clause-first : goal.returns-clause-first
 returns-clause-first g c = given_number c.self.inside c.args.self.now c.args.app c.args.buf c.self.view_is c.self.invariant c.requires.has
@@ -93,8 +97,9 @@ returns-clause-descs g c =
     c.seal_front-desc.ensures.pool c.seal_front-desc.ensures.numbers c.recall_live-2.ensures.live
     (c.deliver-reached.ensures.after ∙ ap (λ d. let v : Tables = record c.next_count-count.new.tables { pipes = deliver_rows (record { sender = c.args.app; number = c.args.buf; desc = d }) (route c.next_count-count.new.tables.subscriptions c.id_of-id.result) c.next_count-count.new.tables.pipes } in v) c.seal_front-desc.ensures.desc)
     (c.deliver-reached.ensures.reached ∙ ap (λ d. reached_rows (record { sender = c.args.app; number = c.args.buf; desc = d }) (route c.next_count-count.new.tables.subscriptions c.id_of-id.result) c.next_count-count.new.tables.pipes) c.seal_front-desc.ensures.desc)
-    (c.deliver-reached.ensures.missed ∙ ap (λ d. let v : Missed = record c.self.inside.misses { items = missed_rows (record { sender = c.args.app; number = c.args.buf; desc = d }) (route c.next_count-count.new.tables.subscriptions c.id_of-id.result) c.next_count-count.new.tables.pipes } in v) c.seal_front-desc.ensures.desc)
+    (c.deliver-reached.ensures.missed ∙ ap (λ d. let v : Missed = record c.self.inside.misses { items = missed_rows (record { sender = c.args.app; number = c.args.buf; desc = d }) (route c.next_count-count.new.tables.subscriptions c.id_of-id.result) c.next_count-count.new.tables.pipes; dropped = dropped_rows (record { sender = c.args.app; number = c.args.buf; desc = d }) (route c.next_count-count.new.tables.subscriptions c.id_of-id.result) c.next_count-count.new.tables.pipes } in v) c.seal_front-desc.ensures.desc)
     (c.settle_message.ensures.after ∙ ap (λ d. after_settle (resealed c.seal_front-desc.new.desk d (record (sealed_at c.seal_front-desc.new.desk.slots d) { uses = c.deliver-reached.result })) d) c.seal_front-desc.ensures.desc)
+    c.drop_uses.new.desk c.recall_live-3.ensures.live (c.drop_uses.ensures.dropped ∙ ap (all_dropped c.settle_message.new.desk) c.dropped.ensures)
 
 pub returns-clause-bag : goal.returns-clause-bag
 returns-clause-bag g c =
@@ -107,8 +112,9 @@ returns-clause-bag g c =
     c.seal_front-desc.ensures.pool c.seal_front-desc.ensures.numbers c.recall_live-2.ensures.live
     (c.deliver-reached.ensures.after ∙ ap (λ d. let v : Tables = record c.next_count-count.new.tables { pipes = deliver_rows (record { sender = c.args.app; number = c.args.buf; desc = d }) (route c.next_count-count.new.tables.subscriptions c.id_of-id.result) c.next_count-count.new.tables.pipes } in v) c.seal_front-desc.ensures.desc)
     (c.deliver-reached.ensures.reached ∙ ap (λ d. reached_rows (record { sender = c.args.app; number = c.args.buf; desc = d }) (route c.next_count-count.new.tables.subscriptions c.id_of-id.result) c.next_count-count.new.tables.pipes) c.seal_front-desc.ensures.desc)
-    (c.deliver-reached.ensures.missed ∙ ap (λ d. let v : Missed = record c.self.inside.misses { items = missed_rows (record { sender = c.args.app; number = c.args.buf; desc = d }) (route c.next_count-count.new.tables.subscriptions c.id_of-id.result) c.next_count-count.new.tables.pipes } in v) c.seal_front-desc.ensures.desc)
+    (c.deliver-reached.ensures.missed ∙ ap (λ d. let v : Missed = record c.self.inside.misses { items = missed_rows (record { sender = c.args.app; number = c.args.buf; desc = d }) (route c.next_count-count.new.tables.subscriptions c.id_of-id.result) c.next_count-count.new.tables.pipes; dropped = dropped_rows (record { sender = c.args.app; number = c.args.buf; desc = d }) (route c.next_count-count.new.tables.subscriptions c.id_of-id.result) c.next_count-count.new.tables.pipes } in v) c.seal_front-desc.ensures.desc)
     (c.settle_message.ensures.after ∙ ap (λ d. after_settle (resealed c.seal_front-desc.new.desk d (record (sealed_at c.seal_front-desc.new.desk.slots d) { uses = c.deliver-reached.result })) d) c.seal_front-desc.ensures.desc)
+    c.drop_uses.new.desk c.recall_live-3.ensures.live (c.drop_uses.ensures.dropped ∙ ap (all_dropped c.settle_message.new.desk) c.dropped.ensures)
     c.args.held.now c.take_buffer.new.self c.requires.bag c.take_buffer.ensures.seen
 
 pub returns-clause-other_bags : goal.returns-clause-other_bags
@@ -122,8 +128,9 @@ returns-clause-other_bags g c =
     c.seal_front-desc.ensures.pool c.seal_front-desc.ensures.numbers c.recall_live-2.ensures.live
     (c.deliver-reached.ensures.after ∙ ap (λ d. let v : Tables = record c.next_count-count.new.tables { pipes = deliver_rows (record { sender = c.args.app; number = c.args.buf; desc = d }) (route c.next_count-count.new.tables.subscriptions c.id_of-id.result) c.next_count-count.new.tables.pipes } in v) c.seal_front-desc.ensures.desc)
     (c.deliver-reached.ensures.reached ∙ ap (λ d. reached_rows (record { sender = c.args.app; number = c.args.buf; desc = d }) (route c.next_count-count.new.tables.subscriptions c.id_of-id.result) c.next_count-count.new.tables.pipes) c.seal_front-desc.ensures.desc)
-    (c.deliver-reached.ensures.missed ∙ ap (λ d. let v : Missed = record c.self.inside.misses { items = missed_rows (record { sender = c.args.app; number = c.args.buf; desc = d }) (route c.next_count-count.new.tables.subscriptions c.id_of-id.result) c.next_count-count.new.tables.pipes } in v) c.seal_front-desc.ensures.desc)
+    (c.deliver-reached.ensures.missed ∙ ap (λ d. let v : Missed = record c.self.inside.misses { items = missed_rows (record { sender = c.args.app; number = c.args.buf; desc = d }) (route c.next_count-count.new.tables.subscriptions c.id_of-id.result) c.next_count-count.new.tables.pipes; dropped = dropped_rows (record { sender = c.args.app; number = c.args.buf; desc = d }) (route c.next_count-count.new.tables.subscriptions c.id_of-id.result) c.next_count-count.new.tables.pipes } in v) c.seal_front-desc.ensures.desc)
     (c.settle_message.ensures.after ∙ ap (λ d. after_settle (resealed c.seal_front-desc.new.desk d (record (sealed_at c.seal_front-desc.new.desk.slots d) { uses = c.deliver-reached.result })) d) c.seal_front-desc.ensures.desc)
+    c.drop_uses.new.desk c.recall_live-3.ensures.live (c.drop_uses.ensures.dropped ∙ ap (all_dropped c.settle_message.new.desk) c.dropped.ensures)
 
 pub returns-clause-view_bags : goal.returns-clause-view_bags
 returns-clause-view_bags g c =
@@ -136,5 +143,43 @@ returns-clause-view_bags g c =
     c.seal_front-desc.ensures.pool c.seal_front-desc.ensures.numbers c.recall_live-2.ensures.live
     (c.deliver-reached.ensures.after ∙ ap (λ d. let v : Tables = record c.next_count-count.new.tables { pipes = deliver_rows (record { sender = c.args.app; number = c.args.buf; desc = d }) (route c.next_count-count.new.tables.subscriptions c.id_of-id.result) c.next_count-count.new.tables.pipes } in v) c.seal_front-desc.ensures.desc)
     (c.deliver-reached.ensures.reached ∙ ap (λ d. reached_rows (record { sender = c.args.app; number = c.args.buf; desc = d }) (route c.next_count-count.new.tables.subscriptions c.id_of-id.result) c.next_count-count.new.tables.pipes) c.seal_front-desc.ensures.desc)
-    (c.deliver-reached.ensures.missed ∙ ap (λ d. let v : Missed = record c.self.inside.misses { items = missed_rows (record { sender = c.args.app; number = c.args.buf; desc = d }) (route c.next_count-count.new.tables.subscriptions c.id_of-id.result) c.next_count-count.new.tables.pipes } in v) c.seal_front-desc.ensures.desc)
+    (c.deliver-reached.ensures.missed ∙ ap (λ d. let v : Missed = record c.self.inside.misses { items = missed_rows (record { sender = c.args.app; number = c.args.buf; desc = d }) (route c.next_count-count.new.tables.subscriptions c.id_of-id.result) c.next_count-count.new.tables.pipes; dropped = dropped_rows (record { sender = c.args.app; number = c.args.buf; desc = d }) (route c.next_count-count.new.tables.subscriptions c.id_of-id.result) c.next_count-count.new.tables.pipes } in v) c.seal_front-desc.ensures.desc)
     (c.settle_message.ensures.after ∙ ap (λ d. after_settle (resealed c.seal_front-desc.new.desk d (record (sealed_at c.seal_front-desc.new.desk.slots d) { uses = c.deliver-reached.result })) d) c.seal_front-desc.ensures.desc)
+    c.drop_uses.new.desk c.recall_live-3.ensures.live (c.drop_uses.ensures.dropped ∙ ap (all_dropped c.settle_message.new.desk) c.dropped.ensures)
+
+pub drop_uses-requires : goal.drop_uses-requires
+drop_uses-requires g c =
+    record { loose = subst (AreLoose c.settle_message.new.desk) (sym c.dropped.ensures)
+    (passed_loose c.self.inside c.args.self.now c.args.app c.args.buf c.unwrap-block.result.bytes c.args.inc c.id_of-id.result c.unwrap-block.result.desc c.deliver-reached.result c.next_count-count.result
+    c.seal_front-desc.new.desk c.settle_message.new.desk c.next_count-count.new.tables c.deliver-reached.new.self c.deliver-reached.new.misses c.let_go.new.self
+    c.self.view_is c.self.invariant c.recall_order.ensures c.requires.bag.known (in_list c.self.inside c.args.self.now c.args.app c.args.buf c.self.view_is c.self.invariant c.requires.has c.args.held.now c.requires.bag c.unwrap-block.result (sym c.unwrap-block.ensures ∙ c.take_buffer.ensures.found)) (numbered_block c.self.inside c.args.self.now c.args.app c.args.buf c.self.view_is c.self.invariant c.requires.has c.args.held.now c.requires.bag c.unwrap-block.result (sym c.unwrap-block.ensures ∙ c.take_buffer.ensures.found)) (size_block c.self.inside c.args.self.now c.args.app c.args.buf c.self.view_is c.self.invariant c.requires.has c.args.held.now c.requires.bag c.unwrap-block.result (sym c.unwrap-block.ensures ∙ c.take_buffer.ensures.found))
+    (c.let_go.ensures.after ∙ ap (λ n. let v : Held = record c.self.inside.lists { lists = set c.self.inside.lists.lists (c.args.app - 1) (without n (held_by c.self.inside.lists c.args.app)) } in v) c.desc.ensures)
+    (c.id_of-id.ensures ∙ ap message_id c.bytes.ensures) c.next_count-count.ensures.count c.next_count-count.ensures.after
+    (seals_as c.self.inside c.args.self.now c.args.app c.args.buf c.self.view_is c.self.invariant c.requires.has c.args.held.now c.requires.bag c.unwrap-block.result (sym c.unwrap-block.ensures ∙ c.take_buffer.ensures.found) c.seal_front-desc.new.desk _ c.seal_front-desc.ensures.seals)
+    c.seal_front-desc.ensures.pool c.seal_front-desc.ensures.numbers c.recall_live-2.ensures.live
+    (c.deliver-reached.ensures.after ∙ ap (λ d. let v : Tables = record c.next_count-count.new.tables { pipes = deliver_rows (record { sender = c.args.app; number = c.args.buf; desc = d }) (route c.next_count-count.new.tables.subscriptions c.id_of-id.result) c.next_count-count.new.tables.pipes } in v) c.seal_front-desc.ensures.desc)
+    (c.deliver-reached.ensures.reached ∙ ap (λ d. reached_rows (record { sender = c.args.app; number = c.args.buf; desc = d }) (route c.next_count-count.new.tables.subscriptions c.id_of-id.result) c.next_count-count.new.tables.pipes) c.seal_front-desc.ensures.desc)
+    (c.deliver-reached.ensures.missed ∙ ap (λ d. let v : Missed = record c.self.inside.misses { items = missed_rows (record { sender = c.args.app; number = c.args.buf; desc = d }) (route c.next_count-count.new.tables.subscriptions c.id_of-id.result) c.next_count-count.new.tables.pipes; dropped = dropped_rows (record { sender = c.args.app; number = c.args.buf; desc = d }) (route c.next_count-count.new.tables.subscriptions c.id_of-id.result) c.next_count-count.new.tables.pipes } in v) c.seal_front-desc.ensures.desc)
+    (c.settle_message.ensures.after ∙ ap (λ d. after_settle (resealed c.seal_front-desc.new.desk d (record (sealed_at c.seal_front-desc.new.desk.slots d) { uses = c.deliver-reached.result })) d) c.seal_front-desc.ensures.desc)) }
+
+pub returns-clause-cost : goal.returns-clause-cost
+returns-clause-cost g c =
+    let few =
+    subst (λ (l : List ℕ). length c.deliver-reached.new.misses.dropped ≤ drops (passing_of c.args.self.now c.args.app c.args.buf l c.args.inc) (route c.args.self.now.subscriptions (message_id l)) c.args.self.now.pipes) (sym (bytes_are c.self.inside c.args.self.now c.args.app c.args.buf c.self.view_is c.self.invariant c.requires.has c.args.held.now c.requires.bag c.unwrap-block.result (sym c.unwrap-block.ensures ∙ c.take_buffer.ensures.found)))
+    (passed_drops c.self.inside c.args.self.now c.args.app c.args.buf c.unwrap-block.result.bytes c.args.inc c.id_of-id.result c.unwrap-block.result.desc c.deliver-reached.result c.next_count-count.result
+    c.seal_front-desc.new.desk c.settle_message.new.desk c.next_count-count.new.tables c.deliver-reached.new.self c.deliver-reached.new.misses c.let_go.new.self
+    c.self.view_is c.self.invariant c.recall_order.ensures c.requires.bag.known (in_list c.self.inside c.args.self.now c.args.app c.args.buf c.self.view_is c.self.invariant c.requires.has c.args.held.now c.requires.bag c.unwrap-block.result (sym c.unwrap-block.ensures ∙ c.take_buffer.ensures.found)) (numbered_block c.self.inside c.args.self.now c.args.app c.args.buf c.self.view_is c.self.invariant c.requires.has c.args.held.now c.requires.bag c.unwrap-block.result (sym c.unwrap-block.ensures ∙ c.take_buffer.ensures.found)) (size_block c.self.inside c.args.self.now c.args.app c.args.buf c.self.view_is c.self.invariant c.requires.has c.args.held.now c.requires.bag c.unwrap-block.result (sym c.unwrap-block.ensures ∙ c.take_buffer.ensures.found))
+    (c.let_go.ensures.after ∙ ap (λ n. let v : Held = record c.self.inside.lists { lists = set c.self.inside.lists.lists (c.args.app - 1) (without n (held_by c.self.inside.lists c.args.app)) } in v) c.desc.ensures)
+    (c.id_of-id.ensures ∙ ap message_id c.bytes.ensures) c.next_count-count.ensures.count c.next_count-count.ensures.after
+    (seals_as c.self.inside c.args.self.now c.args.app c.args.buf c.self.view_is c.self.invariant c.requires.has c.args.held.now c.requires.bag c.unwrap-block.result (sym c.unwrap-block.ensures ∙ c.take_buffer.ensures.found) c.seal_front-desc.new.desk _ c.seal_front-desc.ensures.seals)
+    c.seal_front-desc.ensures.pool c.seal_front-desc.ensures.numbers c.recall_live-2.ensures.live
+    (c.deliver-reached.ensures.after ∙ ap (λ d. let v : Tables = record c.next_count-count.new.tables { pipes = deliver_rows (record { sender = c.args.app; number = c.args.buf; desc = d }) (route c.next_count-count.new.tables.subscriptions c.id_of-id.result) c.next_count-count.new.tables.pipes } in v) c.seal_front-desc.ensures.desc)
+    (c.deliver-reached.ensures.reached ∙ ap (λ d. reached_rows (record { sender = c.args.app; number = c.args.buf; desc = d }) (route c.next_count-count.new.tables.subscriptions c.id_of-id.result) c.next_count-count.new.tables.pipes) c.seal_front-desc.ensures.desc)
+    (c.deliver-reached.ensures.missed ∙ ap (λ d. let v : Missed = record c.self.inside.misses { items = missed_rows (record { sender = c.args.app; number = c.args.buf; desc = d }) (route c.next_count-count.new.tables.subscriptions c.id_of-id.result) c.next_count-count.new.tables.pipes; dropped = dropped_rows (record { sender = c.args.app; number = c.args.buf; desc = d }) (route c.next_count-count.new.tables.subscriptions c.id_of-id.result) c.next_count-count.new.tables.pipes } in v) c.seal_front-desc.ensures.desc)
+    (c.settle_message.ensures.after ∙ ap (λ d. after_settle (resealed c.seal_front-desc.new.desk d (record (sealed_at c.seal_front-desc.new.desk.slots d) { uses = c.deliver-reached.result })) d) c.seal_front-desc.ensures.desc)) in
+    let same =
+    ap (λ (t : Tables). length (route t.subscriptions c.id_of-id.result)) c.next_count-count.ensures.after
+    ∙ ap (λ i. length (route c.self.inside.tables.subscriptions i)) (c.id_of-id.ensures ∙ ap message_id c.bytes.ensures)
+    ∙ ap (λ (o : Store). length (route o.subscriptions (message_id c.unwrap-block.result.bytes))) c.self.view_is
+    ∙ ap (λ (l : List ℕ). length (route c.args.self.now.subscriptions (message_id l))) (sym (bytes_are c.self.inside c.args.self.now c.args.app c.args.buf c.self.view_is c.self.invariant c.requires.has c.args.held.now c.requires.bag c.unwrap-block.result (sym c.unwrap-block.ensures ∙ c.take_buffer.ensures.found))) in
+    omega (arith, few, same, ap length c.dropped.ensures, c.drop_uses.ensures.cost, c.settle_message.ensures.cost, c.deliver-reached.ensures.cost, c.let_go.ensures.cost)
