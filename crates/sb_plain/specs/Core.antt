@@ -7,9 +7,10 @@ use Rattle.housekeeping.specs.Counters.{ticked}
 use Rattle.bus_words.specs.declared.calls.BusAnswer.{BusAnswer}
 use Rattle.bus_words.specs.declared.history.Call.{Call}
 use Rattle.bus_words.specs.declared.history.Call.TheVariants.{Create, Delete, SetOpts, GetOpts, Find, PipeName, Subscribe, Unsubscribe, Transmit, Receive, Pend, Look, Allocate, TransmitBuffer, Release, PoolCreate, PoolGet, PoolPut, PoolFigures, Register, SendEvent, ResetFilter, LogMode, ClearLog, Housekeeping, Figures, End}
-use Rattle.bus_words.specs.Bus.{standing_of}
-use Rattle.bus_words.specs.Machine.{may_call}
-use Rattle.bus_words.specs.Acts.{Whole, act}
+use Rattle.ccsds_msg.specs.Message.{message_id}
+use Rattle.bus_words.specs.Bus.{standing_of, route, drops}
+use Rattle.bus_words.specs.Machine.{may_call, sending_from, sending_in}
+use Rattle.bus_words.specs.Acts.{Whole, reads_in, act}
 use Rattle.bus_store.specs.Store.{LastLoan, BufferDesc}
 
 -- The limits, the state, the loan that the last message of each live pipe is lent by, and the descriptor of each unsent buffer.
@@ -32,6 +33,14 @@ with_tick core which = record core {
     };
   };
 }
+
+-- how many pipes drop their oldest message for what the application sends with these bytes
+abbrev pub drops_for : Whole → ℕ → List ℕ → Bool → ℕ
+drops_for w app bytes inc = drops (sending_from (reads_in w) w.bus app bytes inc) (route w.bus.subscriptions (message_id bytes)) w.bus.pipes
+
+-- and for what it sends in a buffer of its own with these bytes
+abbrev pub drops_in : Whole → ℕ → ℕ → List ℕ → Bool → ℕ
+drops_in w app buf bytes inc = drops (sending_in (reads_in w) w.bus app buf bytes inc) (route w.bus.subscriptions (message_id bytes)) w.bus.pipes
 
 -- a name of at most 64 bytes, a message of at most 65542, an event's text of at most 200, a mode of 0 or 1; what a buffer may have
 -- is bounded by its size

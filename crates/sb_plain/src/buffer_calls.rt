@@ -97,7 +97,7 @@ impl<'r> PlainBus<'r> {
     /// answer is number 0, and no count moves; where somebody does and no pipe takes it, its own
     /// number; its block goes back to the pool in both. All else is as with [`PlainBus::transmit`],
     /// but that the size was tested when the buffer was given. At most 4 steps for each
-    /// subscription of the id, and 32 more.
+    /// subscription of the id, 8 more for each whose pipe drops a message, and 32 more.
     ///
     /// # Errors
     /// `BufferInvalid` where this is no unsent buffer of the caller's; `BadArgument` where its
@@ -126,7 +126,8 @@ impl<'r> PlainBus<'r> {
         ensures count { length held.new.buffers ≤ length held.old.buffers }
         ensures cost { steps.new
             ≤ steps.old + 32 + 4 * length
-            (route self.old.whole.bus.subscriptions (message_id (bytes_at held.old buf))) }
+            (route self.old.whole.bus.subscriptions (message_id (bytes_at held.old buf))) +
+            8 * drops_in self.old.whole app buf (bytes_at held.old buf) inc }
     {
         let id = match id_to_send(held, buf) {
             Ok(id) => id,

@@ -131,11 +131,13 @@ impl<'r> PlainBus<'r> {
 
     /// Sends a message to every pipe that is subscribed to its id, in order of subscription. A pipe
     /// that is full, that ignores what its owner sends where that is the sender, or where as many
-    /// messages of the subscription wait as its limit says, misses it; of those that are full or
-    /// over the limit the bus tells, in that order, and counts them. With `inc` the message gets
-    /// the id's next sequence count (CCSDS 133.0-B, 4.1.3.4.3). Where nobody subscribes to the id,
-    /// it takes neither a number nor a block, and the bus tells and counts that. At most 4 steps
-    /// for each subscription of the id, and 32 more, whatever else there is.
+    /// messages of the subscription wait as its limit says, misses it. A full pipe with option 0x02
+    /// takes it all the same, and drops the message that waits longest. Of those that are full,
+    /// over the limit, or drop a message the bus tells, in that order, and counts them. With `inc`
+    /// the message gets the id's next sequence count (CCSDS 133.0-B, 4.1.3.4.3). Where nobody
+    /// subscribes to the id, it takes neither a number nor a block, and the bus tells and counts
+    /// that. At most 4 steps for each subscription of the id, 8 more for each whose pipe drops a
+    /// message, and 32 more, whatever else there is.
     ///
     /// # Errors
     /// `BadArgument` for bytes that are no message; `MsgTooBig` for more bytes than the
@@ -152,7 +154,8 @@ impl<'r> PlainBus<'r> {
         ensures does { Acts self.old self.new app (Transmit bytes.now inc) (sent result) }
         ensures cost { steps.new
             ≤ steps.old + 32 + 4 * length
-            (route self.old.whole.bus.subscriptions (message_id bytes.now)) }
+            (route self.old.whole.bus.subscriptions (message_id bytes.now)) +
+            8 * drops_for self.old.whole app bytes.now inc }
         ensures bags { KeepsBags self.old self.new }
         ensures loans { KeepsAllLoans self.old self.new }
         ensures descs { KeepsAllDescs self.old self.new }

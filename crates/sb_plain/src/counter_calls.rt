@@ -21,7 +21,8 @@ use housekeeping::{CounterName, Counters, InUse, PACKET_BYTES};
 impl<'r> PlainBus<'r> {
     /// Sends the housekeeping packet, in which the counters and the numbers in use are those before
     /// this call, as [`PlainBus::transmit`] sends a message that gets its id's next sequence count.
-    /// At most 4 steps for each subscription of the packet's id, and 32 more.
+    /// At most 4 steps for each subscription of the packet's id, 8 more for each whose pipe drops a
+    /// message, and 32 more.
     ///
     /// # Errors
     /// `MsgTooBig` where the configuration allows fewer bytes than the packet has; `BufAlocErr`
@@ -36,7 +37,8 @@ impl<'r> PlainBus<'r> {
         ensures does { Acts self.old self.new app Housekeeping (sent result) }
         ensures cost { steps.new
             ≤ steps.old + 32 + 4 * length
-            (route self.old.whole.bus.subscriptions housekeeping_id) }
+            (route self.old.whole.bus.subscriptions housekeeping_id) +
+            8 * drops_for self.old.whole app (packet_in self.old.limits self.old.whole.bus) true }
         ensures bags { KeepsBags self.old self.new }
         ensures loans { KeepsAllLoans self.old self.new }
         ensures descs { KeepsAllDescs self.old self.new }
