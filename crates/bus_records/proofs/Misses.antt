@@ -9,7 +9,7 @@ use Rattle.bus_events.specs.declared.event.ServiceEvent.{ServiceEvent}
 use Rattle.bus_events.specs.Events.{served_event, served_all}
 use Rattle.bus_words.specs.Bus.{Pipe, Subscription, Sending, verdict, pipe_at, with_pipe, offered}
 use Rattle.bus_words.specs.declared.verdict.Verdict.{Verdict}
-use Rattle.bus_words.specs.declared.verdict.Verdict.TheVariants.{Skip, OverLimit, Full, In}
+use Rattle.bus_words.specs.declared.verdict.Verdict.TheVariants.{Skip, OverLimit, Full, In, Oldest}
 use Rattle.bus_words.specs.Counters.{event_counter}
 use Rattle.bus_words.specs.Events.{verdict_events, destination_events, delivery_events, send_events}
 use Rattle.bus_tables.specs.Missed.{cause_of, missed_by, missed}
@@ -41,6 +41,7 @@ verdict_events-miss id pipe sender Skip = refl
 verdict_events-miss id pipe sender OverLimit = refl
 verdict_events-miss id pipe sender Full = refl
 verdict_events-miss id pipe sender In = refl
+verdict_events-miss id pipe sender Oldest = refl
 
 -- of one destination the misses are told
 destination_events-miss : (id : ℕ) (sending : Sending) (sub : Subscription) (pipes : List Pipe) →

@@ -8,12 +8,12 @@ use Rattle.housekeeping.specs.Counters.{ticked}
 use Rattle.housekeeping.specs.Peaks.{greater}
 use Rattle.housekeeping.specs.Statistics.{Statistics, no_statistics}
 use Rattle.bus_events.specs.declared.event.ServiceEvent.{ServiceEvent}
-use Rattle.bus_events.specs.declared.event.ServiceEvent.TheVariants.{MessageLimit, PipeOverflow}
+use Rattle.bus_events.specs.declared.event.ServiceEvent.TheVariants.{MessageLimit, PipeOverflow, OldestDropped}
 use Rattle.bus_events.specs.Events.{served_event}
 use Rattle.bus_words.specs.Counters.{event_counter}
 use Rattle.bus_tables.specs.declared.misses.Miss.{Miss}
 use Rattle.bus_tables.specs.declared.misses.MissCause.{MissCause}
-use Rattle.bus_tables.specs.declared.misses.MissCause.TheVariants.{OverLimit, Full}
+use Rattle.bus_tables.specs.declared.misses.MissCause.TheVariants.{OverLimit, Full, Oldest}
 
 -- The event desk; and the counters, with the peaks of what was in use.
 pub record Recordings : Type 0 where
@@ -44,10 +44,11 @@ told_event records event = record {
 abbrev pub told_all : Recordings → List ServiceEvent → Recordings
 told_all records events = fold told_event records events
 
--- what is told of a pipe that misses a message of this id and sender for this cause
+-- what is told of a pipe that misses a message of this id and sender, or its oldest one, for this cause
 abbrev pub missed_by_cause : MissCause → ℕ → ℕ → ℕ → ServiceEvent
 missed_by_cause OverLimit id pipe sender = MessageLimit id pipe sender
 missed_by_cause Full id pipe sender = PipeOverflow id pipe sender
+missed_by_cause Oldest id pipe sender = OldestDropped id pipe sender
 
 -- what is told of a pipe that misses a message of this id and sender
 abbrev pub miss_event : ℕ → ℕ → Miss → ServiceEvent

@@ -230,6 +230,7 @@ fn raise(counters: &mut Counters, event: &ServiceEvent)
         ServiceEvent::NoSubscribers { .. } => counters.tick(CounterName::Nosub),
         ServiceEvent::MessageLimit { .. } => counters.tick(CounterName::Limit),
         ServiceEvent::PipeOverflow { .. } => counters.tick(CounterName::Overflow),
+        ServiceEvent::OldestDropped { .. } => counters.tick(CounterName::Oldest),
     }
 }
 
@@ -241,5 +242,6 @@ fn event_of(miss: &Miss, id: u16, sender: AppNo) -> ServiceEvent
     match miss.cause {
         MissCause::OverLimit => ServiceEvent::MessageLimit { id, pipe, sender },
         MissCause::Full => ServiceEvent::PipeOverflow { id, pipe, sender },
+        MissCause::Oldest => ServiceEvent::OldestDropped { id, pipe, sender },
     }
 }

@@ -11,7 +11,7 @@ use Rattle.buf_desc.specs.Block.{Unsent}
 use Rattle.buf_desc.specs.Held.{Holding, view_at}
 use Rattle.bus_words.specs.declared.history.Call.{Call}
 use Rattle.bus_words.specs.declared.history.Entry.{Entry}
-use Rattle.bus_words.specs.Bus.{Pipe, Buffer, Subscription, State, Sending, opening, owns, unsent_of, with_pipe, with_bits, after_receive, offered, deliver, route, is_in, verdict}
+use Rattle.bus_words.specs.Bus.{Pipe, Buffer, Subscription, State, Sending, opening, owns, unsent_of, with_pipe, with_bits, after_receive, offered, deliver, route}
 use Rattle.bus_words.specs.Machine.{state_from, step}
 use Rattle.bus_words.proofs.Steps.{after_step}
 use Rattle.bus_store.specs.Bag.{Shape, shape_of, last_view}
@@ -48,11 +48,7 @@ foreign-filter app keep (p ∷ pipes) foreign = by (keep p) (foreign-filter app 
     by false rest = rest
 
 owner-offered : (sending : Sending) (sub : Subscription) (p : Pipe) → (offered sending sub p).owner ≡ p.owner
-owner-offered sending sub p = by (is_in (verdict p sub sending.sender))
-  where
-    by : (b : Bool) → (cond {A = Pipe} b (record p { queue = p.queue ++ record { number = sending.number; asked = sending.asked; subscription = sub.number; message = sending.message } ∷ [] }) p).owner ≡ p.owner
-    by true = refl
-    by false = refl
+owner-offered sending sub p = refl
 
 foreign-deliver : (app : ℕ) (sending : Sending) (subs : List Subscription) (pipes : List Pipe) → AllForeign app pipes → AllForeign app (deliver sending subs pipes)
 foreign-deliver app sending [] pipes foreign = foreign

@@ -99,8 +99,7 @@ pub rising_after : (f : PipeOf Item → PipeOf Item) (number below : ℕ) (rows 
     IsRising below rows → IsRising below (with_pipe f number rows)
 rising_after f number below [] same rising = tt
 rising_after f number below (row ∷ rows) same rising =
-    let kept : (changed f number row).number ≡ row.number = by_test (eqb row.number number) in
-    (
+    let kept : (changed f number row).number ≡ row.number = by_test (eqb row.number number) in (
       subst (λ n. below < n) (sym kept) rising.0,
       subst (λ n. IsRising n (with_pipe f number rows)) (sym kept) (rising_after f number row.number rows same rising.1),
     )

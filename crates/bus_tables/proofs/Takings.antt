@@ -239,16 +239,14 @@ live_fewer subs sub s (Some item) live = by_list subs.live live
             (t : Subscription) × (cond {A = Option Subscription} (goes_by sub (then x)) (Some (then x)) (find (goes_by sub) (map then live)) ≡ Some t) × (t.waiting ≤ s.waiting) × (t.pipe ≡ s.pipe)
         by_first true here is later =
             let it : x ≡ s = cc (is) in
-            subst (λ (y : Subscription). (t : Subscription) × (cond {A = Option Subscription} (goes_by sub (then x)) (Some (then x)) (find (goes_by sub) (map then live)) ≡ Some t) × (t.waiting ≤ y.waiting) × (t.pipe ≡ y.pipe)) it
-            (
+            subst (λ (y : Subscription). (t : Subscription) × (cond {A = Option Subscription} (goes_by sub (then x)) (Some (then x)) (find (goes_by sub) (map then live)) ≡ Some t) × (t.waiting ≤ y.waiting) × (t.pipe ≡ y.pipe)) it (
               then x,
               ap (λ b. cond {A = Option Subscription} b (Some (then x)) (find (goes_by sub) (map then live))) (by_test x (goes_by item.sub x) ∙ here),
               fewer_waits x (goes_by item.sub x),
               same_pipe x (goes_by item.sub x),
             )
         by_first false here is later =
-            let rest = later is in
-            (
+            let rest = later is in (
               rest.0,
               ap (λ b. cond {A = Option Subscription} b (Some (then x)) (find (goes_by sub) (map then live))) (by_test x (goes_by item.sub x) ∙ here) ∙ rest.1,
               rest.2,

@@ -9,6 +9,7 @@ ghost use Rattle.sb_plain.specs.Answers.{allocated, sent, done};
 ghost use Rattle.sb_plain.specs.Bags.{KeepsBuffers};
 ghost use Rattle.sb_calls.specs.Bags.{HasBag, KeepsOtherBags};
 ghost use Rattle.sb_calls.specs.Core.{MayCall, Does, state_of};
+ghost use Rattle.sb_plain.specs.Core.{drops_for};
 
 use crate::answers::{of_allocated, of_done, of_sent};
 use crate::bus_core::BusCore;
@@ -67,8 +68,8 @@ impl<'r> BusCore<'r> {
     /// gets its id's next sequence count. Where nobody subscribes to the id, it goes nowhere, and
     /// is answered with number 0; where somebody does and no pipe takes it, with its own number;
     /// the block goes back to the pool in both. How large it is was tested when the buffer was
-    /// given. At most 4 steps for each subscription of the id, and 32 more. The call stands in the
-    /// journal with all bytes of the buffer.
+    /// given. At most 4 steps for each subscription of the id, 8 more for each whose pipe drops
+    /// a message, and 32 more. The call stands in the journal with all bytes of the buffer.
     ///
     /// # Errors
     /// `BufferInvalid` where the caller has no unsent buffer of this number; `BadArgument` where
@@ -94,7 +95,8 @@ impl<'r> BusCore<'r> {
         ensures bag_refused { OnErr result (held.new ≡ held.old) }
         ensures cost { steps.new
             ≤ steps.old + 32 + 4 * length
-            (route (state_of self.old).subscriptions (message_id (bytes_at held.old buf))) }
+            (route (state_of self.old).subscriptions (message_id (bytes_at held.old buf))) +
+            8 * drops_for (state_of self.old) app (message_id (bytes_at held.old buf)) }
     {
         // The call takes the bytes away, so its entry is made before, with an answer that stands in
         // for its own.

@@ -73,6 +73,13 @@ impl<'r> BusCore<'r> {
         })
     }
 
+    /// The version of its configuration: 1 or 2, which has one option bit of pipes more.
+    pub fn version(&self) -> u32
+        ensures { result ≡ self.now.limits.version }
+    {
+        self.core.version()
+    }
+
     /// How many applications it serves, 1 to 16.
     pub fn apps(&self) -> u32
         ensures { result ≡ apps_of self.now }

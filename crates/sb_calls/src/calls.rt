@@ -6,6 +6,7 @@ ghost use Rattle.bus_words.specs.Bus.{owns, route};
 ghost use Rattle.sb_calls.specs.Bags.{HasBag, KeepsBags, KeepsOtherBags};
 ghost use Rattle.sb_calls.specs.Core.{MayCall, Does, GotAlone, state_of};
 ghost use Rattle.sb_plain.specs.Answers.{created, done, sent, got};
+ghost use Rattle.sb_plain.specs.Core.{drops_for};
 
 use crate::answers::{of_created, of_done, of_got, of_sent};
 use crate::bus_core::BusCore;
@@ -133,7 +134,8 @@ impl<'r> BusCore<'r> {
         ensures bags { KeepsBags self.old self.new }
         ensures cost { steps.new
             ≤ steps.old + 32 + 4 * length
-            (route (state_of self.old).subscriptions (message_id bytes.now)) }
+            (route (state_of self.old).subscriptions (message_id bytes.now)) +
+            8 * drops_for (state_of self.old) app (message_id bytes.now) }
     {
         let result = self.core.transmit(app, bytes, inc, steps);
         let entry = BusEntry {

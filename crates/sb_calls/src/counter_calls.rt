@@ -9,6 +9,7 @@ ghost use Rattle.bus_words.specs.Machine.{statistics_after};
 ghost use Rattle.sb_calls.specs.Bags.{KeepsBags};
 ghost use Rattle.sb_calls.specs.Core.{MayCall, Does, apps_of, state_of};
 ghost use Rattle.sb_plain.specs.Answers.{sent};
+ghost use Rattle.sb_plain.specs.Core.{drops_for};
 
 use crate::answers::of_sent;
 use crate::bus_core::BusCore;
@@ -22,7 +23,8 @@ use sb_plain::Sent;
 impl<'r> BusCore<'r> {
     /// Sends the housekeeping packet as a message of the caller's, with its id's next sequence
     /// count: 64 bytes of the id 0x0803, which tell the counters and what is in use, as they are
-    /// before the call. At most 4 steps for each subscription of the id, and 32 more.
+    /// before the call. At most 4 steps for each subscription of the id, 8 more for
+    /// each whose pipe drops a message, and 32 more.
     ///
     /// # Errors
     /// `MsgTooBig` where the configuration allows no 64 bytes; `BufAlocErr` where somebody
@@ -37,7 +39,8 @@ impl<'r> BusCore<'r> {
         ensures bags { KeepsBags self.old self.new }
         ensures cost { steps.new
             ≤ steps.old + 32 + 4 * length
-            (route (state_of self.old).subscriptions housekeeping_id) }
+            (route (state_of self.old).subscriptions housekeeping_id) +
+            8 * drops_for (state_of self.old) app housekeeping_id }
     {
         let result = self.core.send_housekeeping(app, steps);
         let entry = BusEntry {

@@ -45,12 +45,13 @@ impl<'r> BusCore<'r> {
         result
     }
 
-    /// Sets the option bits of the caller's pipe: with 0x01 the messages that the caller itself
-    /// sends are not for it, with 0 they are.
+    /// Sets the option bits of the caller's pipe. With 0x01 the messages that the caller itself
+    /// sends are not for it. With 0x02, which version 2 has, it drops its oldest message for a new
+    /// one when it is full.
     ///
     /// # Errors
-    /// `BadArgument` for a pipe that isn't live or isn't the caller's, and for any other bit than
-    /// 0x01.
+    /// `BadArgument` for a pipe that isn't live or isn't the caller's, and for a bit that the
+    /// version doesn't have.
     pub fn set_opts(&mut self, app: AppNo, pipe: u32, bits: u8) -> Result<(), SbStatus>
         requires may { MayCall self.old app (Call.SetOpts pipe bits) }
         ensures does { Does self.old self.new app (Call.SetOpts pipe bits) (done result) }

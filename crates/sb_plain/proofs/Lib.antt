@@ -5,6 +5,7 @@ pub mod Asks
 pub mod Bags
 pub mod Buffers
 pub mod Changes
+pub mod Drops
 pub mod Ends
 pub mod Events
 pub mod Figures

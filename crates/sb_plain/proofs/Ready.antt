@@ -5,7 +5,7 @@ use Rattle.std.proofs.lemmas.Bool.{cases_eq}
 use Rattle.std.proofs.lemmas.Bool.Decides.{nat_tests}
 use Rattle.std.proofs.lemmas.List.{get_or-set_same, get_or-set_other}
 use Rattle.std.proofs.Math.ListN.{get_or-map}
-use Rattle.bus_words.specs.Bus.{Pipe, Subscription, Sending, Standing, Ended, State, standing_of, is_in, verdict, item_for, owns, with_pipe, with_bits, offered, deliver, after_receive}
+use Rattle.bus_words.specs.Bus.{Pipe, Subscription, Sending, Standing, Ended, State, standing_of, owns, with_pipe, with_bits, offered, deliver, after_receive}
 use Rattle.bus_words.specs.Pipes.{IsRising}
 use Rattle.sb_plain.specs.declared.activities.Activity.{Activity}
 use Rattle.sb_plain.specs.declared.activities.Activity.TheVariants as activities
@@ -56,14 +56,7 @@ ready_sent sending [] pipes app number ready = ready
 ready_sent sending (sub ∷ subs) pipes app number ready =
     ready_sent sending subs (with_pipe (offered sending sub) sub.pipe pipes) app number
     (ready_changed pipes app number ready (offered sending sub)
-    (λ pipe. at (λ p. p.number) pipe (λ queue. refl) (is_in (verdict pipe sub sending.sender)))
-    (λ pipe. at (λ p. p.owner) pipe (λ queue. refl) (is_in (verdict pipe sub sending.sender)))
-    (λ pipe. at (λ p. p.last) pipe (λ queue. refl) (is_in (verdict pipe sub sending.sender))) sub.pipe)
-  where
-    at : {X : Type 0} (f : Pipe → X) (pipe : Pipe) → ((queue : _) → f (record pipe { queue = queue }) ≡ f pipe) → (b : Bool) →
-        f (cond {A = Pipe} b (record pipe { queue = pipe.queue ++ item_for sending sub ∷ [] }) pipe) ≡ f pipe
-    at f pipe same true = same (pipe.queue ++ item_for sending sub ∷ [])
-    at f pipe same false = refl
+    (λ pipe. refl) (λ pipe. refl) (λ pipe. refl) sub.pipe)
 
 -- What applications do. --
 

@@ -1,5 +1,5 @@
 -- The core as its callers see it: its limits, the state, the loans of the last messages, and the descriptors of unsent buffers.
-use Rattle.std.specs.Prelude.{◌≡◌, ℕ, ◌+◌, ◌^◌, ◌<◌, ◌≤◌, nat_le, Bool, true, List, length, IsTrue}
+use Rattle.std.specs.Prelude.{◌≡◌, ℕ, ◌+◌, ◌^◌, ◌<◌, ◌≤◌, nat_le, Bool, true, List, [], length, IsTrue}
 use Rattle.fsw_base.specs.Limits.{Limits}
 use Rattle.pool_words.specs.Grants.{Pools, has_numbers}
 use Rattle.housekeeping.specs.declared.names.CounterName.{CounterName}
@@ -7,10 +7,9 @@ use Rattle.housekeeping.specs.Counters.{ticked}
 use Rattle.bus_words.specs.declared.calls.BusAnswer.{BusAnswer}
 use Rattle.bus_words.specs.declared.history.Call.{Call}
 use Rattle.bus_words.specs.declared.history.Call.TheVariants.{Create, Delete, SetOpts, GetOpts, Find, PipeName, Subscribe, Unsubscribe, Transmit, Receive, Pend, Look, Allocate, TransmitBuffer, Release, PoolCreate, PoolGet, PoolPut, PoolFigures, Register, SendEvent, ResetFilter, LogMode, ClearLog, Housekeeping, Figures, End}
-use Rattle.ccsds_msg.specs.Message.{message_id}
-use Rattle.bus_words.specs.Bus.{standing_of, route, drops}
-use Rattle.bus_words.specs.Machine.{may_call, sending_from, sending_in}
-use Rattle.bus_words.specs.Acts.{Whole, reads_in, act}
+use Rattle.bus_words.specs.Bus.{State, standing_of, route, drops}
+use Rattle.bus_words.specs.Machine.{may_call}
+use Rattle.bus_words.specs.Acts.{Whole, act}
 use Rattle.bus_store.specs.Store.{LastLoan, BufferDesc}
 
 -- The limits, the state, the loan that the last message of each live pipe is lent by, and the descriptor of each unsent buffer.
@@ -34,13 +33,9 @@ with_tick core which = record core {
   };
 }
 
--- how many pipes drop their oldest message for what the application sends with these bytes
-abbrev pub drops_for : Whole → ℕ → List ℕ → Bool → ℕ
-drops_for w app bytes inc = drops (sending_from (reads_in w) w.bus app bytes inc) (route w.bus.subscriptions (message_id bytes)) w.bus.pipes
-
--- and for what it sends in a buffer of its own with these bytes
-abbrev pub drops_in : Whole → ℕ → ℕ → List ℕ → Bool → ℕ
-drops_in w app buf bytes inc = drops (sending_in (reads_in w) w.bus app buf bytes inc) (route w.bus.subscriptions (message_id bytes)) w.bus.pipes
+-- how many pipes drop their oldest message for one of this id that the application sends, whatever message it is
+abbrev pub drops_for : State → ℕ → ℕ → ℕ
+drops_for s app id = drops (record { sender = app; number = 0; asked = 0; message = [] }) (route s.subscriptions id) s.pipes
 
 -- a name of at most 64 bytes, a message of at most 65542, an event's text of at most 200, a mode of 0 or 1; what a buffer may have
 -- is bounded by its size

@@ -7,7 +7,7 @@ ghost use Rattle.bus_words.specs.declared.history.Call.TheVariants.{Allocate, Tr
 ghost use Rattle.bus_words.specs.Bus.{route};
 ghost use Rattle.bus_words.specs.Machine.{allocate_cause};
 ghost use Rattle.buf_desc.specs.Held.{buffer_at, bytes_at};
-ghost use Rattle.sb_plain.specs.Core.{MayAct, Acts, with_tick};
+ghost use Rattle.sb_plain.specs.Core.{MayAct, Acts, with_tick, drops_for};
 ghost use Rattle.sb_plain.specs.Answers.{allocated, sent, done};
 ghost use Rattle.sb_plain.specs.Bags.{HasBag, KeepsOtherBags, KeepsBuffers, KeepsAllLoans, KeepsDescs};
 ghost use Rattle.sb_plain.specs.Rows.{buffer_cause};
@@ -127,7 +127,7 @@ impl<'r> PlainBus<'r> {
         ensures cost { steps.new
             ≤ steps.old + 32 + 4 * length
             (route self.old.whole.bus.subscriptions (message_id (bytes_at held.old buf))) +
-            8 * drops_in self.old.whole app buf (bytes_at held.old buf) inc }
+            8 * drops_for self.old.whole.bus app (message_id (bytes_at held.old buf)) }
     {
         let id = match id_to_send(held, buf) {
             Ok(id) => id,

@@ -5,7 +5,7 @@ ghost use Rattle.ccsds_msg.specs.Message.{message_id};
 ghost use Rattle.bus_words.specs.declared.calls.BusAnswer.TheVariants.{Done};
 ghost use Rattle.bus_words.specs.declared.history.Call.TheVariants.{Create, Subscribe, Unsubscribe, Transmit, Receive, End};
 ghost use Rattle.bus_words.specs.Bus.{owns, route};
-ghost use Rattle.sb_plain.specs.Core.{MayAct, Acts, with_tick};
+ghost use Rattle.sb_plain.specs.Core.{MayAct, Acts, with_tick, drops_for};
 ghost use Rattle.sb_plain.specs.Answers.{created, done, sent, got};
 ghost use Rattle.sb_plain.specs.Bags.{HasBag, KeepsBags, KeepsOtherBags, KeepsAllLoans, KeepsAllDescs, KeepsLoans, KeepsOtherLoans, KeepsOtherDescs};
 
@@ -155,7 +155,7 @@ impl<'r> PlainBus<'r> {
         ensures cost { steps.new
             ≤ steps.old + 32 + 4 * length
             (route self.old.whole.bus.subscriptions (message_id bytes.now)) +
-            8 * drops_for self.old.whole app bytes.now inc }
+            8 * drops_for self.old.whole.bus app (message_id bytes.now) }
         ensures bags { KeepsBags self.old self.new }
         ensures loans { KeepsAllLoans self.old self.new }
         ensures descs { KeepsAllDescs self.old self.new }

@@ -2,7 +2,7 @@
 //! (`bus_words`).
 ghost use Rattle.std.specs.Prelude.{◌≡◌, None, ◌==◌, ◌||◌, ◌&&◌, not, nat_lt, nat_le, length, is_some, ◌≤◌};
 ghost use Rattle.ccsds_msg.specs.Message.{fault, is_valid_id};
-ghost use Rattle.bus_words.specs.Bus.{is_subscribed, owns};
+ghost use Rattle.bus_words.specs.Bus.{all_bits, is_subscribed, owns};
 ghost use Rattle.bus_words.specs.Machine.{refused_if, create_cause, subscribe_cause, unsubscribe_cause, unowned_cause, set_opts_cause, transmit_cause, allocate_cause};
 ghost use Rattle.bus_tables.specs.Rows.{has_way};
 
@@ -71,9 +71,9 @@ impl<'r> PlainBus<'r> {
 
     /// Why the pipe's option bits can't be set to these.
     pub(crate) fn set_opts_cause(&self, app: AppNo, pipe: u32, bits: u8) -> Option<SbStatus>
-        ensures { result ≡ set_opts_cause self.now.whole.bus app pipe bits }
+        ensures { result ≡ set_opts_cause self.now.limits self.now.whole.bus app pipe bits }
     {
-        bad_argument_if(is_bad_option(&self.store, app, pipe, bits))
+        bad_argument_if(is_bad_option(&self.store, app, pipe, bits, self.config.version))
     }
 
     /// Why a buffer of this size can't be given.
@@ -136,11 +136,22 @@ fn is_bad_pipe(depth: u32, greatest: u32, name: &[u8]) -> bool
     depth == 0 || depth > greatest || name.is_empty() || name.len() > NAME_BYTES
 }
 
-// Whether the pipe isn't the application's, or a bit is no option.
-fn is_bad_option(store: &BusStore<'_>, app: AppNo, pipe: u32, bits: u8) -> bool
-    ensures { result ≡ (not (owns store.now.pipes app pipe) || nat_lt 1 bits) }
+// Whether the pipe isn't the application's, or a bit is no option of this version.
+fn is_bad_option(store: &BusStore<'_>, app: AppNo, pipe: u32, bits: u8, version: u32) -> bool
+    ensures { result ≡ (not (owns store.now.pipes app pipe) || nat_lt (all_bits version) bits) }
 {
-    !store.owns(app, pipe) || bits > 1
+    !store.owns(app, pipe) || bits > all_bits(version)
+}
+
+// The option bits that a version has, added up.
+fn all_bits(version: u32) -> u8
+    ensures { result ≡ all_bits version }
+{
+    if version == 2 {
+        3
+    } else {
+        1
+    }
 }
 
 // Whether the id is out of its range, or the pipe isn't the application's.

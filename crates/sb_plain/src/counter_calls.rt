@@ -7,7 +7,7 @@ ghost use Rattle.bus_words.specs.declared.calls.BusAnswer.TheVariants.{Bus};
 ghost use Rattle.bus_words.specs.declared.history.Call.TheVariants.{Housekeeping, Figures};
 ghost use Rattle.bus_words.specs.Bus.{route};
 ghost use Rattle.bus_words.specs.Held.{in_use};
-ghost use Rattle.sb_plain.specs.Core.{MayAct, Acts};
+ghost use Rattle.sb_plain.specs.Core.{MayAct, Acts, drops_for};
 ghost use Rattle.sb_plain.specs.Answers.{sent};
 ghost use Rattle.sb_plain.specs.Bags.{KeepsBags, KeepsAllLoans, KeepsAllDescs};
 
@@ -38,7 +38,7 @@ impl<'r> PlainBus<'r> {
         ensures cost { steps.new
             ≤ steps.old + 32 + 4 * length
             (route self.old.whole.bus.subscriptions housekeeping_id) +
-            8 * drops_for self.old.whole app (packet_in self.old.limits self.old.whole.bus) true }
+            8 * drops_for self.old.whole.bus app housekeeping_id }
         ensures bags { KeepsBags self.old self.new }
         ensures loans { KeepsAllLoans self.old self.new }
         ensures descs { KeepsAllDescs self.old self.new }

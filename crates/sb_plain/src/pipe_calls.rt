@@ -51,12 +51,13 @@ impl<'r> PlainBus<'r> {
         Ok(())
     }
 
-    /// Sets the option bits of the caller's pipe: with 0x01 the messages that the caller itself
-    /// sends are not for it, with 0 they are.
+    /// Sets the option bits of the caller's pipe. With 0x01 the messages that the caller itself
+    /// sends are not for it. With 0x02, which version 2 has, it drops its oldest message for a new
+    /// one when it is full.
     ///
     /// # Errors
-    /// `BadArgument` for a pipe that isn't live or isn't the caller's, and for any other bit than
-    /// 0x01; it is counted.
+    /// `BadArgument` for a pipe that isn't live or isn't the caller's, and for a bit that the
+    /// version doesn't have; it is counted.
     pub fn set_opts(&mut self, app: AppNo, pipe: u32, bits: u8) -> Result<(), SbStatus>
         requires may { MayAct self.old app (SetOpts pipe bits) }
         ensures does { Acts self.old self.new app (SetOpts pipe bits) (done result) }
@@ -73,8 +74,8 @@ impl<'r> PlainBus<'r> {
         Ok(())
     }
 
-    /// Answers the option bits of a pipe, whoever's it is: 0, or 0x01 where the messages that its
-    /// owner sends are not for it.
+    /// Answers the option bits of a pipe, whoever's it is: 0x01 where the messages that its owner
+    /// sends are not for it, 0x02 where it drops its oldest message when it is full, added up.
     ///
     /// # Errors
     /// `BadArgument` for a pipe that isn't live; it is counted.

@@ -13,6 +13,13 @@ use buf_desc::Desk;
 use es_pool::Pool;
 
 impl<'r> PlainBus<'r> {
+    /// The version of its configuration: 1 or 2, which has one option bit of pipes more.
+    pub fn version(&self) -> u32
+        ensures { result ≡ self.now.limits.version }
+    {
+        self.config.version
+    }
+
     /// The blocks of messages and of unsent buffers: one for each number that is held, and no
     /// others.
     pub fn desk(&self) -> &Desk<'r>

@@ -9,7 +9,10 @@ use Rattle.fsw_base.specs.Limits.{Limits}
 use Rattle.bus_words.specs.declared.history.Call.{Call}
 use Rattle.bus_words.specs.declared.history.Call.TheVariants as calls
 use Rattle.bus_words.specs.declared.history.Entry.{Entry}
-use Rattle.bus_words.specs.Bus.{Item, Pipe, Subscription, State, Active, Waiting, Sending, opening, owns, pipe_at, with_pipe, with_bits, with_standing, is_empty, others_idle, is_subscribed, route, has_unsent, verdict, is_in, item_for, offered, deliver, oldest, after_receive}
+use Rattle.bus_words.specs.Pipes.{queue_after}
+use Rattle.bus_words.specs.declared.verdict.Verdict.{Verdict}
+use Rattle.bus_words.specs.declared.verdict.Verdict.TheVariants.{Skip, OverLimit, In, Oldest, Full}
+use Rattle.bus_words.specs.Bus.{Item, Pipe, Subscription, State, Active, Waiting, Sending, opening, owns, pipe_at, with_pipe, with_bits, with_standing, is_empty, others_idle, is_subscribed, route, has_unsent, verdict, item_for, offered, deliver, oldest, after_receive}
 use Rattle.bus_words.specs.Refusals.{Refusal}
 use Rattle.bus_words.specs.Machine.{cause, decided, transmit_cause, transmit_buffer_cause, front_of, buffer_gone, sent_along, passed_along, received, packet_in, next_count, delivered, state_after}
 use Rattle.bus_words.proofs.Finds.{Each, Each-push, Each-filter}
@@ -54,10 +57,14 @@ holds-bits bits pipe holds = record { queue = holds.queue; last = holds.last }
 
 holds-offered : (sending : Sending) (sub : Subscription) → IsMessage sending.message → (pipe : Pipe) → HoldsMessages pipe → HoldsMessages (offered sending sub pipe)
 holds-offered sending sub message pipe holds =
-    elim (is_in (verdict pipe sub sending.sender)) as (λ b. HoldsMessages (cond {A = Pipe} b (record pipe { queue = pipe.queue ++ item_for sending sub ∷ [] }) pipe)) [
-      | true ↦ record { queue = Each-push IsItem pipe.queue (item_for sending sub) holds.queue message; last = holds.last }
-      | false ↦ holds
-    ]
+    record { queue = queued (verdict pipe sub sending.sender); last = holds.last }
+  where
+    queued : (told : Verdict) → Each IsItem (queue_after told (item_for sending sub) pipe.queue)
+    queued Skip = holds.queue
+    queued OverLimit = holds.queue
+    queued In = Each-push IsItem pipe.queue (item_for sending sub) holds.queue message
+    queued Oldest = Each-push IsItem (drop 1 pipe.queue) (item_for sending sub) (after_first pipe.queue holds.queue) message
+    queued Full = holds.queue
 
 each-deliver : (sending : Sending) → IsMessage sending.message → (subs : List Subscription) (pipes : List Pipe) → Each HoldsMessages pipes → Each HoldsMessages (deliver sending subs pipes)
 each-deliver sending message [] pipes each = each

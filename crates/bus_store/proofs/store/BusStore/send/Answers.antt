@@ -59,13 +59,15 @@ returns-clause-bags g c =
 
 pub drop_uses-requires : goal.drop_uses-requires
 drop_uses-requires g c =
-    record { loose = subst (AreLoose c.settle_message.new.desk) (sym c.dropped.ensures)
-    (sent_loose c.self.inside c.args.self.now c.args.sender c.args.bytes.now c.args.inc c.id_of-id.result (c.self.inside.given + 1) c.put_message-desc.result c.deliver-reached.result c.next_count-count.result
-    c.put_message-desc.new.desk c.settle_message.new.desk c.next_count-count.new.tables c.deliver-reached.new.self c.deliver-reached.new.misses
-    c.self.view_is c.self.invariant c.recall_order.ensures c.requires.least c.requires.room c.id_of-id.ensures c.next_count-count.ensures.count c.next_count-count.ensures.after refl
-    c.put_message-desc.ensures.added c.recall_live.ensures.live c.recall_live-2.ensures.live
-    c.deliver-reached.ensures.after c.deliver-reached.ensures.reached c.deliver-reached.ensures.missed c.settle_message.ensures.after
-    (sealed_live (slot_at c.put_message-desc.new.desk.slots c.put_message-desc.result) c.put_message-desc.ensures.added.seals.sealed)) }
+    record {
+      loose = subst (AreLoose c.settle_message.new.desk) (sym c.dropped.ensures)
+          (sent_loose c.self.inside c.args.self.now c.args.sender c.args.bytes.now c.args.inc c.id_of-id.result (c.self.inside.given + 1) c.put_message-desc.result c.deliver-reached.result c.next_count-count.result
+          c.put_message-desc.new.desk c.settle_message.new.desk c.next_count-count.new.tables c.deliver-reached.new.self c.deliver-reached.new.misses
+          c.self.view_is c.self.invariant c.recall_order.ensures c.requires.least c.requires.room c.id_of-id.ensures c.next_count-count.ensures.count c.next_count-count.ensures.after refl
+          c.put_message-desc.ensures.added c.recall_live.ensures.live c.recall_live-2.ensures.live
+          c.deliver-reached.ensures.after c.deliver-reached.ensures.reached c.deliver-reached.ensures.missed c.settle_message.ensures.after
+          (sealed_live (slot_at c.put_message-desc.new.desk.slots c.put_message-desc.result) c.put_message-desc.ensures.added.seals.sealed));
+    }
 
 pub returns-clause-cost : goal.returns-clause-cost
 returns-clause-cost g c =

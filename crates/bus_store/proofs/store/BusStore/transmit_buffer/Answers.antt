@@ -149,18 +149,20 @@ returns-clause-view_bags g c =
 
 pub drop_uses-requires : goal.drop_uses-requires
 drop_uses-requires g c =
-    record { loose = subst (AreLoose c.settle_message.new.desk) (sym c.dropped.ensures)
-    (passed_loose c.self.inside c.args.self.now c.args.app c.args.buf c.unwrap-block.result.bytes c.args.inc c.id_of-id.result c.unwrap-block.result.desc c.deliver-reached.result c.next_count-count.result
-    c.seal_front-desc.new.desk c.settle_message.new.desk c.next_count-count.new.tables c.deliver-reached.new.self c.deliver-reached.new.misses c.let_go.new.self
-    c.self.view_is c.self.invariant c.recall_order.ensures c.requires.bag.known (in_list c.self.inside c.args.self.now c.args.app c.args.buf c.self.view_is c.self.invariant c.requires.has c.args.held.now c.requires.bag c.unwrap-block.result (sym c.unwrap-block.ensures ∙ c.take_buffer.ensures.found)) (numbered_block c.self.inside c.args.self.now c.args.app c.args.buf c.self.view_is c.self.invariant c.requires.has c.args.held.now c.requires.bag c.unwrap-block.result (sym c.unwrap-block.ensures ∙ c.take_buffer.ensures.found)) (size_block c.self.inside c.args.self.now c.args.app c.args.buf c.self.view_is c.self.invariant c.requires.has c.args.held.now c.requires.bag c.unwrap-block.result (sym c.unwrap-block.ensures ∙ c.take_buffer.ensures.found))
-    (c.let_go.ensures.after ∙ ap (λ n. let v : Held = record c.self.inside.lists { lists = set c.self.inside.lists.lists (c.args.app - 1) (without n (held_by c.self.inside.lists c.args.app)) } in v) c.desc.ensures)
-    (c.id_of-id.ensures ∙ ap message_id c.bytes.ensures) c.next_count-count.ensures.count c.next_count-count.ensures.after
-    (seals_as c.self.inside c.args.self.now c.args.app c.args.buf c.self.view_is c.self.invariant c.requires.has c.args.held.now c.requires.bag c.unwrap-block.result (sym c.unwrap-block.ensures ∙ c.take_buffer.ensures.found) c.seal_front-desc.new.desk _ c.seal_front-desc.ensures.seals)
-    c.seal_front-desc.ensures.pool c.seal_front-desc.ensures.numbers c.recall_live-2.ensures.live
-    (c.deliver-reached.ensures.after ∙ ap (λ d. let v : Tables = record c.next_count-count.new.tables { pipes = deliver_rows (record { sender = c.args.app; number = c.args.buf; desc = d }) (route c.next_count-count.new.tables.subscriptions c.id_of-id.result) c.next_count-count.new.tables.pipes } in v) c.seal_front-desc.ensures.desc)
-    (c.deliver-reached.ensures.reached ∙ ap (λ d. reached_rows (record { sender = c.args.app; number = c.args.buf; desc = d }) (route c.next_count-count.new.tables.subscriptions c.id_of-id.result) c.next_count-count.new.tables.pipes) c.seal_front-desc.ensures.desc)
-    (c.deliver-reached.ensures.missed ∙ ap (λ d. let v : Missed = record c.self.inside.misses { items = missed_rows (record { sender = c.args.app; number = c.args.buf; desc = d }) (route c.next_count-count.new.tables.subscriptions c.id_of-id.result) c.next_count-count.new.tables.pipes; dropped = dropped_rows (record { sender = c.args.app; number = c.args.buf; desc = d }) (route c.next_count-count.new.tables.subscriptions c.id_of-id.result) c.next_count-count.new.tables.pipes } in v) c.seal_front-desc.ensures.desc)
-    (c.settle_message.ensures.after ∙ ap (λ d. after_settle (resealed c.seal_front-desc.new.desk d (record (sealed_at c.seal_front-desc.new.desk.slots d) { uses = c.deliver-reached.result })) d) c.seal_front-desc.ensures.desc)) }
+    record {
+      loose = subst (AreLoose c.settle_message.new.desk) (sym c.dropped.ensures)
+          (passed_loose c.self.inside c.args.self.now c.args.app c.args.buf c.unwrap-block.result.bytes c.args.inc c.id_of-id.result c.unwrap-block.result.desc c.deliver-reached.result c.next_count-count.result
+          c.seal_front-desc.new.desk c.settle_message.new.desk c.next_count-count.new.tables c.deliver-reached.new.self c.deliver-reached.new.misses c.let_go.new.self
+          c.self.view_is c.self.invariant c.recall_order.ensures c.requires.bag.known (in_list c.self.inside c.args.self.now c.args.app c.args.buf c.self.view_is c.self.invariant c.requires.has c.args.held.now c.requires.bag c.unwrap-block.result (sym c.unwrap-block.ensures ∙ c.take_buffer.ensures.found)) (numbered_block c.self.inside c.args.self.now c.args.app c.args.buf c.self.view_is c.self.invariant c.requires.has c.args.held.now c.requires.bag c.unwrap-block.result (sym c.unwrap-block.ensures ∙ c.take_buffer.ensures.found)) (size_block c.self.inside c.args.self.now c.args.app c.args.buf c.self.view_is c.self.invariant c.requires.has c.args.held.now c.requires.bag c.unwrap-block.result (sym c.unwrap-block.ensures ∙ c.take_buffer.ensures.found))
+          (c.let_go.ensures.after ∙ ap (λ n. let v : Held = record c.self.inside.lists { lists = set c.self.inside.lists.lists (c.args.app - 1) (without n (held_by c.self.inside.lists c.args.app)) } in v) c.desc.ensures)
+          (c.id_of-id.ensures ∙ ap message_id c.bytes.ensures) c.next_count-count.ensures.count c.next_count-count.ensures.after
+          (seals_as c.self.inside c.args.self.now c.args.app c.args.buf c.self.view_is c.self.invariant c.requires.has c.args.held.now c.requires.bag c.unwrap-block.result (sym c.unwrap-block.ensures ∙ c.take_buffer.ensures.found) c.seal_front-desc.new.desk _ c.seal_front-desc.ensures.seals)
+          c.seal_front-desc.ensures.pool c.seal_front-desc.ensures.numbers c.recall_live-2.ensures.live
+          (c.deliver-reached.ensures.after ∙ ap (λ d. let v : Tables = record c.next_count-count.new.tables { pipes = deliver_rows (record { sender = c.args.app; number = c.args.buf; desc = d }) (route c.next_count-count.new.tables.subscriptions c.id_of-id.result) c.next_count-count.new.tables.pipes } in v) c.seal_front-desc.ensures.desc)
+          (c.deliver-reached.ensures.reached ∙ ap (λ d. reached_rows (record { sender = c.args.app; number = c.args.buf; desc = d }) (route c.next_count-count.new.tables.subscriptions c.id_of-id.result) c.next_count-count.new.tables.pipes) c.seal_front-desc.ensures.desc)
+          (c.deliver-reached.ensures.missed ∙ ap (λ d. let v : Missed = record c.self.inside.misses { items = missed_rows (record { sender = c.args.app; number = c.args.buf; desc = d }) (route c.next_count-count.new.tables.subscriptions c.id_of-id.result) c.next_count-count.new.tables.pipes; dropped = dropped_rows (record { sender = c.args.app; number = c.args.buf; desc = d }) (route c.next_count-count.new.tables.subscriptions c.id_of-id.result) c.next_count-count.new.tables.pipes } in v) c.seal_front-desc.ensures.desc)
+          (c.settle_message.ensures.after ∙ ap (λ d. after_settle (resealed c.seal_front-desc.new.desk d (record (sealed_at c.seal_front-desc.new.desk.slots d) { uses = c.deliver-reached.result })) d) c.seal_front-desc.ensures.desc));
+    }
 
 pub returns-clause-cost : goal.returns-clause-cost
 returns-clause-cost g c =

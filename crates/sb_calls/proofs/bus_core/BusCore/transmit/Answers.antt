@@ -2,6 +2,7 @@ use Rattle.std.proofs.Common.{length, ap, arith, refl}
 use Rattle.bus_words.specs.declared.history.Call.TheVariants.{Transmit}
 use Rattle.ccsds_msg.specs.Message.{message_id}
 use Rattle.bus_words.specs.Bus.{State, route}
+use Rattle.sb_calls.specs.Core.{drops_for}
 use Rattle.sb_calls.proofs.CoreBags.{bags_over}
 use Rattle.sb_calls.proofs.Made.{made_plain, sent-nothing}
 use Rattle.sb_calls.proofs.Over.{may_act, stands_over, does_over, bus_now}
@@ -29,4 +30,5 @@ returns-clause-bags g c =
 pub returns-clause-cost : goal.returns-clause-cost
 returns-clause-cost g c =
     let same = ap (λ (s : State). length (route s.subscriptions (message_id c.args.bytes.now))) (bus_now c.self.inside c.args.self.now c.self.view_is c.self.invariant) in
-    omega (arith, same, c.transmit-result.ensures.cost)
+    let few = ap (λ (s : State). drops_for s c.args.app (message_id c.args.bytes.now)) (bus_now c.self.inside c.args.self.now c.self.view_is c.self.invariant) in
+    omega (arith, same, few, c.transmit-result.ensures.cost)

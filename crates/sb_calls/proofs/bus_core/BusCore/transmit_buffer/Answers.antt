@@ -6,6 +6,7 @@ use Rattle.bus_words.specs.declared.calls.BusAnswer.TheVariants.{Done}
 use Rattle.bus_words.specs.declared.history.Call.TheVariants.{TransmitBuffer}
 use Rattle.bus_words.specs.Bus.{State, route}
 use Rattle.bus_words.specs.Log.{with_entry}
+use Rattle.sb_calls.specs.Core.{drops_for}
 use Rattle.sb_calls.proofs.CoreBags.{bag_in, bag_out}
 use Rattle.sb_calls.proofs.MadeBuffers.{made_transmit_buffer, brings-held, some_pushed, pushed_then_answered}
 use Rattle.sb_calls.proofs.OthersBags.{others_keep}
@@ -66,4 +67,5 @@ returns-clause-other_bags g c =
 pub returns-clause-cost : goal.returns-clause-cost
 returns-clause-cost g c =
     let same = ap (λ (s : State). length (route s.subscriptions (message_id (bytes_at c.args.held.now c.args.buf)))) (bus_now c.self.inside c.args.self.now c.self.view_is c.self.invariant) in
-    omega (arith, same, c.transmit_buffer-result.ensures.cost)
+    let few = ap (λ (s : State). drops_for s c.args.app (message_id (bytes_at c.args.held.now c.args.buf))) (bus_now c.self.inside c.args.self.now c.self.view_is c.self.invariant) in
+    omega (arith, same, few, c.transmit_buffer-result.ensures.cost)

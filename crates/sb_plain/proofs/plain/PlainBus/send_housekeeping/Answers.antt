@@ -2,6 +2,7 @@ use Rattle.std.proofs.Common.{◌+◌, ◌*◌, ◌≤◌, length, ap, ◌∙◌
 use Rattle.ccsds_msg.specs.Message.{message_id}
 use Rattle.bus_words.specs.Bus.{route}
 use Rattle.bus_words.proofs.Acts.{id-packet}
+use Rattle.sb_plain.specs.Core.{drops_for}
 use Rattle.sb_plain.specs.Answers.{sent}
 use Rattle.sb_plain.proofs.Figures.{packet_is, housekeeping_acts}
 use Rattle.sb_plain.proofs.plain.PlainBus.send_housekeeping.Goals as goal
@@ -16,4 +17,5 @@ pub returns-clause-cost : goal.returns-clause-cost
 returns-clause-cost g c =
     let old = c.args.self.now in
     let is = packet_is c.self.inside old c.self.view_is c.in_use.result c.in_use.ensures.now c.packet.new.out c.packet.ensures in
-    subst (λ n. c.transmit.new.steps ≤ c.args.steps.now + 32 + 4 * length (route old.whole.bus.subscriptions n)) (ap message_id is ∙ id-packet old.limits old.whole.bus) c.transmit.ensures.cost
+    subst (λ n. c.transmit.new.steps ≤ c.args.steps.now + 32 + 4 * length (route old.whole.bus.subscriptions n) + 8 * drops_for old.whole.bus c.args.app n)
+    (ap message_id is ∙ id-packet old.limits old.whole.bus) c.transmit.ensures.cost

@@ -13,10 +13,13 @@ use Rattle.bus_words.specs.Machine.{by_bus, transmit_cause}
 use Rattle.bus_records.specs.Records.{Recordings, told_event, peaks_raised}
 use Rattle.bus_records.proofs.Leaves.{unheard_left, sent_left}
 use Rattle.bus_store.specs.Store.{Store}
+use Rattle.bus_store.specs.Words.{sending_of}
+use Rattle.sb_plain.specs.Core.{Plain, drops_for}
 use Rattle.sb_plain.specs.Inside.{means}
 use Rattle.sb_plain.specs.Rows.{in_use_at}
 use Rattle.sb_plain.proofs.After.{acts_from, acts_seen, seen_keeps, told_keeps, refused_acts}
 use Rattle.sb_plain.proofs.Bags.{bags_kept}
+use Rattle.sb_plain.proofs.Drops.{drops_are}
 use Rattle.sb_plain.proofs.Refusals.{at_fields}
 use Rattle.sb_plain.proofs.Transmits.{request_stays, long_enough, way_of, some_of, nobody_made, sent_keeps, sent_made, sent_told}
 use Rattle.sb_plain.proofs.plain.PlainBus.transmit.Goals as goal
@@ -101,3 +104,13 @@ returns-clause-bags g c =
     let is = c.send-sent.ensures.after in
     bags_kept a c.args.self.now c.self.view_is c.self.invariant.order (record a { store = c.send-sent.new.self; records = c.see.new.records }) refl (ap (λ (o : Store). o.room) is)
     (record { unsent = ap (λ (o : Store). o.unsent) is; descs = ap (λ (o : Store). o.descs) is; sizes = ap (λ (o : Store). o.account.sizes) is ∙ ap (λ (c : Account). c.sizes) (request_stays a.store.account (length c.args.bytes.now)) }) c.send-sent.ensures.bags
+
+pub returns-clause-cost : goal.returns-clause-cost
+returns-clause-cost g c =
+    let a = c.self.inside in
+    let id = message_id c.args.bytes.now in
+    let few =
+    drops_are (sending_of a.store c.args.app c.args.bytes.now c.args.inc) (means a).bus id
+    ∙ ap (λ (p : Plain). drops_for p.whole.bus c.args.app id) c.self.view_is in
+    let same = ap (λ (p : Plain). length (route p.whole.bus.subscriptions id)) c.self.view_is in
+    omega (arith, few, same, c.send-sent.ensures.cost)

@@ -1,4 +1,4 @@
-use Rattle.std.proofs.Common.{None, length, ap, refl, sym, ◌∙◌}
+use Rattle.std.proofs.Common.{None, length, ap, refl, sym, ◌∙◌, arith}
 use Rattle.std.proofs.lemmas.List.{nil_from_length}
 use Rattle.fsw_base.specs.Limits.{limits_of}
 use Rattle.ccsds_msg.specs.Message.{message_id}
@@ -13,11 +13,14 @@ use Rattle.bus_words.specs.Machine.{by_bus, transmit_buffer_cause}
 use Rattle.bus_records.specs.Records.{told_event, peaks_raised}
 use Rattle.bus_records.proofs.Leaves.{unheard_buffer_left, sent_buffer_left}
 use Rattle.bus_store.specs.Store.{Store}
+use Rattle.bus_store.specs.Words.{passing_of}
+use Rattle.sb_plain.specs.Core.{Plain, drops_for}
 use Rattle.sb_plain.specs.Inside.{means}
 use Rattle.sb_plain.specs.Rows.{in_use_at}
 use Rattle.sb_plain.proofs.After.{acts_seen, seen_keeps, refused_acts}
 use Rattle.sb_plain.proofs.Bags.{bag_before, bag_after, blocked_views, others_left, views_still}
 use Rattle.sb_plain.proofs.Buffers.{gone_keeps, unheard_made, passed_keeps, passed_made, passed_told, transmit_told}
+use Rattle.sb_plain.proofs.Drops.{drops_are}
 use Rattle.sb_plain.proofs.Refusals.{at_fields}
 use Rattle.sb_plain.proofs.Transmits.{way_of, some_of}
 use Rattle.sb_plain.proofs.plain.PlainBus.transmit_buffer.Goals as goal
@@ -122,3 +125,13 @@ returns-clause-other_bags g c =
     (ap (λ (o : Store). o.account.sizes) is)
     (λ other bag apart. c.transmit_buffer-sent.ensures.view_bags other bag)
     c.transmit_buffer-sent.ensures.other_bags
+
+pub returns-clause-cost : goal.returns-clause-cost
+returns-clause-cost g c =
+    let a = c.self.inside in
+    let bytes = bytes_at c.args.held.now c.args.buf in
+    let few =
+    drops_are (passing_of a.store c.args.app c.args.buf bytes c.args.inc) (means a).bus (message_id bytes)
+    ∙ ap (λ (p : Plain). drops_for p.whole.bus c.args.app (message_id bytes)) c.self.view_is in
+    let same = ap (λ (p : Plain). length (route p.whole.bus.subscriptions (message_id bytes))) c.self.view_is in
+    omega (arith, few, same, c.transmit_buffer-sent.ensures.cost)
