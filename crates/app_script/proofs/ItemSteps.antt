@@ -17,7 +17,7 @@ use Rattle.app_script.specs.declared.forms.Form.TheVariants as form
 use Rattle.app_script.specs.Forms.{form_of, is_misplaced}
 use Rattle.app_script.specs.Items.{Setting, Limit, Sizes, Start, Item, Version, Configures, Begins, Calls, is_skipped, item_of, item_known, item_in}
 use Rattle.app_script.specs.Language.{is_plain, told_among, item_on, with_setting}
-use Rattle.app_script.specs.Grammar.{Progress, apps_of, after_set, after_sizes, after_seq, after_app, after_call, after_form, after_known, after_words, after_line, after_lines, at_line, ◌>=>◌}
+use Rattle.app_script.specs.Grammar.{Progress, apps_of, after_version, after_set, after_sizes, after_seq, after_app, after_call, after_form, after_known, after_words, after_line, after_lines, at_line, ◌>=>◌}
 
 -- ---- one item
 
@@ -43,7 +43,10 @@ sized_after sized (Limit name value) = sized
 sized_after sized (Sizes sizes) = true
 sized_after sized (Start id count) = sized
 
--- after a setting, and after an application's name
+-- after the version, after a setting, and after an application's name
+abbrev pub with_version : Progress → ℕ → Progress
+with_version s version = record s { limits = record s.limits { version = version } }
+
 abbrev pub set_to : Progress → Setting → Progress
 set_to s setting = record s { limits = with_setting s.limits setting; named = named_after s.named setting; sized = sized_after s.sized setting }
 
@@ -52,13 +55,13 @@ begun_by s name = record s { started = true; done = apps_of s; present = record 
 
 -- after an item that stands where it may
 abbrev pub after_item : Progress → Item → Result Progress FaultKind
-after_item s Version = Ok s
+after_item s (Version version) = Ok (with_version s version)
 after_item s (Configures setting) = cond (is_past s.limits setting) (Err OutOfRange) (cond (is_again s.limits s.named s.sized setting) (Err Repeated) (Ok (set_to s setting)))
 after_item s (Begins name) = cond (list_any (λ app. is_same app.name name) (apps_of s)) (Err Repeated) (cond (nat_le 16 (length (apps_of s))) (Err TooManyApps) (Ok (begun_by s name)))
 after_item s (Calls line) = after_call s line
 
 abbrev pub is_out : Item → Bool → Bool → Bool
-is_out Version begun started = begun
+is_out (Version version) begun started = begun
 is_out (Configures setting) begun started = started
 is_out (Begins name) begun started = false
 is_out (Calls line) begun started = not started
@@ -79,8 +82,8 @@ both_ways (Ok x) item g h same = same x
 both_ways (Err fault) item g h same = refl
 
 form_taken : (s : Progress) (f : Form) (rest : List ℕ) → after_form s f rest ≡ (item_of f rest >>= after_item s)
-unfolding after_form item_of after_set after_sizes after_seq after_app
-form_taken s form.Script rest = both_ways (script_of (words_of rest)) (λ version. Version) (after_item s) (λ version. Ok s) (λ version. refl)
+unfolding after_form item_of after_version after_set after_sizes after_seq after_app
+form_taken s form.Script rest = both_ways (script_of (words_of rest)) (λ version. Version version) (after_item s) (λ version. Ok (with_version s version)) (λ version. refl)
 form_taken s form.Set rest = both_ways (set_of (words_of rest)) (λ set. Configures (Limit set.0 set.1)) (after_item s) _ (λ set. refl)
 form_taken s form.Sizes rest = both_ways (sizes_of (words_of rest)) (λ sizes. Configures (Sizes sizes)) (after_item s) _ (λ sizes. refl)
 form_taken s form.Seq rest = both_ways (seq_of (words_of rest)) (λ start. Configures (Start start.0 start.1)) (after_item s) _ (λ start. refl)
@@ -95,7 +98,7 @@ out_alike (Err fault) make item b c out same e = absurd cc
 
 form_out : (f : Form) (rest : List ℕ) (item : Item) (b c : Bool) → item_of f rest ≡ Ok item → is_misplaced f b c ≡ is_out item b c
 unfolding item_of
-form_out form.Script rest item b c e = out_alike (script_of (words_of rest)) (λ version. Version) item b c b (λ x. refl) e
+form_out form.Script rest item b c e = out_alike (script_of (words_of rest)) (λ version. Version version) item b c b (λ x. refl) e
 form_out form.Set rest item b c e = out_alike (set_of (words_of rest)) (λ set. Configures (Limit set.0 set.1)) item b c c (λ x. refl) e
 form_out form.Sizes rest item b c e = out_alike (sizes_of (words_of rest)) (λ sizes. Configures (Sizes sizes)) item b c c (λ x. refl) e
 form_out form.Seq rest item b c e = out_alike (seq_of (words_of rest)) (λ start. Configures (Start start.0 start.1)) item b c c (λ x. refl) e

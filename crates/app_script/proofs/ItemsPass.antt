@@ -1,5 +1,5 @@
 -- Items in the order of a script are taken in.
-use Rattle.std.proofs.Common.{◌≡◌, ℕ, ◌+◌, ◌<◌, ◌≤◌, Bool, true, false, cond, not, nat_le, nat_lt, List, [], ◌∷◌, ◌++◌, length, map, fold, Ok, Err, refl, ap, sym, ◌∙◌, subst, arith, append_assoc, append-nil}
+use Rattle.std.proofs.Common.{◌≡◌, ℕ, ◌+◌, ◌<◌, ◌≤◌, Bool, true, false, cond, not, nat_le, nat_lt, List, [], ◌∷◌, ◌++◌, length, map, fold, Option, Some, None, Ok, Err, refl, ap, sym, ◌∙◌, subst, arith, append_assoc, append-nil}
 use Rattle.std.specs.List.{list_any, flat_map}
 use Rattle.std.proofs.lemmas.Bool.{le-ltb, lt-leb}
 use Rattle.std.proofs.lemmas.List.{length-append}
@@ -12,15 +12,15 @@ use Rattle.script_lines.specs.declared.line.Line.{Line}
 use Rattle.script_settings.specs.Accounts.{account_of, charge_of}
 use Rattle.script_lines.proofs.Booleans.{and_first, and_second}
 use Rattle.app_script.specs.Items.{Setting, Limit, Sizes, Start, Item, Version, Configures, Begins, Calls}
-use Rattle.app_script.specs.Language.{with_setting, configured, is_same_setting, are_new_settings, app_items, script_items}
+use Rattle.app_script.specs.Language.{with_setting, version_in, configured, is_same_setting, are_new_settings, app_items, version_items, script_items}
 use Rattle.app_script.specs.Script.{Application}
 use Rattle.app_script.specs.ScriptRanges.{have_new_names, all_calls, all_bytes}
 use Rattle.app_script.specs.Grammar.{Progress, opening, apps_of, after_call}
 use Rattle.app_script.proofs.ScriptLemmas.{account_of_push}
 use Rattle.app_script.proofs.ReadScripts.{set_starts}
 use Rattle.app_script.proofs.Leading.{Calling, Ready, account_grows, nothing_taken}
-use Rattle.app_script.proofs.ItemSteps.{is_again, is_past, set_to, begun_by, after_item, taken, all_taken}
-use Rattle.app_script.proofs.ItemsTell.{Given, nothing_given, given_more, front_of, called}
+use Rattle.app_script.proofs.ItemSteps.{is_again, is_past, with_version, set_to, begun_by, after_item, taken, all_taken}
+use Rattle.app_script.proofs.ItemsTell.{Given, nothing_given, given_more, called}
 
 -- from here these items are taken in, and lead to such a progress
 abbrev pub Passes : Progress → List Item → (Progress → Type 0) → Type 0
@@ -50,28 +50,28 @@ not_true false h = refl
 
 -- ---- configuration
 
-record Configuring (settings : List Setting) (s : Progress) : Type 0 where
-  given : Given settings s.limits s.named s.sized
+record Configuring (version : ℕ) (settings : List Setting) (s : Progress) : Type 0 where
+  given : Given version settings s.limits s.named s.sized
   started : s.started ≡ false
   done : s.done ≡ []
   calls : s.calls ≡ 0
   charged : s.charged ≡ 0
 
-version_passes : (v : Bool) → Passes opening (front_of v) (Configuring [])
-version_passes true =
-    passes_one opening (record opening { begun = true }) Version (Configuring []) refl (record { given = nothing_given; started = refl; done = refl; calls = refl; charged = refl })
-version_passes false = (opening, refl, record { given = nothing_given; started = refl; done = refl; calls = refl; charged = refl })
+version_passes : (v : Option ℕ) → Passes opening (version_items v) (Configuring (version_in v) [])
+version_passes (Some version) =
+    passes_one opening (with_version (record opening { begun = true }) version) (Version version) (Configuring version []) refl (record { given = nothing_given version; started = refl; done = refl; calls = refl; charged = refl })
+version_passes None = (opening, refl, record { given = nothing_given 1; started = refl; done = refl; calls = refl; charged = refl })
 
-setting_passes : (settings : List Setting) (setting : Setting) (s : Progress) → Configuring settings s → list_any (λ other. is_same_setting other setting) settings ≡ false → is_past s.limits setting ≡ false
-    → Passes s (Configures setting ∷ []) (Configuring (settings ++ setting ∷ []))
-setting_passes settings setting s now new room =
+setting_passes : (version : ℕ) (settings : List Setting) (setting : Setting) (s : Progress) → Configuring version settings s → list_any (λ other. is_same_setting other setting) settings ≡ false → is_past s.limits setting ≡ false
+    → Passes s (Configures setting ∷ []) (Configuring version (settings ++ setting ∷ []))
+setting_passes version settings setting s now new room =
     let after = set_to (record s { begun = true }) setting in
     let again : is_again s.limits s.named s.sized setting ≡ false = sym (now.given.again setting) ∙ new in
-    passes_one s after (Configures setting) (Configuring (settings ++ setting ∷ []))
+    passes_one s after (Configures setting) (Configuring version (settings ++ setting ∷ []))
     (ap (λ b. cond b (Err Misplaced) (after_item (record s { begun = true }) (Configures setting))) now.started
     ∙ ap (λ b. cond b (Err OutOfRange) (cond (is_again s.limits s.named s.sized setting) (Err Repeated) (Ok after))) room
     ∙ ap (λ b. cond b (Err Repeated) (Ok after)) again)
-    (record { given = given_more settings s.limits s.named s.sized setting now.given; started = now.started; done = now.done; calls = now.calls; charged = now.charged })
+    (record { given = given_more version settings s.limits s.named s.sized setting now.given; started = now.started; done = now.done; calls = now.calls; charged = now.charged })
 
 -- counts are added alone
 one_grows : (limits : Limits) (setting : Setting) → length limits.starts ≤ length (with_setting limits setting).starts
@@ -89,19 +89,19 @@ has_room rest limits (Sizes sizes) few = refl
 has_room rest limits (Start id count) few =
     lt-leb 16 (length limits.starts) (omega (arith, few, starts_grow rest (with_setting limits (Start id count)), length-append limits.starts ((id, count) ∷ [])))
 
-settings_pass : (rest settings : List Setting) (s : Progress) → Configuring settings s → are_new_settings settings rest ≡ true → length (configured (settings ++ rest)).starts ≤ 16 → Passes s (map Configures rest) (Configuring (settings ++ rest))
-settings_pass [] settings s now new few = (s, refl, subst (λ l. Configuring l s) (sym (append-nil settings)) now)
-settings_pass (setting ∷ rest) settings s now new few =
+settings_pass : (version : ℕ) (rest settings : List Setting) (s : Progress) → Configuring version settings s → are_new_settings settings rest ≡ true → length (configured version (settings ++ rest)).starts ≤ 16 → Passes s (map Configures rest) (Configuring version (settings ++ rest))
+settings_pass version [] settings s now new few = (s, refl, subst (λ l. Configuring version l s) (sym (append-nil settings)) now)
+settings_pass version (setting ∷ rest) settings s now new few =
     let whole : (settings ++ setting ∷ []) ++ rest ≡ settings ++ setting ∷ rest = append_assoc settings (setting ∷ []) rest in
     let again = list_any (λ other. is_same_setting other setting) settings in
-    let alike : length (fold with_setting (with_setting (configured settings) setting) rest).starts ≤ 16 =
-    subst (λ (l : Limits). length l.starts ≤ 16) (fold-append with_setting usual_limits settings (setting ∷ rest)) few in
-    let room : is_past s.limits setting ≡ false = ap (λ l. is_past l setting) now.given.limits_are ∙ has_room rest (configured settings) setting alike in
-    passes_then s (Configures setting ∷ []) (map Configures rest) (Configuring (settings ++ setting ∷ [])) (Configuring (settings ++ setting ∷ rest))
-    (setting_passes settings setting s now (not_true again (and_first (not again) (are_new_settings (settings ++ setting ∷ []) rest) new)) room)
-    (λ t after. subst (λ (l : List Setting). Passes t (map Configures rest) (Configuring l)) whole
-    (settings_pass rest (settings ++ setting ∷ []) t after (and_second (not again) (are_new_settings (settings ++ setting ∷ []) rest) new)
-    (subst (λ (l : List Setting). length (configured l).starts ≤ 16) (sym whole) few)))
+    let alike : length (fold with_setting (with_setting (configured version settings) setting) rest).starts ≤ 16 =
+    subst (λ (l : Limits). length l.starts ≤ 16) (fold-append with_setting (record usual_limits { version = version }) settings (setting ∷ rest)) few in
+    let room : is_past s.limits setting ≡ false = ap (λ l. is_past l setting) now.given.limits_are ∙ has_room rest (configured version settings) setting alike in
+    passes_then s (Configures setting ∷ []) (map Configures rest) (Configuring version (settings ++ setting ∷ [])) (Configuring version (settings ++ setting ∷ rest))
+    (setting_passes version settings setting s now (not_true again (and_first (not again) (are_new_settings (settings ++ setting ∷ []) rest) new)) room)
+    (λ t after. subst (λ (l : List Setting). Passes t (map Configures rest) (Configuring version l)) whole
+    (settings_pass version rest (settings ++ setting ∷ []) t after (and_second (not again) (are_new_settings (settings ++ setting ∷ []) rest) new)
+    (subst (λ (l : List Setting). length (configured version l).starts ≤ 16) (sym whole) few)))
 
 -- ---- call lines
 
@@ -212,8 +212,8 @@ apps_pass (app ∷ rest) apps s limits calls bytes now new few room light =
 
 -- ---- the whole
 
-ready : (settings : List Setting) (s : Progress) → Configuring settings s → Ready (configured settings) [] 0 0 s
-ready settings s now = record {
+ready : (version : ℕ) (settings : List Setting) (s : Progress) → Configuring version settings s → Ready (configured version settings) [] 0 0 s
+ready version settings s now = record {
   has = now.given.limits_are;
   read = ap (λ b. cond b (s.done ++ s.present ∷ []) s.done) now.started ∙ now.done;
   begins = λ some. absurd (omega arith);
@@ -221,9 +221,9 @@ ready settings s now = record {
   charged = now.charged;
 }
 
-pub script_passes : (v : Bool) (settings : List Setting) (apps : List Application) → are_new_settings [] settings ≡ true → length (configured settings).starts ≤ 16 → have_new_names [] apps ≡ true → length apps ≤ 16 → all_calls apps ≤ 20000
-    → all_bytes apps ≤ 16777216 → Passes opening (script_items v settings apps) (Ready (configured settings) apps (0 + all_calls apps) (0 + all_bytes apps))
+pub script_passes : (v : Option ℕ) (settings : List Setting) (apps : List Application) → are_new_settings [] settings ≡ true → length (configured (version_in v) settings).starts ≤ 16 → have_new_names [] apps ≡ true → length apps ≤ 16 → all_calls apps ≤ 20000
+    → all_bytes apps ≤ 16777216 → Passes opening (script_items v settings apps) (Ready (configured (version_in v) settings) apps (0 + all_calls apps) (0 + all_bytes apps))
 script_passes v settings apps once starts names few calls bytes =
-    passes_then opening (front_of v ++ map Configures settings) (flat_map app_items apps) (Configuring settings) (Ready (configured settings) apps (0 + all_calls apps) (0 + all_bytes apps))
-    (passes_then opening (front_of v) (map Configures settings) (Configuring []) (Configuring settings) (version_passes v) (λ t now. settings_pass settings [] t now once starts))
-    (λ t now. apps_pass apps [] t (configured settings) 0 0 (ready settings t now) names few (omega (arith, calls)) (omega (arith, bytes)))
+    passes_then opening (version_items v ++ map Configures settings) (flat_map app_items apps) (Configuring (version_in v) settings) (Ready (configured (version_in v) settings) apps (0 + all_calls apps) (0 + all_bytes apps))
+    (passes_then opening (version_items v) (map Configures settings) (Configuring (version_in v) []) (Configuring (version_in v) settings) (version_passes v) (λ t now. settings_pass (version_in v) settings [] t now once starts))
+    (λ t now. apps_pass apps [] t (configured (version_in v) settings) 0 0 (ready (version_in v) settings t now) names few (omega (arith, calls)) (omega (arith, bytes)))

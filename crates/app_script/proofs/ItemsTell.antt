@@ -1,5 +1,5 @@
 -- What was taken in, item by item, stands in the order of a script.
-use Rattle.std.proofs.Common.{◌≡◌, ◌+◌, Bool, true, false, cond, not, ◌||◌, eqb, nat_le, nat_lt, List, [], ◌∷◌, ◌++◌, length, map, Ok, Err, refl, ap, sym, ◌∙◌, subst, append_assoc, append-nil}
+use Rattle.std.proofs.Common.{◌≡◌, ℕ, ◌+◌, Bool, true, false, cond, not, ◌||◌, eqb, nat_le, nat_lt, List, [], ◌∷◌, ◌++◌, length, map, Option, Some, None, Ok, Err, refl, ap, sym, ◌∙◌, subst, append_assoc, append-nil}
 use Rattle.std.specs.List.{list_any, flat_map}
 use Rattle.std.proofs.lemmas.List.{map_push}
 use Rattle.std.proofs.lemmas.List.Sums.{fold_push}
@@ -15,24 +15,24 @@ use Rattle.script_settings.specs.Settings.{limit_number, is_among}
 use Rattle.script_settings.specs.Accounts.{account_of, charge_of}
 use Rattle.script_lines.proofs.Booleans.{and_first, and_second, both, not_false}
 use Rattle.app_script.specs.Items.{Setting, Limit, Sizes, Start, Item, Version, Configures, Begins, Calls}
-use Rattle.app_script.specs.Language.{with_setting, configured, is_same_setting, are_new_settings, app_items, script_items}
+use Rattle.app_script.specs.Language.{with_setting, version_in, configured, is_same_setting, are_new_settings, app_items, version_items, script_items}
 use Rattle.app_script.specs.Script.{Application}
 use Rattle.app_script.specs.Grammar.{Progress, opening, apps_of, after_call}
 use Rattle.app_script.proofs.ScriptLemmas.{list_any_push}
 use Rattle.app_script.proofs.ReadScripts.{set_starts}
-use Rattle.app_script.proofs.ItemSteps.{is_again, is_past, named_after, sized_after, set_to, begun_by, after_item, taken, all_taken, passes}
+use Rattle.app_script.proofs.ItemSteps.{is_again, is_past, named_after, sized_after, with_version, set_to, begun_by, after_item, taken, all_taken, passes}
 
 -- ---- settings
 
--- what was set so far is what these settings give
-pub record Given (settings : List Setting) (limits : Limits) (named : List LimitName) (sized : Bool) : Type 0 where
-  pub limits_are : limits ≡ configured settings
+-- what was set so far is what these settings give, in this version
+pub record Given (version : ℕ) (settings : List Setting) (limits : Limits) (named : List LimitName) (sized : Bool) : Type 0 where
+  pub limits_are : limits ≡ configured version settings
   pub again : (x : Setting) → list_any (λ other. is_same_setting other x) settings ≡ is_again limits named sized x
 
-pub nothing_given : Given [] usual_limits [] false
-nothing_given = record { limits_are = refl; again = none }
+pub nothing_given : (version : ℕ) → Given version [] (record usual_limits { version = version }) [] false
+nothing_given version = record { limits_are = refl; again = none }
   where
-    none : (x : Setting) → list_any (λ other. is_same_setting other x) [] ≡ is_again usual_limits [] false x
+    none : (x : Setting) → list_any (λ other. is_same_setting other x) [] ≡ is_again (record usual_limits { version = version }) [] false x
     none (Limit name value) = refl
     none (Sizes sizes) = refl
     none (Start id count) = refl
@@ -58,10 +58,10 @@ again_after limits named sized (Start one from) (Limit other to) = or_false (is_
 again_after limits named sized (Start one from) (Sizes sizes) = or_false sized
 again_after limits named sized (Start one from) (Start id count) = sym (list_any_push (λ other. eqb other.0 id) limits.starts (one, from))
 
-pub given_more : (settings : List Setting) (limits : Limits) (named : List LimitName) (sized : Bool) (setting : Setting) → Given settings limits named sized
-    → Given (settings ++ setting ∷ []) (with_setting limits setting) (named_after named setting) (sized_after sized setting)
-given_more settings limits named sized setting given = record {
-  limits_are = ap (λ l. with_setting l setting) given.limits_are ∙ sym (fold_push with_setting usual_limits settings setting);
+pub given_more : (version : ℕ) (settings : List Setting) (limits : Limits) (named : List LimitName) (sized : Bool) (setting : Setting) → Given version settings limits named sized
+    → Given version (settings ++ setting ∷ []) (with_setting limits setting) (named_after named setting) (sized_after sized setting)
+given_more version settings limits named sized setting given = record {
+  limits_are = ap (λ l. with_setting l setting) given.limits_are ∙ sym (fold_push with_setting (record usual_limits { version = version }) settings setting);
   again = λ x. list_any_push (λ other. is_same_setting other x) settings setting ∙ ap (λ b. b || is_same_setting setting x) (given.again x) ∙ again_after limits named sized setting x;
 }
 
@@ -74,30 +74,42 @@ new_more before (first ∷ settings) setting h new =
 
 -- ---- the order of a script
 
-version_more : (v : Bool) (settings : List Setting) (apps : List Application) → v ≡ false → settings ≡ [] → apps ≡ [] → script_items v settings apps ++ Version ∷ [] ≡ script_items true settings apps
-version_more true settings apps a b c = absurd cc
-version_more false (x ∷ settings) apps a b c = absurd cc
-version_more false [] (x ∷ apps) a b c = absurd cc
-version_more false [] [] a b c = refl
+version_more : (v : Option ℕ) (settings : List Setting) (apps : List Application) (version : ℕ) → v ≡ None → settings ≡ [] → apps ≡ [] → script_items v settings apps ++ Version version ∷ [] ≡ script_items (Some version) settings apps
+version_more (Some other) settings apps version a b c = absurd cc
+version_more None (x ∷ settings) apps version a b c = absurd cc
+version_more None [] (x ∷ apps) version a b c = absurd cc
+version_more None [] [] version a b c = refl
 
-abbrev pub front_of : Bool → List Item
-front_of v = cond v (Version ∷ []) []
+-- with the version alone, nothing else was given
+version_given : (v : Option ℕ) (settings : List Setting) (limits : Limits) (named : List LimitName) (sized : Bool) (version : ℕ) → v ≡ None → settings ≡ [] → Given (version_in v) settings limits named sized
+    → Given version settings (record limits { version = version }) named sized
+version_given (Some other) settings limits named sized version a b given = absurd cc
+version_given None (x ∷ settings) limits named sized version a b given = absurd cc
+version_given None [] limits named sized version a b given = record {
+  limits_are = ap (λ (l : Limits). record l { version = version }) given.limits_are;
+  again = λ x. given.again x ∙ same x;
+}
+  where
+    same : (x : Setting) → is_again limits named sized x ≡ is_again (record limits { version = version }) named sized x
+    same (Limit name value) = refl
+    same (Sizes sizes) = refl
+    same (Start id count) = refl
 
-setting_more : (v : Bool) (settings : List Setting) (setting : Setting) (apps : List Application) → apps ≡ [] → script_items v settings apps ++ Configures setting ∷ [] ≡ script_items v (settings ++ setting ∷ []) apps
+setting_more : (v : Option ℕ) (settings : List Setting) (setting : Setting) (apps : List Application) → apps ≡ [] → script_items v settings apps ++ Configures setting ∷ [] ≡ script_items v (settings ++ setting ∷ []) apps
 setting_more v settings setting (x ∷ apps) none = absurd cc
 setting_more v settings setting [] none =
-    ap (λ l. l ++ Configures setting ∷ []) (append-nil (front_of v ++ map Configures settings))
-    ∙ append_assoc (front_of v) (map Configures settings) (Configures setting ∷ [])
-    ∙ ap (λ l. front_of v ++ l) (sym (map_push Configures settings setting))
-    ∙ sym (append-nil (front_of v ++ map Configures (settings ++ setting ∷ [])))
+    ap (λ l. l ++ Configures setting ∷ []) (append-nil (version_items v ++ map Configures settings))
+    ∙ append_assoc (version_items v) (map Configures settings) (Configures setting ∷ [])
+    ∙ ap (λ l. version_items v ++ l) (sym (map_push Configures settings setting))
+    ∙ sym (append-nil (version_items v ++ map Configures (settings ++ setting ∷ [])))
 
-app_more : (v : Bool) (settings : List Setting) (apps : List Application) (app : Application) → script_items v settings apps ++ app_items app ≡ script_items v settings (apps ++ app ∷ [])
+app_more : (v : Option ℕ) (settings : List Setting) (apps : List Application) (app : Application) → script_items v settings apps ++ app_items app ≡ script_items v settings (apps ++ app ∷ [])
 app_more v settings apps app =
-    let front = front_of v ++ map Configures settings in
+    let front = version_items v ++ map Configures settings in
     append_assoc front (flat_map app_items apps) (app_items app)
     ∙ ap (λ l. front ++ l) (sym (flat_map-append app_items apps (app ∷ []) ∙ ap (λ l. flat_map app_items apps ++ l) (append-nil (app_items app))))
 
-call_more : (v : Bool) (settings : List Setting) (apps : List Application) (app : Application) (line : Line)
+call_more : (v : Option ℕ) (settings : List Setting) (apps : List Application) (app : Application) (line : Line)
     → script_items v settings (apps ++ app ∷ []) ++ Calls line ∷ [] ≡ script_items v settings (apps ++ record app { lines = app.lines ++ line ∷ [] } ∷ [])
 call_more v settings apps app line =
     ap (λ l. l ++ Calls line ∷ []) (sym (app_more v settings apps app))
@@ -108,27 +120,27 @@ call_more v settings apps app line =
 -- ---- what was taken in so far
 
 record Has (items : List Item) (s : Progress) : Type 0 where
-  versioned : Bool
+  version : Option ℕ
   settings : List Setting
-  order : items ≡ script_items versioned settings (apps_of s)
-  given : Given settings s.limits s.named s.sized
+  order : items ≡ script_items version settings (apps_of s)
+  given : Given (version_in version) settings s.limits s.named s.sized
   once : are_new_settings [] settings ≡ true
-  fresh : s.begun ≡ false → (versioned ≡ false) × (settings ≡ []) × (apps_of s ≡ [])
+  fresh : s.begun ≡ false → (version ≡ None) × (settings ≡ []) × (apps_of s ≡ [])
   before : s.started ≡ false → apps_of s ≡ []
 
 has_nothing : Has [] opening
-has_nothing = record { versioned = false; settings = []; order = refl; given = nothing_given; once = refl; fresh = λ e. (refl, refl, refl); before = λ e. refl }
+has_nothing = record { version = None; settings = []; order = refl; given = nothing_given 1; once = refl; fresh = λ e. (refl, refl, refl); before = λ e. refl }
 
-has_version : (items : List Item) (s u : Progress) → Has items s → taken s Version ≡ Ok u → Has (items ++ Version ∷ []) u
-has_version items s u has e =
-    let way = passes s.begun Misplaced (Ok (record s { begun = true })) u e in
-    let same : record s { begun = true } ≡ u = (let f = way.1 in cc) in
+has_version : (items : List Item) (s u : Progress) (version : ℕ) → Has items s → taken s (Version version) ≡ Ok u → Has (items ++ Version version ∷ []) u
+has_version items s u version has e =
+    let way = passes s.begun Misplaced (Ok (with_version (record s { begun = true }) version)) u e in
+    let same : with_version (record s { begun = true }) version ≡ u = (let f = way.1 in cc) in
     let fresh = has.fresh way.0 in
-    subst (Has (items ++ Version ∷ [])) same (record {
-      versioned = true;
+    subst (Has (items ++ Version version ∷ [])) same (record {
+      version = Some version;
       settings = has.settings;
-      order = ap (λ l. l ++ Version ∷ []) has.order ∙ version_more has.versioned has.settings (apps_of s) fresh.0 fresh.1 fresh.2;
-      given = has.given;
+      order = ap (λ l. l ++ Version version ∷ []) has.order ∙ version_more has.version has.settings (apps_of s) version fresh.0 fresh.1 fresh.2;
+      given = version_given has.version has.settings s.limits s.named s.sized version fresh.0 fresh.1 has.given;
       once = has.once;
       fresh = λ f. absurd cc;
       before = has.before;
@@ -141,10 +153,10 @@ has_setting items s u setting has e =
     let new = passes (is_again s.limits s.named s.sized setting) Repeated (Ok (set_to (record s { begun = true }) setting)) u room.1 in
     let same : set_to (record s { begun = true }) setting ≡ u = (let f = new.1 in cc) in
     subst (Has (items ++ Configures setting ∷ [])) same (record {
-      versioned = has.versioned;
+      version = has.version;
       settings = has.settings ++ setting ∷ [];
-      order = ap (λ l. l ++ Configures setting ∷ []) has.order ∙ setting_more has.versioned has.settings setting (apps_of s) (has.before way.0);
-      given = given_more has.settings s.limits s.named s.sized setting has.given;
+      order = ap (λ l. l ++ Configures setting ∷ []) has.order ∙ setting_more has.version has.settings setting (apps_of s) (has.before way.0);
+      given = given_more (version_in has.version) has.settings s.limits s.named s.sized setting has.given;
       once = new_more [] has.settings setting has.once (has.given.again setting ∙ new.0);
       fresh = λ f. absurd cc;
       before = has.before;
@@ -156,9 +168,9 @@ has_app items s u name has e =
     let room = passes (nat_le 16 (length (apps_of s))) TooManyApps (Ok (begun_by (record s { begun = true }) name)) u new.1 in
     let same : begun_by (record s { begun = true }) name ≡ u = (let f = room.1 in cc) in
     subst (Has (items ++ Begins name ∷ [])) same (record {
-      versioned = has.versioned;
+      version = has.version;
       settings = has.settings;
-      order = ap (λ l. l ++ Begins name ∷ []) has.order ∙ app_more has.versioned has.settings (apps_of s) (record { name = name; lines = [] });
+      order = ap (λ l. l ++ Begins name ∷ []) has.order ∙ app_more has.version has.settings (apps_of s) (record { name = name; lines = [] });
       given = has.given;
       once = has.once;
       fresh = λ f. absurd cc;
@@ -194,11 +206,11 @@ has_call items s u line has e =
     let started = not_false_is s.started way.0 in
     let now = record s { begun = true } in
     subst (Has (items ++ Calls line ∷ [])) (call_read now u line way.1) (record {
-      versioned = has.versioned;
+      version = has.version;
       settings = has.settings;
-      order = ap (λ l. l ++ Calls line ∷ []) (has.order ∙ ap (script_items has.versioned has.settings) (apps_begun s s.present started))
-          ∙ call_more has.versioned has.settings s.done s.present line
-          ∙ ap (script_items has.versioned has.settings) (sym (apps_begun s (record s.present { lines = s.present.lines ++ line ∷ [] }) started));
+      order = ap (λ l. l ++ Calls line ∷ []) (has.order ∙ ap (script_items has.version has.settings) (apps_begun s s.present started))
+          ∙ call_more has.version has.settings s.done s.present line
+          ∙ ap (script_items has.version has.settings) (sym (apps_begun s (record s.present { lines = s.present.lines ++ line ∷ [] }) started));
       given = has.given;
       once = has.once;
       fresh = λ f. absurd cc;
@@ -206,7 +218,7 @@ has_call items s u line has e =
     })
 
 has_item : (items : List Item) (s u : Progress) (item : Item) → Has items s → taken s item ≡ Ok u → Has (items ++ item ∷ []) u
-has_item items s u Version has e = has_version items s u has e
+has_item items s u (Version version) has e = has_version items s u version has e
 has_item items s u (Configures setting) has e = has_setting items s u setting has e
 has_item items s u (Begins name) has e = has_app items s u name has e
 has_item items s u (Calls line) has e = has_call items s u line has e
@@ -223,13 +235,13 @@ has_all (item ∷ rest) items s t has e =
 
 -- what was taken in is a script's version, settings and applications
 pub record InOrder (items : List Item) (s : Progress) : Type 0 where
-  pub versioned : Bool
+  pub version : Option ℕ
   pub settings : List Setting
-  pub order : items ≡ script_items versioned settings (apps_of s)
-  pub limits : s.limits ≡ configured settings
+  pub order : items ≡ script_items version settings (apps_of s)
+  pub limits : s.limits ≡ configured (version_in version) settings
   pub once : are_new_settings [] settings ≡ true
 
 pub in_order : (items : List Item) (t : Progress) → all_taken opening items ≡ Ok t → InOrder items t
 in_order items t e =
     let has = has_all items [] opening t has_nothing e in
-    record { versioned = has.versioned; settings = has.settings; order = has.order; limits = has.given.limits_are; once = has.once }
+    record { version = has.version; settings = has.settings; order = has.order; limits = has.given.limits_are; once = has.once }

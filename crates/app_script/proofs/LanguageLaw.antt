@@ -8,7 +8,7 @@ use Rattle.fsw_base.specs.declared.script_faults.ScriptFault.{ScriptFault}
 use Rattle.script_words.specs.Text.{lines_of}
 use Rattle.script_lines.proofs.Booleans.{and_first}
 use Rattle.app_script.specs.Script.{ScriptText}
-use Rattle.app_script.specs.Language.{IsText, configured}
+use Rattle.app_script.specs.Language.{IsText, version_in, configured}
 use Rattle.app_script.specs.Grammar.{Progress, opening, apps_of, progress_of, grammar, ◌>=>◌}
 use Rattle.app_script.proofs.ReadWalk.{whole_read}
 use Rattle.app_script.proofs.ReadScripts.{read_script_is}
@@ -30,7 +30,7 @@ text_of text s read =
     record {
       size = whole.0;
       plain = tells.plain;
-      versioned = order.versioned;
+      version = order.version;
       settings = order.settings;
       order = tells.told ∙ ap (map Ok) order.order;
       limits = order.limits;
@@ -57,8 +57,8 @@ scripts_are_texts text script e = decide (progress_of text) refl e
 -- a text of the language is read as its script
 pub texts_are_scripts : (text : List ℕ) (script : ScriptText) → IsText text script → grammar text ≡ Ok script
 texts_are_scripts text script is =
-    let starts : length (configured is.settings).starts ≤ 16 = subst (λ (l : Limits). length l.starts ≤ 16) is.limits is.starts in
-    let passes = script_passes is.versioned is.settings script.apps is.once starts is.names is.few is.calls is.charges in
+    let starts : length (configured (version_in is.version) is.settings).starts ≤ 16 = subst (λ (l : Limits). length l.starts ≤ 16) is.limits is.starts in
+    let passes = script_passes is.version is.settings script.apps is.once starts is.names is.few is.calls is.charges in
     let end = passes.2 in
     grammar_back text passes.0 script
     (progress_back text (lines_of text) passes.0 is.size refl (lines_read (lines_of text) 1 opening passes.0 _ is.plain is.order passes.1) (end.begins is.some))

@@ -25,12 +25,12 @@ use Rattle.script_settings.specs.declared.settings.LimitName.TheVariants.{MsgIds
 use Rattle.app_script.specs.declared.forms.Form.{Form}
 use Rattle.app_script.specs.declared.forms.Form.TheVariants.{Script, Set, Sizes, Seq, App, Call}
 use Rattle.app_script.specs.Forms.{form_of, is_misplaced}
-use Rattle.script_settings.specs.Settings.{least, greatest, with_limit, is_among, limit_named, set_of, some_words, sizes_within, sizes_of, seq_of, is_app_name, app_of, script_of}
+use Rattle.script_settings.specs.Settings.{least, greatest, with_limit, is_among, limit_named, set_of, some_words, sizes_within, sizes_of, seq_of, is_app_name, app_of, is_version, script_of}
 use Rattle.script_settings.specs.Accounts.{account_of, charge_of}
 use Rattle.app_script.specs.Script.{Application, ScriptText}
 use Rattle.app_script.specs.ScriptRanges.{limit_of}
 use Rattle.app_script.specs.ScriptRanges.{are_limits, have_new_names, is_application, IsScript}
-use Rattle.app_script.specs.Grammar.{Progress, opening, apps_of, after_set, after_sizes, after_seq, after_app, after_call, after_form, after_known, after_words, after_line, progress_of, grammar, ◌>=>◌}
+use Rattle.app_script.specs.Grammar.{Progress, opening, apps_of, after_version, after_set, after_sizes, after_seq, after_app, after_call, after_form, after_known, after_words, after_line, progress_of, grammar, ◌>=>◌}
 use Rattle.app_script.proofs.ScriptLemmas.{list_all_push, starts_push}
 use Rattle.app_script.proofs.ReadWalk.{progress_keeps}
 use Rattle.app_script.proofs.RunRanges.{read_bounded}
@@ -104,6 +104,32 @@ set_starts limits Handles value = refl
 set_starts limits TableMax value = refl
 set_starts limits TablePool value = refl
 
+pub set_version : (limits : Limits) (name : LimitName) (value : ℕ) → (with_limit limits name value).version ≡ limits.version
+set_version limits MsgIds value = refl
+set_version limits Pipes value = refl
+set_version limits Dests value = refl
+set_version limits Depth value = refl
+set_version limits MsgMax value = refl
+set_version limits Pool value = refl
+set_version limits AppPool value = refl
+set_version limits Tables value = refl
+set_version limits Handles value = refl
+set_version limits TableMax value = refl
+set_version limits TablePool value = refl
+
+other_version : (limits : Limits) (version : ℕ) → ((name : LimitName) → is_limit limits name ≡ true) → (name : LimitName) → is_limit (record limits { version = version }) name ≡ true
+other_version limits version h MsgIds = h MsgIds
+other_version limits version h Pipes = h Pipes
+other_version limits version h Dests = h Dests
+other_version limits version h Depth = h Depth
+other_version limits version h MsgMax = h MsgMax
+other_version limits version h Pool = h Pool
+other_version limits version h AppPool = h AppPool
+other_version limits version h Tables = h Tables
+other_version limits version h Handles = h Handles
+other_version limits version h TableMax = h TableMax
+other_version limits version h TablePool = h TablePool
+
 all_fit : (limits : Limits) → ((name : LimitName) → is_limit limits name ≡ true) → are_limits limits ≡ true
 all_fit limits h = both (h MsgIds) (both (h Pipes) (both (h Dests) (both (h Depth) (both (h MsgMax) (both (h Pool) (both (h AppPool) (both (h Tables) (both (h Handles) (both (h TableMax) (both (h TablePool) refl))))))))))
 
@@ -132,6 +158,7 @@ app_in words = any _ (one words) _ (λ word. guard (λ name. is_app_name name �
 -- ---- what was read so far
 
 record Stands (s : Progress) : Type 0 where
+  version : is_version s.limits.version ≡ true
   limits : (name : LimitName) → is_limit s.limits name ≡ true
   sizes : are_block_sizes s.limits.sizes ≡ true
   starts : are_count_starts s.limits.starts ≡ true
@@ -145,6 +172,7 @@ record Stands (s : Progress) : Type 0 where
 
 stands_opening : Stands opening
 stands_opening = record {
+  version = refl;
   limits = usual_fits;
   sizes = refl;
   starts = refl;
@@ -158,27 +186,36 @@ stands_opening = record {
 }
 
 -- other limits
-limits_stand : (s : Progress) (begun : Bool) (limits : Limits) (named : List LimitName) (sized : Bool) → Stands s → ((name : LimitName) → is_limit limits name ≡ true) → are_block_sizes limits.sizes ≡ true
+limits_stand : (s : Progress) (begun : Bool) (limits : Limits) (named : List LimitName) (sized : Bool) → Stands s → is_version limits.version ≡ true → ((name : LimitName) → is_limit limits name ≡ true) → are_block_sizes limits.sizes ≡ true
     → are_count_starts limits.starts ≡ true → Stands (record s { begun = begun; limits = limits; named = named; sized = sized })
-limits_stand s begun limits named sized so fit sizes starts =
-    record { limits = fit; sizes = sizes; starts = starts; names = so.names; few = so.few; ready = so.ready; room = so.room; new = so.new; named = so.named; lines = so.lines }
+limits_stand s begun limits named sized so version fit sizes starts =
+    record { version = version; limits = fit; sizes = sizes; starts = starts; names = so.names; few = so.few; ready = so.ready; room = so.room; new = so.new; named = so.named; lines = so.lines }
+
+version_in_range : (words : List Word) → Holds (λ version. is_version version ≡ true) (script_of words)
+unfolding script_of
+version_in_range words = any _ (one words) _ (λ word. any _ (number_of word) _ (λ version. within_in 1 2 version))
+
+version_stands : (s : Progress) (words : List Word) → Stands s → Holds Stands (after_version s words)
+unfolding after_version
+version_stands s words so =
+    then _ Stands (script_of words) _ (version_in_range words) (λ version h. limits_stand s s.begun (record s.limits { version = version }) s.named s.sized so h (other_version s.limits version so.limits) so.sizes so.starts)
 
 set_stands : (s : Progress) (words : List Word) → Stands s → Holds Stands (after_set s words)
 unfolding after_set
 set_stands s words so =
     then _ Stands (set_of words) _ (set_in words) (λ set h. refuse Stands (is_among set.0 s.named) Repeated _ (λ new.
-    limits_stand s s.begun (with_limit s.limits set.0 set.1) _ s.sized so (set_fits s.limits set.0 set.1 so.limits h) (ap are_block_sizes (set_sizes s.limits set.0 set.1) ∙ so.sizes) (ap are_count_starts (set_starts s.limits set.0 set.1) ∙ so.starts)))
+    limits_stand s s.begun (with_limit s.limits set.0 set.1) _ s.sized so (ap is_version (set_version s.limits set.0 set.1) ∙ so.version) (set_fits s.limits set.0 set.1 so.limits h) (ap are_block_sizes (set_sizes s.limits set.0 set.1) ∙ so.sizes) (ap are_count_starts (set_starts s.limits set.0 set.1) ∙ so.starts)))
 
 sizes_stand : (s : Progress) (words : List Word) → Stands s → Holds Stands (after_sizes s words)
 unfolding after_sizes
 sizes_stand s words so =
-    then _ Stands (sizes_of words) _ (sizes_in words) (λ sizes h. refuse Stands s.sized Repeated _ (λ new. limits_stand s s.begun (record s.limits { sizes = sizes }) s.named true so so.limits h so.starts))
+    then _ Stands (sizes_of words) _ (sizes_in words) (λ sizes h. refuse Stands s.sized Repeated _ (λ new. limits_stand s s.begun (record s.limits { sizes = sizes }) s.named true so so.version so.limits h so.starts))
 
 seq_stands : (s : Progress) (words : List Word) → Stands s → Holds Stands (after_seq s words)
 unfolding after_seq
 seq_stands s words so =
     then _ Stands (seq_of words) _ (seq_in words) (λ start h. refuse Stands (nat_le 16 (length s.limits.starts)) OutOfRange _ (λ full. refuse Stands (list_any (λ other. eqb other.0 start.0) s.limits.starts) Repeated _ (λ new.
-    limits_stand s s.begun (record s.limits { starts = s.limits.starts ++ start ∷ [] }) s.named s.sized so so.limits so.sizes
+    limits_stand s s.begun (record s.limits { starts = s.limits.starts ++ start ∷ [] }) s.named s.sized so so.version so.limits so.sizes
     (starts_push s.limits.starts start so.starts (leb-false 16 (length s.limits.starts) full) h new))))
 
 -- ---- applications
@@ -212,6 +249,7 @@ app_stands s words so =
     let whole = whole_apps s so s.started refl in
     then _ Stands (app_of words) _ (app_in words) (λ name h. refuse Stands (list_any (λ app. is_same app.name name) (apps_of s)) Repeated _ (λ new. refuse Stands (nat_le 16 (length (apps_of s))) TooManyApps _ (λ full.
     record {
+      version = so.version;
       limits = so.limits;
       sizes = so.sizes;
       starts = so.starts;
@@ -231,6 +269,7 @@ unfolding after_call
 call_stands s line readable so =
     refuse Stands (nat_le 20000 s.calls) TooManyCalls _ (λ h. refuse Stands (nat_lt 16777216 (s.charged + charge_of (account_of s.present.lines) line)) TooManyBytes _ (λ g.
     record {
+      version = so.version;
       limits = so.limits;
       sizes = so.sizes;
       starts = so.starts;
@@ -247,7 +286,7 @@ call_stands s line readable so =
 
 form_stands : (s : Progress) (form : Form) (rest : List ℕ) → list_all is_text rest ≡ true → Stands s → Holds Stands (after_form s form rest)
 unfolding after_form
-form_stands s Script rest h so = any Stands (script_of (words_of rest)) _ (λ version. so)
+form_stands s Script rest h so = version_stands s (words_of rest) so
 form_stands s Set rest h so = set_stands s (words_of rest) so
 form_stands s Sizes rest h so = sizes_stand s (words_of rest) so
 form_stands s Seq rest h so = seq_stands s (words_of rest) so
@@ -258,7 +297,7 @@ known_stands : (s : Progress) (form : Option Form) (rest : List ℕ) → list_al
 unfolding after_known
 known_stands s None rest h so = tt
 known_stands s (Some form) rest h so =
-    refuse Stands (is_misplaced form s.begun s.started) Misplaced _ (λ placed. form_stands (record s { begun = true }) form rest h (limits_stand s true s.limits s.named s.sized so so.limits so.sizes so.starts))
+    refuse Stands (is_misplaced form s.begun s.started) Misplaced _ (λ placed. form_stands (record s { begun = true }) form rest h (limits_stand s true s.limits s.named s.sized so so.version so.limits so.sizes so.starts))
 
 words_stand : (s : Progress) (words : List Word) (rest : List ℕ) → list_all is_text rest ≡ true → Stands s → Holds Stands (after_words s words rest)
 unfolding after_words
@@ -288,6 +327,7 @@ read_script_is bytes s read =
     let same_calls = all_calls_sum (apps_of s) in
     let same_bytes = all_bytes_sum (apps_of s) in
     record {
+      version = so.version;
       limits = all_fit s.limits so.limits;
       sizes = so.sizes;
       starts = so.starts;

@@ -16,7 +16,7 @@ use Rattle.app_script.specs.Forms.{form_of, is_misplaced}
 use Rattle.script_settings.specs.Settings.{is_among, set_of, sizes_of, seq_of, app_of, script_of}
 use Rattle.script_settings.specs.Accounts.{account_of, charge_of, budget_of}
 use Rattle.app_script.specs.Script.{Application, ScriptText}
-use Rattle.app_script.specs.Grammar.{Progress, opening, apps_of, after_set, after_sizes, after_seq, after_app, after_call, after_form, after_known, after_words, after_line, progress_of}
+use Rattle.app_script.specs.Grammar.{Progress, opening, apps_of, after_version, after_set, after_sizes, after_seq, after_app, after_call, after_form, after_known, after_words, after_line, progress_of}
 use Rattle.app_script.proofs.ScriptLemmas.{account_of_push}
 use Rattle.app_script.proofs.ReadWalk.{progress_keeps}
 
@@ -38,7 +38,11 @@ kept_opening : Kept opening
 unfolding budget_of account_of
 kept_opening = record { calls = omega arith; few = omega arith; bytes = omega arith; light = omega arith }
 
--- ---- configuration
+-- ---- version and configuration
+
+version_keeps : (s : Progress) (words : List Word) → Kept s → Holds Kept (after_version s words)
+unfolding after_version
+version_keeps s words kept = any Kept (script_of words) _ (λ version. record { calls = kept.calls; few = kept.few; bytes = kept.bytes; light = kept.light })
 
 set_keeps : (s : Progress) (words : List Word) → Kept s → Holds Kept (after_set s words)
 unfolding after_set
@@ -100,7 +104,7 @@ call_keeps s line kept =
 
 form_keeps : (s : Progress) (form : Form) (rest : List ℕ) → Kept s → Holds Kept (after_form s form rest)
 unfolding after_form
-form_keeps s Script rest kept = any Kept (script_of (words_of rest)) _ (λ version. kept)
+form_keeps s Script rest kept = version_keeps s (words_of rest) kept
 form_keeps s Set rest kept = set_keeps s (words_of rest) kept
 form_keeps s Sizes rest kept = sizes_keep s (words_of rest) kept
 form_keeps s Seq rest kept = seq_keeps s (words_of rest) kept

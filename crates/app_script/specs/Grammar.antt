@@ -48,7 +48,10 @@ opening = record {
   charged = 0;
 }
 
--- ---- configuration
+-- ---- version and configuration
+
+unfoldable pub after_version : Progress → List Word → Result Progress FaultKind
+after_version s words = script_of words >>= λ version. Ok (record s { limits = record s.limits { version = version } })
 
 unfoldable pub after_set : Progress → List Word → Result Progress FaultKind
 after_set s words = set_of words >>= λ set.
@@ -99,7 +102,7 @@ after_call s line =
 
 -- a line of this form, from the line behind its first word
 unfoldable pub after_form : Progress → Form → List ℕ → Result Progress FaultKind
-after_form s Script rest = script_of (words_of rest) >>= λ version. Ok s
+after_form s Script rest = after_version s (words_of rest)
 after_form s Set rest = after_set s (words_of rest)
 after_form s Sizes rest = after_sizes s (words_of rest)
 after_form s Seq rest = after_seq s (words_of rest)

@@ -22,7 +22,7 @@ pub data Setting : Type 0 where
 
 -- What a line tells: the version of the language, a setting, an application that begins, or a call.
 pub data Item : Type 0 where
-  Version : Item
+  Version : ℕ → Item
   Configures : Setting → Item
   Begins : Word → Item
   Calls : Line → Item
@@ -34,7 +34,7 @@ is_skipped (first ∷ words) = starts_with (λ a b. a == b) first (codes "#")
 
 -- what a line of this form tells, from the line behind its first word; each number, register and text is in its range
 unfoldable pub item_of : Form → List ℕ → Result Item FaultKind
-item_of form.Script rest = script_of (words_of rest) >>= λ version. Ok Version
+item_of form.Script rest = script_of (words_of rest) >>= λ version. Ok (Version version)
 item_of form.Set rest = set_of (words_of rest) >>= λ set. Ok (Configures (Limit set.0 set.1))
 item_of form.Sizes rest = sizes_of (words_of rest) >>= λ sizes. Ok (Configures (Sizes sizes))
 item_of form.Seq rest = seq_of (words_of rest) >>= λ start. Ok (Configures (Start start.0 start.1))

@@ -1,5 +1,5 @@
 -- The language of scripts, as it is told to those who write them: which lines a script has, and in which order.
-use Rattle.std.specs.Prelude.{◌≡◌, ℕ, ◌≤◌, ◌==◌, ◌&&◌, not, nat_le, Bool, true, false, List, [], ◌∷◌, ◌++◌, length, map, filter, fold, Result, Ok, IsTrue, if◌then◌else◌}
+use Rattle.std.specs.Prelude.{◌≡◌, ℕ, ◌≤◌, ◌==◌, ◌&&◌, not, nat_le, Bool, true, false, List, [], ◌∷◌, ◌++◌, length, map, filter, fold, Option, Some, None, Result, Ok, IsTrue}
 use Rattle.std.specs.List.{list_all, list_any, flat_map}
 use Rattle.fsw_base.specs.declared.script_faults.FaultKind.{FaultKind}
 use Rattle.fsw_base.specs.Limits.{Limits, usual_limits}
@@ -31,9 +31,14 @@ with_setting limits (Limit name value) = with_limit limits name value
 with_setting limits (Sizes sizes) = record limits { sizes = sizes }
 with_setting limits (Start id count) = record limits { starts = limits.starts ++ (id, count) ∷ [] }
 
--- what settings make of the usual limits
-abbrev pub configured : List Setting → Limits
-configured settings = fold with_setting usual_limits settings
+-- the version of a script: the one that its first line tells, 1 where none is told
+abbrev pub version_in : Option ℕ → ℕ
+version_in None = 1
+version_in (Some version) = version
+
+-- what settings make of the usual limits, in a script of this version
+abbrev pub configured : ℕ → List Setting → Limits
+configured version settings = fold with_setting (record usual_limits { version = version }) settings
 
 -- settings of the same thing: of one limit, of the block sizes, of the count of one message id
 abbrev pub is_same_setting : Setting → Setting → Bool
@@ -54,9 +59,14 @@ are_new_settings before (setting ∷ settings) =
 abbrev pub app_items : Application → List Item
 app_items app = Begins app.name ∷ map Calls app.lines
 
+-- the version of the language, where it is told
+abbrev pub version_items : Option ℕ → List Item
+version_items None = []
+version_items (Some version) = Version version ∷ []
+
 -- a script: the version of the language, where it is told; the configuration; then one application after another
-abbrev pub script_items : Bool → List Setting → List Application → List Item
-script_items versioned settings apps = (if versioned then (Version ∷ []) else []) ++ map Configures settings ++ flat_map app_items apps
+abbrev pub script_items : Option ℕ → List Setting → List Application → List Item
+script_items version settings apps = version_items version ++ map Configures settings ++ flat_map app_items apps
 
 -- The text is this script.
 pub record IsText (text : List ℕ) (script : ScriptText) : Type 0 where
@@ -64,11 +74,11 @@ pub record IsText (text : List ℕ) (script : ScriptText) : Type 0 where
   pub size : length text ≤ 1048576
   pub plain : IsTrue (list_all is_plain (lines_of text))
   -- its lines, without those that are skipped, tell a script in this order
-  pub versioned : Bool
+  pub version : Option ℕ
   pub settings : List Setting
-  pub order : map item_on (told_among (lines_of text)) ≡ map Ok (script_items versioned settings script.apps)
-  -- each setting is given once, and at most 16 counts
-  pub limits : script.limits ≡ configured settings
+  pub order : map item_on (told_among (lines_of text)) ≡ map Ok (script_items version settings script.apps)
+  -- it has the version that is told and these settings, of which each is given once, and at most 16 counts
+  pub limits : script.limits ≡ configured (version_in version) settings
   pub once : IsTrue (are_new_settings [] settings)
   pub starts : length script.limits.starts ≤ 16
   -- one to 16 applications, each with a name of its own

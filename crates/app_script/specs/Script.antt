@@ -8,7 +8,7 @@ pub record Application : Type 0 where
   pub name : List ℕ
   pub lines : List Line
 
--- a script: the limits that it configures, and its applications in order
+-- a script: the limits that it configures, its version among them, and its applications in order
 pub record ScriptText : Type 0 where
   pub limits : Limits
   pub apps : List Application

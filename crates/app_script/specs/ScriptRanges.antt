@@ -8,7 +8,7 @@ use Rattle.script_words.specs.Text.{is_same}
 use Rattle.script_lines.specs.Ranges.{is_readable}
 use Rattle.script_settings.specs.declared.settings.LimitName.{LimitName}
 use Rattle.script_settings.specs.declared.settings.LimitName.TheVariants.{MsgIds, Pipes, Dests, Depth, MsgMax, Pool, AppPool, Tables, Handles, TableMax, TablePool}
-use Rattle.script_settings.specs.Settings.{least, greatest, is_app_name}
+use Rattle.script_settings.specs.Settings.{least, greatest, is_app_name, is_version}
 use Rattle.script_settings.specs.Accounts.{account_of}
 use Rattle.app_script.specs.Script.{Application, ScriptText}
 
@@ -54,6 +54,7 @@ all_bytes (app ∷ apps) = (account_of app.lines).bytes + all_bytes apps
 
 -- what a text can be read as
 pub record IsScript (script : ScriptText) : Type 0 where
+  pub version : IsTrue (is_version script.limits.version)
   pub limits : IsTrue (are_limits script.limits)
   pub sizes : IsTrue (are_block_sizes script.limits.sizes)
   pub starts : IsTrue (are_count_starts script.limits.starts)

@@ -35,7 +35,7 @@ const MAX_CHARGE: usize = 16_777_216;
 pub(crate) struct Reading {
     // A line that isn't skipped came before.
     begun: bool,
-    // The limits, without the counts at which ids start.
+    // The version and the limits, without the counts at which ids start.
     config: Config,
     // Which limits were set.
     named: Vec<LimitName>,
@@ -94,7 +94,7 @@ fn are_named(apps: &[App], name: &[u8]) -> bool
 
 impl Reading {
     ghost use Rattle.app_script.specs.Moves.{Moves};
-    ghost use Rattle.app_script.specs.Grammar.{opening, after_set, after_sizes, after_seq, apps_of, after_app, after_call, after_form, after_known, after_words, after_line};
+    ghost use Rattle.app_script.specs.Grammar.{opening, after_version, after_set, after_sizes, after_seq, apps_of, after_app, after_call, after_form, after_known, after_words, after_line};
     ghost use Rattle.script_words.specs.Text.{words_of, behind_word};
 
     /// Nothing was read yet.
@@ -115,6 +115,15 @@ impl Reading {
             calls: 0,
             charged: 0,
         }
+    }
+
+    // script VERSION
+    #[tactic(auto, unfolding(crate::specs::Grammar::after_version))]
+    fn version(&mut self, rest: &[u8]) -> Result<(), LineFail>
+        ensures { Moves result self.new (after_version self.old (words_of rest.now)) }
+    {
+        self.config.version = version(rest)?;
+        Ok(())
     }
 
     // set NAME VALUE
@@ -229,10 +238,7 @@ impl Reading {
         ensures { Moves result self.new (after_form self.old form rest.now) }
     {
         match form {
-            Form::Script => {
-                let _ = version(rest)?;
-                Ok(())
-            }
+            Form::Script => self.version(rest),
             Form::Set => self.set(rest),
             Form::Sizes => self.sizes(rest),
             Form::Seq => self.seq(rest),

@@ -17,10 +17,11 @@ use script_words::{ByteText, LineFail};
 use std::alloc::Global;
 use std::marker::Model;
 
-/// A script: the limits that it configures, and its applications with their call lines.
+/// A script: its version, the limits that it configures, and its applications with their call
+/// lines.
 #[derive(Drop)]
 pub struct Script {
-    // The limits that it configures.
+    // Its version, and the limits that it configures.
     config: Config,
     // Its applications, in order of number.
     apps: Vec<App>,
@@ -60,7 +61,7 @@ impl Script {
         let _ = &self.apps;
     }
 
-    /// The limits that it configures.
+    /// The limits that it configures, with the script's version: 2 after a line `script 2`, else 1.
     pub fn config(&self) -> &Config
         ensures { limits_of result.now ≡ self.now.limits }
     {

@@ -1,5 +1,5 @@
 -- What a report shows of both services, put together from what is read off them.
-use Rattle.std.proofs.Common.{◌≡◌, List, map, ap, sym, ◌∙◌}
+use Rattle.std.proofs.Common.{◌≡◌, ℕ, List, map, ap, sym, ◌∙◌}
 use Rattle.bus_words.specs.declared.history.Entry.{Entry}
 use Rattle.tbl_words.specs.declared.history.Entry.{Entry as TableEntry}
 use Rattle.tbl_words.specs.declared.uses.TblUse.{TblUse}
@@ -15,13 +15,13 @@ use Rattle.host_run.specs.Serve.{part_of}
 use Rattle.host_run.specs.declared.reporting.Part.{Part}
 use Rattle.host_run.specs.declared.reporting.Part.TheVariants.{Whole, Ending}
 
-abbrev pub the_figures : Desk → Statistics → InUse → Account → List Account → BusFigures
-the_figures events statistics now pool pools = record { events = events; statistics = statistics; now = now; pool = pool; pools = pools }
+abbrev pub the_figures : ℕ → Desk → Statistics → InUse → Account → List Account → BusFigures
+the_figures version events statistics now pool pools = record { version = version; events = events; statistics = statistics; now = now; pool = pool; pools = pools }
 
-pub figures-as : {events events' : Desk} {statistics statistics' : Statistics} {now now' : InUse} {pool pool' : Account} {pools pools' : List Account} →
-    events ≡ events' → statistics ≡ statistics' → now ≡ now' → pool ≡ pool' → pools ≡ pools' →
-    the_figures events statistics now pool pools ≡ the_figures events' statistics' now' pool' pools'
-figures-as one two three four five = cc
+pub figures-as : {version version' : ℕ} {events events' : Desk} {statistics statistics' : Statistics} {now now' : InUse} {pool pool' : Account} {pools pools' : List Account} →
+    version ≡ version' → events ≡ events' → statistics ≡ statistics' → now ≡ now' → pool ≡ pool' → pools ≡ pools' →
+    the_figures version events statistics now pool pools ≡ the_figures version' events' statistics' now' pool' pools'
+figures-as one two three four five six = cc
 
 abbrev pub the_table_figures : TblUse → TblUse → Account → TableFigures
 the_table_figures now peak pool = record { now = now; peak = peak; pool = pool }

@@ -62,6 +62,7 @@ fn bus_readings<'a>(bus: &'a BusCore<'_>) -> BusReadings<'a>
     ensures figures { figures_read result ≡ figures_shown bus.now.limits (state_of bus.now) }
 {
     BusReadings {
+        version: bus.version(),
         journal: bus.journal(),
         events: bus.events(),
         counters: bus.counters(),

@@ -122,6 +122,7 @@ impl<'r> PlayedBus<'r> {
     /// What a report shows of the bus.
     pub fn readings(&self) -> BusReadings<'_> {
         BusReadings {
+            version: self.core.version(),
             journal: self.core.journal(),
             events: self.core.events(),
             counters: self.core.counters(),

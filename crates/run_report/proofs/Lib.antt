@@ -4,4 +4,5 @@ pub mod Splitting
 pub mod TableLegal
 pub mod TableTelling
 pub mod Telling
+pub mod Versions
 pub mod Words

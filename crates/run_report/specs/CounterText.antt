@@ -13,9 +13,10 @@ use Rattle.text_page.specs.Texts.{numbered}
 use Rattle.run_report.specs.declared.pools.PoolName.{PoolName}
 use Rattle.run_report.specs.declared.pools.PoolName.TheVariants.{Bus, Applications, Tables}
 
--- What a report shows of a bus beside its history: the event desk, the counters with the peaks, what is in use now, the account of
--- the bus's own memory pool, and those of the applications' pools, number 1 first.
+-- What a report shows of a bus beside its history: its version, the event desk, the counters with the peaks, what is in use now, the
+-- account of the bus's own memory pool, and those of the applications' pools, number 1 first.
 pub record BusFigures : Type 0 where
+  pub version : ℕ
   pub events : Desk
   pub statistics : Statistics
   pub now : InUse
@@ -38,13 +39,17 @@ use_text name now peak = codes " " ++ name ++ codes "=" ++ decimal now ++ codes 
 
 -- The bus. --
 
--- what the ten counters show
-abbrev pub counts_text : Counts → List ℕ
-counts_text counts =
+-- the counter that a bus of version 2 has alone
+unfoldable pub oldest_text : ℕ → Counts → List ℕ
+oldest_text version counts = if version == 2 then field_text (codes "oldest") counts.oldest else []
+
+-- what the counters of a bus of this version show
+abbrev pub counts_text : ℕ → Counts → List ℕ
+counts_text version counts =
     codes "bus" ++ field_text (codes "nosub") counts.nosub ++ field_text (codes "send") counts.send ++ field_text (codes "recv") counts.recv
     ++ field_text (codes "create") counts.create ++ field_text (codes "sub") counts.sub ++ field_text (codes "opts") counts.opts
     ++ field_text (codes "find") counts.find ++ field_text (codes "dup") counts.dup ++ field_text (codes "limit") counts.limit
-    ++ field_text (codes "overflow") counts.overflow ++ codes "\n"
+    ++ field_text (codes "overflow") counts.overflow ++ oldest_text version counts ++ codes "\n"
 
 -- the five numbers in use, with their peaks
 abbrev pub uses_text : InUse → InUse → List ℕ
@@ -120,5 +125,5 @@ table_uses_text now peak =
 
 abbrev pub counters_text : BusFigures → TableFigures → List ℕ
 counters_text figures tables =
-    counts_text figures.statistics.counts ++ uses_text figures.now figures.statistics.peak ++ account_text Bus figures.pool
+    counts_text figures.version figures.statistics.counts ++ uses_text figures.now figures.statistics.peak ++ account_text Bus figures.pool
     ++ accounts_text figures.pools ++ desk_text figures.events ++ table_uses_text tables.now tables.peak ++ account_text Tables tables.pool

@@ -1,5 +1,5 @@
 -- The text of a report.
-use Rattle.std.specs.Prelude.{ℕ, List, ◌++◌, codes, map}
+use Rattle.std.specs.Prelude.{ℕ, List, ◌++◌, codes, decimal, map}
 use Rattle.fsw_base.specs.Limits.{Limits}
 use Rattle.bus_words.specs.declared.history.Entry.{Entry}
 use Rattle.bus_words.specs.declared.receipts.Receipt.{Receipt}
@@ -21,6 +21,7 @@ use Rattle.run_report.specs.TableText.{table_entries_text}
 -- what a report shows of a bus that is so
 abbrev pub figures_shown : Limits → State → BusFigures
 figures_shown limits s = record {
+  version = limits.version;
   events = s.events;
   statistics = s.statistics;
   now = in_use limits s;
@@ -39,6 +40,7 @@ table_figures_shown limits apps history = record {
 -- what a report shows of what was read off a bus
 abbrev pub figures_read : BusReadings → BusFigures
 figures_read readings = record {
+  version = readings.version;
   events = readings.events.now;
   statistics = readings.counters.now;
   now = readings.in_use;
@@ -54,11 +56,11 @@ table_figures_read readings = record { now = readings.in_use; peak = readings.pe
 abbrev pub ending_text : BusFigures → TableFigures → List ℕ
 ending_text figures tables = codes "counters\n" ++ counters_text figures tables ++ codes "end\n"
 
--- the history of the bus and that of the tables, the receipts of the applications 1, 2, 3 and so on, the event log, and the figures
--- of both services
+-- the version of the bus, its history and that of the tables, the receipts of the applications 1, 2, 3 and so on, the event log, and
+-- the figures of both services
 abbrev pub report_text : List Entry → List TableEntry → List (List Receipt) → BusFigures → TableFigures → List ℕ
 report_text entries table_entries receipts figures tables =
-    codes "fsw 1\nbus\n" ++ entries_text entries ++ codes "tables\n" ++ table_entries_text table_entries
+    codes "fsw " ++ decimal figures.version ++ codes "\nbus\n" ++ entries_text entries ++ codes "tables\n" ++ table_entries_text table_entries
     ++ codes "receipts\n" ++ receipts_text receipts ++ codes "events\n" ++ log_text figures.events.log ++ ending_text figures tables
 
 -- the report of what was read off both services, and of the applications' lists of receipts

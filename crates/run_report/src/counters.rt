@@ -1,7 +1,7 @@
 //! The lines on what was counted and is in use: by the bus, at its event desk, and of the tables.
 ghost use Rattle.std.specs.Prelude.{◌≡◌, ◌++◌, ℕ};
 ghost use Rattle.text_page.specs.Pieces.{Puts};
-ghost use Rattle.run_report.specs.CounterText.{field_text, use_text, counts_text, uses_text, desk_text, table_uses_text};
+ghost use Rattle.run_report.specs.CounterText.{field_text, use_text, oldest_text, counts_text, uses_text, desk_text, table_uses_text};
 
 use evs_events::EventDesk;
 use fsw_base::{Sink, SinkGuard};
@@ -24,9 +24,14 @@ pub(crate) fn put_field<K: Sink>(
     put_number(sink, page, number);
 }
 
-/// Puts the line of the ten counters.
-pub fn put_counts<K: Sink>(sink: &mut SinkGuard<'_, K>, page: &mut Page, counters: &Counters)
-    ensures { Puts sink.old sink.new page.old page.new (counts_text counters.now.counts) }
+/// Puts the line of the counters that a bus of this version has, 1 or 2.
+pub fn put_counts<K: Sink>(
+    sink: &mut SinkGuard<'_, K>,
+    page: &mut Page,
+    version: u32,
+    counters: &Counters,
+)
+    ensures { Puts sink.old sink.new page.old page.new (counts_text version counters.now.counts) }
 {
     put(sink, page, b"bus");
     put_field(sink, page, b"nosub", counters.at(CounterName::Nosub));
@@ -39,7 +44,22 @@ pub fn put_counts<K: Sink>(sink: &mut SinkGuard<'_, K>, page: &mut Page, counter
     put_field(sink, page, b"dup", counters.at(CounterName::Dup));
     put_field(sink, page, b"limit", counters.at(CounterName::Limit));
     put_field(sink, page, b"overflow", counters.at(CounterName::Overflow));
+    put_oldest(sink, page, version, counters);
     put(sink, page, b"\n");
+}
+
+// Puts the counter that a bus of version 2 has alone.
+fn put_oldest<K: Sink>(
+    sink: &mut SinkGuard<'_, K>,
+    page: &mut Page,
+    version: u32,
+    counters: &Counters,
+)
+    ensures { Puts sink.old sink.new page.old page.new (oldest_text version counters.now.counts) }
+{
+    if version == 2 {
+        put_field(sink, page, b"oldest", counters.at(CounterName::Oldest));
+    }
 }
 
 /// Puts the line of the numbers in use, each with its peak.

@@ -10,11 +10,13 @@ use tbl_words::{TblJournal, TblUse};
 /// What is read off a bus for a report.
 #[derive(Drop)]
 pub struct BusReadings<'a> {
+    /// The bus's version, 1 or 2.
+    pub version: u32,
     /// Every call with its answer, in order.
     pub journal: &'a BusJournal,
     /// The event desk: the event log, and the counts of events.
     pub events: &'a EventDesk,
-    /// The ten counters, and the peaks of what was in use.
+    /// The counters, and the peaks of what was in use.
     pub counters: &'a Counters,
     /// What is in use now.
     pub in_use: InUse,

@@ -13,7 +13,7 @@ use crate::receipts::put_receipts;
 use crate::table_entries::put_table_entries;
 use bus_words::ReceiptList;
 use fsw_base::{Sink, SinkGuard, WriteFault};
-use text_page::{Page, finish, put};
+use text_page::{Page, finish, put, put_number};
 
 /// Writes the report of what was read off a bus and off its tables, and of the receipts of the
 /// applications 1, 2, 3 and so on.
@@ -43,7 +43,9 @@ pub fn write_report<K: Sink>(
     ensures same_sink { sink.new.sink ≡ sink.old.sink }
 {
     let mut page = Page::new();
-    put(sink, &mut page, b"fsw 1\nbus\n");
+    put(sink, &mut page, b"fsw ");
+    put_number(sink, &mut page, bus.version);
+    put(sink, &mut page, b"\nbus\n");
     put_entries(sink, &mut page, bus.journal);
     put(sink, &mut page, b"tables\n");
     put_table_entries(sink, &mut page, tables.journal);
@@ -91,7 +93,7 @@ fn put_ending<K: Sink>(
         (ending_text (figures_read bus.now) (table_figures_read tables.now)) }
 {
     put(sink, page, b"counters\n");
-    put_counts(sink, page, bus.counters);
+    put_counts(sink, page, bus.version, bus.counters);
     put_uses(sink, page, bus.in_use, bus.counters.peak());
     put_account(sink, page, PoolName::Bus, bus.pool);
     put_app_pools(sink, page, bus.pools);

@@ -88,6 +88,7 @@ generated_in script =
     let third = (application 2 second).1 in
     let fourth = (application 3 third).1 in
     record {
+      version = refl;
       limits = refl;
       sizes = refl;
       starts = refl;

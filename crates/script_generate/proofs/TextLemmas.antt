@@ -10,7 +10,7 @@ use Rattle.script_lines.specs.declared.line.Line.TheVariants.{Create, Subscribe,
 use Rattle.line_spelling.specs.Spelling.{spaced, line_words, line_text, pipe_word, buffer_word}
 use Rattle.app_script.specs.Script.{Application}
 use Rattle.app_script.specs.Grammar.{grammar}
-use Rattle.script_printing.specs.ScriptSpelling.{app_lines, ended, set_lines_of, sizes_lines, spelled_lines, spelled_script}
+use Rattle.script_printing.specs.ScriptSpelling.{app_lines, ended, version_lines, set_lines_of, sizes_lines, spelled_lines, spelled_script}
 use Rattle.script_printing.proofs.PrintLemmas.{ended-append}
 use Rattle.script_printing.proofs.AppsBack.{scripts_back}
 use Rattle.script_generate.specs.declared.draws.Draft.{Draft}
@@ -149,7 +149,7 @@ apps_length app apps =
     omega (arith, ap (λ (l : List ℕ). length l) (ended-append (app_lines app) (flat_map app_lines apps)), length-append (ended (app_lines app)) (ended (flat_map app_lines apps)))
 
 script_short : (script : ℕ) → length (spelled_script (generated script)) ≤ 1048576
-unfolding spelled_script spelled_lines set_lines_of sizes_lines generated applications
+unfolding spelled_script spelled_lines version_lines set_lines_of sizes_lines generated applications
 script_short script =
     let first = first_number script in
     let second = (application 1 first).1 in

@@ -28,7 +28,7 @@ use Rattle.script_settings.specs.Settings.{is_name_byte, is_app_name, app_of}
 use Rattle.script_settings.specs.Accounts.{account_of, charge_of}
 use Rattle.fsw_base.specs.declared.script_faults.FaultKind.TheVariants.{LineTooLong, BadByte}
 use Rattle.app_script.specs.Grammar.{Progress, opening, apps_of, after_app, after_call, after_form, after_words, after_line, after_lines, at_line, grammar, ◌>=>◌}
-use Rattle.script_printing.specs.ScriptSpelling.{app_lines, ended, set_lines, sizes_lines, seq_text, spelled_lines, spelled_script}
+use Rattle.script_printing.specs.ScriptSpelling.{app_lines, ended, version_lines, set_lines, sizes_lines, seq_text, spelled_lines, spelled_script}
 use Rattle.app_script.specs.ScriptRanges.{have_new_names, is_application, all_calls, all_bytes, IsScript}
 use Rattle.app_script.proofs.ScriptLemmas.{account_of_push}
 use Rattle.app_script.proofs.Leading.{Calling, Ready, account_grows, nothing_taken, progress_back, grammar_back}
@@ -265,8 +265,8 @@ ready limits s now = record {
 script_leads : (script : ScriptText) → IsScript script → Leads opening (spelled_lines script) (Ready script.limits script.apps (all_calls script.apps) (all_bytes script.apps))
 unfolding spelled_lines
 script_leads script is =
-    leads_then opening ((set_lines script.limits ++ sizes_lines script.limits.sizes) ++ map seq_text script.limits.starts) (flat_map app_lines script.apps) (Starting script.limits) (Ready script.limits script.apps (all_calls script.apps) (all_bytes script.apps))
-    (settings_lead script.limits is.limits is.sizes is.starts)
+    leads_then opening (((version_lines script.limits.version ++ set_lines script.limits) ++ sizes_lines script.limits.sizes) ++ map seq_text script.limits.starts) (flat_map app_lines script.apps) (Starting script.limits) (Ready script.limits script.apps (all_calls script.apps) (all_bytes script.apps))
+    (settings_lead script.limits is.version is.limits is.sizes is.starts)
     (λ t now n.
     let apps = apps_lead script.apps [] t script.limits 0 0 (ready script.limits t now) is.applications is.names is.few (let c = is.calls in omega arith) (let b = is.bytes in omega arith) n in
     let end = apps.2 in (

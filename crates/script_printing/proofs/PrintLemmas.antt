@@ -8,7 +8,7 @@ use Rattle.fsw_base.specs.Blocks.{usual_sizes}
 use Rattle.script_words.specs.Text.{is_same}
 use Rattle.script_settings.specs.declared.settings.LimitName.{LimitName}
 use Rattle.app_script.specs.ScriptRanges.{limit_of}
-use Rattle.script_printing.specs.ScriptSpelling.{limit_word, set_lines_of, set_lines, sizes_lines, seq_text, app_lines, ended, spelled_lines, spelled_script}
+use Rattle.script_printing.specs.ScriptSpelling.{version_lines, limit_word, set_lines_of, set_lines, sizes_lines, seq_text, app_lines, ended, spelled_lines, spelled_script}
 use Rattle.app_script.specs.Script.{Application}
 use Rattle.line_spelling.specs.Spelling.{spaced, behind}
 use Rattle.line_spelling.proofs.PieceLemmas.{spaced_parts}
@@ -66,7 +66,17 @@ differ_in_length xs ys ne = decide (is_same xs ys) (λ h. ne (ap length (same_nu
 pub differ_at : (xs ys : List ℕ) (k : ℕ) → (get_or xs k 0 ≡ get_or ys k 0 → ⊥) → is_same xs ys ≡ false
 differ_at xs ys k ne = decide (is_same xs ys) (λ h. ne (ap (λ l. get_or l k 0) (same_numbers xs ys h)))
 
--- ---- settings
+-- ---- version and settings
+
+pub version_lines_first : (version : ℕ) → version ≡ 1 → ended (version_lines version) ≡ []
+unfolding version_lines
+version_lines_first version same = ap (λ b. ended (cond b [] (spaced (codes "script" ∷ decimal version ∷ []) ∷ []))) (eq-eqb version 1 same)
+
+pub version_lines_other : (version : ℕ) → (version ≡ 1 → ⊥) → ended (version_lines version) ≡ spaced (codes "script" ∷ decimal version ∷ []) ++ 10 ∷ []
+unfolding version_lines
+version_lines_other version other =
+    ap (λ b. ended (cond b [] (spaced (codes "script" ∷ decimal version ∷ []) ∷ []))) (ne_eqb version 1 other)
+    ∙ append-nil (spaced (codes "script" ∷ decimal version ∷ []) ++ 10 ∷ [])
 
 pub set_lines_usual : (name : LimitName) (value : ℕ) → value ≡ limit_of usual_limits name → ended (set_lines_of name value) ≡ []
 unfolding set_lines_of
@@ -92,10 +102,12 @@ sizes_lines_other sizes other =
 -- ---- the whole
 
 pub spelled : (limits : Limits) (apps : List Application) →
-    (((ended (set_lines limits) ++ ended (sizes_lines limits.sizes)) ++ ended (map seq_text limits.starts)) ++ ended (flat_map app_lines apps)) ++ [] ≡ spelled_script (record { limits = limits; apps = apps })
+    ((((ended (version_lines limits.version) ++ ended (set_lines limits)) ++ ended (sizes_lines limits.sizes)) ++ ended (map seq_text limits.starts)) ++ ended (flat_map app_lines apps)) ++ [] ≡ spelled_script (record { limits = limits; apps = apps })
 unfolding spelled_script spelled_lines
 spelled limits apps =
-    append-nil (((ended (set_lines limits) ++ ended (sizes_lines limits.sizes)) ++ ended (map seq_text limits.starts)) ++ ended (flat_map app_lines apps))
-    ∙ ap (λ l. (l ++ ended (map seq_text limits.starts)) ++ ended (flat_map app_lines apps)) (sym (ended-append (set_lines limits) (sizes_lines limits.sizes)))
-    ∙ ap (λ l. l ++ ended (flat_map app_lines apps)) (sym (ended-append (set_lines limits ++ sizes_lines limits.sizes) (map seq_text limits.starts)))
-    ∙ sym (ended-append ((set_lines limits ++ sizes_lines limits.sizes) ++ map seq_text limits.starts) (flat_map app_lines apps))
+    let front = version_lines limits.version ++ set_lines limits in
+    append-nil ((((ended (version_lines limits.version) ++ ended (set_lines limits)) ++ ended (sizes_lines limits.sizes)) ++ ended (map seq_text limits.starts)) ++ ended (flat_map app_lines apps))
+    ∙ ap (λ l. ((l ++ ended (sizes_lines limits.sizes)) ++ ended (map seq_text limits.starts)) ++ ended (flat_map app_lines apps)) (sym (ended-append (version_lines limits.version) (set_lines limits)))
+    ∙ ap (λ l. (l ++ ended (map seq_text limits.starts)) ++ ended (flat_map app_lines apps)) (sym (ended-append front (sizes_lines limits.sizes)))
+    ∙ ap (λ l. l ++ ended (flat_map app_lines apps)) (sym (ended-append (front ++ sizes_lines limits.sizes) (map seq_text limits.starts)))
+    ∙ sym (ended-append ((front ++ sizes_lines limits.sizes) ++ map seq_text limits.starts) (flat_map app_lines apps))

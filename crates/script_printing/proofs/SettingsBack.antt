@@ -1,4 +1,4 @@
--- The settings of a script are read again from their spelling.
+-- The version and the settings of a script are read again from their spelling.
 use Rattle.std.proofs.Common.{◌≡◌, ℕ, ◌+◌, ◌<◌, Bool, true, false, cond, not, ◌&&◌, ◌||◌, eqb, ltb, nat_le, List, [], ◌∷◌, ◌++◌, length, map, Some, Ok, refl, ap, sym, ◌∙◌, subst, arith, append_assoc, append-nil, codes, decimal}
 use Rattle.std.specs.List.{list_all, list_any, flat_map}
 use Rattle.std.proofs.lemmas.Bool.{eqb-true, ne_eqb, eqb-false, lt-ltb, ltb-true, leb-true, le-leb, lt-leb}
@@ -17,12 +17,12 @@ use Rattle.line_spelling.proofs.SpelledNumbers.{number_reads, number_fits, withi
 use Rattle.line_spelling.proofs.SpelledWords.{each-same, elements_fit, map_length}
 use Rattle.script_settings.specs.declared.settings.LimitName.{LimitName}
 use Rattle.script_settings.specs.declared.settings.LimitName.TheVariants.{MsgIds, Pipes, Dests, Depth, MsgMax, Pool, AppPool, Tables, Handles, TableMax, TablePool}
-use Rattle.app_script.specs.declared.forms.Form.TheVariants.{Set, Sizes, Seq}
+use Rattle.app_script.specs.declared.forms.Form.TheVariants.{Script, Set, Sizes, Seq}
 use Rattle.app_script.specs.Forms.{form_of}
-use Rattle.script_settings.specs.Settings.{limit_name, limit_number, least, greatest, with_limit, is_among, limit_named, set_of, some_words, sizes_within, sizes_of, seq_of}
-use Rattle.app_script.specs.Grammar.{Progress, opening, after_set, after_sizes, after_seq, after_form, after_line}
+use Rattle.script_settings.specs.Settings.{limit_name, limit_number, least, greatest, with_limit, is_among, limit_named, set_of, some_words, sizes_within, sizes_of, seq_of, is_version, script_of}
+use Rattle.app_script.specs.Grammar.{Progress, opening, after_version, after_set, after_sizes, after_seq, after_form, after_line}
 use Rattle.app_script.specs.ScriptRanges.{limit_of}
-use Rattle.script_printing.specs.ScriptSpelling.{limit_word, set_lines_of, set_lines, sizes_lines, seq_text}
+use Rattle.script_printing.specs.ScriptSpelling.{version_lines, limit_word, set_lines_of, set_lines, sizes_lines, seq_text}
 use Rattle.app_script.specs.ScriptRanges.{are_limits}
 use Rattle.script_printing.proofs.PrintLemmas.{same_numbers}
 use Rattle.script_printing.proofs.LinesAgain.{Leads, leads_none, leads_one, leads_then, known_line, spaced_line}
@@ -175,7 +175,7 @@ ranges_behind limits names name h = and_second (in_range limits name) (list_all 
 
 -- the limits with those before a place set
 abbrev set_0 : Limits → Limits
-set_0 limits = usual_limits
+set_0 limits = record usual_limits { version = limits.version }
 
 abbrev set_1 : Limits → Limits
 set_1 limits = with_limit (set_0 limits) MsgIds (limit_of limits MsgIds)
@@ -271,8 +271,44 @@ leads_0 limits s h now =
     leads_then s (set_lines_of MsgIds (limit_of limits MsgIds)) (lines_from limits (Pipes ∷ Dests ∷ Depth ∷ MsgMax ∷ Pool ∷ AppPool ∷ Tables ∷ Handles ∷ TableMax ∷ TablePool ∷ [])) (Configuring (set_1 limits) 1) (Configuring (record limits { sizes = usual_sizes; starts = [] }) 11)
     (set_leads s (set_0 limits) MsgIds (limit_of limits MsgIds) now refl (range_of limits (Pipes ∷ Dests ∷ Depth ∷ MsgMax ∷ Pool ∷ AppPool ∷ Tables ∷ Handles ∷ TableMax ∷ TablePool ∷ []) MsgIds h)) (λ t now. leads_1 limits t (ranges_behind limits (Pipes ∷ Dests ∷ Depth ∷ MsgMax ∷ Pool ∷ AppPool ∷ Tables ∷ Handles ∷ TableMax ∷ TablePool ∷ []) MsgIds h) now)
 
-configured : Configuring usual_limits 0 opening
-configured = record { has = refl; named = refl; sized = refl; started = refl; done = refl; calls = refl; charged = refl }
+-- ---- the version
+
+version_reads : (version : ℕ) → is_version version ≡ true → script_of (decimal version ∷ []) ≡ Ok version
+unfolding script_of one next none
+version_reads version h =
+    let from = and_first (nat_le 1 version) (nat_le version 2) h in
+    let to = and_second (nat_le 1 version) (nat_le version 2) h in
+    let a = number_reads 2 version to refl in
+    rw a (within_reads 1 2 version from to)
+
+script_known : form_of (codes "script") ≡ Some Script
+unfolding form_of
+script_known = refl
+
+version_line : (limits : Limits) → is_version limits.version ≡ true → (t : Progress) × (after_line opening (spaced (codes "script" ∷ decimal limits.version ∷ [])) ≡ Ok t) × Configuring (set_0 limits) 0 t
+unfolding after_form after_version
+version_line limits h =
+    let word = decimal limits.version in
+    let are : AreWords 20 (codes "script" ∷ word ∷ []) = keyword (codes "script") refl refl ◃ number_fits 2 limits.version (and_second (nat_le 1 limits.version) (nat_le limits.version 2) h) refl ◃ no_words in
+    let spelled = spaced_line (codes "script") (word ∷ []) are (omega arith) in
+    let line = known_line opening (spaced (codes "script" ∷ word ∷ [])) (codes "script") (word ∷ []) Script spelled.short spelled.printed spelled.words refl script_known refl in
+    let reads = version_reads limits.version h in
+    let after : after_version (record opening { begun = true }) (word ∷ []) ≡ Ok (record opening { begun = true; limits = set_0 limits }) = rw reads refl in (
+      (record opening { begun = true; limits = set_0 limits }),
+      line ∙ ap (after_version (record opening { begun = true })) spelled.back ∙ after,
+      record { has = refl; named = refl; sized = refl; started = refl; done = refl; calls = refl; charged = refl },
+    )
+
+-- the line of version 2, or none
+version_leads : (limits : Limits) → is_version limits.version ≡ true → Leads opening (version_lines limits.version) (Configuring (set_0 limits) 0)
+unfolding version_lines
+version_leads limits h =
+    elim (eqb limits.version 1) as (λ b. eqb limits.version 1 ≡ b → Leads opening (cond b [] (spaced (codes "script" ∷ decimal limits.version ∷ []) ∷ [])) (Configuring (set_0 limits) 0)) [
+      | true ↦ λ e.
+          leads_none opening (Configuring (set_0 limits) 0)
+          (record { has = ap (λ v. record usual_limits { version = v }) (sym (eqb-true limits.version 1 e)); named = refl; sized = refl; started = refl; done = refl; calls = refl; charged = refl })
+      | false ↦ λ e. leads_one opening (spaced (codes "script" ∷ decimal limits.version ∷ [])) (Configuring (set_0 limits) 0) (version_line limits h)
+    ] refl
 
 -- ---- block sizes and starts
 
@@ -459,9 +495,12 @@ starts_lead (start ∷ rest) front s limits now h =
 
 -- ---- all settings
 
-pub settings_lead : (limits : Limits) → are_limits limits ≡ true → are_block_sizes limits.sizes ≡ true → are_count_starts limits.starts ≡ true → Leads opening ((set_lines limits ++ sizes_lines limits.sizes) ++ map seq_text limits.starts) (Starting limits)
-settings_lead limits one two three =
-    leads_then opening (set_lines limits ++ sizes_lines limits.sizes) (map seq_text limits.starts) (Starting (record limits { starts = [] })) (Starting limits)
-    (leads_then opening (set_lines limits) (sizes_lines limits.sizes) (Configuring (record limits { sizes = usual_sizes; starts = [] }) 11) (Starting (record limits { starts = [] }))
-    (leads_0 limits opening one configured) (λ t now. sizes_lead t (record limits { starts = [] }) limits.sizes now two))
+pub settings_lead : (limits : Limits) → is_version limits.version ≡ true → are_limits limits ≡ true → are_block_sizes limits.sizes ≡ true → are_count_starts limits.starts ≡ true
+    → Leads opening (((version_lines limits.version ++ set_lines limits) ++ sizes_lines limits.sizes) ++ map seq_text limits.starts) (Starting limits)
+settings_lead limits version one two three =
+    leads_then opening ((version_lines limits.version ++ set_lines limits) ++ sizes_lines limits.sizes) (map seq_text limits.starts) (Starting (record limits { starts = [] })) (Starting limits)
+    (leads_then opening (version_lines limits.version ++ set_lines limits) (sizes_lines limits.sizes) (Configuring (record limits { sizes = usual_sizes; starts = [] }) 11) (Starting (record limits { starts = [] }))
+    (leads_then opening (version_lines limits.version) (set_lines limits) (Configuring (set_0 limits) 0) (Configuring (record limits { sizes = usual_sizes; starts = [] }) 11)
+    (version_leads limits version) (λ t now. leads_0 limits t one now))
+    (λ t now. sizes_lead t (record limits { starts = [] }) limits.sizes now two))
     (λ t now. starts_lead limits.starts [] t limits now three)

@@ -1,4 +1,4 @@
--- The one spelling of a script that is printed: its settings, then its applications.
+-- The one spelling of a script that is printed: its version, its settings, then its applications.
 use Rattle.std.specs.Prelude.{ℕ, ◌==◌, List, [], ◌∷◌, ◌++◌, map, codes, decimal, if◌then◌else◌}
 use Rattle.std.specs.List.{flat_map}
 use Rattle.fsw_base.specs.Limits.{Limits, usual_limits}
@@ -26,6 +26,10 @@ limit_word Handles = codes "handles"
 limit_word TableMax = codes "tablemax"
 limit_word TablePool = codes "tablepool"
 
+-- the line of the version, where it isn't 1
+unfoldable pub version_lines : ℕ → List (List ℕ)
+version_lines version = if version == 1 then [] else (spaced (codes "script" ∷ decimal version ∷ []) ∷ [])
+
 -- the line that sets a limit, where it isn't the usual one
 unfoldable pub set_lines_of : LimitName → ℕ → List (List ℕ)
 set_lines_of name value = if value == limit_of usual_limits name then [] else (spaced (codes "set" ∷ limit_word name ∷ decimal value ∷ []) ∷ [])
@@ -47,7 +51,7 @@ app_lines app = spaced (codes "app" ∷ app.name ∷ []) ∷ map line_text app.l
 
 -- the lines of a script
 unfoldable pub spelled_lines : ScriptText → List (List ℕ)
-spelled_lines script = set_lines script.limits ++ sizes_lines script.limits.sizes ++ map seq_text script.limits.starts ++ flat_map app_lines script.apps
+spelled_lines script = version_lines script.limits.version ++ set_lines script.limits ++ sizes_lines script.limits.sizes ++ map seq_text script.limits.starts ++ flat_map app_lines script.apps
 
 -- lines, each with a line feed at its end
 abbrev pub ended : List (List ℕ) → List ℕ

@@ -9,7 +9,7 @@ ghost use Rattle.text_page.specs.Pieces.{Grew, CutShort, Puts};
 ghost use Rattle.line_spelling.specs.Spelling.{behind, line_text};
 ghost use Rattle.app_script.specs.Grammar.{grammar};
 ghost use Rattle.app_script.specs.ScriptRanges.{limit_of};
-ghost use Rattle.script_printing.specs.ScriptSpelling.{limit_word, set_lines_of, set_lines, sizes_lines, seq_text, app_lines, ended, spelled_script};
+ghost use Rattle.script_printing.specs.ScriptSpelling.{version_lines, limit_word, set_lines_of, set_lines, sizes_lines, seq_text, app_lines, ended, spelled_script};
 
 use app_script::{App, Script};
 use fsw_base::{BlockSizes, Config, CountStarts, Sink, SinkGuard, WriteFault};
@@ -17,10 +17,10 @@ use line_spelling::print_line;
 use script_settings::LimitName;
 use text_page::{Page, finish, put, put_hex_id, put_number};
 
-/// Writes the one spelling of a script: each setting that isn't the usual one, then the
-/// applications with their call lines, words with a space between each two and a line feed at each
-/// line's end. Where it has at most 1,048,576 bytes, as a text may, it is read as this script
-/// again.
+/// Writes the one spelling of a script: the line `script 2` where it has version 2, each setting
+/// that isn't the usual one, then the applications with their call lines, words with a space
+/// between each two and a line feed at each line's end. Where it has at most 1,048,576 bytes, as a
+/// text may, it is read as this script again.
 ///
 /// The sink is given the text in pages of 4096 bytes, of which it may take less at a time. No
 /// memory is taken. No write through this guard may have failed before.
@@ -46,11 +46,23 @@ pub fn print_script<K: Sink>(script: &Script, sink: &mut SinkGuard<'_, K>) -> Re
     script.recall_ranges();
     let config = script.config();
     let mut page = Page::new();
+    put_version(sink, &mut page, config.version);
     put_limits(sink, &mut page, config);
     put_sizes(sink, &mut page, &config.sizes);
     put_starts(sink, &mut page, &config.starts);
     put_applications(sink, &mut page, script.applications());
     finish(sink, &mut page)
+}
+
+// Puts the line of the version, where it isn't 1.
+fn put_version<K: Sink>(sink: &mut SinkGuard<'_, K>, page: &mut Page, version: u32)
+    ensures { Puts sink.old sink.new page.old page.new (ended (version_lines version)) }
+{
+    if version != 1 {
+        put(sink, page, b"script ");
+        put_number(sink, page, version);
+        put(sink, page, b"\n");
+    }
 }
 
 // Puts the lines of the limits that aren't the usual ones.

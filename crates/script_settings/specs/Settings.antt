@@ -140,9 +140,13 @@ app_of words = do
   word ← one words
   if is_app_name word then Ok word else Err BadWord
 
--- script 1
+-- the versions of the language are 1 and 2
+abbrev pub is_version : ℕ → Bool
+is_version version = nat_le 1 version && nat_le version 2
+
+-- script VERSION
 unfoldable pub script_of : List Word → Result ℕ FaultKind
 script_of words = do
   word ← one words
   version ← number_of word
-  within 1 1 version
+  within 1 2 version

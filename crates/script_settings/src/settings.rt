@@ -300,16 +300,17 @@ pub fn app(rest: &[u8]) -> Result<&[u8], FaultKind>
     }
 }
 
-/// The version of a `script` line, of which there is one today, 1.
+/// The version of the language that a `script` line names, 1 or 2.
 ///
 /// # Errors
 /// `WrongCount` unless there is one word; else `BadWord` where it is no number; else `OutOfRange`
 /// where it is another version.
 #[tactic(auto, unfolding(crate::specs::Settings::script_of))]
 pub fn version(rest: &[u8]) -> Result<u32, FaultKind>
-    ensures { Reads (λ version. version) result (script_of (words_of rest.now)) }
+    ensures line { Reads (λ version. version) result (script_of (words_of rest.now)) }
+    ensures range { IfOk result (λ version. (1 ≤ version) × (version ≤ 2)) }
 {
     let word = one(rest)?;
     let version = number(word)?;
-    within(1, 1, version)
+    within(1, 2, version)
 }

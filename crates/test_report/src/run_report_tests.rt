@@ -178,6 +178,22 @@ end
 ";
 
 // Calls on events and figures, an event that a filter held back and one without a text.
+const DROPPED_REPORT: &[u8] = b"fsw 2
+bus
+tables
+receipts
+events
+a0 6 2 oldest id 0x0801 pipe 1 sender 1
+counters
+bus nosub=0 send=0 recv=0 create=0 sub=0 opts=0 find=0 dup=0 limit=0 overflow=0 oldest=2
+use msgids=0/0 pipes=0/0 subs=0/0 buffers=0/0 bytes=0/0
+pool size=512 free=512 requests=0 errors=0
+evs sent=1 filtered=0 cut=0 refused=0 logged=1 lost=0 mode=1
+tbl count=0/0 handles=0/0 bytes=0/0
+tpool size=96 free=96 requests=0 errors=0
+end
+";
+
 const EVENTS_REPORT: &[u8] = b"fsw 1
 bus
 1 a1 logclear -> CFE_SUCCESS
@@ -402,6 +418,7 @@ fn write_figures(
     let mut pools = AppPools::new(alloc, &Config::usual())?;
     assert_eq!(rt; pools.create(512), Ok(1));
     let bus = BusReadings {
+        version: 1,
         journal,
         events,
         counters: &counters,
@@ -489,6 +506,40 @@ fn error(text: &'static [u8]) -> BusCall<'static> {
     }
 }
 
+// Writes the report of a bus of version 2 that dropped two oldest messages of full pipes, and told
+// of one.
+fn write_dropped(alloc: Global, sink: &mut MemSink) -> Result<Result<(), WriteFault>, AllocError> {
+    let mut events = EventDesk::new(alloc)?;
+    events.service(
+        6,
+        EventKind::Information,
+        b"oldest id 0x0801 pipe 1 sender 1",
+    );
+    let mut counters = Counters::new();
+    counters.tick(CounterName::Oldest);
+    counters.tick(CounterName::Oldest);
+    let pool = Pool::new(alloc, 512, BlockSizes::usual())?;
+    let pools = AppPools::new(alloc, &Config::usual())?;
+    let bus = BusReadings {
+        version: 2,
+        journal: &empty_journal(alloc)?,
+        events: &events,
+        counters: &counters,
+        in_use: InUse::default(),
+        pool: &pool,
+        pools: &pools,
+    };
+    write_beside_idle_tables(alloc, &bus, &[], sink)
+}
+
+#[test]
+fn a_bus_of_version_2_shows_its_dropped_messages(rt: HostRuntime) -> Result<(), Fail> {
+    let mut sink = MemSink::new(rt.alloc(), 1000, 1000, &[])?;
+    assert_eq!(rt; write_dropped(rt.alloc(), &mut sink)?, Ok(()));
+    assert_eq!(rt; sink.written(), DROPPED_REPORT);
+    Ok(())
+}
+
 // Writes the report of a bus on which nothing was told, counted or drawn.
 fn write_idle(
     alloc: Global,
@@ -500,6 +551,7 @@ fn write_idle(
     let pool = Pool::new(alloc, 512, BlockSizes::usual())?;
     let pools = AppPools::new(alloc, &Config::usual())?;
     let bus = BusReadings {
+        version: 1,
         journal,
         events: &events,
         counters: &Counters::new(),

@@ -214,6 +214,7 @@ fn write_beside_idle_bus(
     let pool = Pool::new(alloc, 512, BlockSizes::usual())?;
     let pools = AppPools::new(alloc, &Config::usual())?;
     let bus = BusReadings {
+        version: 1,
         journal: &bus_journal,
         events: &events,
         counters: &Counters::new(),

@@ -35,6 +35,30 @@ fn first_fault_is_told(rt: HostRuntime) -> Result<(), Fail> {
     Ok(())
 }
 
+// The version of the script that the input is, where it is one.
+fn version_of(alloc: Global, input: &[u8]) -> Option<u32> {
+    match read_script(alloc, input) {
+        Ok(script) => Some(script.config().version),
+        Err(_) => None,
+    }
+}
+
+#[test]
+fn the_first_line_may_name_the_version(rt: HostRuntime) -> Result<(), Fail> {
+    let cases: [(&[u8], Option<u32>); 6] = [
+        (b"app A\n", Some(1)),
+        (b"script 1\napp A\n", Some(1)),
+        (b"\n# of today\nscript 2\nset pipes 4\napp A\n", Some(2)),
+        (b"script 3\napp A\n", None),
+        (b"script 0\napp A\n", None),
+        (b"set pipes 4\nscript 2\napp A\n", None),
+    ];
+    for (input, version) in cases {
+        assert_eq!(rt; version_of(rt.alloc(), input), version);
+    }
+    Ok(())
+}
+
 #[test]
 fn lines_of_events_figures_and_tables_are_read(rt: HostRuntime) -> Result<(), Fail> {
     let events =

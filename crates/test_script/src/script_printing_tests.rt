@@ -21,3 +21,26 @@ fn printed_script_is_read_again(rt: HostRuntime) -> Result<(), Fail> {
     }
     Ok(())
 }
+
+#[test]
+fn a_script_of_version_2_begins_with_its_version(rt: HostRuntime) -> Result<(), Fail> {
+    let cases: [(&[u8], &[u8]); 3] = [
+        (b"app A\n", b"app A\n"),
+        (b"script 1\nset pipes 4\napp A\n", b"set pipes 4\napp A\n"),
+        (
+            b"# new\n script 0x2\nset pipes 4\napp A\n",
+            b"script 2\nset pipes 4\napp A\n",
+        ),
+    ];
+    for (text, printed) in cases {
+        let mut sink = MemSink::new(rt.alloc(), 200, 200, &[])?;
+        if let Ok(script) = read_script(rt.alloc(), text) {
+            assert_eq!(rt;
+                print_script(&script, &mut SinkGuard::new(&mut sink)),
+                Ok(())
+            );
+        }
+        assert_eq!(rt; sink.written(), printed);
+    }
+    Ok(())
+}

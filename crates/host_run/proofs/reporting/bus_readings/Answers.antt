@@ -8,6 +8,6 @@ use Rattle.host_run.proofs.reporting.bus_readings.Goals as goal
 pub returns-clause-figures : goal.returns-clause-figures
 returns-clause-figures c =
     let bus = c.args.bus.now in
-    figures-as c.events.ensures.desk c.counters.ensures.statistics c.in_use.ensures.now
+    figures-as c.version.ensures c.events.ensures.desk c.counters.ensures.statistics c.in_use.ensures.now
     (sym (one_account c.pool.result.now (account_of bus.limits (state_of bus)) c.pool.ensures.account))
     (ap (λ pools. map (λ pool. pool.account) pools.pools) c.pools.ensures)

@@ -14,4 +14,4 @@ returns g c =
     ▸ puts_as _ (ap (field_text (codes "find")) c.at-7.ensures) c.put_field-7.ensures
     ▸ puts_as _ (ap (field_text (codes "dup")) c.at-8.ensures) c.put_field-8.ensures
     ▸ puts_as _ (ap (field_text (codes "limit")) c.at-9.ensures) c.put_field-9.ensures
-    ▸ puts_as _ (ap (field_text (codes "overflow")) c.at-10.ensures) c.put_field-10.ensures ▸ c.put-2.ensures
+    ▸ puts_as _ (ap (field_text (codes "overflow")) c.at-10.ensures) c.put_field-10.ensures ▸ c.put_oldest.ensures ▸ c.put-2.ensures

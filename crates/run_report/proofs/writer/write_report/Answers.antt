@@ -8,8 +8,8 @@ pub returns : goal.returns
 returns g c =
     let text = report_of c.args.bus.now c.args.tables.now c.args.receipts.now in
     let all = puts_as text (append-nil text)
-    (c.put.ensures ▸ c.put_entries.ensures ▸ c.put-2.ensures ▸ c.put_table_entries.ensures ▸ c.put-3.ensures ▸ c.put_receipts.ensures
-    ▸ c.put-4.ensures ▸ c.put_log.ensures ▸ c.put_ending.ensures ▸ c.finish.ensures.puts) in
+    (c.put.ensures ▸ c.put_number.ensures ▸ c.put-2.ensures ▸ c.put_entries.ensures ▸ c.put-3.ensures ▸ c.put_table_entries.ensures
+    ▸ c.put-4.ensures ▸ c.put_receipts.ensures ▸ c.put-5.ensures ▸ c.put_log.ensures ▸ c.put_ending.ensures ▸ c.finish.ensures.puts) in
     let blank = c.new-page.ensures in
     record {
       ok = on_ok_both c.finish.result (puts_whole c.requires blank all) c.finish.ensures.none_failed c.finish.ensures.ok;

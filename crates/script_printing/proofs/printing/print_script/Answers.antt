@@ -12,7 +12,7 @@ returns g c =
     let text = spelled_script c.args.script.now in
     let limits = limits_of c.config-config.result.now in
     let all = puts_as text (spelled limits c.applications.result.now ∙ (λ i. spelled_script (record { limits = c.config-config.ensures i; apps = c.applications.ensures i })))
-    (c.put_limits.ensures ▸ c.put_sizes.ensures ▸ c.put_starts.ensures ▸ c.put_applications.ensures ▸ c.finish.ensures.puts) in
+    (c.put_version.ensures ▸ c.put_limits.ensures ▸ c.put_sizes.ensures ▸ c.put_starts.ensures ▸ c.put_applications.ensures ▸ c.finish.ensures.puts) in
     let blank = c.new-page.ensures in
     record {
       ok = on_ok_both c.finish.result (puts_whole c.requires blank all) c.finish.ensures.none_failed c.finish.ensures.ok;
