@@ -46,6 +46,49 @@ EXAMPLES = [
         a1 recv 1
         a1 end
     """),
+    ("a full pipe that drops its oldest message", {"version": 2}, {}, 1, """
+        a1 create 2 A
+        a1 opts 1 2
+        a1 sub 0x0801 1 4
+        a1 send 0x0801 8 0
+        a1 send 0x0801 8 0
+        a1 send 0x0801 8 0
+        a1 recv 1
+        a1 recv 1
+        a1 recv 1
+        a1 end
+    """),
+    ("a message limit, asked before the oldest message is dropped", {"version": 2}, {}, 1, """
+        a1 create 2 A
+        a1 opts 1 2
+        a1 sub 0x0801 1 2
+        a1 send 0x0801 8 0
+        a1 send 0x0801 8 0
+        a1 send 0x0801 8 0
+        a1 recv 1
+        a1 recv 1
+        a1 recv 1
+        a1 end
+    """),
+    ("an option bit that version 1 doesn't have", {}, {}, 1, """
+        a1 create 2 A
+        a1 opts 1 2
+        a1 sub 0x0801 1 4
+        a1 send 0x0801 8 0
+        a1 send 0x0801 8 0
+        a1 send 0x0801 8 0
+        a1 recv 1
+        a1 recv 1
+        a1 recv 1
+        a1 end
+    """),
+    ("an option bit that no version has", {"version": 2}, {}, 1, """
+        a1 create 2 A
+        a1 opts 1 4
+        a1 opts 1 3
+        a1 getopts 1
+        a1 end
+    """),
     ("a message limit that is the pipe's depth", {}, {}, 1, """
         a1 create 2 A
         a1 sub 0x0801 1 2
@@ -473,7 +516,7 @@ def report(model, example):
     apps = [SimpleNamespace(receipt_lines=lambda lines=lines: lines) for lines in receipts.values()]
     world = SimpleNamespace(bus=bus, tables=tables, stage=bus.stage, script=script, apps=apps)
     world.counter_lines = lambda: model.World.counter_lines(world)
-    return ["fsw 1", "bus", *bus.lines, "tables", *tables.lines, *model.World.tail(world)]
+    return [f"fsw {bus.cfg.version}", "bus", *bus.lines, "tables", *tables.lines, *model.World.tail(world)]
 
 
 def largest(model):

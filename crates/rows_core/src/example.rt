@@ -32,6 +32,8 @@ pub enum Limit {
     Pool(u32),
     /// The block sizes of every memory pool.
     Sizes(&'static [u32]),
+    /// The version of the bus, 1 or 2.
+    Version(u32),
 }
 
 /// An application's number, and what it does.

@@ -5,7 +5,7 @@ use crate::example::Act::{
     TransmitBuffer, Unsubscribe,
 };
 use crate::example::Example;
-use crate::example::Limit::{Dests, MsgIds, Pipes, Sizes, Start};
+use crate::example::Limit::{Dests, MsgIds, Pipes, Sizes, Start, Version};
 
 /// The examples of pipes, messages, memory pools and buffers, in the order in which they are
 /// printed.
@@ -13,7 +13,7 @@ pub fn bus_examples() -> &'static [Example] {
     &BUS_EXAMPLES
 }
 
-static BUS_EXAMPLES: [Example; 17] = [
+static BUS_EXAMPLES: [Example; 21] = [
     Example {
         title: "a message limit",
         limits: &[],
@@ -48,6 +48,69 @@ static BUS_EXAMPLES: [Example; 17] = [
             (1, Receive(1)),
             (1, Receive(1)),
             (1, Receive(1)),
+            (1, End),
+        ],
+    },
+    Example {
+        title: "a full pipe that drops its oldest message",
+        limits: &[Version(2)],
+        apps: 1,
+        steps: &[
+            (1, Create(2, b"A")),
+            (1, SetOpts(1, 2)),
+            (1, Subscribe(0x0801, 1, 4)),
+            (1, Send(0x0801, 8, 0)),
+            (1, Send(0x0801, 8, 0)),
+            (1, Send(0x0801, 8, 0)),
+            (1, Receive(1)),
+            (1, Receive(1)),
+            (1, Receive(1)),
+            (1, End),
+        ],
+    },
+    Example {
+        title: "a message limit, asked before the oldest message is dropped",
+        limits: &[Version(2)],
+        apps: 1,
+        steps: &[
+            (1, Create(2, b"A")),
+            (1, SetOpts(1, 2)),
+            (1, Subscribe(0x0801, 1, 2)),
+            (1, Send(0x0801, 8, 0)),
+            (1, Send(0x0801, 8, 0)),
+            (1, Send(0x0801, 8, 0)),
+            (1, Receive(1)),
+            (1, Receive(1)),
+            (1, Receive(1)),
+            (1, End),
+        ],
+    },
+    Example {
+        title: "an option bit that version 1 doesn't have",
+        limits: &[],
+        apps: 1,
+        steps: &[
+            (1, Create(2, b"A")),
+            (1, SetOpts(1, 2)),
+            (1, Subscribe(0x0801, 1, 4)),
+            (1, Send(0x0801, 8, 0)),
+            (1, Send(0x0801, 8, 0)),
+            (1, Send(0x0801, 8, 0)),
+            (1, Receive(1)),
+            (1, Receive(1)),
+            (1, Receive(1)),
+            (1, End),
+        ],
+    },
+    Example {
+        title: "an option bit that no version has",
+        limits: &[Version(2)],
+        apps: 1,
+        steps: &[
+            (1, Create(2, b"A")),
+            (1, SetOpts(1, 4)),
+            (1, SetOpts(1, 3)),
+            (1, GetOpts(1)),
             (1, End),
         ],
     },

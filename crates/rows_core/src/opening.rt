@@ -46,6 +46,7 @@ fn set_limit(config: &mut Config, limit: &Limit) {
             }
         }
         Limit::MsgMax(bytes) => config.msgmax = (*bytes).clamp(7, 65542),
+        Limit::Version(version) => config.version = (*version).clamp(1, 2),
         Limit::Pool(bytes) => config.pool = (*bytes).clamp(24, 16_777_216),
         Limit::Sizes(sizes) => {
             if let Some(sizes) = BlockSizes::try_new(sizes) {

@@ -3,7 +3,7 @@ ghost use Rattle.std.specs.Prelude.{◌≡◌, ℕ, ◌+◌, ◌*◌, ◌≤◌,
 ghost use Rattle.ccsds_msg.specs.Message.{message_id};
 ghost use Rattle.bus_words.specs.Bus.{route};
 ghost use Rattle.bus_words.specs.Entries.{call_of};
-ghost use Rattle.sb_calls.specs.Core.{MayCall, state_of};
+ghost use Rattle.sb_calls.specs.Core.{MayCall, drops_for, state_of};
 ghost use Rattle.buf_desc.specs.Held.{bytes_at};
 ghost use Rattle.rows_core.specs.Bags.{IsWrittenOver, empty_bag};
 
@@ -108,11 +108,13 @@ impl<'r> PlayedBus<'r> {
     }
 
     /// Has the application send a message, which it may do now; how many pipes it reached. At most
-    /// 4 steps for each subscription of its id, and 32 more.
+    /// 4 steps for each subscription of its id, 8 more for each whose pipe drops a message, and 32
+    /// more.
     pub fn send<L: Ledger>(&mut self, app: AppNo, message: &[u8], steps: &mut Steps<L>) -> u32
         requires { MayCall self.old.core app (Call.Transmit message.now true) }
         ensures cost { steps.new ≤ steps.old + 32 + 4 * length
-            (route (state_of self.old.core).subscriptions (message_id message.now)) }
+            (route (state_of self.old.core).subscriptions (message_id message.now)) +
+            8 * drops_for (state_of self.old.core) app (message_id message.now) }
     {
         self.core
             .transmit(app, message, true, steps)
