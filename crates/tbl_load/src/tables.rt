@@ -135,7 +135,8 @@ impl<'r> TblCore<'r> {
         ensures account { IsAccountOf result.now.pool
             (account_of self.now.limits (state_of self.now)) }
     {
-        self.core.blocks()
+        let tables = self.core.blocks();
+        tables
     }
 
     /// The pool that the blocks of the tables are drawn from. Those of the tables that have a
