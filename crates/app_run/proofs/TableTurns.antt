@@ -202,8 +202,8 @@ load-within offset content near some few =
 
 pub allowed-table_line : (handles : List ℕ) (line : Line) → IsLineInRange line → AllowedTableLine line (table_call_of handles line)
 unfolding table_call_of table_line_bytes IsLineInRange
-allowed-table_line handles (TableRegister handle name size option rules) range = record { bytes = omega arith; within = le-leb (length name) 64 range; goes_on = refl }
-allowed-table_line handles (TableShare handle name) range = record { bytes = omega arith; within = le-leb (length name) 64 range; goes_on = refl }
+allowed-table_line handles (TableRegister handle name size option rules) range = record { bytes = omega arith; within = refl; goes_on = refl }
+allowed-table_line handles (TableShare handle name) range = record { bytes = omega arith; within = refl; goes_on = refl }
 allowed-table_line handles (TableUnregister handle) range = record { bytes = omega arith; within = refl; goes_on = refl }
 allowed-table_line handles (Stage handle offset content) range =
     record { bytes = omega (arith, length-content content); within = load-within offset content range.0 range.1 range.2; goes_on = refl }

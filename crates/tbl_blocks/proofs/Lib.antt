@@ -1,4 +1,5 @@
 mod Keeps
 mod Opening
+mod Places
 mod Sets
 mod Store

@@ -1,10 +1,10 @@
 -- What all tables contain, as their user sees it: the pool with its account, each table by its key, and the working buffers.
-use Rattle.std.specs.Prelude.{◌≡◌, ◌≢◌, ℕ, ◌+◌, ◌-◌, ◌≤◌, ◌&&◌, not, Bool, true, false, List, length, count_by, replicate, slice_set, if◌then◌else◌, Option, Some, None}
+use Rattle.std.specs.Prelude.{◌≡◌, ◌≢◌, ℕ, ◌+◌, ◌-◌, ◌≤◌, ◌==◌, ◌&&◌, ◌||◌, not, Bool, true, false, List, length, count_by, replicate, slice_set, if◌then◌else◌, Option, Some, None}
 use Rattle.std.specs.Option.{option_map_or}
 use Rattle.fsw_base.specs.Blocks.{class_of}
 use Rattle.es_pool.specs.Pool.{PoolState, is_out, class_at}
 use Rattle.tbl_blocks.specs.Memory.{DrawsEach, all_given_back}
-use Rattle.tbl_blocks.specs.Contents.{Content, is_double, is_staged, is_inactive, staged_in, older_in, blocks_of, content_at, staged_by, without_staged, with_value}
+use Rattle.tbl_blocks.specs.Contents.{Content, is_double, is_staged, is_inactive, staged_in, older_in, blocks_of, is_open, content_at, staged_by, without_staged, with_value}
 
 -- the pool of the tables, the bytes of the largest table, what is kept for each table by its key, and how many working buffers are free
 pub record Stored : Type 0 where
@@ -60,6 +60,19 @@ after_abort s key loan = record (with_content s key (without_staged (content_at 
 abbrev pub after_update : Stored → ℕ → ℕ → Stored
 after_update s key loan =
     record (with_content s key (with_value (content_at s.tables key) loan (staged_in (content_at s.tables key).next).bytes)) { free = free_after s key }
+
+-- Where a table lies: its blocks are out of the pool and of the smallest size that is large enough, and a double-buffered table has
+-- two.
+pub record IsPlaced (pool : PoolState) (c : Content) : Type 0 where
+  pub first_out : is_out pool c.first ≡ true
+  pub second_out : is_out pool c.second ≡ true
+  pub first_class : class_of c.size pool.sizes ≡ Some (class_at pool c.first)
+  pub second_class : class_of c.size pool.sizes ≡ Some (class_at pool c.second)
+  pub apart : is_double c ≡ true → c.first ≢ c.second
+
+-- whether a block of the pool is that of the table of a key
+abbrev pub has_block : List (Option Content) → ℕ → ℕ → Bool
+has_block tables key block = is_open tables key && ((content_at tables key).first == block || (content_at tables key).second == block)
 
 -- What is always true of what is kept for a table: it is no larger than a working buffer, its values have its size, nothing lies beside
 -- the present version of a single-buffered table but a staged value, its blocks are out of the pool and of the smallest size that is

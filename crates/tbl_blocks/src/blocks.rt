@@ -1,10 +1,10 @@
 //! What all tables contain.
-ghost use Rattle.std.specs.Prelude.{◌≡◌, ◌==◌, ◌+◌, ◌*◌, ◌<◌, ◌≤◌, ◌↔◌, [], None, true, false, length, replicate, IsTrue, IsOk, IfOk, IfErr, OnOk, OnErr, All, vec_capacity};
+ghost use Rattle.std.specs.Prelude.{◌≡◌, ℕ, ◌==◌, ◌+◌, ◌*◌, ◌<◌, ◌≤◌, ◌↔◌, nat_lt, [], None, true, false, length, replicate, IsTrue, IsOk, IfOk, IfErr, OnOk, OnErr, All, vec_capacity};
 ghost use Rattle.es_pool.specs.Pool.{fits};
 ghost use Rattle.tbl_words.specs.Tables.{blocks_for};
 ghost use Rattle.tbl_words.specs.Machine.{with_range};
 ghost use Rattle.tbl_blocks.specs.Contents.{is_open, content_at, is_double, is_staged, older_in, staged_in, version_at, view_given, view_back, validated, with_value};
-ghost use Rattle.tbl_blocks.specs.Blocks.{Opens, IsWhole, buffers_taken, with_content, closed, after_stage, after_abort, after_update};
+ghost use Rattle.tbl_blocks.specs.Blocks.{Opens, IsPlaced, IsWhole, has_block, buffers_taken, with_content, closed, after_stage, after_abort, after_update};
 
 use crate::memory::PoolMemory;
 use crate::rows::{
@@ -224,7 +224,7 @@ impl<'r> TableBlocks<'r> {
         requires staged { is_staged (content_at self.old.tables key).next ≡ true }
         requires all_back { is_double (content_at self.old.tables key) ≡ false →
             (content_at self.old.tables key).present.views ≡ 0 }
-        requires room { (content_at self.old.tables key).version < 4294967295 }
+        requires room { (content_at self.old.tables key).version < 18446744073709551615 }
         ensures { self.new ≡
             after_update self.old key (content_at self.new.tables key).present.loan }
     {
@@ -247,7 +247,7 @@ impl<'r> TableBlocks<'r> {
         requires older_back { (older_in (content_at self.old.tables key).next).views ≡ 0 }
         requires all_back { is_double (content_at self.old.tables key) ≡ false →
             (content_at self.old.tables key).present.views ≡ 0 }
-        requires room { (content_at self.old.tables key).version < 4294967295 }
+        requires room { (content_at self.old.tables key).version < 18446744073709551615 }
         ensures { self.new ≡
             with_content self.old key
             (with_value
@@ -279,7 +279,7 @@ impl<'r> TableBlocks<'r> {
 
     /// Takes back a view of a table's version of this number: the present one, or else the one
     /// before.
-    pub fn give_back(&mut self, key: u32, version: u32, view: View<'r>)
+    pub fn give_back(&mut self, key: u32, version: u64, view: View<'r>)
         requires open { is_open self.old.tables key ≡ true }
         requires of_this_loan { view.loan ≡
             (version_at (content_at self.old.tables key) version).loan }
@@ -315,11 +315,20 @@ impl<'r> TableBlocks<'r> {
     }
 
     /// How often a table was updated, which is the number of its present version.
-    pub fn version(&self, key: u32) -> u32
+    pub fn version(&self, key: u32) -> u64
         requires { is_open self.now.tables key ≡ true }
         ensures { result ≡ (content_at self.now.tables key).version }
     {
         table_at(&self.tables, key).version()
+    }
+
+    /// Whether a table's present version has a number behind it, so that it can be updated.
+    pub fn has_next_version(&self, key: u32) -> bool
+        requires { is_open self.now.tables key ≡ true }
+        ensures { result ≡
+            nat_lt (content_at self.now.tables key).version 18446744073709551615 }
+    {
+        table_at(&self.tables, key).version() < u64::MAX
     }
 
     /// How many views of a table's present version are out.
@@ -375,6 +384,17 @@ impl<'r> TableBlocks<'r> {
         ensures { IsWhole self.now.pool self.now.most (content_at self.now.tables key) }
     {
         table_at(&self.tables, key).recall();
+        self.memory.recall_taken();
+    }
+
+    /// Where all tables lie, and that no block is that of two tables. This does nothing, and is
+    /// there for what it ensures.
+    pub fn recall_blocks(&self)
+        ensures placed { (key : ℕ) → is_open self.now.tables key ≡ true →
+            IsPlaced self.now.pool (content_at self.now.tables key) }
+        ensures own { (key other block : ℕ) → has_block self.now.tables key block ≡ true →
+            has_block self.now.tables other block ≡ true → key ≡ other }
+    {
         self.memory.recall_taken();
     }
 

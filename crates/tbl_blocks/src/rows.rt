@@ -78,7 +78,7 @@ pub fn lend_view<'r>(tables: &mut Vec<Option<Table<'r>>>, key: u32) -> View<'r>
 
 /// Takes back a view of a table's version of this number.
 #[tactic(auto, using(crate::proofs::Sets::set_set))]
-pub fn return_view<'r>(tables: &mut Vec<Option<Table<'r>>>, key: u32, version: u32, view: View<'r>)
+pub fn return_view<'r>(tables: &mut Vec<Option<Table<'r>>>, key: u32, version: u64, view: View<'r>)
     requires within { key < length tables.old.items }
     requires open { is_open tables.old.items key ≡ true }
     requires of_this_loan { view.loan ≡
@@ -195,7 +195,7 @@ pub fn exchange(tables: &mut Vec<Option<Table<'_>>>, key: u32)
     requires open { is_open tables.old.items key ≡ true }
     requires double { is_double (content_at tables.old.items key) ≡ true }
     requires staged { is_staged (content_at tables.old.items key).next ≡ true }
-    requires room { (content_at tables.old.items key).version < 4294967295 }
+    requires room { (content_at tables.old.items key).version < 18446744073709551615 }
     ensures after { tables.new.items ≡
         slice_set tables.old.items key
         (Some
@@ -216,7 +216,7 @@ pub fn copy_over<'r>(tables: &mut Vec<Option<Table<'r>>>, key: u32) -> Space<'r>
     requires single { is_double (content_at tables.old.items key) ≡ false }
     requires staged { is_staged (content_at tables.old.items key).next ≡ true }
     requires all_back { (content_at tables.old.items key).present.views ≡ 0 }
-    requires room { (content_at tables.old.items key).version < 4294967295 }
+    requires room { (content_at tables.old.items key).version < 18446744073709551615 }
     ensures buffer { length result ≡ (staged_in (content_at tables.old.items key).next).whole }
     ensures after { tables.new.items ≡
         slice_set tables.old.items key
@@ -240,7 +240,7 @@ pub fn load_inactive(tables: &mut Vec<Option<Table<'_>>>, key: u32, offset: u32,
     requires not_staged { is_staged (content_at tables.old.items key).next ≡ false }
     requires all_back { (older_in (content_at tables.old.items key).next).views ≡ 0 }
     requires range { offset + length range.now ≤ (content_at tables.old.items key).size }
-    requires room { (content_at tables.old.items key).version < 4294967295 }
+    requires room { (content_at tables.old.items key).version < 18446744073709551615 }
     ensures after { tables.new.items ≡
         slice_set tables.old.items key
         (Some
@@ -262,7 +262,7 @@ pub fn write_over(tables: &mut Vec<Option<Table<'_>>>, key: u32, offset: u32, ra
     requires not_staged { is_staged (content_at tables.old.items key).next ≡ false }
     requires all_back { (content_at tables.old.items key).present.views ≡ 0 }
     requires range { offset + length range.now ≤ (content_at tables.old.items key).size }
-    requires room { (content_at tables.old.items key).version < 4294967295 }
+    requires room { (content_at tables.old.items key).version < 18446744073709551615 }
     ensures after { tables.new.items ≡
         slice_set tables.old.items key
         (Some

@@ -35,7 +35,7 @@ pub struct Table<'r> {
     /// 1 where it is double buffered.
     option: u32,
     /// How often it was updated.
-    version: u32,
+    version: u64,
     /// The number of its block in the pool.
     first: u32,
     /// The number of its other block. A single-buffered table has one, whose number stands twice.
@@ -153,7 +153,7 @@ impl<'r> Table<'r> {
     }
 
     /// How often it was updated.
-    pub fn version(&self) -> u32
+    pub fn version(&self) -> u64
         ensures { result ≡ self.now.version }
     {
         self.version
@@ -266,7 +266,7 @@ impl<'r> Table<'r> {
     }
 
     /// Takes back a view of the version of this number.
-    pub fn give_back(&mut self, version: u32, view: View<'r>)
+    pub fn give_back(&mut self, version: u64, view: View<'r>)
         requires of_this_loan { view.loan ≡ (version_at self.old version).loan }
         requires some { 1 ≤ (version_at self.old version).views }
         ensures { self.new ≡ view_back self.old version }
@@ -401,7 +401,7 @@ impl<'r> Table<'r> {
     pub fn exchange(self) -> Table<'r>
         requires double { is_double self ≡ true }
         requires staged { is_staged self.next ≡ true }
-        requires room { self.version < 4294967295 }
+        requires room { self.version < 18446744073709551615 }
         ensures { result ≡
             with_value self.entry result.present.loan (staged_in self.entry.next).bytes }
     {
@@ -432,7 +432,7 @@ impl<'r> Table<'r> {
         requires single { is_double self ≡ false }
         requires staged { is_staged self.next ≡ true }
         requires all_back { self.present.views ≡ 0 }
-        requires room { self.version < 4294967295 }
+        requires room { self.version < 18446744073709551615 }
         ensures table { result.0 ≡
             with_value self.entry result.0.present.loan (staged_in self.entry.next).bytes }
         ensures buffer { length result.1 ≡ (staged_in self.entry.next).whole }
@@ -466,7 +466,7 @@ impl<'r> Table<'r> {
         requires not_staged { is_staged self.next ≡ false }
         requires all_back { self.present.views ≡ 0 }
         requires range { offset + length range.now ≤ self.size }
-        requires room { self.version < 4294967295 }
+        requires room { self.version < 18446744073709551615 }
         ensures { result ≡
             with_value self.entry
             result.present.loan

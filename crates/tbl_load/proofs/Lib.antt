@@ -2,6 +2,7 @@ pub mod Allowed
 pub mod CoreBags
 pub mod Dues
 pub mod Journals
+mod Located
 pub mod Made
 pub mod Notes
 pub mod Opened
@@ -10,3 +11,4 @@ pub mod Over
 pub mod Own
 pub mod Pushed
 pub mod Shown
+mod Versions

@@ -1,5 +1,6 @@
 -- The one lemma of all calls: what the core's call, the push of its entry and the note leave.
-use Rattle.std.proofs.Common.{◌≡◌, ℕ, ◌+◌, ◌^◌, ◌<◌, true, false, [], ◌∷◌, ◌++◌, length, All, is_some, IsTrue, refl, ap, sym, ◌∙◌, subst, arith}
+use Rattle.std.proofs.Common.{◌≡◌, ℕ, ◌+◌, ◌^◌, ◌<◌, true, false, ltb, [], ◌∷◌, ◌++◌, length, All, Option, Some, None, is_some, IfSome, IsTrue, refl, ap, sym, ◌∙◌, subst, arith}
+use Rattle.std.proofs.lemmas.Bool.Decides.{nat_tests}
 use Rattle.std.proofs.lemmas.List.{length_push}
 use Rattle.journal_store.specs.Budgets.{HasRoom, allowances, entries_left}
 use Rattle.journal_store.proofs.Charges.{entries_left-charged}
@@ -12,37 +13,65 @@ use Rattle.tbl_words.specs.Holds.{hold_of}
 use Rattle.tbl_words.specs.Log.{left_of, with_entry}
 use Rattle.tbl_words.specs.Machine.{may_call, state_after, step}
 use Rattle.tbl_words.specs.Runs.{Follows}
-use Rattle.tbl_words.specs.Tables.{Table, State}
+use Rattle.tbl_words.specs.Tables.{Table, State, table_of}
 use Rattle.tbl_words.specs.Uses.{greater_of, peak_after, use_of}
 use Rattle.tbl_words.proofs.Bounds.{few-after}
 use Rattle.tbl_words.proofs.Peaks.{peaks_go_on}
 use Rattle.tbl_words.proofs.Replay.{goes_on}
-use Rattle.tbl_plain.specs.Core.{Plain, MayAct, Acts, loan_of}
+use Rattle.tbl_plain.specs.Core.{Plain, MayAct, Acts, HasNextVersion, has_handle_number, loan_of}
 use Rattle.tbl_load.specs.declared.tables.TblCore.TheInside.{Inside}
 use Rattle.tbl_load.specs.Core.{Core, MayCall, Does, IsLegalCore, with_noted, state_of}
 use Rattle.tbl_load.specs.Inside.{core_of, Stands}
 use Rattle.tbl_load.specs.Notes.{NotedLog, AreDue, gives_for, loan_in, note_due, noted}
 use Rattle.tbl_load.proofs.Journals.{left_from-push}
 use Rattle.tbl_load.proofs.Notes.{even-due, noted-other, noted-given}
+use Rattle.tbl_load.proofs.Versions.{version_of_few}
 
 -- the core's state is that of the history
 pub state_now : (a : Inside) (now : Core) → core_of a ≡ now → Stands a → a.core.state ≡ state_of now
 state_now a now is stands = stands.state ∙ ap state_of is
+
+-- a call's entry is one of fewer than 2^32, so a number is left for what it makes
+fits_all : (a : Inside) (old : Core) (app : ℕ) (call : Call) → core_of a ≡ old → Stands a → MayCall old app call →
+    IsTrue (may_call a.core.state app) × (a.core.state.handles_made + 1 < 2 ^ 32) × All (λ t. t.version + 1 < 2 ^ 32) a.core.state.tables
+fits_all a old app call is stands may_old =
+    let Q : Core → Type 0 = λ o. MayCall o app call in
+    let may : MayCall (core_of a) app call = subst Q (sym is) may_old in
+    let few = few-after a.core.limits (length a.noted.log.budgets) a.noted.log.entries in
+    let left = entries_left-charged (left_of a.noted.log) app (call_bytes call) may.room in
+    let P : State → Type 0 = λ s. IsTrue (may_call s app) × (s.handles_made + 1 < 2 ^ 32) × All (λ (t : Table). t.version + 1 < 2 ^ 32) s.tables in
+    subst P (sym stands.state) (
+      may.standing,
+      omega (arith, few.handles, left, stands.few),
+      λ k d within. let least = few.versions k d within in omega (arith, least, left, stands.few),
+    )
 
 -- what the journal's call needs is what the core's call needs
 pub may_act : (a : Inside) (old : Core) (app : ℕ) (call : Call) → core_of a ≡ old → Stands a → MayCall old app call → MayAct a.core app call
 may_act a old app call is stands may_old =
     let Q : Core → Type 0 = λ o. MayCall o app call in
     let may : MayCall (core_of a) app call = subst Q (sym is) may_old in
-    let few = few-after a.core.limits (length a.noted.log.budgets) a.noted.log.entries in
-    let left = entries_left-charged (left_of a.noted.log) app (call_bytes call) may.room in
-    let P : State → Type 0 = λ s. IsTrue (may_call s app) × (s.handles_made + 1 < 2 ^ 32) × All (λ (t : Table). t.version + 1 < 2 ^ 32) s.tables in
-    let all : P a.core.state = subst P (sym stands.state) (
-      may.standing,
-      omega (arith, few.handles, left, stands.few),
-      λ k d within. let least = few.versions k d within in omega (arith, least, left, stands.few),
-    ) in
-    record { standing = all.0; within = may.within; handles = all.1; versions = all.2 }
+    record { standing = (fits_all a old app call is stands may_old).0; within = may.within }
+
+-- a number is left for a handle
+pub handle_left : (a : Inside) (old : Core) (app : ℕ) (call : Call) → core_of a ≡ old → Stands a → MayCall old app call → IsTrue (has_handle_number a.core.state)
+handle_left a old app call is stands may_old = large a.core.state.handles_made (fits_all a old app call is stands may_old).1
+  where
+    large : (n : ℕ) → n + 1 < 2 ^ 32 → ltb n 4294967295 ≡ true
+    large n lt = grind (arith, nat_tests)
+
+-- no table has had so many versions that one more would not fit into 32 bits
+pub few_versions : (a : Inside) (old : Core) (app : ℕ) (call : Call) → core_of a ≡ old → Stands a → MayCall old app call → All (λ t. t.version + 1 < 2 ^ 32) a.core.state.tables
+few_versions a old app call is stands may_old = (fits_all a old app call is stands may_old).2
+
+-- a number is left for a version of the table of a handle
+pub version_left : (a : Inside) (old : Core) (app handle : ℕ) (call : Call) → core_of a ≡ old → Stands a → MayCall old app call → HasNextVersion a.core.state handle
+version_left a old app handle call is stands may_old =
+    weaker (table_of a.core.state handle) (version_of_few a.core.state handle (few_versions a old app call is stands may_old))
+  where
+    weaker : (o : Option Table) → IfSome o (λ t. t.version + 1 < 2 ^ 32) → IfSome o (λ t. t.version + 1 < 2 ^ 64)
+    weaker None fits = fits
+    weaker (Some t) fits = omega (arith, fits)
 
 -- and the entry has room in the journal
 pub may_push : (a : Inside) (old : Core) (app : ℕ) (call : Call) → core_of a ≡ old → MayCall old app call → HasRoom (left_of a.noted.log) app (call_bytes call)

@@ -35,8 +35,8 @@ IsLegalCore core = IsLegal core.limits (apps_of core) core.log.entries
 abbrev pub IsNoted : Core → Type 0
 IsNoted core = AreDue core.log.entries core.notes
 
--- the application may make this call now: it is known and hasn't ended, has an entry and the call's bytes left, and the call keeps
--- to the bounds of names and ranges
+-- the application may make this call now: it is known and hasn't ended, has an entry and the call's bytes left, and what it loads
+-- is a range of 1 to 65536 bytes
 pub record MayCall (core : Core) (app : ℕ) (call : Call) : Type 0 where
   pub known : app ≤ apps_of core
   pub standing : IsTrue (may_call (state_of core) app)

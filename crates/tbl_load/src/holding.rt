@@ -9,6 +9,7 @@ ghost use Rattle.tbl_load.specs.Core.{MayCall, Does};
 
 use crate::answers::{of_addressed, of_done};
 use crate::noted::note_of;
+use crate::short::get_address;
 use crate::tables::TblCore;
 use fsw_base::AppNo;
 use lend_block::Note;
@@ -41,7 +42,7 @@ impl<'r> TblCore<'r> {
         ensures unchanged { OnErr result (held.new ≡ held.old) }
         ensures other_bags { KeepsOtherBags self.old self.new app }
     {
-        let result = self.core.get_address(app, handle, held);
+        let result = get_address(&mut self.core, app, handle, held);
         let answer = of_addressed(&result);
         let note = note_of(answer, held, handle);
         let entry = TblEntry {

@@ -31,6 +31,7 @@ mod noted;
 mod opening;
 mod permits;
 mod registering;
+mod short;
 mod tables;
 
 pub use laws::bags_stay;

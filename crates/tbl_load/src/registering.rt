@@ -7,6 +7,7 @@ ghost use Rattle.tbl_load.specs.Bags.{KeepsBags};
 ghost use Rattle.tbl_load.specs.Core.{MayCall, Does};
 
 use crate::answers::{of_figures, of_registered, of_shared};
+use crate::short::status;
 use crate::tables::TblCore;
 use bucket_list::{Ledger, Steps};
 use fsw_base::AppNo;
@@ -91,7 +92,7 @@ impl<'r> TblCore<'r> {
         ensures does { Does self.old self.new app (Status handle) (figures_told result) }
         ensures bags { KeepsBags self.old self.new }
     {
-        let result = self.core.status(app, handle);
+        let result = status(&self.core, app, handle);
         let entry = TblEntry {
             app,
             call: TblCall::Status { handle },

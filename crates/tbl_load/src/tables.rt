@@ -8,7 +8,8 @@ ghost use Rattle.tbl_words.specs.declared.history.Entry.{Entry};
 ghost use Rattle.tbl_words.specs.Log.{left_of};
 ghost use Rattle.tbl_words.specs.Tables.{account_of, bytes_in_use};
 ghost use Rattle.tbl_words.specs.Uses.{use_of, peak_after};
-ghost use Rattle.tbl_load.specs.Bags.{AreOneLoan};
+ghost use Rattle.tbl_plain.specs.Blocks.{AreTableBlocks, IsTablePool};
+ghost use Rattle.tbl_load.specs.Bags.{AreOneLoan, lent_tables};
 ghost use Rattle.tbl_load.specs.Core.{IsLegalCore, IsNoted, apps_of, state_of};
 ghost use Rattle.tbl_load.specs.Notes.{IsDue};
 
@@ -18,6 +19,7 @@ use fsw_base::{AppNo, Budget, Config};
 use lend_block::Note;
 use std::alloc::{AllocError, Global};
 use std::marker::Model;
+use tbl_blocks::TableBlocks;
 use tbl_plain::PlainTables;
 use tbl_words::{TblJournal, TblUse};
 
@@ -125,9 +127,22 @@ impl<'r> TblCore<'r> {
         self.noted.note(i)
     }
 
+    /// The blocks in which the tables lie: of each table its present value in one, what is held of
+    /// an older version in the other, and a staged value there, too, or in a working buffer. A
+    /// handle's view is by the loan that was noted of it.
+    pub fn blocks(&self) -> &TableBlocks<'r>
+        ensures blocks { AreTableBlocks result.now (lent_tables self.now) }
+        ensures account { IsAccountOf result.now.pool
+            (account_of self.now.limits (state_of self.now)) }
+    {
+        let tables = self.core.blocks();
+        tables
+    }
+
     /// The pool that the blocks of the tables are drawn from. Those of the tables that have a
     /// handle are out, and no others; its bytes in use are those of these blocks.
     pub fn pool(&self) -> &Pool
+        ensures blocks { IsTablePool (lent_tables self.now) result.now }
         ensures account { IsAccountOf result.now
             (account_of self.now.limits (state_of self.now)) }
         ensures in_use { in_use_by result.now.sizes result.now.blocks ≡

@@ -3,7 +3,7 @@ use Rattle.std.proofs.Common.{◌≡◌, ℕ, suc, ◌+◌, ◌-◌, ◌^◌, �
 use Rattle.std.specs.List.{list_any, AllPairs}
 use Rattle.std.specs.Option.{option_map, option_map_or}
 use Rattle.std.proofs.lemmas.Bool.Decides.{nat_tests}
-use Rattle.std.proofs.lemmas.List.Elements.{All-nil, All-cons, All-head, All-tail, All-filter, All-map}
+use Rattle.std.proofs.lemmas.List.Elements.{All-nil, All-cons, All-head, All-tail}
 use Rattle.std.proofs.lemmas.List.Sums.{sum_by-cons}
 use Rattle.fsw_base.specs.Limits.{Limits}
 use Rattle.tbl_words.specs.declared.statuses.TblStatus.{TblStatus}
@@ -11,7 +11,7 @@ use Rattle.tbl_words.specs.declared.statuses.TblStatus.TheVariants.{ErrInvalidHa
 use Rattle.tbl_words.specs.declared.calls.TblAnswer.{TblAnswer}
 use Rattle.tbl_words.specs.declared.calls.TblAnswer.TheVariants.{Done}
 use Rattle.tbl_words.specs.declared.history.Call.TheVariants.{Unregister, End}
-use Rattle.tbl_words.specs.Tables.{Table, Handle, State, is_live, owns, has_handle}
+use Rattle.tbl_words.specs.Tables.{Table, Handle, State, owns, has_handle}
 use Rattle.tbl_words.specs.Machine.{refused_if, access_cause, without_handles, after_leave, outcome, step}
 use Rattle.tbl_blocks.specs.Held.{HeldViews}
 use Rattle.tbl_words.proofs.Leaves.{leaves_add_up}
@@ -186,25 +186,10 @@ none_of_app s app none still =
 -- the application may still act
 pub still_may : (old new : Plain) (app n : ℕ) → new.state ≡ without_handles (numbered n) old.state → MayAct old app End → MayAct new app End
 still_may old new app n is may =
-    subst (λ (s : State). let p : Plain = record new { state = s } in MayAct p app End) (sym is)
-    (record {
-      standing = may.standing;
-      within = may.within;
-      handles = may.handles;
-      versions = All-filter (λ (t : Table). has_handle left t.number) (λ (t : Table). t.version + 1 < 2 ^ 32) (map (after_leave left) old.state.tables)
-          (All-map (λ (t : Table). t.version + 1 < 2 ^ 32) (after_leave left) old.state.tables
-          (λ k d within. by_live (get_or old.state.tables k d) (is_live left (get_or old.state.tables k d).number) (may.versions k d within)));
-    })
-  where
-    left : List Handle
-    left = filter (λ (k : Handle). not (eqb k.number n)) old.state.handles
-
-    by_live : (t : Table) (b : Bool) → t.version + 1 < 2 ^ 32 → (cond {A = Table} b t (record t { registered = false; staged = None })).version + 1 < 2 ^ 32
-    by_live t true lt = lt
-    by_live t false lt = lt
+    subst (λ (s : State). let p : Plain = record new { state = s } in MayAct p app End) (sym is) (record { standing = may.standing; within = may.within })
 
 pub may_leave : (core : Plain) (app n : ℕ) → MayAct core app End → MayAct core app (Unregister n)
-may_leave core app n may = record { standing = may.standing; within = may.within; handles = may.handles; versions = may.versions }
+may_leave core app n may = record { standing = may.standing; within = may.within }
 
 -- then it has ended
 pub end_made : (limits : Limits) (s left final : State) (app i : ℕ) → left ≡ without_handles (of_app app) s → i ≡ app → final ≡ record left { ended = set left.ended (i - 1) true } → step limits s app End ≡ (Done, final)

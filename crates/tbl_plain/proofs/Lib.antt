@@ -14,6 +14,7 @@ pub mod InUse
 pub mod Kept
 pub mod Leaves
 pub mod Loads
+pub mod Located
 pub mod Meaning
 pub mod OneLoan
 pub mod Only

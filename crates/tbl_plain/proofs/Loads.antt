@@ -1,7 +1,7 @@
 -- Updates and loads: why they are refused, and what the machine makes of the state.
-use Rattle.std.proofs.Common.{◌≡◌, ℕ, ◌+◌, ◌^◌, ◌<◌, not, Bool, true, eqb, Option, Some, None, List, map, All, ap, sym, ◌∙◌, subst, arith}
+use Rattle.std.proofs.Common.{◌≡◌, ℕ, ◌+◌, ◌^◌, ◌<◌, not, Bool, true, false, ltb, Option, Some, None, IfSome, List, ap, sym, ◌∙◌, subst, arith}
 use Rattle.std.specs.Option.{option_map_or}
-use Rattle.std.proofs.lemmas.List.{get_or-map, length-map}
+use Rattle.std.proofs.lemmas.Bool.Decides.{nat_tests}
 use Rattle.tbl_words.specs.declared.rules.Rule.{Rule}
 use Rattle.tbl_words.specs.declared.statuses.TblStatus.TheVariants.{InfoNoUpdatePending, NotValidated, Validation, InfoTableLocked}
 use Rattle.tbl_words.specs.Rules.{failed_rule}
@@ -11,10 +11,10 @@ use Rattle.tbl_registry.specs.declared.rows.Handle.{Handle}
 use Rattle.tbl_registry.specs.Listing.{Table, IsTied, handle_at}
 use Rattle.tbl_blocks.specs.Contents.{Content, content_at, is_staged, staged_in}
 use Rattle.tbl_plain.specs.declared.plain.PlainTables.TheInside.{Inside}
-use Rattle.tbl_plain.specs.Core.{Plain}
+use Rattle.tbl_plain.specs.Core.{Plain, HasNextVersion}
 use Rattle.tbl_plain.specs.Inside.{plain_of, means, table_in, table_with, staged_of}
 use Rattle.tbl_plain.proofs.Figures.{HasContent}
-use Rattle.tbl_plain.proofs.Meaning.{found_all, table_here}
+use Rattle.tbl_plain.proofs.Meaning.{table_here}
 use Rattle.tbl_plain.proofs.Validations.{with_staging, staged_there}
 
 -- An update. --
@@ -57,21 +57,33 @@ module _ (a : Inside) (tied : IsTied a.registry) (n : ℕ) (h : Handle) (found :
       ap (λ o. option_map_or (λ (t : state.Table). with_update (means a) (with_range t.value offset bytes) t) o (means a)) (table_here a tied n h found has.t has.there)
       ∙ ap (λ (c : Content). with_update (means a) (with_range c.present.bytes offset bytes) its) (ap (content_at a.blocks.tables) has.known)
 
--- what holds of all behind a map
-all_behind : {X Y : Type 0} (P : Y → Type 0) (f : X → Y) (xs : List X) → All P (map f xs) → All (λ x. P (f x)) xs
-all_behind P f xs all k d within = subst P (get_or-map f xs k d (f d) within) (all k (f d) (omega (arith, within, length-map xs f)))
+-- One version more. --
 
--- a version more is in range
-pub version_left : (a : Inside) (core : Plain) → plain_of a ≡ core → All (λ t. t.version + 1 < 2 ^ 32) core.state.tables → (h : Handle) (has : HasContent a h) → (content_at a.blocks.tables h.key).version < 4294967295
-version_left a core viewed left h has = at (ap (λ key. (content_at a.blocks.tables key).version) has.known) small
-  where
-    all : All (λ (t : state.Table). t.version + 1 < 2 ^ 32) (means a).tables
-    all = subst (λ (p : Plain). All (λ (t : state.Table). t.version + 1 < 2 ^ 32) p.state.tables) (sym viewed) left
+pub is_next : (n : ℕ) → ltb n 18446744073709551615 ≡ true → n < 18446744073709551615
+is_next n is = grind (arith, nat_tests)
 
-    small : (content_at a.blocks.tables has.t.key).version + 1 < 2 ^ 32
-    small =
-        found_all (λ (t : Table). (content_at a.blocks.tables t.key).version + 1 < 2 ^ 32) (λ t. eqb t.key h.key) a.registry.tables has.t
-        (all_behind (λ (t : state.Table). t.version + 1 < 2 ^ 32) (table_in a.registry.handles a.blocks.tables) a.registry.tables all) has.there
+pub never_next : (n : ℕ) → ltb n 18446744073709551615 ≡ false → n < 18446744073709551615 → ⊥
+never_next n is lt = grind (arith, nat_tests)
 
-    at : {m n : ℕ} → m ≡ n → m + 1 < 2 ^ 32 → n < 4294967295
-    at same lt = omega (arith, same, lt)
+-- whether a number is left for it, by what is kept for the table of a live handle
+module _ (a : Inside) (core : Plain) (viewed : plain_of a ≡ core) (tied : IsTied a.registry) (n : ℕ) (h : Handle) (found : handle_at a.registry.handles n ≡ Some h) (has : HasContent a h) where
+  abbrev Left : Option state.Table → Type 0
+  Left o = IfSome o (λ (t : state.Table). t.version + 1 < 2 ^ 64)
+
+  abbrev LeftIn : Plain → Type 0
+  LeftIn p = HasNextVersion p.state n
+
+  same : (content_at a.blocks.tables has.t.key).version ≡ (content_at a.blocks.tables h.key).version
+  same = ap (λ key. (content_at a.blocks.tables key).version) has.known
+
+  small : {m k : ℕ} → m ≡ k → m + 1 < 2 ^ 64 → k < 18446744073709551615
+  small is lt = omega (arith, is, lt)
+
+  large : {m k : ℕ} → m ≡ k → k < 18446744073709551615 → m + 1 < 2 ^ 64
+  large is lt = omega (arith, is, lt)
+
+  pub next_here : HasNextVersion core.state n → (content_at a.blocks.tables h.key).version < 18446744073709551615
+  next_here left = small same (subst Left (table_here a tied n h found has.t has.there) (subst LeftIn (sym viewed) left))
+
+  pub next_left : (content_at a.blocks.tables h.key).version < 18446744073709551615 → HasNextVersion core.state n
+  next_left lt = subst LeftIn viewed (subst Left (sym (table_here a tied n h found has.t has.there)) (large same lt))

@@ -13,7 +13,7 @@ use Rattle.tbl_plain.specs.Inside.{plain_of, means, handle_with, handle_in, hold
 use Rattle.tbl_plain.proofs.Meaning.{IsOf, its_table, known_by, handle_here}
 
 -- the table of a handle is found by its number
-number_of : (a : Inside) → IsTied a.registry → (h : Handle) → (of : IsOf a h) → find (λ (t : Table). eqb t.number h.table) a.registry.tables ≡ Some of.t
+pub number_of : (a : Inside) → IsTied a.registry → (h : Handle) → (of : IsOf a h) → find (λ (t : Table). eqb t.number h.table) a.registry.tables ≡ Some of.t
 number_of a tied h of =
     either_way a.registry.tables h.key h.table tied.tables_rise (ap (option_map (λ (t : Table). t.number)) of.there ∙ ap Some of.number) ∙ of.there
 
@@ -27,13 +27,13 @@ one_key a tied h k of its same =
     ∙ known_by a.registry.tables k.key its.t its.there
 
 -- what a handle that holds a version is, and was lent
-record Lends (a : Inside) (number table version : ℕ) : Type 0 where
-  h : Handle
-  here : handle_at a.registry.handles number ≡ Some h
-  of_table : h.table ≡ table
-  loan : loan_of (plain_of a).lent number ≡ (version_at (content_at a.blocks.tables h.key) version).loan
+pub record Lends (a : Inside) (number table version : ℕ) : Type 0 where
+  pub h : Handle
+  pub here : handle_at a.registry.handles number ≡ Some h
+  pub of_table : h.table ≡ table
+  pub loan : loan_of (plain_of a).lent number ≡ (version_at (content_at a.blocks.tables h.key) version).loan
 
-lends : (a : Inside) (number table version : ℕ) → HoldsVersion (means a).handles number table version → Lends a number table version
+pub lends : (a : Inside) (number table version : ℕ) → HoldsVersion (means a).handles number table version → Lends a number table version
 lends a number table version holds =
     by_found (handle_at a.registry.handles number) refl (subst P (handle_here a number) holds)
   where

@@ -1,5 +1,5 @@
 -- A share.
-use Rattle.std.proofs.Common.{◌≡◌, ℕ, suc, ◌+◌, ◌<◌, ◌≤◌, ◌&&◌, ◌||◌, Bool, true, false, leb, cond, eqb, Option, Some, None, is_some, List, [], ◌∷◌, ◌++◌, map, length, get_or, find, count_by, All, refl, ap, sym, ◌∙◌, subst, arith}
+use Rattle.std.proofs.Common.{◌≡◌, ℕ, suc, ◌+◌, ◌^◌, ◌<◌, ◌≤◌, ◌&&◌, ◌||◌, Bool, true, false, IsTrue, leb, ltb, cond, eqb, Option, Some, None, is_some, List, [], ◌∷◌, ◌++◌, map, length, get_or, find, count_by, All, refl, ap, sym, ◌∙◌, subst, arith}
 use Rattle.std.specs.List.{AllPairs}
 use Rattle.std.specs.Option.{IsSome, option_map, option_map_or}
 use Rattle.std.specs.Str.{bytes_eq}
@@ -21,7 +21,7 @@ use Rattle.tbl_registry.proofs.Leaving.{handles_go_on}
 use Rattle.tbl_registry.proofs.Numbered.{same_number, other_number}
 use Rattle.tbl_blocks.specs.Contents.{Content, content_at}
 use Rattle.tbl_plain.specs.declared.plain.PlainTables.TheInside.{Inside}
-use Rattle.tbl_plain.specs.Core.{Plain, Acts}
+use Rattle.tbl_plain.specs.Core.{Plain, Acts, has_handle_number}
 use Rattle.tbl_plain.specs.Inside.{plain_of, means, table_in, table_with, handle_in, is_this, is_other, IsFilled, Keeps}
 use Rattle.tbl_plain.proofs.After.{step_by, acts_from, acts_refused}
 use Rattle.tbl_plain.proofs.Access.{share_checked}
@@ -31,7 +31,7 @@ use Rattle.tbl_plain.proofs.Meaning.{named_here, found_all}
 -- The table of a name, by its key. --
 
 -- a table that is found in one way is the one with its key
-found_by_key : (p : Table → Bool) (tables : List Table) (t : Table) → AllPairs (λ earlier later. earlier.key ≡ later.key → ⊥) tables → find p tables ≡ Some t → table_at tables t.key ≡ Some t
+pub found_by_key : (p : Table → Bool) (tables : List Table) (t : Table) → AllPairs (λ earlier later. earlier.key ≡ later.key → ⊥) tables → find p tables ≡ Some t → table_at tables t.key ≡ Some t
 found_by_key p [] t apart is = absurd (cc (is))
 found_by_key p (u ∷ tables) t apart is =
     by_test (λ rest. found_by_key p tables t (λ i j d lt within. apart (suc i) (suc j) d (omega (arith, lt)) (omega (arith, within))) rest) (p u) is
@@ -85,6 +85,13 @@ or_none : (b c : Bool) → c ≡ false → (b || (c || false)) ≡ b
 or_none true c is = refl
 or_none false true is = is
 or_none false false is = refl
+
+-- a number is left for one handle more
+pub number_left : (a : Inside) (old : Plain) → plain_of a ≡ old → IsTrue (has_handle_number old.state) → a.registry.made + 1 < 2 ^ 32
+number_left a old viewed left = small a.registry.made (subst (λ (p : Plain). IsTrue (has_handle_number p.state)) (sym viewed) left)
+  where
+    small : (n : ℕ) → ltb n 4294967295 ≡ true → n + 1 < 2 ^ 32
+    small n is = grind (arith, nat_tests)
 
 -- no table has a number past those that were made
 pub live_still : (made : ℕ) (handles : List Handle) (h : Handle) → h.number ≡ made + 1 → (number : ℕ) → number ≤ made → is_live (handles ++ h ∷ []) number ≡ is_live handles number

@@ -9,6 +9,8 @@ use Rattle.tbl_words.specs.declared.calls.Told.TheVariants.{Same, Updated, Never
 use Rattle.tbl_words.specs.declared.calls.TblState.{TblState}
 use Rattle.tbl_words.specs.declared.calls.TblAnswer.{TblAnswer}
 use Rattle.tbl_words.specs.declared.calls.TblAnswer.TheVariants as answers
+use Rattle.tbl_plain.specs.declared.answers.PlainAddress.{PlainAddress}
+use Rattle.tbl_plain.specs.declared.answers.PlainState.{PlainState}
 
 -- the owner's handle of a new table or of the one there is, or the refusal
 abbrev pub registered : Result Registered TblStatus → TblAnswer
@@ -26,10 +28,23 @@ abbrev pub figures_told : Result TblState TblStatus → TblAnswer
 figures_told (Ok figures) = answers.State figures
 figures_told (Err status) = answers.Refused status
 
+-- the same of figures whose version has 64 bits
+abbrev pub state_of : PlainState → TblState
+state_of figures = record { version = figures.version; loaded = figures.loaded; staged = figures.staged; holds = figures.holds }
+
+abbrev pub plain_figures_told : Result PlainState TblStatus → TblAnswer
+plain_figures_told (Ok figures) = answers.State (state_of figures)
+plain_figures_told (Err status) = answers.Refused status
+
 -- the address of a table, or the refusal
 abbrev pub addressed : Result Address TblStatus → TblAnswer
 addressed (Ok address) = answers.Address address.told address.version
 addressed (Err status) = answers.Refused status
+
+-- the same of an address whose version has 64 bits
+abbrev pub plain_addressed : Result PlainAddress TblStatus → TblAnswer
+plain_addressed (Ok address) = answers.Address address.told address.version
+plain_addressed (Err status) = answers.Refused status
 
 -- what an address is told with, by the version before and now: that there was no load, or whether one came
 abbrev pub told_by : ℕ → ℕ → Told

@@ -1,11 +1,11 @@
 -- The core as its callers see it: its limits, the state and what is lent; and what an application has in its bag of what it holds.
-use Rattle.std.specs.Prelude.{◌≡◌, ◌≢◌, ℕ, ◌+◌, ◌^◌, ◌<◌, ◌≤◌, ◌==◌, nat_le, ◌&&◌, Bool, true, false, if◌then◌else◌, List, length, find, count_by, All, IsTrue, Option, Some, None, is_some, IsSomeAnd}
+use Rattle.std.specs.Prelude.{◌≡◌, ◌≢◌, ℕ, ◌+◌, ◌^◌, ◌<◌, ◌≤◌, ◌==◌, nat_le, nat_lt, ◌&&◌, Bool, true, false, if◌then◌else◌, List, length, find, count_by, IsTrue, Option, Some, None, is_some, IfSome, IsSomeAnd}
 use Rattle.std.specs.Option.{option_map, option_map_or, option_and_then}
 use Rattle.fsw_base.specs.Limits.{Limits}
 use Rattle.tbl_words.specs.declared.calls.TblAnswer.{TblAnswer}
 use Rattle.tbl_words.specs.declared.history.Call.{Call}
 use Rattle.tbl_words.specs.declared.history.Call.TheVariants.{Register, Share, Unregister, Stage, Validate, Update, Abort, Load, GetAddress, ReleaseAddress, Status, End}
-use Rattle.tbl_words.specs.Tables.{Handle, State, handle_at}
+use Rattle.tbl_words.specs.Tables.{Handle, State, handle_at, table_of}
 use Rattle.tbl_words.specs.Machine.{may_call, step}
 use Rattle.lend_block.specs.Loan.{LentBytes}
 use Rattle.tbl_blocks.specs.Held.{HeldViews, held_at}
@@ -58,17 +58,14 @@ AreOneLoan core =
 
 -- Calls. --
 
--- a name of at most 64 bytes
-abbrev pub is_name : List ℕ → Bool
-is_name name = nat_le (length name) 64
-
 -- a range of 1 to 65536 bytes, from an offset of at most 65536 on
 abbrev pub is_range : ℕ → List ℕ → Bool
 is_range offset bytes = nat_le offset 65536 && nat_le 1 (length bytes) && nat_le (length bytes) 65536
 
+-- what a call loads is such a range; names are of any length
 abbrev pub is_within : Call → Bool
-is_within (Register name size option rules) = is_name name
-is_within (Share name) = is_name name
+is_within (Register name size option rules) = true
+is_within (Share name) = true
 is_within (Unregister handle) = true
 is_within (Stage handle offset bytes) = is_range offset bytes
 is_within (Validate handle) = true
@@ -80,12 +77,18 @@ is_within (ReleaseAddress handle) = true
 is_within (Status handle) = true
 is_within End = true
 
--- the application may make this call now: it hasn't ended, and a number of each kind is left
+-- the application may make this call now: it hasn't ended, and what it loads is such a range
 pub record MayAct (core : Plain) (app : ℕ) (call : Call) : Type 0 where
   pub standing : IsTrue (may_call core.state app)
   pub within : IsTrue (is_within call)
-  pub handles : core.state.handles_made + 1 < 2 ^ 32
-  pub versions : All (λ t. t.version + 1 < 2 ^ 32) core.state.tables
+
+-- a number is left for one handle more: numbers are below 2^32, and none is given twice
+abbrev pub has_handle_number : State → Bool
+has_handle_number s = nat_lt s.handles_made 4294967295
+
+-- a number is left for one version more of the table of this handle, if there is one: numbers of versions are below 2^64
+abbrev pub HasNextVersion : State → ℕ → Type 0
+HasNextVersion s handle = IfSome (table_of s handle) (λ t. t.version + 1 < 2 ^ 64)
 
 -- whether the call changes what its own application holds
 abbrev pub changes_bag : Call → Bool

@@ -11,19 +11,12 @@ use Rattle.tbl_words.specs.Machine.{staged_number}
 use Rattle.tbl_registry.specs.declared.rows.Handle.{Handle}
 use Rattle.tbl_registry.specs.Listing.{Table, is_live, is_registered, table_at}
 use Rattle.tbl_registry.specs.Listed.{AllHaveHandles}
-use Rattle.tbl_blocks.specs.declared.next.Next.{Next}
-use Rattle.tbl_blocks.specs.declared.next.Next.TheVariants.{Nothing, Inactive, Staged}
 use Rattle.tbl_blocks.specs.Contents.{Content, older_in, is_staged, version_at, is_open, content_at}
 use Rattle.tbl_plain.specs.declared.plain.PlainTables.TheInside.{Inside}
+pub use Rattle.tbl_plain.specs.Blocks.{staged_of}
 use Rattle.tbl_plain.specs.Core.{Lent, Plain}
 
 -- What rows and contents stand for. --
-
--- the staged value that lies beside a version
-abbrev pub staged_of : Next → Option state.Staged
-staged_of Nothing = None
-staged_of (Inactive version) = None
-staged_of (Staged staged) = Some (record { value = staged.bytes; validated = staged.validated })
 
 -- a table with these contents
 abbrev pub table_with : Bool → Table → Content → state.Table

@@ -1,26 +1,29 @@
 //! The calls. Each answers and changes what the tables of the definitions do.
-ghost use Rattle.std.specs.Prelude.{◌≡◌, ◌+◌, ◌<◌, ◌^◌, true};
+ghost use Rattle.std.specs.Prelude.{◌≡◌, ◌+◌, ◌<◌, ◌^◌, true, IsTrue};
 ghost use Rattle.tbl_words.specs.declared.history.Call.TheVariants.{Share, Status};
 ghost use Rattle.tbl_words.specs.Machine.{staged_number};
 ghost use Rattle.tbl_blocks.specs.Contents.{older_in, is_open, content_at};
-ghost use Rattle.tbl_plain.specs.Core.{MayAct, Acts};
-ghost use Rattle.tbl_plain.specs.Answers.{shared, figures_told};
+ghost use Rattle.tbl_plain.specs.Core.{MayAct, Acts, has_handle_number};
+ghost use Rattle.tbl_plain.specs.Answers.{shared, state_of, plain_figures_told};
 ghost use Rattle.tbl_plain.specs.Inside.{staged_of, figures_in};
 
+use crate::answers::PlainState;
 use crate::handles::own_handle;
 use crate::plain::PlainTables;
 use fsw_base::AppNo;
 use tbl_blocks::TableBlocks;
-use tbl_words::{TblState, TblStatus};
+use tbl_words::TblStatus;
 
 impl<'r> PlainTables<'r> {
     /// Gives the caller a handle of the registered table of this name, and answers its number.
+    /// A number is left for it, as [`PlainTables::has_handle_number`] tells.
     ///
     /// # Errors
     /// `ErrInvalidName` where no registered table has the name; `ErrHandlesFull` where as many
     /// handles are live as the configuration allows. The first that applies.
     pub fn share(&mut self, app: AppNo, name: &[u8]) -> Result<u32, TblStatus>
         requires may { MayAct self.old app (Share name.now) }
+        requires number { IsTrue (has_handle_number self.old.state) }
         ensures { Acts self.old self.new app (Share name.now) (shared result) }
     {
         self.registry.recall_ties();
@@ -38,9 +41,9 @@ impl<'r> PlainTables<'r> {
     /// # Errors
     /// `ErrInvalidHandle` for a handle that isn't live; `ErrNoAccess` for one of another
     /// application.
-    pub fn status(&self, app: AppNo, handle: u32) -> Result<TblState, TblStatus>
+    pub fn status(&self, app: AppNo, handle: u32) -> Result<PlainState, TblStatus>
         requires may { MayAct self.now app (Status handle) }
-        ensures { Acts self.now self.now app (Status handle) (figures_told result) }
+        ensures { Acts self.now self.now app (Status handle) (plain_figures_told result) }
     {
         self.registry.recall_ties();
         let row = own_handle(&self.registry, app, handle)?;
@@ -49,14 +52,14 @@ impl<'r> PlainTables<'r> {
 }
 
 // The figures of the table of a key.
-fn figures(blocks: &TableBlocks<'_>, key: u32) -> TblState
+fn figures(blocks: &TableBlocks<'_>, key: u32) -> PlainState
     requires open { is_open blocks.now.tables key ≡ true }
     requires few { (content_at blocks.now.tables key).present.views
         + (older_in (content_at blocks.now.tables key).next).views < 2 ^ 32 }
-    ensures { result ≡ figures_in (content_at blocks.now.tables key) }
+    ensures { state_of result ≡ figures_in (content_at blocks.now.tables key) }
 {
     let version = blocks.version(key);
-    TblState {
+    PlainState {
         version,
         loaded: version != 0,
         staged: staged_number(blocks, key),

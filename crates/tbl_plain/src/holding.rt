@@ -4,15 +4,16 @@ ghost use Rattle.tbl_words.specs.declared.history.Call.TheVariants.{GetAddress, 
 ghost use Rattle.tbl_blocks.specs.Contents.{is_open, content_at, version_at};
 ghost use Rattle.tbl_blocks.specs.Held.{held_at};
 ghost use Rattle.tbl_plain.specs.Core.{Holds, MayAct, Acts};
-ghost use Rattle.tbl_plain.specs.Answers.{addressed, told_by, done};
+ghost use Rattle.tbl_plain.specs.Answers.{plain_addressed, told_by, done};
 ghost use Rattle.tbl_plain.specs.Views.{held_by, views_of, after_back};
 
+use crate::answers::PlainAddress;
 use crate::handles::{own_handle, own_table};
 use crate::plain::PlainTables;
 use fsw_base::AppNo;
 use tbl_blocks::{HeldTables, TableBlocks};
 use tbl_registry::Handle;
-use tbl_words::{Address, TblStatus, Told};
+use tbl_words::{TblStatus, Told};
 
 impl<'r> PlainTables<'r> {
     /// Puts a view of the present version of the table of a handle of the caller's into the
@@ -28,10 +29,11 @@ impl<'r> PlainTables<'r> {
         app: AppNo,
         handle: u32,
         held: &mut HeldTables<'r>,
-    ) -> Result<Address, TblStatus>
+    ) -> Result<PlainAddress, TblStatus>
         requires may { MayAct self.old app (GetAddress handle) }
         requires bag { Holds self.old app held.old }
-        ensures does { Acts self.old self.new app (GetAddress handle) (addressed result) }
+        ensures does { Acts self.old self.new app (GetAddress handle)
+            (plain_addressed result) }
         ensures bag { Holds self.new app held.new }
         ensures others { (other : ℕ) → (handle == other) ≡ false →
             held_at held.new other ≡ held_at held.old other }
@@ -49,7 +51,7 @@ impl<'r> PlainTables<'r> {
         held.put(handle, view);
         self.registry.hold(handle, version);
         let told = told_by(before, version);
-        Ok(Address { told, version })
+        Ok(PlainAddress { told, version })
     }
 
     /// Takes the view that a handle of the caller's has, if any, out of the caller's bag: the
@@ -104,7 +106,7 @@ fn give_back<'r>(blocks: &mut TableBlocks<'r>, held: &mut HeldTables<'r>, row: H
 }
 
 // What an address is told with, by the version that the handle was told of last.
-fn told_by(before: u32, version: u32) -> Told
+fn told_by(before: u64, version: u64) -> Told
     ensures { result ≡ told_by before version }
 {
     if version == 0 {

@@ -19,6 +19,7 @@
 //! ```
 #![tactic(auto)]
 
+mod answers;
 mod calls;
 mod handles;
 mod holding;
@@ -30,4 +31,5 @@ mod registering;
 mod staging;
 mod validation;
 
+pub use answers::{PlainAddress, PlainState};
 pub use plain::PlainTables;

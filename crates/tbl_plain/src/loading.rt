@@ -1,6 +1,7 @@
 //! Loads: a value is staged, validated and made the table's.
+ghost use Rattle.std.specs.Prelude.{◌≡◌};
 ghost use Rattle.tbl_words.specs.declared.history.Call.TheVariants.{Stage, Validate, Update, Abort, Load};
-ghost use Rattle.tbl_plain.specs.Core.{MayAct, Acts};
+ghost use Rattle.tbl_plain.specs.Core.{MayAct, Acts, HasNextVersion};
 ghost use Rattle.tbl_plain.specs.Answers.{done};
 
 use crate::handles::own_table;
@@ -98,10 +99,12 @@ impl<'r> PlainTables<'r> {
     /// application; `ErrUnregistered` where the table is registered no more; `InfoNoUpdatePending`
     /// where nothing is staged; `NotValidated` where the staged value wasn't validated;
     /// `InfoTableLocked` where the table is single buffered, and an application holds it. The first
-    /// that applies.
+    /// that applies. Behind version 2^64 - 1 there is none: then it is `InfoTableLocked`, too.
     pub fn update(&mut self, app: AppNo, handle: u32) -> Result<(), TblStatus>
         requires may { MayAct self.old app (Update handle) }
-        ensures { Acts self.old self.new app (Update handle) (done result) }
+        ensures does { HasNextVersion self.old.state handle →
+            Acts self.old self.new app (Update handle) (done result) }
+        ensures spent { (HasNextVersion self.old.state handle → ⊥) → self.new ≡ self.old }
     {
         self.registry.recall_ties();
         let row = own_table(&self.registry, app, handle)?;
@@ -113,6 +116,9 @@ impl<'r> PlainTables<'r> {
             return Err(TblStatus::NotValidated);
         }
         if is_lent(&self.blocks, key) {
+            return Err(TblStatus::InfoTableLocked);
+        }
+        if !self.blocks.has_next_version(key) {
             return Err(TblStatus::InfoTableLocked);
         }
         self.blocks.recall_table(key);
@@ -128,7 +134,8 @@ impl<'r> PlainTables<'r> {
     /// # Errors
     /// Those of [`PlainTables::stage`]; then `Validation` with the number, from 1, of the first
     /// rule that the new value fails; then `InfoTableLocked` where the table is single buffered,
-    /// and an application holds it. The first that applies.
+    /// and an application holds it. The first that applies. Behind version 2^64 - 1 there is none:
+    /// then it is `InfoTableLocked`, too.
     pub fn load(
         &mut self,
         app: AppNo,
@@ -137,7 +144,9 @@ impl<'r> PlainTables<'r> {
         bytes: &[u8],
     ) -> Result<(), TblStatus>
         requires may { MayAct self.old app (Load handle offset bytes.now) }
-        ensures { Acts self.old self.new app (Load handle offset bytes.now) (done result) }
+        ensures does { HasNextVersion self.old.state handle →
+            Acts self.old self.new app (Load handle offset bytes.now) (done result) }
+        ensures spent { (HasNextVersion self.old.state handle → ⊥) → self.new ≡ self.old }
     {
         self.registry.recall_ties();
         let row = own_table(&self.registry, app, handle)?;
@@ -153,6 +162,9 @@ impl<'r> PlainTables<'r> {
             return Err(TblStatus::Validation(number));
         }
         if is_lent(&self.blocks, key) {
+            return Err(TblStatus::InfoTableLocked);
+        }
+        if !self.blocks.has_next_version(key) {
             return Err(TblStatus::InfoTableLocked);
         }
         self.blocks.load(key, offset, bytes);

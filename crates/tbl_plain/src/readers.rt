@@ -5,14 +5,16 @@ ghost use Rattle.es_pool.specs.Pool.{in_use_by};
 ghost use Rattle.tbl_words.specs.Machine.{may_call};
 ghost use Rattle.tbl_words.specs.Tables.{account_of, bytes_in_use};
 ghost use Rattle.tbl_words.specs.Uses.{use_of};
-ghost use Rattle.tbl_plain.specs.Core.{AreOneLoan};
+ghost use Rattle.tbl_plain.specs.Blocks.{AreTableBlocks, IsTablePool};
+ghost use Rattle.tbl_plain.specs.Core.{AreOneLoan, has_handle_number};
 
 use crate::plain::PlainTables;
 use es_pool::Pool;
 use fsw_base::AppNo;
+use tbl_blocks::TableBlocks;
 use tbl_words::TblUse;
 
-impl PlainTables<'_> {
+impl<'r> PlainTables<'r> {
     /// Whether the application may make calls: it is known, and hasn't ended.
     pub fn is_open(&self, app: AppNo) -> bool
         ensures { result ≡ may_call self.now.state app }
@@ -21,6 +23,14 @@ impl PlainTables<'_> {
             Some(ended) => !*ended,
             None => false,
         }
+    }
+
+    /// Whether a number is left for one handle more, which is a condition of `register` and of
+    /// `share`: 4294967295 handles can be given.
+    pub fn has_handle_number(&self) -> bool
+        ensures { result ≡ has_handle_number self.now.state }
+    {
+        self.registry.made() < u32::MAX
     }
 
     /// What is in use: the tables that have a handle, the live handles, and the bytes of the
@@ -43,14 +53,30 @@ impl PlainTables<'_> {
         self.registry.recall_ties();
     }
 
-    /// The pool that the blocks of the tables are drawn from: those of the tables are out, and no
-    /// others.
+    /// The blocks in which the tables lie: of each table its present value in one, what is held of
+    /// an older version in the other, and a staged value there, too, or in a working buffer.
+    pub fn blocks(&self) -> &TableBlocks<'r>
+        ensures blocks { AreTableBlocks result.now self.now }
+        ensures account { IsAccountOf result.now.pool
+            (account_of self.now.limits self.now.state) }
+    {
+        // Does nothing, here and below; the proof learns of it where the tables lie.
+        self.registry.recall_ties();
+        self.blocks.recall_buffers();
+        self.blocks.recall_blocks();
+        &self.blocks
+    }
+
+    /// The pool that the blocks of the tables are drawn from, which is that of `blocks`: those of
+    /// the tables are out, and no others.
     pub fn pool(&self) -> &Pool
+        ensures blocks { IsTablePool self.now result.now }
         ensures account { IsAccountOf result.now (account_of self.now.limits self.now.state) }
         ensures in_use { in_use_by result.now.sizes result.now.blocks ≡
             bytes_in_use self.now.limits.sizes self.now.state.tables }
     {
-        let pool = self.blocks.pool();
+        let tables = self.blocks();
+        let pool = tables.pool();
         pool.recall_whole();
         pool
     }

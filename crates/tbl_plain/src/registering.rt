@@ -1,9 +1,9 @@
 //! Registrations.
-ghost use Rattle.std.specs.Prelude.{◌≡◌, ◌==◌, ◌||◌, ◌+◌, ◌≤◌, None, nat_lt, length};
+ghost use Rattle.std.specs.Prelude.{◌≡◌, ◌==◌, ◌||◌, ◌+◌, ◌≤◌, None, nat_lt, length, IsTrue};
 ghost use Rattle.tbl_words.specs.declared.history.Call.TheVariants.{Register};
 ghost use Rattle.tbl_words.specs.Rules.{is_misfit, has_misfit};
 ghost use Rattle.tbl_words.specs.Machine.{new_table_cause};
-ghost use Rattle.tbl_plain.specs.Core.{MayAct, Acts};
+ghost use Rattle.tbl_plain.specs.Core.{MayAct, Acts, has_handle_number};
 ghost use Rattle.tbl_plain.specs.Answers.{registered};
 ghost use Rattle.tbl_plain.specs.Refusals.{unfit_cause};
 
@@ -15,7 +15,8 @@ use tbl_words::{Registered, Rule, RuleList, TblStatus};
 impl<'r> PlainTables<'r> {
     /// Registers a table of `size` bytes for the caller, and answers its owner's handle. A table
     /// that the caller registered with this name and size is answered as it is. The value is zeros.
-    /// At most 16 steps.
+    /// A number is left for the handle, as [`PlainTables::has_handle_number`] tells. At most 16
+    /// steps.
     ///
     /// # Errors
     /// `ErrInvalidName` for a name that hasn't 1 to 15 bytes; `ErrInvalidSize` for 0 bytes or more
@@ -35,6 +36,7 @@ impl<'r> PlainTables<'r> {
         steps: &mut Steps<L>,
     ) -> Result<Registered, TblStatus>
         requires may { MayAct self.old app (Register name.now size option rules.now) }
+        requires number { IsTrue (has_handle_number self.old.state) }
         ensures does { Acts self.old self.new app
             (Register name.now size option rules.now)
             (registered result) }

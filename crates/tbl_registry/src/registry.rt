@@ -84,6 +84,13 @@ impl Registry {
         self.handles.len() as u32
     }
 
+    /// How many handles were given.
+    pub fn made(&self) -> u32
+        ensures { result ≡ self.now.made }
+    {
+        self.made
+    }
+
     /// How handles and tables are tied: what is true of every registry. Does nothing.
     pub fn recall_ties(&self)
         ensures { IsTied self.now }
@@ -226,7 +233,7 @@ impl Registry {
 
     /// The application of the live handle of this number is told of a version of its table, and
     /// holds it; no effect where none is live.
-    pub fn hold(&mut self, handle: u32, version: u32)
+    pub fn hold(&mut self, handle: u32, version: u64)
         ensures { self.new ≡
             record self.old {
               handles =

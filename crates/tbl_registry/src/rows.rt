@@ -15,9 +15,9 @@ pub struct Handle {
     /// The key of its table.
     pub key: usize,
     /// The version that its application was told of last; 0 at first.
-    pub told: u32,
+    pub told: u64,
     /// The version that its application holds.
-    pub held: Option<u32>,
+    pub held: Option<u64>,
 }
 
 /// What a handle's number tells.

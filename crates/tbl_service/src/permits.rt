@@ -1,17 +1,17 @@
 //! Whether a call may be made now, as a port tells it.
 ghost use Rattle.std.specs.Prelude.{◌≡◌, ◌↔◌, ◌&&◌, nat_le, IsTrue};
 ghost use Rattle.tbl_words.specs.Entries.{call_of, call_bytes};
-ghost use Rattle.tbl_plain.specs.Core.{is_within, is_name, is_range};
+ghost use Rattle.tbl_plain.specs.Core.{is_within, is_range};
 ghost use Rattle.tbl_load.specs.Core.{MayCall};
 
 use crate::ports::TblPort;
-use fsw_base::{MAX_NAME_BYTES, MAX_TABLE_BYTES};
+use fsw_base::MAX_TABLE_BYTES;
 use tbl_words::{Allowance, TblCall};
 
 impl TblPort<'_> {
     /// Whether the application may make this call now, which is the condition of the call: it
-    /// hasn't ended, it has an entry and the call's bytes left, a name has at most 64 bytes, and
-    /// what is loaded 1 to 65536 bytes from an offset of at most 65536 on. Told without the lock.
+    /// hasn't ended, it has an entry and the call's bytes left, and what is loaded has 1 to 65536
+    /// bytes from an offset of at most 65536 on. Told without the lock.
     pub fn may_make(&self, call: &TblCall<'_>) -> bool
         ensures { IsTrue result ↔ MayCall self.now.seen self.now.app (call_of call.now) }
     {
@@ -27,8 +27,8 @@ fn is_permitted(may_end: bool, left: Allowance, call: &TblCall<'_>) -> bool
         is_within (call_of call.now)) }
 {
     let bytes = bytes_of(call);
-    let short = is_within(call);
-    may_end && bytes <= left.bytes as usize && short
+    let within = is_within(call);
+    may_end && bytes <= left.bytes as usize && within
 }
 
 // The bytes of the call's name or load.
@@ -44,24 +44,15 @@ fn bytes_of(call: &TblCall<'_>) -> usize
     }
 }
 
-// Whether the call's name is short enough, and its range is one.
+// Whether the range of a load is one; calls of other kinds have none.
 fn is_within(call: &TblCall<'_>) -> bool
     ensures { result ≡ is_within (call_of call.now) }
 {
     match call {
-        TblCall::Register { name, .. } => is_name(name),
-        TblCall::Share { name } => is_name(name),
         TblCall::Stage { offset, bytes, .. } => is_range(*offset, bytes),
         TblCall::Load { offset, bytes, .. } => is_range(*offset, bytes),
         _ => true,
     }
-}
-
-// Whether a name is short enough.
-fn is_name(name: &[u8]) -> bool
-    ensures { result ≡ is_name name.now }
-{
-    name.len() <= MAX_NAME_BYTES
 }
 
 // Whether a range is one.

@@ -1,7 +1,7 @@
 -- Three calls, each of which leaves one fewer.
 use Rattle.std.proofs.Common.{◌+◌, suc, refl, sym, true≢false, arith}
 use Rattle.tbl_words.specs.declared.history.Call.TheVariants.{Load, GetAddress, ReleaseAddress}
-use Rattle.cost_bus.proofs.Loading.{left_by_load, left_by_address, left_by_release, may_act, fewer, from_start}
+use Rattle.cost_bus.proofs.Loading.{left_by_load, left_by_address, left_by_release, may_act, next_left, fewer, from_start}
 use Rattle.cost_bus.proofs.loads.read_once.Goals as goal
 
 pub load-requires : goal.load-requires
@@ -11,15 +11,15 @@ load-requires c = record {
 
 pub get_address-requires : goal.get_address-requires
 get_address-requires c = record {
-  may = may_act c.load.new.self c.args.app 1 (GetAddress 1) refl (left_by_load c.args.core.now c.load.new.self c.args.app 1 0 2 c.args.value.now _ c.load.ensures c.requires.may);
-  bag = c.load.ensures.bags c.args.app c.args.held.now (λ e same. true≢false (sym e)) c.requires.bag;
+  may = may_act c.load.new.self c.args.app 1 (GetAddress 1) refl (left_by_load c.args.core.now c.load.new.self c.args.app 1 0 2 c.args.value.now _ (c.load.ensures.does (next_left c.args.core.now.state c.args.app 2 1 c.requires.may)) c.requires.may);
+  bag = (c.load.ensures.does (next_left c.args.core.now.state c.args.app 2 1 c.requires.may)).bags c.args.app c.args.held.now (λ e same. true≢false (sym e)) c.requires.bag;
 }
 
 pub release_address-requires : goal.release_address-requires
 release_address-requires c = record {
   may = may_act c.get_address.new.self c.args.app 0 (ReleaseAddress 1) refl
       (left_by_address c.load.new.self c.get_address.new.self c.args.app 1 1 _ c.get_address.ensures.does
-      (left_by_load c.args.core.now c.load.new.self c.args.app 1 0 2 c.args.value.now _ c.load.ensures c.requires.may));
+      (left_by_load c.args.core.now c.load.new.self c.args.app 1 0 2 c.args.value.now _ (c.load.ensures.does (next_left c.args.core.now.state c.args.app 2 1 c.requires.may)) c.requires.may));
   bag = c.get_address.ensures.bag;
 }
 

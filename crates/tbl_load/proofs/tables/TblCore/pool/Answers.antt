@@ -2,8 +2,16 @@ use Rattle.std.proofs.Common.{◌≡◌, subst}
 use Rattle.es_pool.specs.Account.{IsAccountOf}
 use Rattle.es_pool.specs.Pool.{in_use_by}
 use Rattle.tbl_words.specs.Tables.{State, account_of, bytes_in_use}
+use Rattle.tbl_plain.specs.Blocks.{IsTablePool}
+use Rattle.tbl_load.specs.Bags.{lent_tables}
 use Rattle.tbl_load.specs.Core.{Core, state_of}
+use Rattle.tbl_load.proofs.Located.{pool_of_history}
 use Rattle.tbl_load.proofs.tables.TblCore.pool.Goals as goal
+
+pub returns-clause-blocks : goal.returns-clause-blocks
+returns-clause-blocks c =
+    let P : Core → Type 0 = λ core. IsTablePool (lent_tables core) c.pool.result.now in
+    subst P c.self.view_is (pool_of_history c.self.inside c.self.invariant c.pool.result.now c.pool.ensures.blocks)
 
 pub returns-clause-account : goal.returns-clause-account
 returns-clause-account c =

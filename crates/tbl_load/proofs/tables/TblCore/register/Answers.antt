@@ -2,11 +2,11 @@ use Rattle.std.proofs.Common.{refl}
 use Rattle.tbl_words.specs.declared.history.Call.TheVariants.{Register}
 use Rattle.tbl_load.proofs.CoreBags.{bags_over}
 use Rattle.tbl_load.proofs.Made.{made_quiet, quiet_bags, entered_as, nothing_due, registered-nothing}
-use Rattle.tbl_load.proofs.Over.{may_act, may_push, stands_over, does_over}
+use Rattle.tbl_load.proofs.Over.{may_act, handle_left, may_push, stands_over, does_over}
 use Rattle.tbl_load.proofs.tables.TblCore.register.Goals as goal
 
 pub register-result-requires : goal.register-result-requires
-register-result-requires g c = record { may = may_act c.self.inside c.args.self.now c.args.app (Register c.args.name.now c.args.size c.args.option c.args.rules.now) c.self.view_is c.self.invariant c.requires.may }
+register-result-requires g c = record { may = may_act c.self.inside c.args.self.now c.args.app (Register c.args.name.now c.args.size c.args.option c.args.rules.now) c.self.view_is c.self.invariant c.requires.may; number = handle_left c.self.inside c.args.self.now c.args.app (Register c.args.name.now c.args.size c.args.option c.args.rules.now) c.self.view_is c.self.invariant c.requires.may }
 
 pub push-requires : goal.push-requires
 push-requires g c = record {

@@ -2,11 +2,11 @@ use Rattle.std.proofs.Common.{refl}
 use Rattle.tbl_words.specs.declared.history.Call.TheVariants.{Share}
 use Rattle.tbl_load.proofs.CoreBags.{bags_over}
 use Rattle.tbl_load.proofs.Made.{made_quiet, quiet_bags, nothing_due, shared-nothing}
-use Rattle.tbl_load.proofs.Over.{may_act, may_push, stands_over, does_over}
+use Rattle.tbl_load.proofs.Over.{may_act, handle_left, may_push, stands_over, does_over}
 use Rattle.tbl_load.proofs.tables.TblCore.share.Goals as goal
 
 pub share-result-requires : goal.share-result-requires
-share-result-requires c = record { may = may_act c.self.inside c.args.self.now c.args.app (Share c.args.name.now) c.self.view_is c.self.invariant c.requires.may }
+share-result-requires c = record { may = may_act c.self.inside c.args.self.now c.args.app (Share c.args.name.now) c.self.view_is c.self.invariant c.requires.may; number = handle_left c.self.inside c.args.self.now c.args.app (Share c.args.name.now) c.self.view_is c.self.invariant c.requires.may }
 
 pub push-requires : goal.push-requires
 push-requires c = record {

@@ -2,11 +2,11 @@ use Rattle.std.proofs.Common.{refl}
 use Rattle.tbl_words.specs.declared.history.Call.TheVariants.{Status}
 use Rattle.tbl_load.proofs.CoreBags.{bags_over}
 use Rattle.tbl_load.proofs.Made.{made_quiet, quiet_bags, nothing_due, figures-nothing}
-use Rattle.tbl_load.proofs.Over.{may_act, may_push, stands_over, does_over}
+use Rattle.tbl_load.proofs.Over.{may_act, few_versions, may_push, stands_over, does_over}
 use Rattle.tbl_load.proofs.tables.TblCore.status.Goals as goal
 
 pub status-result-requires : goal.status-result-requires
-status-result-requires c = record { may = may_act c.self.inside c.args.self.now c.args.app (Status c.args.handle) c.self.view_is c.self.invariant c.requires.may }
+status-result-requires c = record { may = may_act c.self.inside c.args.self.now c.args.app (Status c.args.handle) c.self.view_is c.self.invariant c.requires.may; few = few_versions c.self.inside c.args.self.now c.args.app (Status c.args.handle) c.self.view_is c.self.invariant c.requires.may }
 
 pub push-requires : goal.push-requires
 push-requires c = record {

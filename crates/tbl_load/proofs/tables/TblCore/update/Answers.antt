@@ -2,7 +2,7 @@ use Rattle.std.proofs.Common.{refl}
 use Rattle.tbl_words.specs.declared.history.Call.TheVariants.{Update}
 use Rattle.tbl_load.proofs.CoreBags.{bags_over}
 use Rattle.tbl_load.proofs.Made.{made_quiet, quiet_bags, nothing_due, done-nothing}
-use Rattle.tbl_load.proofs.Over.{may_act, may_push, stands_over, does_over}
+use Rattle.tbl_load.proofs.Over.{may_act, version_left, may_push, stands_over, does_over}
 use Rattle.tbl_load.proofs.tables.TblCore.update.Goals as goal
 
 pub update-result-requires : goal.update-result-requires
@@ -17,16 +17,16 @@ push-requires c = record {
 pub invariant_of-self : goal.invariant_of-self
 invariant_of-self c =
     stands_over c.self.inside c.update-result.new.self c.push.new.self c.args.self.now c.args.app (Update c.args.handle) _ c.self.view_is c.self.invariant c.requires.may
-    (made_quiet c.self.inside c.update-result.new.self c.push.new.self c.args.app (Update c.args.handle) _ c.of_done.result c.in_use-now.result c.self.invariant c.update-result.ensures c.of_done.ensures c.in_use-now.ensures c.push.ensures.due
+    (made_quiet c.self.inside c.update-result.new.self c.push.new.self c.args.app (Update c.args.handle) _ c.of_done.result c.in_use-now.result c.self.invariant (c.update-result.ensures.does (version_left c.self.inside c.args.self.now c.args.app c.args.handle (Update c.args.handle) c.self.view_is c.self.invariant c.requires.may)) c.of_done.ensures c.in_use-now.ensures c.push.ensures.due
     c.push.ensures.pushed (done-nothing c.update-result.result) (λ n. refl) refl)
 
 pub returns-clause-does : goal.returns-clause-does
 returns-clause-does c =
     does_over c.self.inside c.update-result.new.self c.push.new.self c.args.self.now c.args.app (Update c.args.handle) _ c.self.view_is c.self.invariant c.requires.may
-    (made_quiet c.self.inside c.update-result.new.self c.push.new.self c.args.app (Update c.args.handle) _ c.of_done.result c.in_use-now.result c.self.invariant c.update-result.ensures c.of_done.ensures c.in_use-now.ensures c.push.ensures.due
+    (made_quiet c.self.inside c.update-result.new.self c.push.new.self c.args.app (Update c.args.handle) _ c.of_done.result c.in_use-now.result c.self.invariant (c.update-result.ensures.does (version_left c.self.inside c.args.self.now c.args.app c.args.handle (Update c.args.handle) c.self.view_is c.self.invariant c.requires.may)) c.of_done.ensures c.in_use-now.ensures c.push.ensures.due
     c.push.ensures.pushed (done-nothing c.update-result.result) (λ n. refl) refl)
 
 pub returns-clause-bags : goal.returns-clause-bags
 returns-clause-bags c =
     bags_over c.self.inside (record { core = c.update-result.new.self; noted = c.push.new.self }) c.args.self.now c.self.view_is c.self.invariant (invariant_of-self c)
-    (quiet_bags c.self.inside.core c.update-result.new.self c.args.app (Update c.args.handle) _ c.update-result.ensures refl)
+    (quiet_bags c.self.inside.core c.update-result.new.self c.args.app (Update c.args.handle) _ (c.update-result.ensures.does (version_left c.self.inside c.args.self.now c.args.app c.args.handle (Update c.args.handle) c.self.view_is c.self.invariant c.requires.may)) refl)

@@ -10,15 +10,15 @@ use Rattle.tbl_blocks.specs.Blocks.{Stored}
 use Rattle.tbl_blocks.specs.Contents.{content_at}
 use Rattle.tbl_plain.specs.Inside.{means}
 use Rattle.tbl_plain.proofs.Called.{table_by, own_content, call_barred, call_asked, call_refused}
-use Rattle.tbl_plain.proofs.Loads.{load_checked, loaded_so, version_left}
+use Rattle.tbl_plain.proofs.Loads.{load_checked, loaded_so, is_next, never_next, next_here, next_left}
 use Rattle.tbl_plain.proofs.Reached.{reaches}
 use Rattle.tbl_plain.proofs.Stagings.{stage_alike, staging_refused, can_stage, none_apart, locked_alike, unlent}
 use Rattle.tbl_plain.proofs.Updates.{update_keeps, update_acts}
 use Rattle.tbl_plain.proofs.Validations.{row_rules, row_fits}
 use Rattle.tbl_plain.proofs.plain.PlainTables.load.Goals as goal
 
-pub returns-in_err-row : goal.returns-in_err-row
-returns-in_err-row c =
+pub returns-in_err-row-clause-does : goal.returns-in_err-row-clause-does
+returns-in_err-row-clause-does c = λ left.
     let p = err_from_is_err_and c.from_residual.result c.from_residual.ensures.1 in
     rw (p.1, p.2) (call_barred c.self.inside c.args.self.now c.self.view_is c.recall_ties.ensures c.args.app c.args.handle (Load c.args.handle c.args.offset c.args.bytes.now) (load_cause (means c.self.inside) c.args.offset c.args.bytes.now) refl c.in_err-row.field-0.0 (sym c.own_table.ensures ∙ c.in_err-row.was))
 
@@ -30,8 +30,8 @@ overflow_cast-key c =
 pub unstaged_cause-requires-clause-open : goal.unstaged_cause-requires-clause-open
 unstaged_cause-requires-clause-open c = (own_content c.self.inside c.self.invariant c.recall_ties.ensures c.args.app c.args.handle c.in_ok-row.row (sym c.own_table.ensures ∙ c.in_ok-row.was)).present
 
-pub returns-in-Some : goal.returns-in-Some
-returns-in-Some c =
+pub returns-in-Some-clause-does : goal.returns-in-Some-clause-does
+returns-in-Some-clause-does c = λ left.
     let a = c.self.inside in
     let h = c.in_ok-row.row in
     let is = sym c.own_table.ensures ∙ c.in_ok-row.was in
@@ -48,8 +48,8 @@ failed_rule-requires-clause-fit c =
     let has = own_content a c.self.invariant c.recall_ties.ensures c.args.app c.args.handle h (sym c.own_table.ensures ∙ c.in_ok-row.was) in
     row_fits a c.self.invariant h has c.table.result c.table.ensures c.as_slice.result.now c.bytes-value.result.now c.as_slice.ensures.rules (ap length c.bytes-value.ensures ∙ c.recall_table.ensures.present)
 
-pub returns-in-Some-failed_rule : goal.returns-in-Some-failed_rule
-returns-in-Some-failed_rule c =
+pub returns-in-Some-failed_rule-clause-does : goal.returns-in-Some-failed_rule-clause-does
+returns-in-Some-failed_rule-clause-does c = λ left.
     let a = c.self.inside in
     let h = c.in_ok-row.row in
     let is = sym c.own_table.ensures ∙ c.in_ok-row.was in
@@ -62,8 +62,8 @@ returns-in-Some-failed_rule c =
     ∙ load_checked (means a) (is_registered a.registry.handles has.t) has.t content c.as_slice.result.now c.bytes-value.result.now c.args.offset c.args.bytes.now (Some c.in-Some-failed_rule.number) (is_locked (means a) (table_by a h has.t))
     (c.as_slice.ensures.rules ∙ row_rules a c.self.invariant h has c.table.result c.table.ensures) c.bytes-value.ensures (sym c.in-Some-failed_rule.is ∙ c.failed_rule.ensures) refl)
 
-pub returns-then-is_lent : goal.returns-then-is_lent
-returns-then-is_lent c =
+pub returns-then-is_lent-clause-does : goal.returns-then-is_lent-clause-does
+returns-then-is_lent-clause-does c = λ left.
     let a = c.self.inside in
     let h = c.in_ok-row.row in
     let is = sym c.own_table.ensures ∙ c.in_ok-row.was in
@@ -77,10 +77,18 @@ returns-then-is_lent c =
     (c.as_slice.ensures.rules ∙ row_rules a c.self.invariant h has c.table.result c.table.ensures) c.bytes-value.ensures (sym c.in_default-failed_rule.is ∙ c.failed_rule.ensures)
     (locked_alike a h has c.recall_table.ensures.inactive ∙ (sym c.is_lent.ensures ∙ c.if-is_lent.true)))
 
+pub returns-then-not-has_next_version-clause-does : goal.returns-then-not-has_next_version-clause-does
+returns-then-not-has_next_version-clause-does c = λ left.
+    let a = c.self.inside in
+    let h = c.in_ok-row.row in
+    let is = sym c.own_table.ensures ∙ c.in_ok-row.was in
+    let has = own_content a c.self.invariant c.recall_ties.ensures c.args.app c.args.handle h is in
+    let found = (reaches a c.recall_ties.ensures c.args.app c.args.handle h is).own.found in
+    absurd (never_next (content_at a.blocks.tables h.key).version (sym c.has_next_version.ensures ∙ c.if-not-has_next_version.true)
+    (next_here a c.args.self.now c.self.view_is c.recall_ties.ensures c.args.handle h found has left))
+
 pub load-requires-clause-room : goal.load-requires-clause-room
-load-requires-clause-room c =
-    version_left c.self.inside c.args.self.now c.self.view_is c.requires.may.versions c.in_ok-row.row
-    (own_content c.self.inside c.self.invariant c.recall_ties.ensures c.args.app c.args.handle c.in_ok-row.row (sym c.own_table.ensures ∙ c.in_ok-row.was))
+load-requires-clause-room c = is_next (content_at c.self.inside.blocks.tables c.in_ok-row.row.key).version (sym c.has_next_version.ensures ∙ c.if-not-has_next_version.false)
 
 pub invariant_of-self : goal.invariant_of-self
 invariant_of-self c =
@@ -93,8 +101,8 @@ invariant_of-self c =
     update_keeps a c.self.invariant c.recall_ties.ensures h has (reaches a c.recall_ties.ensures c.args.app c.args.handle h is).live c.load.new.self (content_at c.load.new.self.tables h.key).present.loan (with_range content.present.bytes c.args.offset c.args.bytes.now)
     (ap (λ (s : Stored). s.tables) c.load.ensures) (ap (λ (s : Stored). s.pool) c.load.ensures) (ap (λ (s : Stored). s.most) c.load.ensures) (none_apart content c.recall_table.ensures.inactive can.apart) (unlent content (sym c.is_lent.ensures ∙ c.if-is_lent.false))
 
-pub returns : goal.returns
-returns c =
+pub returns-clause-does : goal.returns-clause-does
+returns-clause-does c = λ left.
     let a = c.self.inside in
     let h = c.in_ok-row.row in
     let is = sym c.own_table.ensures ∙ c.in_ok-row.was in
@@ -112,3 +120,13 @@ returns c =
     (c.as_slice.ensures.rules ∙ row_rules a c.self.invariant h has c.table.result c.table.ensures) c.bytes-value.ensures (sym c.in_default-failed_rule.is ∙ c.failed_rule.ensures)
     (locked_alike a h has c.recall_table.ensures.inactive ∙ (sym c.is_lent.ensures ∙ c.if-is_lent.false)))
     (ap (λ (s : state.State). (Done, s)) (loaded_so a c.recall_ties.ensures c.args.handle h (reaches a c.recall_ties.ensures c.args.app c.args.handle h is).own.found has c.args.offset c.args.bytes.now))
+
+pub returns-clause-spent : goal.returns-clause-spent
+returns-clause-spent c = λ none.
+    let a = c.self.inside in
+    let h = c.in_ok-row.row in
+    let is = sym c.own_table.ensures ∙ c.in_ok-row.was in
+    let has = own_content a c.self.invariant c.recall_ties.ensures c.args.app c.args.handle h is in
+    let found = (reaches a c.recall_ties.ensures c.args.app c.args.handle h is).own.found in
+    absurd (none (next_left a c.args.self.now c.self.view_is c.recall_ties.ensures c.args.handle h found has
+    (is_next (content_at a.blocks.tables h.key).version (sym c.has_next_version.ensures ∙ c.if-not-has_next_version.false))))

@@ -16,6 +16,7 @@ use Rattle.tbl_plain.proofs.Shares.{is_named, share_there}
 use Rattle.tbl_plain.proofs.Registers.{found_new, owner_key, key_within, key_small, key_closed}
 use Rattle.tbl_plain.proofs.RegisterCalls.{not_so, some_is, register_unowned, register_other_size, owner_live, register_again, register_full}
 use Rattle.tbl_plain.proofs.Registered.{on_ok, registered_fits, registered_all_keeps, registered_all_acts}
+use Rattle.tbl_plain.proofs.Shares.{number_left}
 use Rattle.tbl_plain.proofs.plain.PlainTables.register.Goals as goal
 
 pub table-row-requires : goal.table-row-requires
@@ -50,6 +51,9 @@ returns-in-Some-new_table_cause-clause-does g c =
     register_full c.self.inside c.args.self.now c.self.view_is c.args.app c.args.name.now c.args.size c.args.option c.args.rules.now (sym c.unfit_cause.ensures ∙ c.in_default.is)
     (sym c.by_name.ensures ∙ c.in_default-by_name.is) c.in-Some-new_table_cause.status
     (at_fields c.self.inside c.args.self.now c.self.view_is (λ limits s. new_table_cause limits s c.args.size c.args.option) (Some c.in-Some-new_table_cause.status) (sym c.in-Some-new_table_cause.is ∙ c.new_table_cause.ensures))
+
+pub add_table-number-requires-clause-number : goal.add_table-number-requires-clause-number
+add_table-number-requires-clause-number g c = number_left c.self.inside c.args.self.now c.self.view_is c.requires.number
 
 pub unwrap-owner-requires : goal.unwrap-owner-requires
 unwrap-owner-requires g c =

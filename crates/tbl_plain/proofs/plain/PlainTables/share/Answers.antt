@@ -3,7 +3,7 @@ use Rattle.tbl_words.specs.declared.calls.TblAnswer.TheVariants.{Number}
 use Rattle.tbl_words.specs.declared.history.Call.TheVariants.{Share}
 use Rattle.tbl_plain.specs.Core.{Acts}
 use Rattle.tbl_plain.specs.Inside.{plain_of}
-use Rattle.tbl_plain.proofs.Shares.{share_unnamed, share_full, share_there, share_keeps, share_acts}
+use Rattle.tbl_plain.proofs.Shares.{share_unnamed, share_full, share_there, share_keeps, share_acts, number_left}
 use Rattle.tbl_plain.proofs.plain.PlainTables.share.Goals as goal
 
 pub returns-in_default : goal.returns-in_default
@@ -17,6 +17,9 @@ returns-then-handles-self c =
 
 pub add_handle-requires-clause-there : goal.add_handle-requires-clause-there
 add_handle-requires-clause-there c = share_there c.self.inside c.recall_ties.ensures c.args.name.now c.in-Some.key (sym c.by_name.ensures ∙ c.in-Some.is)
+
+pub add_handle-requires-clause-number : goal.add_handle-requires-clause-number
+add_handle-requires-clause-number c = number_left c.self.inside c.args.self.now c.self.view_is c.requires.number
 
 pub invariant_of-self : goal.invariant_of-self
 invariant_of-self c =

@@ -10,7 +10,7 @@ use Rattle.tbl_blocks.specs.Blocks.{Stored}
 use Rattle.tbl_blocks.specs.Contents.{content_at, staged_in}
 use Rattle.tbl_plain.specs.Inside.{means}
 use Rattle.tbl_plain.proofs.Called.{table_by, own_content, call_barred, call_asked, call_refused}
-use Rattle.tbl_plain.proofs.Loads.{unstaged_update, update_checked, updated_so, version_left}
+use Rattle.tbl_plain.proofs.Loads.{unstaged_update, update_checked, updated_so, is_next, never_next, next_here, next_left}
 use Rattle.tbl_plain.proofs.Reached.{reaches}
 use Rattle.tbl_plain.proofs.Registers.{none_staged}
 use Rattle.tbl_plain.proofs.Stagings.{locked_alike, unlent}
@@ -18,8 +18,8 @@ use Rattle.tbl_plain.proofs.Updates.{update_keeps, update_acts}
 use Rattle.tbl_plain.proofs.Validations.{none_older}
 use Rattle.tbl_plain.proofs.plain.PlainTables.update.Goals as goal
 
-pub returns-in_err-row : goal.returns-in_err-row
-returns-in_err-row c =
+pub returns-in_err-row-clause-does : goal.returns-in_err-row-clause-does
+returns-in_err-row-clause-does c = λ left.
     let p = err_from_is_err_and c.from_residual.result c.from_residual.ensures.1 in
     rw (p.1, p.2) (call_barred c.self.inside c.args.self.now c.self.view_is c.recall_ties.ensures c.args.app c.args.handle (Update c.args.handle) (update_cause (means c.self.inside)) refl c.in_err-row.field-0.0 (sym c.own_table.ensures ∙ c.in_err-row.was))
 
@@ -31,8 +31,8 @@ overflow_cast-key c =
 pub is_staged-requires : goal.is_staged-requires
 is_staged-requires c = (own_content c.self.inside c.self.invariant c.recall_ties.ensures c.args.app c.args.handle c.in_ok-row.row (sym c.own_table.ensures ∙ c.in_ok-row.was)).present
 
-pub returns-then-not-is_staged : goal.returns-then-not-is_staged
-returns-then-not-is_staged c =
+pub returns-then-not-is_staged-clause-does : goal.returns-then-not-is_staged-clause-does
+returns-then-not-is_staged-clause-does c = λ left.
     let a = c.self.inside in
     let h = c.in_ok-row.row in
     let is = sym c.own_table.ensures ∙ c.in_ok-row.was in
@@ -40,8 +40,8 @@ returns-then-not-is_staged c =
     call_refused a c.args.self.now c.self.view_is c.recall_ties.ensures c.args.app c.args.handle (Update c.args.handle) (update_cause (means a)) refl h is has InfoNoUpdatePending
     (unstaged_update (means a) (is_registered a.registry.handles has.t) has.t (content_at a.blocks.tables h.key) (none_staged (content_at a.blocks.tables h.key).next (sym c.is_staged.ensures ∙ c.if-not-is_staged.true)))
 
-pub returns-then-not-is_validated : goal.returns-then-not-is_validated
-returns-then-not-is_validated c =
+pub returns-then-not-is_validated-clause-does : goal.returns-then-not-is_validated-clause-does
+returns-then-not-is_validated-clause-does c = λ left.
     let a = c.self.inside in
     let h = c.in_ok-row.row in
     let is = sym c.own_table.ensures ∙ c.in_ok-row.was in
@@ -49,8 +49,8 @@ returns-then-not-is_validated c =
     call_refused a c.args.self.now c.self.view_is c.recall_ties.ensures c.args.app c.args.handle (Update c.args.handle) (update_cause (means a)) refl h is has NotValidated
     (update_checked (means a) (is_registered a.registry.handles has.t) has.t (content_at a.blocks.tables h.key) false (is_locked (means a) (table_by a h has.t)) (sym c.is_staged.ensures ∙ c.if-not-is_staged.false) (sym c.is_validated.ensures ∙ c.if-not-is_validated.true) refl)
 
-pub returns-then-is_lent : goal.returns-then-is_lent
-returns-then-is_lent c =
+pub returns-then-is_lent-clause-does : goal.returns-then-is_lent-clause-does
+returns-then-is_lent-clause-does c = λ left.
     let a = c.self.inside in
     let h = c.in_ok-row.row in
     let is = sym c.own_table.ensures ∙ c.in_ok-row.was in
@@ -60,10 +60,18 @@ returns-then-is_lent c =
     (update_checked (means a) (is_registered a.registry.handles has.t) has.t (content_at a.blocks.tables h.key) true true staged (sym c.is_validated.ensures ∙ c.if-not-is_validated.false)
     (locked_alike a h has (λ none. absurd (cc (sym staged ∙ none))) ∙ (sym c.is_lent.ensures ∙ c.if-is_lent.true)))
 
+pub returns-then-not-has_next_version-clause-does : goal.returns-then-not-has_next_version-clause-does
+returns-then-not-has_next_version-clause-does c = λ left.
+    let a = c.self.inside in
+    let h = c.in_ok-row.row in
+    let is = sym c.own_table.ensures ∙ c.in_ok-row.was in
+    let has = own_content a c.self.invariant c.recall_ties.ensures c.args.app c.args.handle h is in
+    let found = (reaches a c.recall_ties.ensures c.args.app c.args.handle h is).own.found in
+    absurd (never_next (content_at a.blocks.tables h.key).version (sym c.has_next_version.ensures ∙ c.if-not-has_next_version.true)
+    (next_here a c.args.self.now c.self.view_is c.recall_ties.ensures c.args.handle h found has left))
+
 pub update-requires-clause-room : goal.update-requires-clause-room
-update-requires-clause-room c =
-    version_left c.self.inside c.args.self.now c.self.view_is c.requires.may.versions c.in_ok-row.row
-    (own_content c.self.inside c.self.invariant c.recall_ties.ensures c.args.app c.args.handle c.in_ok-row.row (sym c.own_table.ensures ∙ c.in_ok-row.was))
+update-requires-clause-room c = is_next (content_at c.self.inside.blocks.tables c.in_ok-row.row.key).version (sym c.has_next_version.ensures ∙ c.if-not-has_next_version.false)
 
 pub invariant_of-self : goal.invariant_of-self
 invariant_of-self c =
@@ -76,8 +84,8 @@ invariant_of-self c =
     update_keeps a c.self.invariant c.recall_ties.ensures h has (reaches a c.recall_ties.ensures c.args.app c.args.handle h is).live c.update.new.self (content_at c.update.new.self.tables h.key).present.loan (staged_in content.next).bytes
     (ap (λ (s : Stored). s.tables) c.update.ensures) (ap (λ (s : Stored). s.pool) c.update.ensures) (ap (λ (s : Stored). s.most) c.update.ensures) (none_older content.next staged) (unlent content (sym c.is_lent.ensures ∙ c.if-is_lent.false))
 
-pub returns : goal.returns
-returns c =
+pub returns-clause-does : goal.returns-clause-does
+returns-clause-does c = λ left.
     let a = c.self.inside in
     let h = c.in_ok-row.row in
     let is = sym c.own_table.ensures ∙ c.in_ok-row.was in
@@ -91,3 +99,13 @@ returns c =
     ∙ update_checked (means a) (is_registered a.registry.handles has.t) has.t content true false staged (sym c.is_validated.ensures ∙ c.if-not-is_validated.false)
     (locked_alike a h has (λ none. absurd (cc (sym staged ∙ none))) ∙ (sym c.is_lent.ensures ∙ c.if-is_lent.false)))
     (ap (λ (s : state.State). (Done, s)) (updated_so a c.recall_ties.ensures c.args.handle h (reaches a c.recall_ties.ensures c.args.app c.args.handle h is).own.found has staged))
+
+pub returns-clause-spent : goal.returns-clause-spent
+returns-clause-spent c = λ none.
+    let a = c.self.inside in
+    let h = c.in_ok-row.row in
+    let is = sym c.own_table.ensures ∙ c.in_ok-row.was in
+    let has = own_content a c.self.invariant c.recall_ties.ensures c.args.app c.args.handle h is in
+    let found = (reaches a c.recall_ties.ensures c.args.app c.args.handle h is).own.found in
+    absurd (none (next_left a c.args.self.now c.self.view_is c.recall_ties.ensures c.args.handle h found has
+    (is_next (content_at a.blocks.tables h.key).version (sym c.has_next_version.ensures ∙ c.if-not-has_next_version.false))))
