@@ -4,7 +4,9 @@ it; and at which call each line of the event log was told.
 The report says of a send how many pipes it reached, and of a receive the number of its send. The
 rest follows by following the pipes from call to call, as docs/SCRIPT.md says what they do. The id
 of a message stands in its receipts alone. Of one that nobody received it is the one id, if there is
-one, to which so many pipes are subscribed that take it; or it is read off the script.
+one, of which a send reaches so many pipes; or it is read off the script. Behind a message whose id
+nothing tells it isn't known any more what waits on the pipes: no further id is found so, and a pipe
+counts as having missed a message only where the others are as many as the send reached.
 """
 from dataclasses import dataclass, field
 
@@ -60,15 +62,15 @@ class Pipes:
     """The live pipes and subscriptions, as the calls so far leave them."""
 
     def __init__(self):
-        self.pipes, self.subscriptions = {}, []
+        self.pipes, self.subscriptions = {}, {}
 
     def delivery(self, app, packet_id):
         """The pipes that take a message of this id, each with its subscription, and the misses."""
         taken, missed = [], []
-        for subscription in self.subscriptions:
-            its_id, number, limit = subscription
+        for subscription in self.subscriptions.get(packet_id, ()):
+            number, limit = subscription
             pipe = self.pipes[number]
-            if its_id != packet_id or (pipe.bits & IGNORE_OWN and pipe.owner == app):
+            if pipe.bits & IGNORE_OWN and pipe.owner == app:
                 continue
             waiting = sum(queued is subscription for _, queued in pipe.queue)
             is_full = len(pipe.queue) >= pipe.depth
@@ -84,17 +86,18 @@ class Pipes:
 
     def fitting_id(self, app, reached):
         """The one id of which a send reaches so many pipes, if there is one."""
-        ids = dict.fromkeys(its_id for its_id, _, _ in self.subscriptions)
-        fit = [it for it in ids if len(self.delivery(app, it)[0]) == reached]
+        live = [it for it, subscriptions in self.subscriptions.items() if subscriptions]
+        fit = [it for it in live if len(self.delivery(app, it)[0]) == reached]
         return fit[0] if len(fit) == 1 else None
 
     def send(self, sent):
-        """Queues a message whose id is known, and notes the pipes that missed it."""
+        """Queues a message whose id is known, and notes the pipes that missed it; how many took it."""
         taken, sent.missed = self.delivery(sent.call.app, sent.id)
         for pipe, subscription in taken:
             if len(pipe.queue) >= pipe.depth:
                 pipe.queue.pop(0)
             pipe.queue.append((sent.number, subscription))
+        return len(taken)
 
     def receive(self, number, message):
         """Takes a message from a pipe, with those before it of which nothing is known."""
@@ -104,13 +107,13 @@ class Pipes:
             del pipe.queue[: waiting.index(message) + 1]
 
     def find(self, packet_id, pipe):
-        pairs = [subscription[:2] for subscription in self.subscriptions]
-        return (packet_id, pipe) in pairs
+        return any(number == pipe for number, _ in self.subscriptions.get(packet_id, ()))
 
     def delete(self, numbers):
         for number in numbers:
             self.pipes.pop(number, None)
-        self.subscriptions = [it for it in self.subscriptions if it[1] in self.pipes]
+        for subscriptions in self.subscriptions.values():
+            subscriptions[:] = [it for it in subscriptions if it[0] in self.pipes]
 
     def follow(self, call):
         """What a call that was accepted, and is no send, does to the pipes."""
@@ -125,16 +128,12 @@ class Pipes:
         elif word == "opts":
             self.pipes[int(given[0])].bits = int(given[1])
         elif word == "sub" and not self.find(int(given[0], 16), int(given[1])):
-            self.subscriptions.append((int(given[0], 16), int(given[1]), int(given[2])))
+            self.subscriptions.setdefault(int(given[0], 16), []).append((int(given[1]), int(given[2])))
         elif word == "unsub":
-            pair = (int(given[0], 16), int(given[1]))
-            self.subscriptions = [it for it in self.subscriptions if it[:2] != pair]
+            subscriptions = self.subscriptions.get(int(given[0], 16), [])
+            subscriptions[:] = [it for it in subscriptions if it[0] != int(given[1])]
         elif word in RECEIVES and call.told:
             self.receive(int(given[0]), int(call.told[0]))
-
-
-def has_event(event, app, number, text):
-    return (event.app, event.id, event.text) == (app, number, text)
 
 
 class Story:
@@ -146,6 +145,7 @@ class Story:
         self.sent, self.names, self.tellings = {}, {}, []
         self.seen = {it.number: it for it in report.receipts if hasattr(it, "pipe")}
         self.numbered = {}
+        self.is_exact = True
         pipes = Pipes()
         for call in report.bus:
             self.tell(pipes, call)
@@ -172,12 +172,12 @@ class Story:
         else:
             sent.size = 64 if call.word == "hk" else int(call.given[-3])
             sent.id = HOUSEKEEPING if call.word == "hk" else self.ids.get(call.number)
-            if sent.id is None and number:
+            if sent.id is None and number and self.is_exact:
                 sent.id = pipes.fitting_id(call.app, reached)
         if number:
             self.numbered[number] = sent
-            if sent.id is not None:
-                pipes.send(sent)
+            if sent.id is None or pipes.send(sent) != reached:
+                self.is_exact, sent.missed = False, []
         self.sent[call.number] = sent
         self.tellings += [(call, ("miss", miss, sent)) for miss in sent.missed]
         if not number:
