@@ -24,6 +24,8 @@ from corpus_text import cases_of, files
 
 # What a compilation takes of memory, in bytes, with some room.
 MEMORY = 2 << 30
+# How many faults are told.
+MOST_TOLD = 20
 # The scripts are run in so many parts side by side: compiling the program takes a minute of a
 # processor, and running them all on one takes four.
 PARTS = 3
@@ -161,7 +163,7 @@ def main(words):
     crates = words[1:] if words else crates_with_tests()
     trials = [*corpus_trials(), *example_trials()]
     program = "the proved program" if is_proved else "the program compiled without a proof"
-    tell(f"{len(trials)} scripts on {program}, and the tests of {len(crates)} crates; some three minutes on four processors")
+    tell(f"{len(trials)} scripts on {program}, and the tests of {len(crates)} crates; three to five minutes on four processors")
     progress = Progress()
     with ThreadPoolExecutor(lanes()) as pool:
         if is_proved:
@@ -172,9 +174,9 @@ def main(words):
         passed = sum(pool.map(lambda crate: try_tests(progress, crate), crates))
         for part in scripts:
             part.result()
-    for line in progress.wrong:
+    for line in progress.wrong[:MOST_TOLD]:
         tell(line)
-    found = f"{len(progress.wrong)} wrong, as told above" if progress.wrong else "all as it should be"
+    found = f"{len(progress.wrong)} wrong, of which the first stand above" if progress.wrong else "all as it should be"
     progress.done(f"{len(trials)} scripts and {passed} tests: {found}; nothing of it is a proof, ./fsw build proves")
     return 1 if progress.wrong else 0
 
