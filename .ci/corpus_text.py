@@ -28,6 +28,18 @@ class Case:
         is_same = sum_of(report) == self.sum if self.sum else report == self.report
         return status == self.status and is_same
 
+    def difference(self, status, report):
+        """The first thing in which this isn't the answer of the case."""
+        if status != self.status:
+            return f"status {status}, wanted {self.status}"
+        if self.sum:
+            return f"another report, of {len(report)} bytes; wanted {self.sum}"
+        lines, wanted = report.split(b"\n"), self.report.split(b"\n")
+        at = 0
+        while lines[at : at + 1] == wanted[at : at + 1]:
+            at += 1
+        return f"line {at + 1} of the report: {lines[at : at + 1]}, wanted {wanted[at : at + 1]}"
+
     def text(self):
         """The case as its file has it."""
         lines = [*self.notes, f"== {self.name}"]

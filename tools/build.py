@@ -22,7 +22,7 @@ LOG = os.path.join(OUT, "build.log")
 BEGAN = os.path.join(OUT, "build.began")
 # What a proof takes of memory, in bytes, with some room.
 MEMORY = 3 << 30
-EXPECTED = "the first time takes some 20 minutes on four processors"
+EXPECTED = "from nothing it takes over 45 minutes on four processors"
 PROVED = re.compile("logic=proved ")
 NEXT = "./fsw lockstep < examples/first.fsw"
 

@@ -1,7 +1,9 @@
 """Runs the program compiled for this run alone, without a proof; its words are those given here.
 
-Standard output is the program's, and so is the status where the program ended. Where it did not,
-the status is 1, which the program never gives, and standard error says what to do.
+`lockstep` with files runs each of them, over one compilation, and prints each report under the
+file's name where there are several. Standard output is the program's, and so is the status where
+the program ended; of several scripts it is that of the first that didn't end with 0. Where a run
+didn't end, the status is 1, which the program never gives, and standard error says what to do.
 """
 import os
 import re
@@ -12,11 +14,10 @@ import tempfile
 
 sys.dont_write_bytecode = True  # nothing is left beside the sources
 
-from kit import CRATE, PROGRAM, stop_without_kit, tell
+from kit import CRATE, PROGRAM, SECONDS, TOO_LARGE, Case, stop_without_kit, tell, try_cases
 
 # More than the longest script, so that a longer one is refused as such, and an endless one too.
 MOST_INPUT = 2 << 20
-SECONDS = "600"
 
 
 def given_input(words):
@@ -27,10 +28,12 @@ def given_input(words):
     return sys.stdin.buffer.read(MOST_INPUT)
 
 
-def tell_what_runs():
+def tell_what_runs(count):
     is_built = os.path.exists(PROGRAM)
     why = "the sources have changed since the build" if is_built else "nothing is built yet"
-    what = "this run is compiled and not proved, which takes a minute or two"
+    runs = "this run is" if count == 1 else f"these {count} runs are"
+    takes = "takes" if count == 1 else "take"
+    what = f"{runs} compiled and not proved, which {takes} a minute or two"
     tell(f"{why}: {what}; ./fsw build makes the proved program")
 
 
@@ -44,11 +47,12 @@ def run(words, text):
     return done.returncode, done.stderr.decode(errors="replace").rstrip("\n")
 
 
-def main(words):
-    stop_without_kit()
-    tell_what_runs()
-    # rt ends itself at an interrupt, and removes what it made.
-    signal.signal(signal.SIGINT, lambda *_: None)
+def tell_too_large():
+    tell("the report has more than 1 MiB, for which the proved program is needed: ./fsw build")
+
+
+def run_one(words):
+    """Runs the program on standard input; the status."""
     status, said = run(words, given_input(words))
     # The last line alone tells a status of the program from one of rt's own.
     ended = re.fullmatch(r"run=ended status=(\d+) .*proved=no", said.rpartition("\n")[2])
@@ -56,12 +60,46 @@ def main(words):
         return int(ended[1])
     if status in (-signal.SIGINT, 128 + signal.SIGINT):
         return 128 + signal.SIGINT
-    if "wrote more than 1048576 bytes" in said:
-        tell("the report has more than 1 MiB, for which the proved program is needed: ./fsw build")
+    if TOO_LARGE in said:
+        tell_too_large()
         return 1
     print(said, file=sys.stderr)
     tell("the program could not be compiled, or did not end: the lines above say why")
     return 1
+
+
+def case_of(name):
+    with open(name, "rb") as file:
+        return Case(["lockstep"], file.read(MOST_INPUT))
+
+
+def run_files(names):
+    """Runs the program on each of these files; the first status that isn't 0."""
+    answers, said = try_cases([case_of(name) for name in names])
+    if answers is None:
+        print(said, file=sys.stderr)
+        tell("the program could not be compiled: the lines above say why")
+        return 1
+    status = 0
+    for name, (ended, report) in zip(names, answers):
+        if len(names) > 1:
+            print(f"== {name}", flush=True)
+        sys.stdout.buffer.write(report)
+        sys.stdout.flush()
+        if ended is None:
+            tell(f"{name}: it did not end, or its report has more than 1 MiB: take the proved program, by ./fsw build")
+        status = status or (1 if ended is None else ended)
+    return status
+
+
+def main(words):
+    stop_without_kit()
+    names = words[1:] if words[:1] == ["lockstep"] else []
+    has_files = any(map(os.path.exists, names))
+    tell_what_runs(len(names) if has_files else 1)
+    # rt ends itself at an interrupt, and removes what it made.
+    signal.signal(signal.SIGINT, lambda *_: None)
+    return run_files(names) if has_files else run_one(words)
 
 
 if __name__ == "__main__":

@@ -20,6 +20,20 @@ impl<'r> BusStore<'r> {
         self.tables.pipes_len()
     }
 
+    /// How many pipes were created, which is the newest one's number.
+    pub fn pipes_created(&self) -> u32
+        ensures { result ≡ self.now.pipes_created }
+    {
+        self.tables.pipes_created()
+    }
+
+    /// How many subscriptions were made, which is the newest one's number.
+    pub fn subscriptions_made(&self) -> u32
+        ensures { result ≡ self.now.subscriptions_made }
+    {
+        self.tables.subscriptions_made()
+    }
+
     /// Whether a pipe of this number is live and the application's.
     pub fn owns(&self, app: AppNo, number: u32) -> bool
         ensures { result ≡ owns self.now.pipes app number }

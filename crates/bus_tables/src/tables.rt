@@ -92,6 +92,20 @@ impl BusTables {
         self.pipes.len()
     }
 
+    /// How many pipes were created, which is the newest one's number.
+    pub fn pipes_created(&self) -> u32
+        ensures { result ≡ self.now.pipes_created }
+    {
+        self.pipes.pipes_created()
+    }
+
+    /// How many subscriptions were made, which is the newest one's number.
+    pub fn subscriptions_made(&self) -> u32
+        ensures { result ≡ self.now.subscriptions_made }
+    {
+        self.subs.subscriptions_made()
+    }
+
     /// Whether a pipe of this number is live and the application's. By the code, the number is
     /// looked up by halves among the live ones.
     pub fn owns(&self, app: AppNo, number: u32) -> bool

@@ -77,6 +77,13 @@ impl PipeTable {
         self.places.len() - self.free.len()
     }
 
+    /// How many pipes were created, which is the newest one's number.
+    pub fn pipes_created(&self) -> u32
+        ensures { result ≡ self.now.created }
+    {
+        self.created
+    }
+
     /// The live pipes stand in order of number, and their places in the same order. Does nothing.
     pub fn recall_order(&self)
         ensures order { IsRising 0 self.now.live }

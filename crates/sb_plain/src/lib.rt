@@ -37,6 +37,7 @@ mod calls;
 mod causes;
 mod counter_calls;
 mod event_calls;
+mod opening;
 mod pending;
 mod permits;
 mod pipe_calls;

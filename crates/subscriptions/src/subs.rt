@@ -71,6 +71,13 @@ impl Subs {
         (self.slots.len() - self.free.len()) as u32
     }
 
+    /// How many subscriptions were made, which is the newest one's number.
+    pub fn subscriptions_made(&self) -> u32
+        ensures { result ≡ self.now.made }
+    {
+        self.made
+    }
+
     /// The live subscriptions stand in order of number, and each in a slot below the room. Does
     /// nothing.
     pub fn recall_order(&self)
