@@ -1,13 +1,12 @@
 -- The file of an image, part by part, and what its fields read as.
-use Rattle.std.proofs.Common.{◌≡◌, ℕ, suc, ◌+◌, ◌-◌, ◌<◌, ◌≤◌, ◌^◌, ◌&&◌, eqb, nat_le, nat_lt, Bool, true, false, cond, List, [], ◌∷◌, ◌++◌, length, take, drop, replicate, flat_map, Option, Some, None, refl, sym, ap, ◌∙◌, arith, append_assoc, not}
+use Rattle.std.proofs.Common.{◌≡◌, ℕ, suc, ◌+◌, ◌-◌, ◌<◌, ◌≤◌, ◌^◌, ◌&&◌, eqb, nat_le, nat_lt, Bool, true, false, cond, List, [], ◌∷◌, ◌++◌, length, take, drop, replicate, flat_map, Some, None, refl, sym, ap, ◌∙◌, arith, append_assoc, not}
 use Rattle.std.specs.List.{list_all, position, position_or_len, before_first}
 use Rattle.std.proofs.lemmas.Bool.{leb-true, le-ltb, ltb-false, eq-eqb, ne_eqb}
 use Rattle.std.proofs.lemmas.List.{take_at, drop_at, take_all, drop-drop, length-append, length-drop, drop-replicate, length-replicate}
 use Rattle.byteorder.specs.Endian.{big_number, big_bytes}
 use Rattle.byteorder.specs.Numbers.{big_number-reads_back}
 use Rattle.tbl_file.specs.declared.image.Image.{Image}
-use Rattle.tbl_file.specs.declared.image.ImageFault.TheVariants.{Short, NotCfe, BadName, Empty, Size}
-use Rattle.tbl_file.specs.Image.{number_at, content_id, name_in, size_said, is_table_name, name_field, file_numbers, table_numbers, image_file, HasFields, IsImage, image_fault}
+use Rattle.tbl_file.specs.Image.{number_at, content_id, name_in, size_said, is_table_name, name_field, table_numbers, image_file, IsImage, image_fault}
 use Rattle.tbl_file.specs.Inside.{HasShortNumbers}
 
 -- ---- names

@@ -1,6 +1,6 @@
 -- Table image files: cFE's file header (CFE_FS_Header), the header of a table file behind it (CFE_TBL_File_Hdr), and the table's bytes.
 -- Every number has four bytes, the highest first.
-use Rattle.std.specs.Prelude.{◌≡◌, ℕ, ◌+◌, ◌-◌, ◌≤◌, ◌==◌, ◌&&◌, not, nat_le, nat_lt, Bool, List, [], ◌∷◌, ◌++◌, length, take, drop, replicate, Option, Some, None, IsTrue, if◌then◌else◌}
+use Rattle.std.specs.Prelude.{◌≡◌, ℕ, ◌-◌, ◌≤◌, ◌==◌, ◌&&◌, not, nat_le, nat_lt, Bool, List, [], ◌∷◌, ◌++◌, length, take, drop, replicate, Option, Some, None, IsTrue, if◌then◌else◌}
 use Rattle.std.specs.List.{list_all, flat_map, before_first}
 use Rattle.byteorder.specs.Endian.{big_number, big_bytes}
 use Rattle.tbl_file.specs.declared.image.Image.{Image}

@@ -49,6 +49,7 @@ fn an_image_of_another_program_is_read(rt: HostRuntime) -> Result<(), Fail> {
 }
 
 #[test]
+#[tactic(auto, unfolding(tbl_file::specs::Image::is_table_name))]
 fn it_is_written_again_byte_for_byte(rt: HostRuntime) -> Result<(), Fail> {
     let image = Image {
         sub: 8,
