@@ -1,4 +1,5 @@
-//! Tests of the words, the registry and the contents of tables, over their public calls.
+//! Tests of the words, the registry, the contents and the image files of tables, over their public
+//! calls.
 //!
 //! They show what no clause says: that memory is found, what a journal gives back, and the callers
 //! that the crates' first lines show.
@@ -6,6 +7,8 @@
 
 #[cfg(test)]
 mod tbl_blocks_tests;
+#[cfg(test)]
+mod tbl_file_tests;
 #[cfg(test)]
 mod tbl_registry_tests;
 #[cfg(test)]
