@@ -1,5 +1,5 @@
 -- Send numbers are given as 1, 2, 3 and so on.
-use Rattle.std.proofs.Common.{◌≡◌, ℕ, zero, suc, ◌+◌, ◌<◌, ◌≤◌, ◌&&◌, not, Bool, true, false, append-nil, append_assoc, List, [], ◌∷◌, ◌++◌, Option, Some, None, refl, ap, sym, ◌∙◌, subst, arith}
+use Rattle.std.proofs.Common.{◌≡◌, ℕ, zero, suc, ◌+◌, ◌<◌, ◌&&◌, not, true, append-nil, append_assoc, List, [], ◌∷◌, ◌++◌, Option, Some, None, refl, ap, sym, ◌∙◌, subst, arith}
 use Rattle.std.specs.Prelude.{All}
 use Rattle.std.proofs.lemmas.List.Elements.{All-nil, All-cons}
 use Rattle.fsw_base.specs.Limits.{Limits}
@@ -9,11 +9,11 @@ use Rattle.bus_words.specs.declared.history.Call.{Call}
 use Rattle.bus_words.specs.declared.history.Call.TheVariants.{Create, Delete, SetOpts, GetOpts, Find, PipeName, Subscribe, Unsubscribe, Transmit, Receive, Pend, Look, Allocate, TransmitBuffer, Release, PoolCreate, PoolGet, PoolPut, PoolFigures, Register, SendEvent, ResetFilter, LogMode, ClearLog, Housekeeping, Figures, End}
 use Rattle.bus_words.specs.declared.history.Entry.{Entry}
 use Rattle.bus_words.specs.Refusals.{Refusal, OfBus, OfPools, OfEvents, refusal_answer}
-use Rattle.bus_words.specs.Bus.{Subscription, State, Sending, Waiting, Active, opening, route, is_empty, is_subscribed, has_route, others_idle, reached, with_standing}
+use Rattle.bus_words.specs.Bus.{Subscription, State, Sending, Waiting, Active, opening, route, is_empty, is_subscribed, others_idle, reached, with_standing}
 use Rattle.bus_words.specs.Held.{numbers_to}
 use Rattle.ccsds_msg.specs.Message.{message_id}
 use Rattle.bus_words.specs.Sends.{Reads, sending_from, sending_in, packet_in}
-use Rattle.bus_words.specs.Machine.{IsLegal, LegalFrom, accept_with, buffer_gone, cause_with, decided_with, passed_along, reads_after, received, refused_state, sent_along, state_after, state_from, step, subscribed}
+use Rattle.bus_words.specs.Machine.{LegalFrom, accept_with, buffer_gone, cause_with, decided_with, passed_along, reads_after, received, refused_state, sent_along, state_after, state_from, step, subscribed}
 use Rattle.bus_words.specs.Numbers.{NumbersAreNew, NumbersInOrder, number_given, number_sent, numbers_in}
 use Rattle.bus_words.proofs.Finds.{Each, Each-push, Each-drop}
 use Rattle.bus_words.proofs.LegalSteps.{legal-front}

@@ -1,5 +1,5 @@
 -- Histories that merge a script's calls end each of its applications, so that nothing is held behind them.
-use Rattle.std.proofs.Common.{◌≡◌, ◌⊎◌, inl, inr, ⊎_elim, ℕ, zero, suc, ◌+◌, ◌*◌, ◌-◌, ◌<◌, ◌≤◌, ◌==◌, Bool, true, false, true≢false, cond, eqb-true, IsTrue, List, [], ◌∷◌, ◌++◌, length, length-append, slice_index_or, slice_set, Option, Some, None, refl, ap, sym, ◌∙◌, subst, arith}
+use Rattle.std.proofs.Common.{◌≡◌, ◌⊎◌, inl, inr, ⊎_elim, ℕ, zero, suc, ◌+◌, ◌*◌, ◌-◌, ◌<◌, ◌≤◌, ◌==◌, Bool, true, false, true≢false, cond, eqb-true, List, [], ◌∷◌, ◌++◌, length, length-append, slice_index_or, slice_set, Option, Some, None, refl, ap, sym, ◌∙◌, subst, arith}
 use Rattle.std.specs.Prelude.{slice_index}
 use native.Mathlib.Nat.{mul-le-mul}
 use Rattle.fsw_base.specs.Limits.{Limits}
@@ -27,10 +27,7 @@ use Rattle.tbl_words.specs.declared.history.Entry.{Entry as TableEntry}
 use Rattle.tbl_words.specs.Machine.{state_after as tables_after, state_from as tables_from, step as table_step}
 use Rattle.tbl_words.specs.Tables.{State as Tables, has_ended as has_ended_at_tables, opening as no_tables}
 use Rattle.tbl_words.proofs.Ends.{is_closed, ended-step, ended_by, ends_leave_nothing}
-use Rattle.tbl_words.specs.Holds.{hold_of}
-use Rattle.tbl_words.proofs.Holds.{holds_stay}
 use Rattle.tbl_words.proofs.Orders.{tables_have_handles}
-use Rattle.tbl_words.proofs.Replay.{state_from-push}
 use Rattle.script_lines.specs.declared.line.Line.{Line}
 use Rattle.app_script.specs.Script.{ScriptText, app_at}
 use Rattle.script_runs.specs.Histories.{Histories}
