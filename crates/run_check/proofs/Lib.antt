@@ -3,3 +3,5 @@ mod TableTraces
 mod Entries
 mod TableEntries
 mod Reports
+mod Fronts
+mod Wrong

@@ -2,3 +2,4 @@ pub mod Begun
 pub mod Openings
 pub mod Checks
 pub mod Determined
+pub mod Fronts

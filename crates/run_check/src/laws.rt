@@ -1,4 +1,5 @@
 //! A script and the report of a run of it determine the run.
+ghost use Rattle.run_check.specs.Fronts.{WrongLinesAreFirst};
 ghost use Rattle.run_check.specs.Determined.{ReportsTellRuns, NextEntriesAreOne, NextTableEntriesAreOne};
 
 /// Two runs of a script have the same report only where they have the same histories, of the bus
@@ -9,4 +10,11 @@ pub fn reports_tell_runs()
     ensures reports { ReportsTellRuns }
     ensures next { NextEntriesAreOne }
     ensures next_at_tables { NextTableEntriesAreOne }
+{}
+
+/// Where each line that the report of some run may have behind the same ones is known, the first
+/// one that a text doesn't have is told by what both have in common: with as many lines no run
+/// begins as the text does, and with any fewer one does.
+pub fn wrong_lines_are_first()
+    ensures { WrongLinesAreFirst }
 {}
