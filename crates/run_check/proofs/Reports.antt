@@ -1,5 +1,5 @@
 -- Two runs of a script have the same report only where they have the same histories.
-use Rattle.std.proofs.Common.{◌≡◌, ℕ, ◌≤◌, List, [], ◌++◌, length, map, codes, ap, sym, ◌∙◌, subst, append_assoc, append-nil}
+use Rattle.std.proofs.Common.{◌≡◌, ℕ, ◌≤◌, inr, List, [], ◌∷◌, ◌++◌, length, map, codes, ap, sym, ◌∙◌, subst, append_assoc, append-nil}
 use Rattle.std.specs.List.{range_with_len}
 use Rattle.std.proofs.lemmas.List.{append_cancel_left}
 use Rattle.bus_words.specs.declared.history.Entry.{Entry}
@@ -21,8 +21,8 @@ use Rattle.script_runs.specs.Trace.{own_entries}
 use Rattle.run_check.specs.Begun.{AreAllOf, AreAllTablesOf, AreBegunTables, IsBegun}
 use Rattle.run_check.specs.Determined.{NextEntriesAreOne, NextTableEntriesAreOne, ReportsTellRuns}
 use Rattle.run_check.specs.Openings.{report}
-use Rattle.run_check.proofs.Entries.{bus_tells, entries_one}
-use Rattle.run_check.proofs.TableEntries.{table_entries_one, tables_tell}
+use Rattle.run_check.proofs.Entries.{bus_follows, entries_one, none_behind}
+use Rattle.run_check.proofs.TableEntries.{no_table_behind, table_entries_one, tables_follow}
 
 -- a run's histories are under way, with nothing missing
 pub begun_of : (script : ScriptText) (histories : Histories) → IsRunOf script histories → IsBegun script histories.bus
@@ -78,16 +78,31 @@ lines_tell script one other w z few first second same =
     ap (λ (h : List Entry). record { bus = h; tables = one.tables }) bus ∙ ap (λ (h : List TableEntry). record { bus = other.bus; tables = h }) tables
   where
     bus : one.bus ≡ other.bus
-    bus = bus_tells script few [] one.bus other.bus 1 (codes "tables\n" ++ (table_entries_text one.tables ++ w)) (codes "tables\n" ++ (table_entries_text other.tables ++ z))
-        (begun_of script one first) first.merges.each (begun_of script other second) second.merges.each same
+    bus =
+        let found = bus_follows script few [] other.bus one.bus 1 (codes "tables\n" ++ (table_entries_text other.tables ++ z)) (codes "tables\n" ++ (table_entries_text one.tables ++ w))
+            (begun_of script other second) (begun_of script one first) (inr first.merges.each) same in
+        none found.0 found.1
+      where
+        none : (l : List Entry) → one.bus ≡ other.bus ++ l → one.bus ≡ other.bus
+        none [] more = more ∙ append-nil other.bus
+        none (e ∷ l) more =
+            let B : List Entry → Type 0 = IsBegun script in absurd (none_behind script other.bus e l second.merges.each (subst B more (begun_of script one first)))
 
     behind : table_entries_text one.tables ++ w ≡ table_entries_text other.tables ++ z
     behind = append_cancel_left (codes "tables\n") _ _
         (append_cancel_left (entries_text one.bus) _ _ (same ∙ ap (λ h. entries_text h ++ (codes "tables\n" ++ (table_entries_text other.tables ++ z))) (sym bus)))
 
     tables : one.tables ≡ other.tables
-    tables = tables_tell script few [] one.tables other.tables 1 w z
-        (begun_tables_of script one first) first.merges.each_at_tables (begun_tables_of script other second) second.merges.each_at_tables behind
+    tables =
+        let found = tables_follow script few [] other.tables one.tables 1 z w
+            (begun_tables_of script other second) (begun_tables_of script one first) (inr first.merges.each_at_tables) behind in
+        none found.0 found.1
+      where
+        none : (l : List TableEntry) → one.tables ≡ other.tables ++ l → one.tables ≡ other.tables
+        none [] more = more ∙ append-nil other.tables
+        none (e ∷ l) more =
+            let B : List TableEntry → Type 0 = AreBegunTables script in
+            absurd (no_table_behind script other.tables e l second.merges.each_at_tables (subst B more (begun_tables_of script one first)))
 
 -- a report, by its parts
 report_of : (script : ScriptText) (histories : Histories) →
