@@ -5,3 +5,4 @@ mod TableEntries
 mod Reports
 mod Fronts
 mod Wrong
+mod Begun

@@ -3,3 +3,4 @@ pub mod Openings
 pub mod Checks
 pub mod Determined
 pub mod Fronts
+pub mod Judged
