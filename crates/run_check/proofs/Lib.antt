@@ -6,3 +6,4 @@ mod Reports
 mod Fronts
 mod Wrong
 mod Begun
+mod Texts

@@ -47,24 +47,23 @@ begun_tables_of script histories run = record {
 parts : (a b c d e f g h i : List ℕ) → a ++ b ++ c ++ d ++ e ++ f ++ g ++ h ++ i ≡ a ++ (b ++ (c ++ (d ++ (e ++ f ++ g ++ h ++ i))))
 parts a b c d e f g h i = simp append_assoc
 
-behind_tables : List (List Receipt) → BusFigures → TableFigures → List ℕ
+abbrev pub behind_tables : List (List Receipt) → BusFigures → TableFigures → List ℕ
 behind_tables receipts figures tables =
     codes "receipts\n" ++ receipts_text receipts ++ codes "events\n" ++ log_text figures.events.log ++ ending_text figures tables
 
 -- what a report shows of the applications, of the bus and of the tables
-abbrev receipts_in : ScriptText → Histories → List (List Receipt)
+abbrev pub receipts_in : ScriptText → Histories → List (List Receipt)
 receipts_in script histories = map (receipts_told script histories) (range_with_len 1 (length script.apps))
 
-abbrev figures_in : ScriptText → Histories → BusFigures
+abbrev pub figures_in : ScriptText → Histories → BusFigures
 figures_in script histories = figures_shown script.limits (state_after script.limits (length script.apps) histories.bus)
 
-abbrev uses_in : ScriptText → Histories → TableFigures
+abbrev pub uses_in : ScriptText → Histories → TableFigures
 uses_in script histories = table_figures_shown script.limits (length script.apps) histories.tables
 
 report_parts : (entries : List Entry) (table_entries : List TableEntry) (receipts : List (List Receipt)) (figures : BusFigures) (tables : TableFigures) →
     report_text entries table_entries receipts figures tables
     ≡ codes "fsw 1\nbus\n" ++ (entries_text entries ++ (codes "tables\n" ++ (table_entries_text table_entries ++ behind_tables receipts figures tables)))
-unfolding behind_tables
 report_parts entries table_entries receipts figures tables =
     parts (codes "fsw 1\nbus\n") (entries_text entries) (codes "tables\n") (table_entries_text table_entries) (codes "receipts\n") (receipts_text receipts)
     (codes "events\n") (log_text figures.events.log) (ending_text figures tables)
@@ -105,7 +104,7 @@ lines_tell script one other w z few first second same =
             absurd (no_table_behind script other.tables e l second.merges.each_at_tables (subst B more (begun_tables_of script one first)))
 
 -- a report, by its parts
-report_of : (script : ScriptText) (histories : Histories) →
+pub report_of : (script : ScriptText) (histories : Histories) →
     report script histories
     ≡ codes "fsw 1\nbus\n" ++ (entries_text histories.bus ++ (codes "tables\n" ++ (table_entries_text histories.tables ++ behind_tables (receipts_in script histories) (figures_in script histories) (uses_in script histories))))
 report_of script histories = report_parts histories.bus histories.tables (receipts_in script histories) (figures_in script histories) (uses_in script histories)
