@@ -7,3 +7,4 @@ mod Fronts
 mod Wrong
 mod Begun
 mod Texts
+mod Behind
