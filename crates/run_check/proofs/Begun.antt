@@ -1,7 +1,11 @@
 -- Histories that are under way: their beginnings are, and the empty one is.
-use Rattle.std.proofs.Common.{◌≡◌, ℕ, ◌≤◌, ◌==◌, List, [], ◌∷◌, ◌++◌, length, All, Option, Some, None, IsTrue, refl, ap, sym, ◌∙◌, subst, append_assoc}
+use Rattle.std.proofs.Common.{ℕ, ◌≤◌, ◌==◌, List, [], ◌∷◌, ◌++◌, length, All, Option, Some, None, refl, ap, ◌∙◌, subst, append_assoc}
 use Rattle.std.proofs.lemmas.List.Elements.{All-nil, All-cons, All-head, All-tail, filter-append}
 use Rattle.fsw_base.specs.Limits.{Limits}
+use Rattle.bus_words.specs.declared.calls.BusAnswer.{BusAnswer}
+use Rattle.bus_words.specs.declared.calls.BusAnswer.TheVariants as answers
+use Rattle.bus_words.specs.declared.history.Call.{Call}
+use Rattle.bus_words.specs.declared.history.Call.TheVariants as calls
 use Rattle.bus_words.specs.declared.history.Entry.{Entry}
 use Rattle.bus_words.specs.Bus.{State, opening}
 use Rattle.bus_words.specs.Machine.{LegalFrom, step}
@@ -15,7 +19,8 @@ use Rattle.tbl_words.specs.Tables.{State as Tables, opening as no_tables}
 use Rattle.script_lines.specs.declared.line.Line.{Line}
 use Rattle.app_script.specs.Script.{ScriptText, app_at}
 use Rattle.script_runs.specs.TableTrace.{TableLineEntries, TableTrace, first_handles, handles_after, own_table_entries, table_call_of}
-use Rattle.script_runs.specs.Trace.{own_entries}
+use Rattle.script_runs.specs.Trace.{AfterAnswer, LineEntries, Registers, Trace, call_of, first_registers, own_entries, registers_after}
+use Rattle.script_runs.specs.Written.{Written, first_written, written_after, written_by}
 use Rattle.run_check.specs.Begun.{AreAllOf, AreAllTablesOf, AreBegunTables, IsBegun}
 
 -- Beginnings. --
@@ -59,7 +64,34 @@ begun_tables_front script p r begun = record {
 
 -- Nothing yet. --
 
--- some entries are all that lines make
+-- where each call is done, some entries are all that lines make
+after_done : (call : Call) (Rest : List Entry → Type 0) (es : List Entry) → Rest es → AfterAnswer call answers.Done Rest es
+after_done (calls.Pend pipe) Rest es rest = rest
+after_done call Rest es rest = rest
+
+line_some : (made : Option Call) (Next : Call → BusAnswer → List Entry → Type 0) (Same : List Entry → Type 0) →
+    ((call : Call) (answer : BusAnswer) → (es : List Entry) × Next call answer es) → (es : List Entry) × Same es → (es : List Entry) × LineEntries made Next Same es
+line_some None Next Same next same = same
+line_some (Some call) Next Same next same =
+    let others = next call answers.Done in
+    (record { app = 1; call = call; answer = answers.Done } ∷ others.0, (refl, after_done call (Next call answers.Done) others.0 others.1))
+
+trace_some : (registers : Registers) (written : Written) (lines : List Line) → (es : List Entry) × Trace registers written lines es
+trace_some registers written [] = (record { app = 1; call = calls.End; answer = answers.Done } ∷ [], refl)
+trace_some registers written (line ∷ lines) =
+    line_some (call_of registers written line)
+    (λ call answer rest. Trace (registers_after registers line answer) (written_after written call answer) lines rest)
+    (λ rest. Trace registers (written_by written registers.buffers line) lines rest)
+    (λ call answer. trace_some (registers_after registers line answer) (written_after written call answer) lines)
+    (trace_some registers (written_by written registers.buffers line) lines)
+
+pub begun_nothing : (script : ScriptText) → IsBegun script []
+begun_nothing script = record {
+  legal = tt;
+  each = λ app first last. trace_some first_registers first_written (app_at script app).lines;
+  nobody_else = All-nil (λ (e : Entry). (1 ≤ e.app) × (e.app ≤ length script.apps));
+}
+
 table_line_some : (made : Option TableCall) (Next : TblAnswer → List TableEntry → Type 0) (Same : List TableEntry → Type 0) →
     ((answer : TblAnswer) → (es : List TableEntry) × Next answer es) → (es : List TableEntry) × Same es → (es : List TableEntry) × TableLineEntries made Next Same es
 table_line_some None Next Same next same = same

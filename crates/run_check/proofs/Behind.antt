@@ -8,15 +8,14 @@ use Rattle.run_report.specs.BusText.{entries_text, entry_text}
 use Rattle.run_report.specs.TableText.{table_entries_text, table_entry_text}
 use Rattle.app_script.specs.Script.{ScriptText}
 use Rattle.script_runs.specs.Histories.{Histories}
-use Rattle.script_runs.specs.Runs.{IsRunOf}
 use Rattle.run_check.specs.Begun.{AreBegunTables, AreWholeTables, IsBegun, IsWhole}
 use Rattle.run_check.specs.Checks.{Beginning}
 use Rattle.run_check.specs.Judged.{entries_part, head}
 use Rattle.run_check.specs.Openings.{Opens, WithAll, WithBus, WithTables, bus_part, report, tables_part}
 use Rattle.run_check.proofs.Begun.{begun_front, begun_tables_front}
 use Rattle.run_check.proofs.Entries.{bus_follows, none_behind}
-use Rattle.run_check.proofs.Reports.{begun_of, begun_tables_of, behind_tables, figures_in, receipts_in, report_of, uses_in}
-use Rattle.run_check.proofs.TableEntries.{no_table_behind, tables_follow}
+use Rattle.run_check.proofs.Reports.{behind_tables, figures_in, receipts_in, report_of, uses_in}
+use Rattle.run_check.proofs.TableEntries.{tables_follow}
 
 -- The other's history is this one, or has one entry more at least. --
 
@@ -162,15 +161,15 @@ opening_at_tables script few g opening u begun whole tables beginning same = by 
     by : Opens script h opening → (u ≡ []) ⊎ NextAtTables script g opening u
     by (WithBus is) =
         let found = whole_bus script g.bus h.bus behind [] whole
-            (bus_case script few g.bus h.bus behind [] begun beginning.begun (inl refl)
-            (cut_tables head (entries_text g.bus) (codes "tables\n") (table_entries_text g.tables) (entries_text h.bus) [] opening u same
-            (is ∙ ap (λ l. head ++ l) (sym (append-nil (entries_text h.bus)))))) in
+        (bus_case script few g.bus h.bus behind [] begun beginning.begun (inl refl)
+        (cut_tables head (entries_text g.bus) (codes "tables\n") (table_entries_text g.tables) (entries_text h.bus) [] opening u same
+        (is ∙ ap (λ l. head ++ l) (sym (append-nil (entries_text h.bus)))))) in
         absurd (nothing (table_entries_text g.tables ++ u) found.1)
     by (WithTables all is) =
         let found = whole_bus script g.bus h.bus behind (tables_part h.tables) whole
-            (bus_case script few g.bus h.bus behind (tables_part h.tables) begun beginning.begun (inr all)
-            (cut_tables head (entries_text g.bus) (codes "tables\n") (table_entries_text g.tables) (entries_text h.bus) (tables_part h.tables) opening u same
-            (is ∙ append_assoc head (entries_text h.bus) (tables_part h.tables)))) in
+        (bus_case script few g.bus h.bus behind (tables_part h.tables) begun beginning.begun (inr all)
+        (cut_tables head (entries_text g.bus) (codes "tables\n") (table_entries_text g.tables) (entries_text h.bus) (tables_part h.tables) opening u same
+        (is ∙ append_assoc head (entries_text h.bus) (tables_part h.tables)))) in
         last (table_case script few g.tables h.tables u [] tables beginning.begun_tables (inl refl)
         (append-nil (table_entries_text h.tables) ∙ sym (append_cancel_left (codes "tables\n") _ _ found.1)))
     by (WithAll all every is) = inr (turned (report_at_tables script few g h u begun whole tables beginning.begun beginning.begun_tables all every (sym is ∙ same)))

@@ -8,3 +8,4 @@ mod Wrong
 mod Begun
 mod Texts
 mod Behind
+mod Judged

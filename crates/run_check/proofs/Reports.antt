@@ -79,7 +79,7 @@ lines_tell script one other w z few first second same =
     bus : one.bus ≡ other.bus
     bus =
         let found = bus_follows script few [] other.bus one.bus 1 (codes "tables\n" ++ (table_entries_text other.tables ++ z)) (codes "tables\n" ++ (table_entries_text one.tables ++ w))
-            (begun_of script other second) (begun_of script one first) (inr first.merges.each) same in
+        (begun_of script other second) (begun_of script one first) (inr first.merges.each) same in
         none found.0 found.1
       where
         none : (l : List Entry) → one.bus ≡ other.bus ++ l → one.bus ≡ other.bus
@@ -94,7 +94,7 @@ lines_tell script one other w z few first second same =
     tables : one.tables ≡ other.tables
     tables =
         let found = tables_follow script few [] other.tables one.tables 1 z w
-            (begun_tables_of script other second) (begun_tables_of script one first) (inr first.merges.each_at_tables) behind in
+        (begun_tables_of script other second) (begun_tables_of script one first) (inr first.merges.each_at_tables) behind in
         none found.0 found.1
       where
         none : (l : List TableEntry) → one.tables ≡ other.tables ++ l → one.tables ≡ other.tables

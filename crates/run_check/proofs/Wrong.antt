@@ -1,7 +1,7 @@
 -- The line in which a report isn't what it has to be is the first that is no run's.
-use Rattle.std.proofs.Common.{◌≡◌, ℕ, suc, ◌+◌, ◌<◌, ◌≤◌, List, ◌++◌, Some, refl, ap, sym, ◌∙◌, subst, arith, append_assoc}
+use Rattle.std.proofs.Common.{◌≡◌, ℕ, ◌+◌, ◌<◌, List, ◌++◌, ap, ◌∙◌, arith, append_assoc}
 use Rattle.app_script.specs.Script.{ScriptText}
-use Rattle.run_check.specs.Checks.{IsFirstWrong, Starts}
+use Rattle.run_check.specs.Checks.{Starts}
 use Rattle.run_check.specs.Fronts.{IsForced, IsReached, WrongLinesAreFirst, alike, line_ends, wrong_line}
 use Rattle.run_check.specs.Openings.{first_lines}
 use Rattle.run_check.proofs.Fronts.{alike_behind, alike_one, alike_other, are_lines, line_ends-append, lines_behind}
@@ -14,7 +14,7 @@ none_starts script bytes text forced starts =
     let opened = are_lines (wrong_line bytes text) starts.text starts.front starts.same in
     let more = forced starts.text starts.front opened.rest lines.rest starts.beginning opened.whole lines.whole (lines.ends n (omega arith)) in
     let common : alike bytes text ≡ starts.front ++ alike lines.rest more.0 =
-        ap (λ b. alike b text) lines.whole ∙ ap (λ t. alike (starts.front ++ lines.rest) t) more.1 ∙ alike_behind starts.front lines.rest more.0 in
+    ap (λ b. alike b text) lines.whole ∙ ap (λ t. alike (starts.front ++ lines.rest) t) more.1 ∙ alike_behind starts.front lines.rest more.0 in
     let counted : n ≡ line_ends starts.front + line_ends (alike lines.rest more.0) = ap line_ends common ∙ line_ends-append starts.front (alike lines.rest more.0) in
     omega (arith, counted, lines.count)
 
@@ -26,7 +26,7 @@ fewer_start script bytes text reached fewer less =
     let other = alike_other bytes text in
     let lines = lines_behind fewer common (omega (arith, less)) in
     let opening : reached.0 ≡ common ++ (other.0 ++ reached.1) =
-        reached.3 ∙ ap (λ t. t ++ reached.1) other.1 ∙ append_assoc common other.0 reached.1 in
+    reached.3 ∙ ap (λ t. t ++ reached.1) other.1 ∙ append_assoc common other.0 reached.1 in
     record {
       text = reached.0;
       beginning = reached.2;

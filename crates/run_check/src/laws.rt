@@ -1,5 +1,6 @@
 //! A script and the report of a run of it determine the run.
 ghost use Rattle.run_check.specs.Fronts.{WrongLinesAreFirst};
+ghost use Rattle.run_check.specs.Judged.{JudgedIsAnswered};
 ghost use Rattle.run_check.specs.Determined.{ReportsTellRuns, NextEntriesAreOne, NextTableEntriesAreOne};
 
 /// Two runs of a script have the same report only where they have the same histories, of the bus
@@ -17,4 +18,11 @@ pub fn reports_tell_runs()
 /// begins as the text does, and with any fewer one does.
 pub fn wrong_lines_are_first()
     ensures { WrongLinesAreFirst }
+{}
+
+/// A report that is judged line by line, each line by the entries before it, is answered: Yes where
+/// it is the report of a run of the script, and else No with the number of the first line up to
+/// which it is no run's.
+pub fn judged_reports_are_answered()
+    ensures { JudgedIsAnswered }
 {}
