@@ -76,7 +76,7 @@ line_some (Some call) Next Same next same =
     let others = next call answers.Done in
     (record { app = 1; call = call; answer = answers.Done } ∷ others.0, (refl, after_done call (Next call answers.Done) others.0 others.1))
 
-trace_some : (registers : Registers) (written : Written) (lines : List Line) → (es : List Entry) × Trace registers written lines es
+pub trace_some : (registers : Registers) (written : Written) (lines : List Line) → (es : List Entry) × Trace registers written lines es
 trace_some registers written [] = (record { app = 1; call = calls.End; answer = answers.Done } ∷ [], refl)
 trace_some registers written (line ∷ lines) =
     line_some (call_of registers written line)

@@ -27,7 +27,7 @@ pub all_at : {E : Type 0} (P : E → Type 0) (p : List E) (e : E) (r : List E) �
 all_at P [] e r all = All-head P e r all
 all_at P (x ∷ p) e r all = all_at P p e r (All-tail P x (p ++ e ∷ r) all)
 
-own_at : (app : ℕ) (p : List Entry) (e : Entry) (r : List Entry) → e.app ≡ app →
+pub own_at : (app : ℕ) (p : List Entry) (e : Entry) (r : List Entry) → e.app ≡ app →
     own_entries app (p ++ e ∷ r) ≡ own_entries app p ++ e ∷ own_entries app r
 own_at app p e r mine =
     filter-append (λ x. x.app == app) p (e ∷ r)

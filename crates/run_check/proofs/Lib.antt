@@ -9,3 +9,4 @@ mod Begun
 mod Texts
 mod Behind
 mod Judged
+mod Progress

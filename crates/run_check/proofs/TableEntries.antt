@@ -23,7 +23,7 @@ use Rattle.run_check.proofs.TableTraces.{table_trace_last, table_trace_next}
 
 -- Parts of lists. --
 
-own_at : (app : ℕ) (p : List Entry) (e : Entry) (r : List Entry) → e.app ≡ app →
+pub own_at : (app : ℕ) (p : List Entry) (e : Entry) (r : List Entry) → e.app ≡ app →
     own_table_entries app (p ++ e ∷ r) ≡ own_table_entries app p ++ e ∷ own_table_entries app r
 own_at app p e r mine =
     filter-append (λ x. x.app == app) p (e ∷ r)

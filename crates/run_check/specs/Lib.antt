@@ -4,3 +4,4 @@ pub mod Checks
 pub mod Determined
 pub mod Fronts
 pub mod Judged
+pub mod Progress

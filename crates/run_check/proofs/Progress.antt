@@ -1,0 +1,84 @@
+-- How far an application is, from its first entry to its end.
+use Rattle.std.proofs.Common.{◌≡◌, ℕ, ◌≤◌, ◌==◌, Bool, true, false, if◌then◌else◌, List, [], ◌∷◌, ◌++◌, length, All, Option, Some, None, IsTrue, refl, ap, sym, ◌∙◌, subst, arith, append_assoc, append-nil}
+use Rattle.std.proofs.lemmas.Bool.Decides.{nat_tests}
+use Rattle.std.proofs.lemmas.List.Elements.{All-append, All-cons, All-nil, filter-append}
+use Rattle.fsw_base.specs.Limits.{Limits}
+use Rattle.bus_words.specs.declared.calls.BusAnswer.{BusAnswer}
+use Rattle.bus_words.specs.declared.calls.BusAnswer.TheVariants.{Pending}
+use Rattle.bus_words.specs.declared.history.Call.{Call}
+use Rattle.bus_words.specs.declared.history.Call.TheVariants as calls
+use Rattle.bus_words.specs.declared.history.Entry.{Entry}
+use Rattle.bus_words.specs.Bus.{Standing, Active, Waiting, Ended, State, opening, standing_of}
+use Rattle.bus_words.specs.Machine.{LegalFrom, brings, makes_entry, may_call, state_after, state_from, step}
+use Rattle.bus_words.proofs.Replay.{goes_on}
+use Rattle.script_lines.specs.declared.line.Line.{Line}
+use Rattle.app_script.specs.Script.{ScriptText, app_at}
+use Rattle.script_runs.specs.Owing.{Owes}
+use Rattle.script_runs.specs.Rotation.{Running, behind}
+use Rattle.script_runs.specs.Trace.{AfterAnswer, IsEnd, LineEntries, Trace, call_of, first_registers, own_entries, registers_after}
+use Rattle.script_runs.specs.Written.{first_written, written_after, written_by}
+use Rattle.run_check.specs.Begun.{AreAllOf, IsBegun}
+use Rattle.run_check.specs.Progress.{IsAnswered, IsAt, NextCallsAreKnown, behind_line, first_call, next_call, standing_then}
+use Rattle.run_check.proofs.Begun.{trace_some}
+use Rattle.run_check.proofs.Entries.{app_range, own_at}
+
+-- Which call comes next. --
+
+end_call : (e : Entry) (es : List Entry) → IsEnd (e ∷ es) → e.call ≡ calls.End
+end_call e [] end = end
+end_call e (f ∷ es) end = absurd end
+
+-- the first of what lines owe has their first call, where that is a call of the bus
+line_call : (made : Option Call) (Next : Call → BusAnswer → List Entry → Type 0) (Same : List Entry → Type 0) (call : Call) (e : Entry) (es : List Entry) →
+    made ≡ Some call → LineEntries made Next Same (e ∷ es) → e.call ≡ call
+line_call None Next Same call e es is owed = absurd (cc is)
+line_call (Some made) Next Same call e es is owed = owed.0 ∙ cc is
+
+-- what is owed begins with the call that comes next; where none does, nothing is owed or the line is silent
+owed_call : (standing : Standing) (left : Option Running) (call : Call) (e : Entry) (es : List Entry) → next_call standing left ≡ Some call → Owes standing left (e ∷ es) → e.call ≡ call
+owed_call Active (Some r) call e es is owed = by r.lines is owed
+  where
+    by : (lines : List Line) → first_call r lines ≡ Some call → Trace r.registers r.written lines (e ∷ es) → e.call ≡ call
+    by [] is owed = end_call e es owed ∙ cc is
+    by (line ∷ lines) is owed =
+        line_call (call_of r.registers r.written line)
+        (λ call answer rest. Trace (registers_after r.registers line answer) (written_after r.written call answer) lines rest)
+        (λ rest. Trace r.registers (written_by r.written r.registers.buffers line) lines rest) call e es is owed
+owed_call (Waiting pipe) (Some r) call e es is owed = owed.0 ∙ cc is
+owed_call Ended (Some r) call e es is owed = absurd owed
+owed_call standing None call e es is owed = absurd (cc is)
+
+-- The bus's answer. --
+
+legal_last : (limits : Limits) (apps : ℕ) (history : List Entry) (s : State) (p : List Entry) (e : Entry) → LegalFrom limits history s (p ++ e ∷ []) →
+    IsTrue (may_call (standing_of (state_from limits history s p) e.app) e.call)
+    × (e.answer ≡ (step limits (history ++ p) (state_from limits history s p) e.app e.call).0)
+    × IsTrue (makes_entry e.call e.answer)
+    × IsTrue (brings (state_from limits history s p).unsent e.app e.call)
+legal_last limits apps history s [] e legal =
+    (legal.0, legal.1 ∙ ap (λ h. (step limits h s e.app e.call).0) (sym (append-nil history)), legal.2, legal.3)
+legal_last limits apps history s (x ∷ p) e legal =
+    let next = (step limits history s x.app x.call).1 in
+    let now = history ++ x ∷ [] in
+    let found = legal_last limits apps now next p e legal.4 in (
+      found.0,
+      found.1 ∙ ap (λ h. (step limits h (state_from limits now next p) e.app e.call).0) (append_assoc history (x ∷ []) p),
+      found.2,
+      found.3,
+    )
+
+pub next_calls_are_known : NextCallsAreKnown
+next_calls_are_known script history e standing left call at comes begun = (called, answered)
+  where
+    called : e.call ≡ call
+    called =
+        let range = app_range script history e [] begun in
+        let all = begun.each e.app range.0 range.1 in
+        let P : List Entry → Type 0 = AreAllOf script e.app in
+        let whole = subst P (ap (λ l. l ++ all.0) (own_at e.app history e [] refl) ∙ append_assoc (own_entries e.app history) (e ∷ []) all.0) all.1 in
+        owed_call standing left call e all.0 comes (at.owes (e ∷ all.0) whole)
+
+    answered : IsAnswered script history e
+    answered =
+        let found = legal_last script.limits (length script.apps) [] (opening script.limits (length script.apps)) history e begun.legal in
+        record { may = found.0; answer = found.1; entered = found.2; brought = found.3 }
