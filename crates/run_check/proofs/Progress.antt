@@ -1,5 +1,5 @@
 -- How far an application is, from its first entry to its end.
-use Rattle.std.proofs.Common.{◌≡◌, ℕ, ◌≤◌, ◌==◌, Bool, true, false, if◌then◌else◌, List, [], ◌∷◌, ◌++◌, length, All, Option, Some, None, IsTrue, refl, ap, sym, ◌∙◌, subst, arith, append_assoc, append-nil}
+use Rattle.std.proofs.Common.{◌≡◌, ℕ, ◌≤◌, ◌==◌, Bool, true, false, eqb-true, if◌then◌else◌, List, [], ◌∷◌, ◌++◌, length, All, Option, Some, None, IsTrue, refl, ap, sym, ◌∙◌, subst, arith, append_assoc, append-nil}
 use Rattle.std.proofs.lemmas.Bool.Decides.{nat_tests}
 use Rattle.std.proofs.lemmas.List.Elements.{All-append, All-cons, All-nil, filter-append}
 use Rattle.fsw_base.specs.Limits.{Limits}
@@ -18,7 +18,7 @@ use Rattle.script_runs.specs.Rotation.{Running, behind}
 use Rattle.script_runs.specs.Trace.{AfterAnswer, IsEnd, LineEntries, Trace, call_of, first_registers, own_entries, registers_after}
 use Rattle.script_runs.specs.Written.{first_written, written_after, written_by}
 use Rattle.run_check.specs.Begun.{AreAllOf, IsBegun}
-use Rattle.run_check.specs.Progress.{IsAnswered, IsAt, NextCallsAreKnown, behind_line, first_call, next_call, standing_then}
+use Rattle.run_check.specs.Progress.{IsAnswered, IsAt, NextCallsAreKnown, NextCallsMayCome, behind_line, first_call, next_call, standing_then}
 use Rattle.run_check.proofs.Begun.{trace_some}
 use Rattle.run_check.proofs.Entries.{app_range, own_at}
 
@@ -82,3 +82,94 @@ next_calls_are_known script history e standing left call at comes begun = (calle
     answered =
         let found = legal_last script.limits (length script.apps) [] (opening script.limits (length script.apps)) history e begun.legal in
         record { may = found.0; answer = found.1; entered = found.2; brought = found.3 }
+
+-- The next entry may come. --
+
+-- some entries settle a call so answered
+after_some : (call : Call) (answer : BusAnswer) (Rest : List Entry → Type 0) → (es : List Entry) × Rest es → (es : List Entry) × AfterAnswer call answer Rest es
+after_some (calls.Pend pipe) Pending Rest found = (record { app = 1; call = calls.Look pipe; answer = Pending } ∷ found.0, (refl, found.1))
+after_some (calls.Pend pipe) answer Rest found = found
+after_some call answer Rest found = found
+
+line_owed : (made : Option Call) (Next : Call → BusAnswer → List Entry → Type 0) (Same : List Entry → Type 0) (e : Entry) → made ≡ Some e.call →
+    ((call : Call) (answer : BusAnswer) → (es : List Entry) × Next call answer es) → (es : List Entry) × LineEntries made Next Same (e ∷ es)
+line_owed None Next Same e is next = absurd (cc is)
+line_owed (Some call) Next Same e is next =
+    let found = after_some call e.answer (Next call e.answer) (next call e.answer) in
+    let same : e.call ≡ call = cc is in
+    (found.0, (same, found.1))
+
+-- what is owed may begin with an entry that has the call which comes next
+owed_some : (standing : Standing) (left : Option Running) (e : Entry) → next_call standing left ≡ Some e.call → (es : List Entry) × Owes standing left (e ∷ es)
+owed_some Active (Some r) e is = by r.lines is
+  where
+    by : (lines : List Line) → first_call r lines ≡ Some e.call → (es : List Entry) × Trace r.registers r.written lines (e ∷ es)
+    by [] is = let end : e.call ≡ calls.End = cc is in ([], end)
+    by (line ∷ lines) is =
+        line_owed (call_of r.registers r.written line)
+        (λ call answer rest. Trace (registers_after r.registers line answer) (written_after r.written call answer) lines rest)
+        (λ rest. Trace r.registers (written_by r.written r.registers.buffers line) lines rest) e is
+        (λ call answer. trace_some (registers_after r.registers line answer) (written_after r.written call answer) lines)
+owed_some (Waiting pipe) (Some r) e is =
+    let found = trace_some r.registers r.written r.lines in let look : e.call ≡ calls.Look pipe = cc is in (found.0, (look, found.1))
+owed_some Ended (Some r) e is = absurd (cc is)
+owed_some standing None e is = absurd (cc is)
+
+-- an entry is none of another application's
+own_other : (app : ℕ) (p : List Entry) (e : Entry) → (e.app == app) ≡ false → own_entries app (p ++ e ∷ []) ≡ own_entries app p
+own_other app p e apart =
+    filter-append (λ x. x.app == app) p (e ∷ [])
+    ∙ ap (λ (b : Bool). own_entries app p ++ (if b then e ∷ [] else [])) apart
+    ∙ append-nil (own_entries app p)
+
+pub next_calls_may_come : NextCallsMayCome
+next_calls_may_come script history e standing left begun first last at comes answered = record {
+  legal = (goes_on script.limits (length script.apps) history e begun.legal answered.may answered.answer answered.entered answered.brought).legal;
+  each = λ app one few. by app (e.app == app) refl (begun.each app one few);
+  nobody_else =
+      All-append (λ (x : Entry). (1 ≤ x.app) × (x.app ≤ length script.apps)) history (e ∷ []) begun.nobody_else
+      (All-cons (λ (x : Entry). (1 ≤ x.app) × (x.app ≤ length script.apps)) e [] (first, last) (All-nil (λ (x : Entry). (1 ≤ x.app) × (x.app ≤ length script.apps))));
+}
+  where
+    Front : ℕ → List Entry → Type 0
+    Front app own = (rest : List Entry) × AreAllOf script app (own ++ rest)
+
+    its : Front e.app (own_entries e.app (history ++ e ∷ []))
+    its =
+        let owed = owed_some standing left e comes in
+        let P : List Entry → Type 0 = AreAllOf script e.app in (
+          owed.0,
+          subst P
+              (sym (ap (λ l. l ++ owed.0) (own_at e.app history e [] refl) ∙ append_assoc (own_entries e.app history) (e ∷ []) owed.0))
+              (at.enough (e ∷ owed.0) owed.1),
+        )
+
+    by : (app : ℕ) (b : Bool) → (e.app == app) ≡ b → Front app (own_entries app history) → Front app (own_entries app (history ++ e ∷ []))
+    by app true mine before = let P : ℕ → Type 0 = λ a. Front a (own_entries a (history ++ e ∷ [])) in subst P (eqb-true e.app app mine) its
+    by app false apart before = let P : List Entry → Type 0 = Front app in subst P (sym (own_other app history e apart)) before
+
+-- From entry to entry. --
+
+-- before its first entry an application has all its lines before it
+pub at_first : (script : ScriptText) (app : ℕ) (handles : List ℕ) →
+    IsAt script app [] Active (Some (record { app = app; lines = (app_at script app).lines; registers = first_registers; handles = handles; written = first_written }))
+at_first script app handles = record { owes = λ es all. all; enough = λ es owed. owed }
+
+-- a line that the bus doesn't see is passed
+pub at_silent : (script : ScriptText) (app : ℕ) (own : List Entry) (r : Running) (line : Line) (lines : List Line) → r.lines ≡ line ∷ lines → call_of r.registers r.written line ≡ None →
+    IsAt script app own Active (Some r) → IsAt script app own Active (Some (behind r lines r.registers (written_by r.written r.registers.buffers line)))
+at_silent script app own r line lines is silent at = record {
+  owes = λ es all. let T : Option Call → Type 0 = λ made. Lines made es in subst T silent (there es (at.owes es all));
+  enough = λ es owed. at.enough es (back es (let T : Option Call → Type 0 = λ made. Lines made es in subst T (sym silent) owed));
+}
+  where
+    Lines : Option Call → List Entry → Type 0
+    Lines made es =
+        LineEntries made (λ call answer rest. Trace (registers_after r.registers line answer) (written_after r.written call answer) lines rest)
+        (λ rest. Trace r.registers (written_by r.written r.registers.buffers line) lines rest) es
+
+    there : (es : List Entry) → Trace r.registers r.written r.lines es → Lines (call_of r.registers r.written line) es
+    there es owed = let T : List Line → Type 0 = λ l. Trace r.registers r.written l es in subst T is owed
+
+    back : (es : List Entry) → Lines (call_of r.registers r.written line) es → Trace r.registers r.written r.lines es
+    back es owed = let T : List Line → Type 0 = λ l. Trace r.registers r.written l es in subst T (sym is) owed

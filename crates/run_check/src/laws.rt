@@ -1,5 +1,6 @@
 //! A script and the report of a run of it determine the run.
 ghost use Rattle.run_check.specs.Fronts.{WrongLinesAreFirst};
+ghost use Rattle.run_check.specs.Progress.{NextCallsAreKnown, NextCallsMayCome};
 ghost use Rattle.run_check.specs.Judged.{JudgedIsAnswered};
 ghost use Rattle.run_check.specs.Determined.{ReportsTellRuns, NextEntriesAreOne, NextTableEntriesAreOne};
 
@@ -25,4 +26,12 @@ pub fn wrong_lines_are_first()
 /// which it is no run's.
 pub fn judged_reports_are_answered()
     ensures { JudgedIsAnswered }
+{}
+
+/// Which entry of the bus an application has next: its call is the one that comes next by the
+/// application's lines and its entries so far, and its answer the machine's. And each such entry
+/// may come next.
+pub fn next_calls_are_known()
+    ensures known { NextCallsAreKnown }
+    ensures may_come { NextCallsMayCome }
 {}

@@ -6,5 +6,7 @@
 mod laws;
 mod verdict;
 
-pub use laws::{judged_reports_are_answered, reports_tell_runs, wrong_lines_are_first};
+pub use laws::{
+    judged_reports_are_answered, next_calls_are_known, reports_tell_runs, wrong_lines_are_first,
+};
 pub use verdict::Verdict;
