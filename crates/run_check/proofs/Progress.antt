@@ -15,10 +15,10 @@ use Rattle.script_lines.specs.declared.line.Line.{Line}
 use Rattle.app_script.specs.Script.{ScriptText, app_at}
 use Rattle.script_runs.specs.Owing.{Owes}
 use Rattle.script_runs.specs.Rotation.{Running, behind}
-use Rattle.script_runs.specs.Trace.{AfterAnswer, IsEnd, LineEntries, Trace, call_of, first_registers, own_entries, registers_after}
-use Rattle.script_runs.specs.Written.{first_written, written_after, written_by}
+use Rattle.script_runs.specs.Trace.{AfterAnswer, IsEnd, LineEntries, Registers, Trace, call_of, first_registers, own_entries, registers_after}
+use Rattle.script_runs.specs.Written.{Written, first_written, written_after, written_by}
 use Rattle.run_check.specs.Begun.{AreAllOf, IsBegun}
-use Rattle.run_check.specs.Progress.{IsAnswered, IsAt, NextCallsAreKnown, NextCallsMayCome, behind_line, first_call, next_call, standing_then}
+use Rattle.run_check.specs.Progress.{ApplicationsGoOn, IsAnswered, IsAt, NextCallsAreKnown, NextCallsMayCome, behind_line, first_call, next_call, standing_then}
 use Rattle.run_check.proofs.Begun.{trace_some}
 use Rattle.run_check.proofs.Entries.{app_range, own_at}
 
@@ -151,12 +151,12 @@ next_calls_may_come script history e standing left begun first last at comes ans
 -- From entry to entry. --
 
 -- before its first entry an application has all its lines before it
-pub at_first : (script : ScriptText) (app : ℕ) (handles : List ℕ) →
+at_first : (script : ScriptText) (app : ℕ) (handles : List ℕ) →
     IsAt script app [] Active (Some (record { app = app; lines = (app_at script app).lines; registers = first_registers; handles = handles; written = first_written }))
 at_first script app handles = record { owes = λ es all. all; enough = λ es owed. owed }
 
 -- a line that the bus doesn't see is passed
-pub at_silent : (script : ScriptText) (app : ℕ) (own : List Entry) (r : Running) (line : Line) (lines : List Line) → r.lines ≡ line ∷ lines → call_of r.registers r.written line ≡ None →
+at_silent : (script : ScriptText) (app : ℕ) (own : List Entry) (r : Running) (line : Line) (lines : List Line) → r.lines ≡ line ∷ lines → call_of r.registers r.written line ≡ None →
     IsAt script app own Active (Some r) → IsAt script app own Active (Some (behind r lines r.registers (written_by r.written r.registers.buffers line)))
 at_silent script app own r line lines is silent at = record {
   owes = λ es all. let T : Option Call → Type 0 = λ made. Lines made es in subst T silent (there es (at.owes es all));
@@ -173,3 +173,106 @@ at_silent script app own r line lines is silent at = record {
 
     back : (es : List Entry) → Lines (call_of r.registers r.written line) es → Trace r.registers r.written r.lines es
     back es owed = let T : List Line → Type 0 = λ l. Trace r.registers r.written l es in subst T (sym is) owed
+
+-- behind an entry, what is behind it is behind its own entries
+one_more : (script : ScriptText) (app : ℕ) (own : List Entry) (e : Entry) (standing next : Standing) (left after : Option Running) → IsAt script app own standing left →
+    ((es : List Entry) → Owes standing left (e ∷ es) → Owes next after es) → ((es : List Entry) → Owes next after es → Owes standing left (e ∷ es)) →
+    IsAt script app (own ++ e ∷ []) next after
+one_more script app own e standing next left after at there back =
+    let P : List Entry → Type 0 = AreAllOf script app in
+    record {
+      owes = λ es all. there es (at.owes (e ∷ es) (subst P (append_assoc own (e ∷ []) es) all));
+      enough = λ es owed. subst P (sym (append_assoc own (e ∷ []) es)) (at.enough (e ∷ es) (back es owed));
+    }
+
+after_owes : (call : Call) (answer : BusAnswer) (r : Running) (es : List Entry) →
+    AfterAnswer call answer (λ rest. Trace r.registers r.written r.lines rest) es → Owes (standing_then call answer) (Some r) es
+after_owes (calls.Pend pipe) Pending r [] owed = owed
+after_owes (calls.Pend pipe) Pending r (f ∷ es) owed = owed
+after_owes (calls.Pend pipe) answer r es owed = owed
+after_owes call answer r es owed = owed
+
+owes_after : (call : Call) (answer : BusAnswer) (r : Running) (es : List Entry) →
+    Owes (standing_then call answer) (Some r) es → AfterAnswer call answer (λ rest. Trace r.registers r.written r.lines rest) es
+owes_after (calls.Pend pipe) Pending r [] owed = owed
+owes_after (calls.Pend pipe) Pending r (f ∷ es) owed = owed
+owes_after (calls.Pend pipe) answer r es owed = owed
+owes_after call answer r es owed = owed
+
+at_line : (script : ScriptText) (app : ℕ) (own : List Entry) (r : Running) (line : Line) (lines : List Line) (e : Entry) → r.lines ≡ line ∷ lines → call_of r.registers r.written line ≡ Some e.call →
+    IsAt script app own Active (Some r) → IsAt script app (own ++ e ∷ []) (standing_then e.call e.answer) (Some (behind_line r line lines e.call e.answer))
+at_line script app own r line lines e is calls at =
+    one_more script app own e Active (standing_then e.call e.answer) (Some r) (Some (behind_line r line lines e.call e.answer)) at there back
+  where
+    Lines : Option Call → List Entry → Type 0
+    Lines made es =
+        LineEntries made (λ call answer rest. Trace (registers_after r.registers line answer) (written_after r.written call answer) lines rest)
+        (λ rest. Trace r.registers (written_by r.written r.registers.buffers line) lines rest) es
+
+    there : (es : List Entry) → Trace r.registers r.written r.lines (e ∷ es) → Owes (standing_then e.call e.answer) (Some (behind_line r line lines e.call e.answer)) es
+    there es owed =
+        let L : List Line → Type 0 = λ l. Trace r.registers r.written l (e ∷ es) in
+        let M : Option Call → Type 0 = λ made. Lines made (e ∷ es) in
+        let found : Lines (Some e.call) (e ∷ es) = subst M calls (subst L is owed) in
+        after_owes e.call e.answer (behind_line r line lines e.call e.answer) es found.1
+
+    back : (es : List Entry) → Owes (standing_then e.call e.answer) (Some (behind_line r line lines e.call e.answer)) es → Trace r.registers r.written r.lines (e ∷ es)
+    back es owed =
+        let L : List Line → Type 0 = λ l. Trace r.registers r.written l (e ∷ es) in
+        let M : Option Call → Type 0 = λ made. Lines made (e ∷ es) in
+        let found : Lines (Some e.call) (e ∷ es) = (refl, owes_after e.call e.answer (behind_line r line lines e.call e.answer) es owed) in
+        subst L (sym is) (subst M (sym calls) found)
+
+at_look : (script : ScriptText) (app : ℕ) (own : List Entry) (r : Running) (pipe : ℕ) (e : Entry) → e.call ≡ calls.Look pipe →
+    IsAt script app own (Waiting pipe) (Some r) → IsAt script app (own ++ e ∷ []) Active (Some r)
+at_look script app own r pipe e is at =
+    one_more script app own e (Waiting pipe) Active (Some r) (Some r) at (λ es owed. owed.1) (λ es owed. (is, owed))
+
+at_end : (script : ScriptText) (app : ℕ) (own : List Entry) (r : Running) (e : Entry) → r.lines ≡ [] → e.call ≡ calls.End →
+    IsAt script app own Active (Some r) → IsAt script app (own ++ e ∷ []) Ended None
+at_end script app own r e is end at = one_more script app own e Active Ended (Some r) None at there back
+  where
+    none : (es : List Entry) → IsEnd (e ∷ es) → es ≡ []
+    none [] owed = refl
+    none (f ∷ es) owed = absurd owed
+
+    there : (es : List Entry) → Trace r.registers r.written r.lines (e ∷ es) → es ≡ []
+    there es owed = let L : List Line → Type 0 = λ l. Trace r.registers r.written l (e ∷ es) in none es (subst L is owed)
+
+    back : (es : List Entry) → es ≡ [] → Trace r.registers r.written r.lines (e ∷ es)
+    back es same =
+        let L : List Line → Type 0 = λ l. Trace r.registers r.written l (e ∷ es) in
+        let E : List Entry → Type 0 = λ l. IsEnd (e ∷ l) in
+        subst L (sym is) (subst E (sym same) end)
+
+-- lines make some entry
+line_some_entry : (made : Option Call) (Next : Call → BusAnswer → List Entry → Type 0) (Same : List Entry → Type 0) → ¬ Same [] → ¬ LineEntries made Next Same []
+line_some_entry None Next Same same owed = same owed
+line_some_entry (Some call) Next Same same owed = owed
+
+some_entry : (registers : Registers) (written : Written) (lines : List Line) → ¬ Trace registers written lines []
+some_entry registers written [] owed = owed
+some_entry registers written (line ∷ lines) owed =
+    line_some_entry (call_of registers written line)
+    (λ call answer rest. Trace (registers_after registers line answer) (written_after written call answer) lines rest)
+    (λ rest. Trace registers (written_by written registers.buffers line) lines rest)
+    (some_entry registers (written_by written registers.buffers line) lines) owed
+
+missing : (script : ScriptText) (app : ℕ) (own : List Entry) (standing : Standing) (r : Running) → IsAt script app own standing (Some r) → ¬ AreAllOf script app own
+missing script app own standing r at all = by standing (at.owes [] (let P : List Entry → Type 0 = AreAllOf script app in subst P (sym (append-nil own)) all))
+  where
+    by : (s : Standing) → ¬ Owes s (Some r) []
+    by Active owed = some_entry r.registers r.written r.lines owed
+    by (Waiting pipe) owed = owed
+    by Ended owed = owed
+
+pub applications_go_on : ApplicationsGoOn
+applications_go_on script app = record {
+  first = at_first script app;
+  silent = at_silent script app;
+  line = at_line script app;
+  look = at_look script app;
+  end = at_end script app;
+  whole = λ own at. let P : List Entry → Type 0 = AreAllOf script app in subst P (append-nil own) (at.enough [] refl);
+  missing = missing script app;
+}

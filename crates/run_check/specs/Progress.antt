@@ -8,11 +8,11 @@ use Rattle.bus_words.specs.declared.history.Entry.{Entry}
 use Rattle.bus_words.specs.Bus.{Standing, Active, Waiting, Ended, standing_of}
 use Rattle.bus_words.specs.Machine.{brings, makes_entry, may_call, state_after, step}
 use Rattle.script_lines.specs.declared.line.Line.{Line}
-use Rattle.app_script.specs.Script.{ScriptText}
+use Rattle.app_script.specs.Script.{ScriptText, app_at}
 use Rattle.script_runs.specs.Owing.{Owes}
 use Rattle.script_runs.specs.Rotation.{Running, behind}
-use Rattle.script_runs.specs.Trace.{call_of, own_entries, registers_after}
-use Rattle.script_runs.specs.Written.{written_after}
+use Rattle.script_runs.specs.Trace.{call_of, first_registers, own_entries, registers_after}
+use Rattle.script_runs.specs.Written.{first_written, written_after, written_by}
 use Rattle.run_check.specs.Begun.{AreAllOf, IsBegun}
 
 -- Behind its own entries an application that stands so has to make exactly what is owed by the one that goes on, where one does.
@@ -63,3 +63,27 @@ NextCallsMayCome =
     IsBegun script history → 1 ≤ e.app → e.app ≤ length script.apps →
     IsAt script e.app (own_entries e.app history) standing left → next_call standing left ≡ Some e.call →
     IsAnswered script history e → IsBegun script (history ++ e ∷ [])
+
+-- How an application goes on: before its first line, past a line that the bus doesn't see, behind a line's entry, behind the look that
+-- settles it, and behind its end; and its entries are all there are where it has ended, and there alone.
+pub record ProgressGoesOn (script : ScriptText) (app : ℕ) : Type 0 where
+  pub first :
+      (handles : List ℕ) →
+      IsAt script app [] Active (Some (record { app = app; lines = (app_at script app).lines; registers = first_registers; handles = handles; written = first_written }))
+  pub silent :
+      (own : List Entry) (r : Running) (line : Line) (lines : List Line) → r.lines ≡ line ∷ lines → call_of r.registers r.written line ≡ None →
+      IsAt script app own Active (Some r) → IsAt script app own Active (Some (behind r lines r.registers (written_by r.written r.registers.buffers line)))
+  pub line :
+      (own : List Entry) (r : Running) (line : Line) (lines : List Line) (e : Entry) → r.lines ≡ line ∷ lines → call_of r.registers r.written line ≡ Some e.call →
+      IsAt script app own Active (Some r) → IsAt script app (own ++ e ∷ []) (standing_then e.call e.answer) (Some (behind_line r line lines e.call e.answer))
+  pub look :
+      (own : List Entry) (r : Running) (pipe : ℕ) (e : Entry) → e.call ≡ calls.Look pipe →
+      IsAt script app own (Waiting pipe) (Some r) → IsAt script app (own ++ e ∷ []) Active (Some r)
+  pub end :
+      (own : List Entry) (r : Running) (e : Entry) → r.lines ≡ [] → e.call ≡ calls.End →
+      IsAt script app own Active (Some r) → IsAt script app (own ++ e ∷ []) Ended None
+  pub whole : (own : List Entry) → IsAt script app own Ended None → AreAllOf script app own
+  pub missing : (own : List Entry) (standing : Standing) (r : Running) → IsAt script app own standing (Some r) → ¬ AreAllOf script app own
+
+abbrev pub ApplicationsGoOn : Type 0
+ApplicationsGoOn = (script : ScriptText) (app : ℕ) → ProgressGoesOn script app

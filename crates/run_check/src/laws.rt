@@ -1,6 +1,6 @@
 //! A script and the report of a run of it determine the run.
 ghost use Rattle.run_check.specs.Fronts.{WrongLinesAreFirst};
-ghost use Rattle.run_check.specs.Progress.{NextCallsAreKnown, NextCallsMayCome};
+ghost use Rattle.run_check.specs.Progress.{ApplicationsGoOn, NextCallsAreKnown, NextCallsMayCome};
 ghost use Rattle.run_check.specs.Judged.{JudgedIsAnswered};
 ghost use Rattle.run_check.specs.Determined.{ReportsTellRuns, NextEntriesAreOne, NextTableEntriesAreOne};
 
@@ -34,4 +34,5 @@ pub fn judged_reports_are_answered()
 pub fn next_calls_are_known()
     ensures known { NextCallsAreKnown }
     ensures may_come { NextCallsMayCome }
+    ensures goes_on { ApplicationsGoOn }
 {}
