@@ -98,7 +98,7 @@ table_line_some None Next Same next same = same
 table_line_some (Some call) Next Same next same =
     let others = next Done in (record { app = 1; call = call; answer = Done } ∷ others.0, (refl, others.1))
 
-table_trace_some : (handles : List ℕ) (lines : List Line) → (es : List TableEntry) × TableTrace handles lines es
+pub table_trace_some : (handles : List ℕ) (lines : List Line) → (es : List TableEntry) × TableTrace handles lines es
 table_trace_some handles [] = (record { app = 1; call = table_calls.End; answer = Done } ∷ [], refl)
 table_trace_some handles (line ∷ lines) =
     table_line_some (table_call_of handles line) (λ answer rest. TableTrace (handles_after handles line answer) lines rest)

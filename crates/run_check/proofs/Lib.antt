@@ -10,3 +10,4 @@ mod Texts
 mod Behind
 mod Judged
 mod Progress
+mod TableProgress

@@ -1,6 +1,5 @@
 -- How far an application is, from its first entry to its end.
-use Rattle.std.proofs.Common.{◌≡◌, ℕ, ◌≤◌, ◌==◌, Bool, true, false, eqb-true, if◌then◌else◌, List, [], ◌∷◌, ◌++◌, length, All, Option, Some, None, IsTrue, refl, ap, sym, ◌∙◌, subst, arith, append_assoc, append-nil}
-use Rattle.std.proofs.lemmas.Bool.Decides.{nat_tests}
+use Rattle.std.proofs.Common.{◌≡◌, ℕ, ◌≤◌, ◌==◌, Bool, true, false, eqb-true, if◌then◌else◌, List, [], ◌∷◌, ◌++◌, length, Option, Some, None, IsTrue, refl, ap, sym, ◌∙◌, subst, append_assoc, append-nil}
 use Rattle.std.proofs.lemmas.List.Elements.{All-append, All-cons, All-nil, filter-append}
 use Rattle.fsw_base.specs.Limits.{Limits}
 use Rattle.bus_words.specs.declared.calls.BusAnswer.{BusAnswer}
@@ -9,7 +8,7 @@ use Rattle.bus_words.specs.declared.history.Call.{Call}
 use Rattle.bus_words.specs.declared.history.Call.TheVariants as calls
 use Rattle.bus_words.specs.declared.history.Entry.{Entry}
 use Rattle.bus_words.specs.Bus.{Standing, Active, Waiting, Ended, State, opening, standing_of}
-use Rattle.bus_words.specs.Machine.{LegalFrom, brings, makes_entry, may_call, state_after, state_from, step}
+use Rattle.bus_words.specs.Machine.{LegalFrom, brings, makes_entry, may_call, state_from, step}
 use Rattle.bus_words.proofs.Replay.{goes_on}
 use Rattle.script_lines.specs.declared.line.Line.{Line}
 use Rattle.app_script.specs.Script.{ScriptText, app_at}
@@ -17,7 +16,7 @@ use Rattle.script_runs.specs.Owing.{Owes}
 use Rattle.script_runs.specs.Rotation.{Running, behind}
 use Rattle.script_runs.specs.Trace.{AfterAnswer, IsEnd, LineEntries, Registers, Trace, call_of, first_registers, own_entries, registers_after}
 use Rattle.script_runs.specs.Written.{Written, first_written, written_after, written_by}
-use Rattle.run_check.specs.Begun.{AreAllOf, IsBegun}
+use Rattle.run_check.specs.Begun.{AreAllOf}
 use Rattle.run_check.specs.Progress.{ApplicationsGoOn, IsAnswered, IsAt, NextCallsAreKnown, NextCallsMayCome, behind_line, first_call, next_call, standing_then}
 use Rattle.run_check.proofs.Begun.{trace_some}
 use Rattle.run_check.proofs.Entries.{app_range, own_at}

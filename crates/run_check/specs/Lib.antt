@@ -5,3 +5,4 @@ pub mod Determined
 pub mod Fronts
 pub mod Judged
 pub mod Progress
+pub mod TableProgress

@@ -2,6 +2,7 @@
 ghost use Rattle.run_check.specs.Fronts.{WrongLinesAreFirst};
 ghost use Rattle.run_check.specs.Progress.{ApplicationsGoOn, NextCallsAreKnown, NextCallsMayCome};
 ghost use Rattle.run_check.specs.Judged.{JudgedIsAnswered};
+ghost use Rattle.run_check.specs.TableProgress.{ApplicationsGoOnAtTables, NextTableCallsAreKnown, NextTableCallsMayCome};
 ghost use Rattle.run_check.specs.Determined.{ReportsTellRuns, NextEntriesAreOne, NextTableEntriesAreOne};
 
 /// Two runs of a script have the same report only where they have the same histories, of the bus
@@ -35,4 +36,11 @@ pub fn next_calls_are_known()
     ensures known { NextCallsAreKnown }
     ensures may_come { NextCallsMayCome }
     ensures goes_on { ApplicationsGoOn }
+{}
+
+/// The same of the tables.
+pub fn next_table_calls_are_known()
+    ensures known { NextTableCallsAreKnown }
+    ensures may_come { NextTableCallsMayCome }
+    ensures goes_on { ApplicationsGoOnAtTables }
 {}
