@@ -10,8 +10,8 @@ use Rattle.app_script.specs.Script.{ScriptText}
 use Rattle.script_runs.specs.Histories.{Histories}
 use Rattle.run_check.specs.Begun.{AreBegunTables, AreWholeTables, IsBegun, IsWhole}
 use Rattle.run_check.specs.Checks.{Beginning}
-use Rattle.run_check.specs.Judged.{entries_part, head}
-use Rattle.run_check.specs.Openings.{Opens, WithAll, WithBus, WithTables, bus_part, report, tables_part}
+use Rattle.run_check.specs.Judged.{entries_part}
+use Rattle.run_check.specs.Openings.{Opens, WithAll, WithBus, WithTables, bus_part, head, report, tables_part}
 use Rattle.run_check.proofs.Begun.{begun_front, begun_tables_front}
 use Rattle.run_check.proofs.Entries.{bus_follows, none_behind}
 use Rattle.run_check.proofs.Reports.{behind_tables, figures_in, receipts_in, report_of, uses_in}
@@ -71,15 +71,15 @@ next_of script history other u more whole (SameBus same text) = let W : List Ent
 next_of script history other u more whole (MoreBus f others begun text) = NextEntry f others begun text
 
 pub report_at : (script : ScriptText) → length script.apps ≤ 16 → (history : List Entry) (h : Histories) (u : List ℕ) → IsBegun script history → IsBegun script h.bus → IsWhole script h.bus →
-    report script h ≡ bus_part history ++ u → Next script history u
+    report script h ≡ bus_part script history ++ u → Next script history u
 report_at script few history h u one two whole same =
     let w = table_entries_text h.tables ++ behind_tables (receipts_in script h) (figures_in script h) (uses_in script h) in
     next_of script history h.bus u w whole
     (bus_case script few history h.bus u (codes "tables\n" ++ w) one two (inr whole)
-    (cut head (entries_text history) (entries_text h.bus) u (codes "tables\n" ++ w) (report script h) same (report_of script h)))
+    (cut (head script) (entries_text history) (entries_text h.bus) u (codes "tables\n" ++ w) (report script h) same (report_of script h)))
 
 pub opening_at : (script : ScriptText) → length script.apps ≤ 16 → (history : List Entry) (opening u : List ℕ) → IsBegun script history → Beginning script opening →
-    opening ≡ bus_part history ++ u → (u ≡ []) ⊎ Next script history u
+    opening ≡ bus_part script history ++ u → (u ≡ []) ⊎ Next script history u
 opening_at script few history opening u one beginning same = by beginning.opens
   where
     h : Histories
@@ -92,11 +92,11 @@ opening_at script few history opening u one beginning same = by beginning.opens
     by : Opens script h opening → (u ≡ []) ⊎ Next script history u
     by (WithBus is) =
         last (bus_case script few history h.bus u [] one beginning.begun (inl refl)
-        (cut head (entries_text history) (entries_text h.bus) u [] opening same (is ∙ ap (λ l. head ++ l) (sym (append-nil (entries_text h.bus))))))
+        (cut (head script) (entries_text history) (entries_text h.bus) u [] opening same (is ∙ ap (λ l. head script ++ l) (sym (append-nil (entries_text h.bus))))))
     by (WithTables whole is) =
         inr (next_of script history h.bus u (table_entries_text h.tables) whole
         (bus_case script few history h.bus u (tables_part h.tables) one beginning.begun (inr whole)
-        (cut head (entries_text history) (entries_text h.bus) u (tables_part h.tables) opening same (is ∙ append_assoc head (entries_text h.bus) (tables_part h.tables)))))
+        (cut (head script) (entries_text history) (entries_text h.bus) u (tables_part h.tables) opening same (is ∙ append_assoc (head script) (entries_text h.bus) (tables_part h.tables)))))
     by (WithAll whole all is) = inr (report_at script few history h u one beginning.begun whole (sym is ∙ same))
 
 -- The tables. --
@@ -120,7 +120,7 @@ whole_bus script history other u v whole (MoreBus f more begun text) = absurd (n
 
 pub report_at_tables : (script : ScriptText) → length script.apps ≤ 16 → (g h : Histories) (u : List ℕ) → IsBegun script g.bus → IsWhole script g.bus → AreBegunTables script g.tables →
     IsBegun script h.bus → AreBegunTables script h.tables → IsWhole script h.bus → AreWholeTables script h.tables →
-    report script h ≡ entries_part g ++ u → NextAtTables script g (report script h) u
+    report script h ≡ entries_part script g ++ u → NextAtTables script g (report script h) u
 report_at_tables script few g h u begun whole tables two others all every same = by (table_case script few g.tables h.tables u w tables others (inr every) texts)
   where
     w : List ℕ
@@ -129,7 +129,7 @@ report_at_tables script few g h u begun whole tables two others all every same =
     found : (h.bus ≡ g.bus) × (codes "tables\n" ++ (table_entries_text g.tables ++ u) ≡ codes "tables\n" ++ (table_entries_text h.tables ++ w))
     found = whole_bus script g.bus h.bus (codes "tables\n" ++ (table_entries_text g.tables ++ u)) (codes "tables\n" ++ (table_entries_text h.tables ++ w)) whole
         (bus_case script few g.bus h.bus (codes "tables\n" ++ (table_entries_text g.tables ++ u)) (codes "tables\n" ++ (table_entries_text h.tables ++ w)) begun two (inr all)
-        (cut_tables head (entries_text g.bus) (codes "tables\n") (table_entries_text g.tables) (entries_text h.bus) (codes "tables\n" ++ (table_entries_text h.tables ++ w)) (report script h) u same (report_of script h)))
+        (cut_tables (head script) (entries_text g.bus) (codes "tables\n") (table_entries_text g.tables) (entries_text h.bus) (codes "tables\n" ++ (table_entries_text h.tables ++ w)) (report script h) u same (report_of script h)))
 
     texts : table_entries_text h.tables ++ w ≡ table_entries_text g.tables ++ u
     texts = sym (append_cancel_left (codes "tables\n") _ _ found.1)
@@ -142,7 +142,7 @@ report_at_tables script few g h u begun whole tables two others all every same =
     by (MoreTables f more next text) = NextTableEntry f more next text
 
 pub opening_at_tables : (script : ScriptText) → length script.apps ≤ 16 → (g : Histories) (opening u : List ℕ) → IsBegun script g.bus → IsWhole script g.bus → AreBegunTables script g.tables →
-    Beginning script opening → opening ≡ entries_part g ++ u → (u ≡ []) ⊎ NextAtTables script g opening u
+    Beginning script opening → opening ≡ entries_part script g ++ u → (u ≡ []) ⊎ NextAtTables script g opening u
 opening_at_tables script few g opening u begun whole tables beginning same = by beginning.opens
   where
     h : Histories
@@ -162,14 +162,14 @@ opening_at_tables script few g opening u begun whole tables beginning same = by 
     by (WithBus is) =
         let found = whole_bus script g.bus h.bus behind [] whole
         (bus_case script few g.bus h.bus behind [] begun beginning.begun (inl refl)
-        (cut_tables head (entries_text g.bus) (codes "tables\n") (table_entries_text g.tables) (entries_text h.bus) [] opening u same
-        (is ∙ ap (λ l. head ++ l) (sym (append-nil (entries_text h.bus)))))) in
+        (cut_tables (head script) (entries_text g.bus) (codes "tables\n") (table_entries_text g.tables) (entries_text h.bus) [] opening u same
+        (is ∙ ap (λ l. head script ++ l) (sym (append-nil (entries_text h.bus)))))) in
         absurd (nothing (table_entries_text g.tables ++ u) found.1)
     by (WithTables all is) =
         let found = whole_bus script g.bus h.bus behind (tables_part h.tables) whole
         (bus_case script few g.bus h.bus behind (tables_part h.tables) begun beginning.begun (inr all)
-        (cut_tables head (entries_text g.bus) (codes "tables\n") (table_entries_text g.tables) (entries_text h.bus) (tables_part h.tables) opening u same
-        (is ∙ append_assoc head (entries_text h.bus) (tables_part h.tables)))) in
+        (cut_tables (head script) (entries_text g.bus) (codes "tables\n") (table_entries_text g.tables) (entries_text h.bus) (tables_part h.tables) opening u same
+        (is ∙ append_assoc (head script) (entries_text h.bus) (tables_part h.tables)))) in
         last (table_case script few g.tables h.tables u [] tables beginning.begun_tables (inl refl)
         (append-nil (table_entries_text h.tables) ∙ sym (append_cancel_left (codes "tables\n") _ _ found.1)))
     by (WithAll all every is) = inr (turned (report_at_tables script few g h u begun whole tables beginning.begun beginning.begun_tables all every (sym is ∙ same)))

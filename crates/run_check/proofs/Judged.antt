@@ -14,8 +14,8 @@ use Rattle.run_check.specs.declared.verdict.Verdict.TheVariants.{No}
 use Rattle.run_check.specs.Begun.{AreBegunTables, AreWholeTables, IsBegun, IsWhole}
 use Rattle.run_check.specs.Checks.{Beginning, IsAnswer, IsGood}
 use Rattle.run_check.specs.Fronts.{EndsLine, IsForced, IsReached, wrong_line}
-use Rattle.run_check.specs.Judged.{Begins, JudgedIsAnswered, NobodysEntry, NobodysTableEntry, NoHead, NoTables, Right, WrongEnd, WrongEntry, WrongTableEntry, entries_part, entry_head, head}
-use Rattle.run_check.specs.Openings.{Opens, WithAll, WithBus, WithTables, bus_part, report, tables_part}
+use Rattle.run_check.specs.Judged.{Begins, JudgedIsAnswered, NobodysEntry, NobodysTableEntry, NoHead, NoTables, Right, WrongEnd, WrongEntry, WrongTableEntry, entries_part, entry_head}
+use Rattle.run_check.specs.Openings.{Opens, WithAll, WithBus, WithTables, bus_part, head, report, tables_part}
 use Rattle.run_check.proofs.Begun.{begun_front, begun_no_tables, begun_nothing, begun_tables_front}
 use Rattle.run_check.proofs.Behind.{Next, NextAtTables, NextEntry, NextRest, NextTableEntry, NextTables, opening_at, opening_at_tables, report_at, report_at_tables}
 use Rattle.run_check.proofs.Entries.{app_range, entries_one, none_behind}
@@ -70,26 +70,26 @@ says_no script bytes text verdict is bad forced reached =
 -- The head. --
 
 -- every opening begins with the first two lines
-opening_head : (script : ScriptText) (h : Histories) (opening : List ℕ) → Opens script h opening → Begins opening head
+opening_head : (script : ScriptText) (h : Histories) (opening : List ℕ) → Opens script h opening → Begins opening (head script)
 opening_head script h opening (WithBus is) = (entries_text h.bus, is)
-opening_head script h opening (WithTables whole is) = (entries_text h.bus ++ tables_part h.tables, is ∙ append_assoc head (entries_text h.bus) (tables_part h.tables))
+opening_head script h opening (WithTables whole is) = (entries_text h.bus ++ tables_part h.tables, is ∙ append_assoc (head script) (entries_text h.bus) (tables_part h.tables))
 opening_head script h opening (WithAll whole all is) =
     (entries_text h.bus ++ (codes "tables\n" ++ (table_entries_text h.tables ++ behind_tables (receipts_in script h) (figures_in script h) (uses_in script h))), is ∙ report_of script h)
 
-no_head : (script : ScriptText) (bytes : List ℕ) (verdict : Verdict) → ¬ Begins bytes head → verdict ≡ No (wrong_line bytes head) → IsAnswer script bytes verdict
-no_head script bytes verdict wrong is = says_no script bytes head verdict is bad (forced_from script bytes [] bytes head head refl refl steps) reached
+no_head : (script : ScriptText) (bytes : List ℕ) (verdict : Verdict) → ¬ Begins bytes (head script) → verdict ≡ No (wrong_line bytes (head script)) → IsAnswer script bytes verdict
+no_head script bytes verdict wrong is = says_no script bytes (head script) verdict is bad (forced_from script bytes [] bytes (head script) (head script) refl refl steps) reached
   where
     bad : ¬ IsGood script bytes
     bad good = let found = opening_head script good.histories (report script good.histories) (WithAll good.run.merges.each good.run.merges.each_at_tables refl) in wrong (found.0, good.same ∙ found.1)
 
-    steps : Steps script [] bytes head
+    steps : Steps script [] bytes (head script)
     steps opening f others z beginning opened begins ends =
         let found = opening_head script beginning.histories opening beginning.opens in
-        kept head bytes f others found.0 z (sym opened ∙ found.1) begins wrong
+        kept (head script) bytes f others found.0 z (sym opened ∙ found.1) begins wrong
 
-    reached : IsReached script head
+    reached : IsReached script (head script)
     reached = (
-      head ++ [],
+      head script ++ [],
       [],
       record { histories = record { bus = []; tables = [] }; begun = begun_nothing script; begun_tables = begun_no_tables script; opens = WithBus refl },
       refl,
@@ -120,25 +120,25 @@ head_cut n e rest f others more z same is ends =
     (line.0 ++ z, is ∙ ap (λ l. l ++ z) line.1 ∙ append_assoc (entry_head n e.app) line.0 z)
 
 -- one entry more
-bus_part_push : (history : List Entry) (e : Entry) → bus_part (history ++ e ∷ []) ≡ bus_part history ++ entry_text (length history + 1) e
-bus_part_push history e =
-    ap (λ t. head ++ t) (numbered_push entry_text 1 history e ∙ ap (λ m. entries_text history ++ entry_text m e) (omega arith))
-    ∙ sym (append_assoc head (entries_text history) (entry_text (length history + 1) e))
+bus_part_push : (script : ScriptText) (history : List Entry) (e : Entry) → bus_part script (history ++ e ∷ []) ≡ bus_part script history ++ entry_text (length history + 1) e
+bus_part_push script history e =
+    ap (λ t. head script ++ t) (numbered_push entry_text 1 history e ∙ ap (λ m. entries_text history ++ entry_text m e) (omega arith))
+    ∙ sym (append_assoc (head script) (entries_text history) (entry_text (length history + 1) e))
 
-with_bus : (script : ScriptText) (history : List Entry) → IsBegun script history → IsReached script (bus_part history)
+with_bus : (script : ScriptText) (history : List Entry) → IsBegun script history → IsReached script (bus_part script history)
 with_bus script history begun = (
-  bus_part history,
+  bus_part script history,
   [],
   record { histories = record { bus = history; tables = [] }; begun = begun; begun_tables = begun_no_tables script; opens = WithBus refl },
-  sym (append-nil (bus_part history)),
+  sym (append-nil (bus_part script history)),
 )
 
 nobodys_entry : (script : ScriptText) (bytes : List ℕ) (verdict : Verdict) → IsScript script → (history : List Entry) (rest : List ℕ) → IsBegun script history → ¬ IsWhole script history →
-    bytes ≡ bus_part history ++ rest → ((e : Entry) → IsBegun script (history ++ e ∷ []) → ¬ Begins rest (entry_head (length history + 1) e.app)) →
-    verdict ≡ No (wrong_line bytes (bus_part history)) → IsAnswer script bytes verdict
+    bytes ≡ bus_part script history ++ rest → ((e : Entry) → IsBegun script (history ++ e ∷ []) → ¬ Begins rest (entry_head (length history + 1) e.app)) →
+    verdict ≡ No (wrong_line bytes (bus_part script history)) → IsAnswer script bytes verdict
 nobodys_entry script bytes verdict fine history rest begun missing is nobody says =
-    says_no script bytes (bus_part history) verdict says bad
-    (forced_from script bytes (bus_part history) rest [] (bus_part history) is (sym (append-nil (bus_part history))) steps) (with_bus script history begun)
+    says_no script bytes (bus_part script history) verdict says bad
+    (forced_from script bytes (bus_part script history) rest [] (bus_part script history) is (sym (append-nil (bus_part script history))) steps) (with_bus script history begun)
   where
     bad : ¬ IsGood script bytes
     bad good =
@@ -148,7 +148,7 @@ nobodys_entry script bytes verdict fine history rest begun missing is nobody say
         by (NextEntry e more next text) = nobody e next (head_whole (length history + 1) e rest more text)
         by (NextTables whole more text) = missing whole
 
-    steps : Steps script (bus_part history) rest []
+    steps : Steps script (bus_part script history) rest []
     steps opening f others z beginning opened begins ends = by (opening_at script fine.few history opening (f ++ others) begun beginning opened)
       where
         by : (f ++ others ≡ []) ⊎ Next script history (f ++ others) → Begins [] f
@@ -157,11 +157,11 @@ nobodys_entry script bytes verdict fine history rest begun missing is nobody say
         by (inr (NextTables whole more text)) = absurd (missing whole)
 
 wrong_entry : (script : ScriptText) (bytes : List ℕ) (verdict : Verdict) → IsScript script → (history : List Entry) (e : Entry) (rest : List ℕ) → IsBegun script (history ++ e ∷ []) →
-    bytes ≡ bus_part history ++ rest → Begins rest (entry_head (length history + 1) e.app) → ¬ Begins rest (entry_text (length history + 1) e) →
-    verdict ≡ No (wrong_line bytes (bus_part (history ++ e ∷ []))) → IsAnswer script bytes verdict
+    bytes ≡ bus_part script history ++ rest → Begins rest (entry_head (length history + 1) e.app) → ¬ Begins rest (entry_text (length history + 1) e) →
+    verdict ≡ No (wrong_line bytes (bus_part script (history ++ e ∷ []))) → IsAnswer script bytes verdict
 wrong_entry script bytes verdict fine history e rest begun is headed wrong says =
-    says_no script bytes (bus_part (history ++ e ∷ [])) verdict says bad
-    (forced_from script bytes (bus_part history) rest (entry_text (length history + 1) e) (bus_part (history ++ e ∷ [])) is (bus_part_push history e) steps)
+    says_no script bytes (bus_part script (history ++ e ∷ [])) verdict says bad
+    (forced_from script bytes (bus_part script history) rest (entry_text (length history + 1) e) (bus_part script (history ++ e ∷ [])) is (bus_part_push script history e) steps)
     (with_bus script (history ++ e ∷ []) begun)
   where
     before : IsBegun script history
@@ -184,7 +184,7 @@ wrong_entry script bytes verdict fine history e rest begun is headed wrong says 
             wrong (more, text ∙ ap (λ g. entry_text (length history + 1) g ++ more) (same f next (head_whole (length history + 1) f rest more text)))
         by (NextTables whole more text) = none_behind script history e [] whole begun
 
-    steps : Steps script (bus_part history) rest (entry_text (length history + 1) e)
+    steps : Steps script (bus_part script history) rest (entry_text (length history + 1) e)
     steps opening f others z beginning opened begins ends = by (opening_at script fine.few history opening (f ++ others) before beginning opened)
       where
         by : (f ++ others ≡ []) ⊎ Next script history (f ++ others) → Begins (entry_text (length history + 1) e) f
@@ -195,10 +195,10 @@ wrong_entry script bytes verdict fine history e rest begun is headed wrong says 
         by (inr (NextTables whole more text)) = absurd (none_behind script history e [] whole begun)
 
 no_tables : (script : ScriptText) (bytes : List ℕ) (verdict : Verdict) → IsScript script → (history : List Entry) (rest : List ℕ) → IsBegun script history → IsWhole script history →
-    bytes ≡ bus_part history ++ rest → ¬ Begins rest (codes "tables\n") → verdict ≡ No (wrong_line bytes (bus_part history ++ codes "tables\n")) → IsAnswer script bytes verdict
+    bytes ≡ bus_part script history ++ rest → ¬ Begins rest (codes "tables\n") → verdict ≡ No (wrong_line bytes (bus_part script history ++ codes "tables\n")) → IsAnswer script bytes verdict
 no_tables script bytes verdict fine history rest begun whole is wrong says =
-    says_no script bytes (bus_part history ++ codes "tables\n") verdict says bad
-    (forced_from script bytes (bus_part history) rest (codes "tables\n") (bus_part history ++ codes "tables\n") is refl steps) reached
+    says_no script bytes (bus_part script history ++ codes "tables\n") verdict says bad
+    (forced_from script bytes (bus_part script history) rest (codes "tables\n") (bus_part script history ++ codes "tables\n") is refl steps) reached
   where
     bad : ¬ IsGood script bytes
     bad good =
@@ -208,7 +208,7 @@ no_tables script bytes verdict fine history rest begun whole is wrong says =
         by (NextEntry f more next text) = none_behind script history f [] whole next
         by (NextTables all more text) = wrong (more, text)
 
-    steps : Steps script (bus_part history) rest (codes "tables\n")
+    steps : Steps script (bus_part script history) rest (codes "tables\n")
     steps opening f others z beginning opened begins ends = by (opening_at script fine.few history opening (f ++ others) begun beginning opened)
       where
         by : (f ++ others ≡ []) ⊎ Next script history (f ++ others) → Begins (codes "tables\n") f
@@ -216,12 +216,12 @@ no_tables script bytes verdict fine history rest begun whole is wrong says =
         by (inr (NextEntry g more next text)) = absurd (none_behind script history g [] whole next)
         by (inr (NextTables all more text)) = kept (codes "tables\n") rest f others more z text begins wrong
 
-    reached : IsReached script (bus_part history ++ codes "tables\n")
+    reached : IsReached script (bus_part script history ++ codes "tables\n")
     reached = (
-      bus_part history ++ tables_part [],
+      bus_part script history ++ tables_part [],
       [],
       record { histories = record { bus = history; tables = [] }; begun = begun; begun_tables = begun_no_tables script; opens = WithTables whole refl },
-      sym (append_assoc (bus_part history) (codes "tables\n") []),
+      sym (append_assoc (bus_part script history) (codes "tables\n") []),
     )
 
 -- The tables. --
@@ -250,36 +250,36 @@ table_head_cut n e rest f others more z same is ends =
 abbrev with_table_entry : Histories → TableEntry → Histories
 with_table_entry g e = record g { tables = g.tables ++ e ∷ [] }
 
-entries_part_push : (g : Histories) (e : TableEntry) → entries_part (with_table_entry g e) ≡ entries_part g ++ table_entry_text (length g.tables + 1) e
-entries_part_push g e =
-    ap (λ t. bus_part g.bus ++ (codes "tables\n" ++ t)) (numbered_push table_entry_text 1 g.tables e ∙ ap (λ m. table_entries_text g.tables ++ table_entry_text m e) (omega arith))
-    ∙ regroup (bus_part g.bus) (codes "tables\n") (table_entries_text g.tables) (table_entry_text (length g.tables + 1) e)
+entries_part_push : (script : ScriptText) (g : Histories) (e : TableEntry) → entries_part script (with_table_entry g e) ≡ entries_part script g ++ table_entry_text (length g.tables + 1) e
+entries_part_push script g e =
+    ap (λ t. bus_part script g.bus ++ (codes "tables\n" ++ t)) (numbered_push table_entry_text 1 g.tables e ∙ ap (λ m. table_entries_text g.tables ++ table_entry_text m e) (omega arith))
+    ∙ regroup (bus_part script g.bus) (codes "tables\n") (table_entries_text g.tables) (table_entry_text (length g.tables + 1) e)
   where
     regroup : (b c t x : List ℕ) → b ++ (c ++ (t ++ x)) ≡ (b ++ (c ++ t)) ++ x
     regroup b c t x = simp append_assoc
 
-with_tables : (script : ScriptText) (g : Histories) → IsBegun script g.bus → IsWhole script g.bus → AreBegunTables script g.tables → IsReached script (entries_part g)
+with_tables : (script : ScriptText) (g : Histories) → IsBegun script g.bus → IsWhole script g.bus → AreBegunTables script g.tables → IsReached script (entries_part script g)
 with_tables script g begun whole tables = (
-  entries_part g,
+  entries_part script g,
   [],
   record { histories = g; begun = begun; begun_tables = tables; opens = WithTables whole refl },
-  sym (append-nil (entries_part g)),
+  sym (append-nil (entries_part script g)),
 )
 
 -- what the report of a run has behind the lines of both histories
 good_at_tables : (script : ScriptText) (bytes : List ℕ) → IsScript script → (g : Histories) (rest : List ℕ) → IsBegun script g.bus → IsWhole script g.bus → AreBegunTables script g.tables →
-    bytes ≡ entries_part g ++ rest → (good : IsGood script bytes) → NextAtTables script g (report script good.histories) rest
+    bytes ≡ entries_part script g ++ rest → (good : IsGood script bytes) → NextAtTables script g (report script good.histories) rest
 good_at_tables script bytes fine g rest begun whole tables is good =
     report_at_tables script fine.few g good.histories rest begun whole tables (begun_of script good.histories good.run) (begun_tables_of script good.histories good.run)
     good.run.merges.each good.run.merges.each_at_tables (sym good.same ∙ is)
 
 nobodys_table_entry : (script : ScriptText) (bytes : List ℕ) (verdict : Verdict) → IsScript script → (g : Histories) (rest : List ℕ) → IsBegun script g.bus → IsWhole script g.bus →
-    AreBegunTables script g.tables → ¬ AreWholeTables script g.tables → bytes ≡ entries_part g ++ rest →
+    AreBegunTables script g.tables → ¬ AreWholeTables script g.tables → bytes ≡ entries_part script g ++ rest →
     ((e : TableEntry) → AreBegunTables script (g.tables ++ e ∷ []) → ¬ Begins rest (entry_head (length g.tables + 1) e.app)) →
-    verdict ≡ No (wrong_line bytes (entries_part g)) → IsAnswer script bytes verdict
+    verdict ≡ No (wrong_line bytes (entries_part script g)) → IsAnswer script bytes verdict
 nobodys_table_entry script bytes verdict fine g rest begun whole tables missing is nobody says =
-    says_no script bytes (entries_part g) verdict says bad
-    (forced_from script bytes (entries_part g) rest [] (entries_part g) is (sym (append-nil (entries_part g))) steps) (with_tables script g begun whole tables)
+    says_no script bytes (entries_part script g) verdict says bad
+    (forced_from script bytes (entries_part script g) rest [] (entries_part script g) is (sym (append-nil (entries_part script g))) steps) (with_tables script g begun whole tables)
   where
     bad : ¬ IsGood script bytes
     bad good = by (good_at_tables script bytes fine g rest begun whole tables is good)
@@ -288,7 +288,7 @@ nobodys_table_entry script bytes verdict fine g rest begun whole tables missing 
         by (NextTableEntry e more next text) = nobody e next (table_head_whole (length g.tables + 1) e rest more text)
         by (NextRest all same) = missing all
 
-    steps : Steps script (entries_part g) rest []
+    steps : Steps script (entries_part script g) rest []
     steps opening f others z beginning opened begins ends = by (opening_at_tables script fine.few g opening (f ++ others) begun whole tables beginning opened)
       where
         by : (f ++ others ≡ []) ⊎ NextAtTables script g opening (f ++ others) → Begins [] f
@@ -297,11 +297,11 @@ nobodys_table_entry script bytes verdict fine g rest begun whole tables missing 
         by (inr (NextRest all same)) = absurd (missing all)
 
 wrong_table_entry : (script : ScriptText) (bytes : List ℕ) (verdict : Verdict) → IsScript script → (g : Histories) (e : TableEntry) (rest : List ℕ) → IsBegun script g.bus → IsWhole script g.bus →
-    AreBegunTables script (g.tables ++ e ∷ []) → bytes ≡ entries_part g ++ rest → Begins rest (entry_head (length g.tables + 1) e.app) →
-    ¬ Begins rest (table_entry_text (length g.tables + 1) e) → verdict ≡ No (wrong_line bytes (entries_part (with_table_entry g e))) → IsAnswer script bytes verdict
+    AreBegunTables script (g.tables ++ e ∷ []) → bytes ≡ entries_part script g ++ rest → Begins rest (entry_head (length g.tables + 1) e.app) →
+    ¬ Begins rest (table_entry_text (length g.tables + 1) e) → verdict ≡ No (wrong_line bytes (entries_part script (with_table_entry g e))) → IsAnswer script bytes verdict
 wrong_table_entry script bytes verdict fine g e rest begun whole tables is headed wrong says =
-    says_no script bytes (entries_part (with_table_entry g e)) verdict says bad
-    (forced_from script bytes (entries_part g) rest (table_entry_text (length g.tables + 1) e) (entries_part (with_table_entry g e)) is (entries_part_push g e) steps)
+    says_no script bytes (entries_part script (with_table_entry g e)) verdict says bad
+    (forced_from script bytes (entries_part script g) rest (table_entry_text (length g.tables + 1) e) (entries_part script (with_table_entry g e)) is (entries_part_push script g e) steps)
     (with_tables script (with_table_entry g e) begun whole tables)
   where
     before : AreBegunTables script g.tables
@@ -322,7 +322,7 @@ wrong_table_entry script bytes verdict fine g e rest begun whole tables is heade
             wrong (more, text ∙ ap (λ x. table_entry_text (length g.tables + 1) x ++ more) (same f next (table_head_whole (length g.tables + 1) f rest more text)))
         by (NextRest all alike) = no_table_behind script g.tables e [] all tables
 
-    steps : Steps script (entries_part g) rest (table_entry_text (length g.tables + 1) e)
+    steps : Steps script (entries_part script g) rest (table_entry_text (length g.tables + 1) e)
     steps opening f others z beginning opened begins ends = by (opening_at_tables script fine.few g opening (f ++ others) begun whole before beginning opened)
       where
         by : (f ++ others ≡ []) ⊎ NextAtTables script g opening (f ++ others) → Begins (table_entry_text (length g.tables + 1) e) f
@@ -335,19 +335,19 @@ wrong_table_entry script bytes verdict fine g e rest begun whole tables is heade
 -- The end. --
 
 -- the rest of a report behind its entries
-report_rest : (script : ScriptText) (g : Histories) → report script g ≡ entries_part g ++ behind_tables (receipts_in script g) (figures_in script g) (uses_in script g)
+report_rest : (script : ScriptText) (g : Histories) → report script g ≡ entries_part script g ++ behind_tables (receipts_in script g) (figures_in script g) (uses_in script g)
 report_rest script g =
     report_of script g
-    ∙ regroup head (entries_text g.bus) (codes "tables\n") (table_entries_text g.tables) (behind_tables (receipts_in script g) (figures_in script g) (uses_in script g))
+    ∙ regroup (head script) (entries_text g.bus) (codes "tables\n") (table_entries_text g.tables) (behind_tables (receipts_in script g) (figures_in script g) (uses_in script g))
   where
     regroup : (a e c t w : List ℕ) → a ++ (e ++ (c ++ (t ++ w))) ≡ ((a ++ e) ++ (c ++ t)) ++ w
     regroup a e c t w = simp append_assoc
 
-wrong_end : (script : ScriptText) (bytes : List ℕ) (verdict : Verdict) → IsScript script → (g : Histories) (rest : List ℕ) → IsRunOf script g → bytes ≡ entries_part g ++ rest →
+wrong_end : (script : ScriptText) (bytes : List ℕ) (verdict : Verdict) → IsScript script → (g : Histories) (rest : List ℕ) → IsRunOf script g → bytes ≡ entries_part script g ++ rest →
     ¬ (bytes ≡ report script g) → verdict ≡ No (wrong_line bytes (report script g)) → IsAnswer script bytes verdict
 wrong_end script bytes verdict fine g rest run is wrong says =
     says_no script bytes (report script g) verdict says bad
-    (forced_from script bytes (entries_part g) rest tail (report script g) is (report_rest script g) steps) reached
+    (forced_from script bytes (entries_part script g) rest tail (report script g) is (report_rest script g) steps) reached
   where
     tail : List ℕ
     tail = behind_tables (receipts_in script g) (figures_in script g) (uses_in script g)
@@ -365,13 +365,13 @@ wrong_end script bytes verdict fine g rest run is wrong says =
         by (NextTableEntry e more next text) = no_table_behind script g.tables e [] run.merges.each_at_tables next
         by (NextRest all same) = wrong (good.same ∙ same)
 
-    steps : Steps script (entries_part g) rest tail
+    steps : Steps script (entries_part script g) rest tail
     steps opening f others z beginning opened begins ends = by (opening_at_tables script fine.few g opening (f ++ others) begun run.merges.each tables beginning opened)
       where
         by : (f ++ others ≡ []) ⊎ NextAtTables script g opening (f ++ others) → Begins tail f
         by (inl none) = absurd (no_lines f others ends none)
         by (inr (NextTableEntry e more next text)) = absurd (no_table_behind script g.tables e [] run.merges.each_at_tables next)
-        by (inr (NextRest all same)) = (others, append_cancel_left (entries_part g) _ _ (sym (report_rest script g) ∙ sym same ∙ opened))
+        by (inr (NextRest all same)) = (others, append_cancel_left (entries_part script g) _ _ (sym (report_rest script g) ∙ sym same ∙ opened))
 
     reached : IsReached script (report script g)
     reached = (

@@ -20,7 +20,7 @@ use Rattle.script_runs.specs.TableTrace.{own_table_entries}
 use Rattle.script_runs.specs.Trace.{own_entries}
 use Rattle.run_check.specs.Begun.{AreAllOf, AreAllTablesOf, AreBegunTables, IsBegun}
 use Rattle.run_check.specs.Determined.{NextEntriesAreOne, NextTableEntriesAreOne, ReportsTellRuns}
-use Rattle.run_check.specs.Openings.{report}
+use Rattle.run_check.specs.Openings.{head, report}
 use Rattle.run_check.proofs.Entries.{bus_follows, entries_one, none_behind}
 use Rattle.run_check.proofs.TableEntries.{no_table_behind, table_entries_one, tables_follow}
 
@@ -106,7 +106,7 @@ lines_tell script one other w z few first second same =
 -- a report, by its parts
 pub report_of : (script : ScriptText) (histories : Histories) →
     report script histories
-    ≡ codes "fsw 1\nbus\n" ++ (entries_text histories.bus ++ (codes "tables\n" ++ (table_entries_text histories.tables ++ behind_tables (receipts_in script histories) (figures_in script histories) (uses_in script histories))))
+    ≡ head script ++ (entries_text histories.bus ++ (codes "tables\n" ++ (table_entries_text histories.tables ++ behind_tables (receipts_in script histories) (figures_in script histories) (uses_in script histories))))
 report_of script histories = report_parts histories.bus histories.tables (receipts_in script histories) (figures_in script histories) (uses_in script histories)
 
 pub reports_tell_runs : ReportsTellRuns
@@ -114,7 +114,7 @@ reports_tell_runs script one other fine first second same =
     let w = behind_tables (receipts_in script one) (figures_in script one) (uses_in script one) in
     let z = behind_tables (receipts_in script other) (figures_in script other) (uses_in script other) in
     lines_tell script one other w z fine.few first second
-    (append_cancel_left (codes "fsw 1\nbus\n") _ _ (sym (report_of script one) ∙ same ∙ report_of script other))
+    (append_cancel_left (head script) _ _ (sym (report_of script one) ∙ same ∙ report_of script other))
 
 pub next_entries : NextEntriesAreOne
 next_entries script history e f one other same = entries_one script history e f [] [] one other same

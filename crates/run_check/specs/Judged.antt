@@ -13,7 +13,7 @@ use Rattle.run_check.specs.declared.verdict.Verdict.TheVariants.{Yes, No}
 use Rattle.run_check.specs.Begun.{AreBegunTables, IsBegun, IsWhole, AreWholeTables}
 use Rattle.run_check.specs.Checks.{IsAnswer}
 use Rattle.run_check.specs.Fronts.{wrong_line}
-use Rattle.run_check.specs.Openings.{bus_part, report, tables_part}
+use Rattle.run_check.specs.Openings.{bus_part, head, report, tables_part}
 
 -- the text begins with this one
 abbrev pub Begins : List ℕ → List ℕ → Type 0
@@ -23,46 +23,42 @@ Begins text front = (rest : List ℕ) × (text ≡ front ++ rest)
 abbrev pub entry_head : ℕ → ℕ → List ℕ
 entry_head number app = decimal number ++ codes " a" ++ decimal app ++ codes " "
 
--- the first two lines
-abbrev pub head : List ℕ
-head = codes "fsw 1\nbus\n"
-
 -- a report as far as its lines on the tables
-abbrev pub entries_part : Histories → List ℕ
-entries_part histories = bus_part histories.bus ++ tables_part histories.tables
+abbrev pub entries_part : ScriptText → Histories → List ℕ
+entries_part script histories = bus_part script histories.bus ++ tables_part histories.tables
 
 -- One of these holds of the bytes and the verdict on them.
 pub data IsJudged (script : ScriptText) (bytes : List ℕ) (verdict : Verdict) : Type 0 where
   -- they don't begin with the first two lines
-  NoHead : ¬ Begins bytes head → verdict ≡ No (wrong_line bytes head) → IsJudged script bytes verdict
+  NoHead : ¬ Begins bytes (head script) → verdict ≡ No (wrong_line bytes (head script)) → IsJudged script bytes verdict
   -- the lines of a history of the bus are followed by no line of any entry that may come next
   NobodysEntry :
-      (history : List Entry) (rest : List ℕ) → IsBegun script history → ¬ IsWhole script history → bytes ≡ bus_part history ++ rest →
+      (history : List Entry) (rest : List ℕ) → IsBegun script history → ¬ IsWhole script history → bytes ≡ bus_part script history ++ rest →
       ((e : Entry) → IsBegun script (history ++ e ∷ []) → ¬ Begins rest (entry_head (length history + 1) e.app)) →
-      verdict ≡ No (wrong_line bytes (bus_part history)) → IsJudged script bytes verdict
+      verdict ≡ No (wrong_line bytes (bus_part script history)) → IsJudged script bytes verdict
   -- they are followed by a line that begins with an application's number, and isn't the line of this application's next entry
   WrongEntry :
-      (history : List Entry) (e : Entry) (rest : List ℕ) → IsBegun script (history ++ e ∷ []) → bytes ≡ bus_part history ++ rest →
+      (history : List Entry) (e : Entry) (rest : List ℕ) → IsBegun script (history ++ e ∷ []) → bytes ≡ bus_part script history ++ rest →
       Begins rest (entry_head (length history + 1) e.app) → ¬ Begins rest (entry_text (length history + 1) e) →
-      verdict ≡ No (wrong_line bytes (bus_part (history ++ e ∷ []))) → IsJudged script bytes verdict
+      verdict ≡ No (wrong_line bytes (bus_part script (history ++ e ∷ []))) → IsJudged script bytes verdict
   -- no entry of the bus is missing, and the heading of the tables doesn't follow
   NoTables :
-      (history : List Entry) (rest : List ℕ) → IsBegun script history → IsWhole script history → bytes ≡ bus_part history ++ rest →
-      ¬ Begins rest (codes "tables\n") → verdict ≡ No (wrong_line bytes (bus_part history ++ codes "tables\n")) → IsJudged script bytes verdict
+      (history : List Entry) (rest : List ℕ) → IsBegun script history → IsWhole script history → bytes ≡ bus_part script history ++ rest →
+      ¬ Begins rest (codes "tables\n") → verdict ≡ No (wrong_line bytes (bus_part script history ++ codes "tables\n")) → IsJudged script bytes verdict
   -- the same of the tables, where no entry of the bus is missing
   NobodysTableEntry :
       (histories : Histories) (rest : List ℕ) → IsBegun script histories.bus → IsWhole script histories.bus →
-      AreBegunTables script histories.tables → ¬ AreWholeTables script histories.tables → bytes ≡ entries_part histories ++ rest →
+      AreBegunTables script histories.tables → ¬ AreWholeTables script histories.tables → bytes ≡ entries_part script histories ++ rest →
       ((e : TableEntry) → AreBegunTables script (histories.tables ++ e ∷ []) → ¬ Begins rest (entry_head (length histories.tables + 1) e.app)) →
-      verdict ≡ No (wrong_line bytes (entries_part histories)) → IsJudged script bytes verdict
+      verdict ≡ No (wrong_line bytes (entries_part script histories)) → IsJudged script bytes verdict
   WrongTableEntry :
       (histories : Histories) (e : TableEntry) (rest : List ℕ) → IsBegun script histories.bus → IsWhole script histories.bus →
-      AreBegunTables script (histories.tables ++ e ∷ []) → bytes ≡ entries_part histories ++ rest →
+      AreBegunTables script (histories.tables ++ e ∷ []) → bytes ≡ entries_part script histories ++ rest →
       Begins rest (entry_head (length histories.tables + 1) e.app) → ¬ Begins rest (table_entry_text (length histories.tables + 1) e) →
-      verdict ≡ No (wrong_line bytes (entries_part (record histories { tables = histories.tables ++ e ∷ [] }))) → IsJudged script bytes verdict
+      verdict ≡ No (wrong_line bytes (entries_part script (record histories { tables = histories.tables ++ e ∷ [] }))) → IsJudged script bytes verdict
   -- no entry is missing, and what follows isn't the rest of the report
   WrongEnd :
-      (histories : Histories) (rest : List ℕ) → IsRunOf script histories → bytes ≡ entries_part histories ++ rest →
+      (histories : Histories) (rest : List ℕ) → IsRunOf script histories → bytes ≡ entries_part script histories ++ rest →
       ¬ (bytes ≡ report script histories) → verdict ≡ No (wrong_line bytes (report script histories)) → IsJudged script bytes verdict
   -- they are the report of a run
   Right : (histories : Histories) → IsRunOf script histories → bytes ≡ report script histories → verdict ≡ Yes → IsJudged script bytes verdict
