@@ -3,3 +3,11 @@ mod TableTraces
 mod Entries
 mod TableEntries
 mod Reports
+mod Fronts
+mod Wrong
+mod Begun
+mod Texts
+mod Behind
+mod Judged
+mod Progress
+mod TableProgress

@@ -1,5 +1,5 @@
 -- Histories of the tables that are under way: the number of an application says which entry comes next, and none comes behind a whole one.
-use Rattle.std.proofs.Common.{◌≡◌, ℕ, ◌+◌, ◌<◌, ◌≤◌, ◌^◌, ◌==◌, Bool, true, if◌then◌else◌, List, [], ◌∷◌, ◌++◌, length, refl, ap, sym, ◌∙◌, subst, arith, append_assoc, append-nil}
+use Rattle.std.proofs.Common.{◌≡◌, ℕ, ◌+◌, ◌<◌, ◌≤◌, ◌^◌, ◌==◌, Bool, true, if◌then◌else◌, ◌⊎◌, inl, inr, List, [], ◌∷◌, ◌++◌, length, refl, ap, sym, ◌∙◌, subst, arith, append_assoc, append-nil}
 use Rattle.std.specs.Fmt.{decimal}
 use Rattle.std.proofs.lemmas.Bool.Decides.{nat_tests}
 use Rattle.std.proofs.lemmas.Fmt.{decimal_injective}
@@ -23,7 +23,7 @@ use Rattle.run_check.proofs.TableTraces.{table_trace_last, table_trace_next}
 
 -- Parts of lists. --
 
-own_at : (app : ℕ) (p : List Entry) (e : Entry) (r : List Entry) → e.app ≡ app →
+pub own_at : (app : ℕ) (p : List Entry) (e : Entry) (r : List Entry) → e.app ≡ app →
     own_table_entries app (p ++ e ∷ r) ≡ own_table_entries app p ++ e ∷ own_table_entries app r
 own_at app p e r mine =
     filter-append (λ x. x.app == app) p (e ∷ r)
@@ -111,37 +111,48 @@ table_line_app n e f x y one other same =
     (omega arith) (word e.app) (word f.app) (cc behind) in
     decimal_injective e.app f.app (omega (arith, one)) (omega (arith, other)) apps.0
 
--- Whole histories. --
+-- Histories whose lines are the front of another's. --
 
--- two whole histories that begin alike, and whose further lines read the same
-pub tables_tell : (script : ScriptText) → length script.apps ≤ 16 → (p x y : List Entry) (n : ℕ) (u v : List ℕ) →
-    AreBegunTables script (p ++ x) → AreWholeTables script (p ++ x) → AreBegunTables script (p ++ y) → AreWholeTables script (p ++ y) →
-    numbered table_entry_text n x ++ u ≡ numbered table_entry_text n y ++ v → x ≡ y
-tables_tell script few p [] [] n u v one all other too same = refl
-tables_tell script few p [] (f ∷ y) n u v one all other too same =
-    let P : List Entry → Type 0 = AreWholeTables script in absurd (no_table_behind script p f y (subst P (append-nil p) all) other)
-tables_tell script few p (e ∷ x) [] n u v one all other too same =
-    let P : List Entry → Type 0 = AreWholeTables script in absurd (no_table_behind script p e x (subst P (append-nil p) too) one)
-tables_tell script few p (e ∷ x) (f ∷ y) n u v one all other too same =
-    let B : List Entry → Type 0 = AreBegunTables script in
-    let W : List Entry → Type 0 = AreWholeTables script in
-    ap (λ g. g ∷ x) first
-    ∙ ap (λ l. f ∷ l)
-    (tables_tell script few (p ++ e ∷ []) x y (n + 1) u v
-    (subst B (sym (append_assoc p (e ∷ []) x)) one) (subst W (sym (append_assoc p (e ∷ []) x)) all) (subst B grouped other) (subst W grouped too) rest)
+-- an entry's line has some byte
+pub tables_follow-some : (n : ℕ) (e : Entry) (x : List ℕ) → table_entry_text n e ++ x ≡ [] → ⊥
+tables_follow-some n e x none = some (decimal n) _ (sym (parts_of n e x) ∙ none)
   where
-    text : table_entry_text n e ++ (numbered table_entry_text (n + 1) x ++ u) ≡ table_entry_text n f ++ (numbered table_entry_text (n + 1) y ++ v)
-    text = sym (append_assoc (table_entry_text n e) (numbered table_entry_text (n + 1) x) u) ∙ same ∙ append_assoc (table_entry_text n f) (numbered table_entry_text (n + 1) y) v
+    some : (d z : List ℕ) → d ++ 32 ∷ z ≡ [] → ⊥
+    some [] z same = cc same
+    some (b ∷ d) z same = cc same
+
+-- What is behind the lines of a history that is under way, where another's begin with them: the other's further lines. Behind its
+-- lines the other has a text, which is none where entries are missing.
+pub tables_follow : (script : ScriptText) → length script.apps ≤ 16 → (p y x : List Entry) (n : ℕ) (u v : List ℕ) →
+    AreBegunTables script (p ++ y) → AreBegunTables script (p ++ x) → (v ≡ []) ⊎ AreWholeTables script (p ++ x) →
+    numbered table_entry_text n x ++ v ≡ numbered table_entry_text n y ++ u → (z : List Entry) × (x ≡ y ++ z) × (u ≡ numbered table_entry_text (n + length y) z ++ v)
+tables_follow script few p [] x n u v one other ends same =
+    (x, refl, sym same ∙ ap (λ m. numbered table_entry_text m x ++ v) (omega arith))
+tables_follow script few p (f ∷ y) [] n u v one other (inl none) same =
+    absurd (tables_follow-some n f (numbered table_entry_text (n + 1) y ++ u) (sym (append_assoc (table_entry_text n f) (numbered table_entry_text (n + 1) y) u) ∙ sym same ∙ none))
+tables_follow script few p (f ∷ y) [] n u v one other (inr whole) same =
+    let P : List Entry → Type 0 = AreWholeTables script in absurd (no_table_behind script p f y (subst P (append-nil p) whole) one)
+tables_follow script few p (f ∷ y) (e ∷ x) n u v one other ends same =
+    let B : List Entry → Type 0 = AreBegunTables script in
+    let E : List Entry → Type 0 = λ l. (v ≡ []) ⊎ AreWholeTables script l in
+    let behind = tables_follow script few (p ++ f ∷ []) y x (n + 1) u v (subst B (sym (append_assoc p (f ∷ []) y)) one) (subst B grouped other) (subst E grouped ends) rest in (
+      behind.0,
+      ap (λ g. g ∷ x) first ∙ ap (λ l. f ∷ l) behind.1,
+      behind.2 ∙ ap (λ m. numbered table_entry_text m behind.0 ++ v) (omega arith),
+    )
+  where
+    text : table_entry_text n e ++ (numbered table_entry_text (n + 1) x ++ v) ≡ table_entry_text n f ++ (numbered table_entry_text (n + 1) y ++ u)
+    text = sym (append_assoc (table_entry_text n e) (numbered table_entry_text (n + 1) x) v) ∙ same ∙ append_assoc (table_entry_text n f) (numbered table_entry_text (n + 1) y) u
 
     first : e ≡ f
     first =
-        let a = table_app_range script p e x one in
-        let b = table_app_range script p f y other in
-        table_entries_one script p e f x y one other
-        (table_line_app n e f (numbered table_entry_text (n + 1) x ++ u) (numbered table_entry_text (n + 1) y ++ v) (omega (arith, a.1, few)) (omega (arith, b.1, few)) text)
+        let a = table_app_range script p e x other in
+        let b = table_app_range script p f y one in
+        table_entries_one script p e f x y other one
+        (table_line_app n e f (numbered table_entry_text (n + 1) x ++ v) (numbered table_entry_text (n + 1) y ++ u) (omega (arith, a.1, few)) (omega (arith, b.1, few)) text)
 
-    rest : numbered table_entry_text (n + 1) x ++ u ≡ numbered table_entry_text (n + 1) y ++ v
-    rest = append_cancel_left (table_entry_text n e) _ _ (text ∙ ap (λ g. table_entry_text n g ++ (numbered table_entry_text (n + 1) y ++ v)) (sym first))
+    rest : numbered table_entry_text (n + 1) x ++ v ≡ numbered table_entry_text (n + 1) y ++ u
+    rest = append_cancel_left (table_entry_text n e) _ _ (text ∙ ap (λ g. table_entry_text n g ++ (numbered table_entry_text (n + 1) y ++ u)) (sym first))
 
-    grouped : p ++ f ∷ y ≡ (p ++ e ∷ []) ++ y
-    grouped = ap (λ g. p ++ g ∷ y) (sym first) ∙ sym (append_assoc p (e ∷ []) y)
+    grouped : p ++ e ∷ x ≡ (p ++ f ∷ []) ++ x
+    grouped = ap (λ g. p ++ g ∷ x) first ∙ sym (append_assoc p (f ∷ []) x)

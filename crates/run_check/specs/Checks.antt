@@ -14,13 +14,17 @@ pub record IsGood (script : ScriptText) (bytes : List ℕ) : Type 0 where
   pub run : IsRunOf script histories
   pub same : bytes ≡ report script histories
 
--- The first lines of the bytes, so many, are those with which the report of a run of the script begins that may be under way.
-pub record Starts (script : ScriptText) (bytes : List ℕ) (lines : ℕ) : Type 0 where
+-- The report of a run of the script that may be under way begins with this text.
+pub record Beginning (script : ScriptText) (text : List ℕ) : Type 0 where
   pub histories : Histories
   pub begun : IsBegun script histories.bus
   pub begun_tables : AreBegunTables script histories.tables
-  pub text : List ℕ
   pub opens : Opens script histories text
+
+-- The first lines of the bytes, so many, are those with which the report of such a run begins.
+pub record Starts (script : ScriptText) (bytes : List ℕ) (lines : ℕ) : Type 0 where
+  pub text : List ℕ
+  pub beginning : Beginning script text
   pub front : List ℕ
   pub read : first_lines lines bytes ≡ Some front
   pub same : first_lines lines text ≡ Some front

@@ -1,5 +1,5 @@
 -- The reports of runs, and how the report of a run that is under way begins.
-use Rattle.std.specs.Prelude.{ℕ, zero, suc, ◌==◌, List, [], ◌∷◌, ◌++◌, length, map, codes, Option, Some, None, if◌then◌else◌}
+use Rattle.std.specs.Prelude.{◌≡◌, ℕ, zero, suc, ◌==◌, List, [], ◌∷◌, ◌++◌, length, map, codes, Option, Some, None, if◌then◌else◌}
 use Rattle.std.specs.List.{range_with_len}
 use Rattle.std.specs.Option.{option_map}
 use Rattle.bus_words.specs.declared.history.Entry.{Entry}
@@ -22,9 +22,13 @@ report script histories =
     (figures_shown script.limits (state_after script.limits (length script.apps) histories.bus))
     (table_figures_shown script.limits (length script.apps) histories.tables)
 
+-- its first two lines
+abbrev pub head : ScriptText → List ℕ
+head script = codes "fsw 1\nbus\n"
+
 -- a report as far as its lines on the bus
-abbrev pub bus_part : List Entry → List ℕ
-bus_part history = codes "fsw 1\nbus\n" ++ entries_text history
+abbrev pub bus_part : ScriptText → List Entry → List ℕ
+bus_part script history = head script ++ entries_text history
 
 -- its lines on the tables
 abbrev pub tables_part : List TableEntry → List ℕ
@@ -32,10 +36,10 @@ tables_part history = codes "tables\n" ++ table_entries_text history
 
 -- A report begins so where a run of the script has these histories so far: with the lines on the bus; where no entry of the bus is
 -- missing, also with those on the tables; and it is all there where none of the tables is missing either.
-pub data Opens (script : ScriptText) (histories : Histories) : List ℕ → Type 0 where
-  WithBus : Opens script histories (bus_part histories.bus)
-  WithTables : IsWhole script histories.bus → Opens script histories (bus_part histories.bus ++ tables_part histories.tables)
-  WithAll : IsWhole script histories.bus → AreWholeTables script histories.tables → Opens script histories (report script histories)
+pub data Opens (script : ScriptText) (histories : Histories) (text : List ℕ) : Type 0 where
+  WithBus : text ≡ bus_part script histories.bus → Opens script histories text
+  WithTables : IsWhole script histories.bus → text ≡ bus_part script histories.bus ++ tables_part histories.tables → Opens script histories text
+  WithAll : IsWhole script histories.bus → AreWholeTables script histories.tables → text ≡ report script histories → Opens script histories text
 
 -- the first lines of a text, so many, each with its line end; None where it has fewer
 abbrev pub first_lines : ℕ → List ℕ → Option (List ℕ)

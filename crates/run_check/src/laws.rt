@@ -1,4 +1,8 @@
 //! A script and the report of a run of it determine the run.
+ghost use Rattle.run_check.specs.Fronts.{WrongLinesAreFirst};
+ghost use Rattle.run_check.specs.Progress.{ApplicationsGoOn, NextCallsAreKnown, NextCallsMayCome};
+ghost use Rattle.run_check.specs.Judged.{JudgedIsAnswered};
+ghost use Rattle.run_check.specs.TableProgress.{ApplicationsGoOnAtTables, NextTableCallsAreKnown, NextTableCallsMayCome};
 ghost use Rattle.run_check.specs.Determined.{ReportsTellRuns, NextEntriesAreOne, NextTableEntriesAreOne};
 
 /// Two runs of a script have the same report only where they have the same histories, of the bus
@@ -9,4 +13,34 @@ pub fn reports_tell_runs()
     ensures reports { ReportsTellRuns }
     ensures next { NextEntriesAreOne }
     ensures next_at_tables { NextTableEntriesAreOne }
+{}
+
+/// Where each line that the report of some run may have behind the same ones is known, the first
+/// one that a text doesn't have is told by what both have in common: with as many lines no run
+/// begins as the text does, and with any fewer one does.
+pub fn wrong_lines_are_first()
+    ensures { WrongLinesAreFirst }
+{}
+
+/// A report that is judged line by line, each line by the entries before it, is answered: Yes where
+/// it is the report of a run of the script, and else No with the number of the first line up to
+/// which it is no run's.
+pub fn judged_reports_are_answered()
+    ensures { JudgedIsAnswered }
+{}
+
+/// Which entry of the bus an application has next: its call is the one that comes next by the
+/// application's lines and its entries so far, and its answer the machine's. And each such entry
+/// may come next.
+pub fn next_calls_are_known()
+    ensures known { NextCallsAreKnown }
+    ensures may_come { NextCallsMayCome }
+    ensures goes_on { ApplicationsGoOn }
+{}
+
+/// The same of the tables.
+pub fn next_table_calls_are_known()
+    ensures known { NextTableCallsAreKnown }
+    ensures may_come { NextTableCallsMayCome }
+    ensures goes_on { ApplicationsGoOnAtTables }
 {}

@@ -6,5 +6,8 @@
 mod laws;
 mod verdict;
 
-pub use laws::reports_tell_runs;
+pub use laws::{
+    judged_reports_are_answered, next_calls_are_known, next_table_calls_are_known,
+    reports_tell_runs, wrong_lines_are_first,
+};
 pub use verdict::Verdict;
