@@ -1,5 +1,6 @@
 -- Two runs of a script have the same report only where they have the same histories.
 use Rattle.std.proofs.Common.{◌≡◌, ℕ, ◌≤◌, inr, List, [], ◌∷◌, ◌++◌, length, map, codes, ap, sym, ◌∙◌, subst, append_assoc, append-nil}
+use Rattle.std.specs.Fmt.{decimal}
 use Rattle.std.specs.List.{range_with_len}
 use Rattle.std.proofs.lemmas.List.{append_cancel_left}
 use Rattle.bus_words.specs.declared.history.Entry.{Entry}
@@ -63,9 +64,9 @@ uses_in script histories = table_figures_shown script.limits (length script.apps
 
 report_parts : (entries : List Entry) (table_entries : List TableEntry) (receipts : List (List Receipt)) (figures : BusFigures) (tables : TableFigures) →
     report_text entries table_entries receipts figures tables
-    ≡ codes "fsw 1\nbus\n" ++ (entries_text entries ++ (codes "tables\n" ++ (table_entries_text table_entries ++ behind_tables receipts figures tables)))
+    ≡ (codes "fsw " ++ decimal figures.version ++ codes "\nbus\n") ++ (entries_text entries ++ (codes "tables\n" ++ (table_entries_text table_entries ++ behind_tables receipts figures tables)))
 report_parts entries table_entries receipts figures tables =
-    parts (codes "fsw 1\nbus\n") (entries_text entries) (codes "tables\n") (table_entries_text table_entries) (codes "receipts\n") (receipts_text receipts)
+    parts (codes "fsw " ++ decimal figures.version ++ codes "\nbus\n") (entries_text entries) (codes "tables\n") (table_entries_text table_entries) (codes "receipts\n") (receipts_text receipts)
     (codes "events\n") (log_text figures.events.log) (ending_text figures tables)
 
 -- two runs whose lines on the bus and on the tables read the same

@@ -1,5 +1,5 @@
 -- The reports of runs, and how the report of a run that is under way begins.
-use Rattle.std.specs.Prelude.{◌≡◌, ℕ, zero, suc, ◌==◌, List, [], ◌∷◌, ◌++◌, length, map, codes, Option, Some, None, if◌then◌else◌}
+use Rattle.std.specs.Prelude.{◌≡◌, ℕ, zero, suc, ◌==◌, List, [], ◌∷◌, ◌++◌, length, map, codes, decimal, Option, Some, None, if◌then◌else◌}
 use Rattle.std.specs.List.{range_with_len}
 use Rattle.std.specs.Option.{option_map}
 use Rattle.bus_words.specs.declared.history.Entry.{Entry}
@@ -24,7 +24,7 @@ report script histories =
 
 -- its first two lines
 abbrev pub head : ScriptText → List ℕ
-head script = codes "fsw 1\nbus\n"
+head script = codes "fsw " ++ decimal script.limits.version ++ codes "\nbus\n"
 
 -- a report as far as its lines on the bus
 abbrev pub bus_part : ScriptText → List Entry → List ℕ
