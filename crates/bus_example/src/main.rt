@@ -1,0 +1,17 @@
+//! Two programs as a user of the bus writes them: one over the bus without a journal, and one over
+//! ports on threads. In each, one application listens and another sends, and what was received is
+//! printed. Each call is made where a test says that the application may make it.
+#![tactic(auto)]
+
+mod message;
+mod plain;
+mod threads;
+
+use std::io;
+
+fn main(rt: HostRuntime) -> io::Result<()> {
+    let received = plain::run(rt.alloc())?.unwrap_or(0);
+    println!(rt; "without a journal: {received} bytes were received")?;
+    let received = threads::run(&rt, rt.alloc())?.unwrap_or(0);
+    println!(rt; "on threads: {received} bytes were received")
+}
