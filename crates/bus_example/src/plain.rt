@@ -20,7 +20,8 @@ use std::marker::Brand;
 pub fn run(alloc: Global) -> Result<Option<usize>, AllocError> {
     let cfg = Config::usual();
     let mut region = vec![in alloc; 0; cfg.pool as usize]?;
-    open::<Brand>(alloc, &cfg, &mut region, Blank::new(1))
+    let blank = Blank::new(1);
+    open::<Brand>(alloc, &cfg, &mut region, blank)
 }
 
 // Opens a bus of two applications over the region.
