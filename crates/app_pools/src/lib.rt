@@ -1,12 +1,9 @@
-//! The memory pools that applications create (cFE Executive Services, memory pools). A pool hands
-//! out grants of its blocks, numbered 1, 2, 3 and so on, takes them back, and takes back all those
+//! The memory pools that applications create (cFE Executive Services, memory pools). A pool gives
+//! out grants of its blocks, numbered 1, 2, 3 and so on, takes them back, and takes back all grants
 //! of an application at its end.
 //!
-//! Each call answers and leaves exactly what the definitions of `pool_words` say, which keep
-//! nothing of a grant that came back; a law there says that they are enough. A call takes at most 8
-//! steps, an end 8 for each grant that it takes back. Read off the code, and promised by no clause:
-//! no call but `new` takes memory; a grant is found by halves; a return moves the grants given
-//! after it up by one place, and an end goes through those that are out in each pool.
+//! Each call answers and leaves exactly what the definitions of `pool_words` say. A call takes at
+//! most 8 steps, an end 8 for each grant that it takes back.
 //!
 //! ```
 //! /// Takes a grant of the first pool and gives it back.
@@ -22,6 +19,19 @@
 //!     pools.put(1, grant, steps)
 //! }
 //! ```
+//!
+//! # Proved
+//!
+//! - `create`, `get`, `put`, `stats` and `end` are those of `pool_words`. No grant number is used
+//!   again. A grant that was never given, or came back already, is refused and counted.
+//! - A pool's account (`app_pool`) is that of `fsw_base`'s definitions. `recall_counted`: the
+//!   grants out are in order of number, each was given, and they are as many of each block size as
+//!   the account says (`IsCounted`).
+//!
+//! By reading: no call but `new` takes memory; a grant is found by halves; a return moves the later
+//! grants one place up; an end visits the grants that are out in each pool.
+//!
+//! Tested: a pool that is full and gives again, with each refusal; eight pools and no ninth.
 #![tactic(auto)]
 
 mod pool;

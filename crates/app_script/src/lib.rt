@@ -1,18 +1,34 @@
 //! The script language: what up to sixteen applications do with the message core, as a text of
-//! lines. A script is read whole before anything runs, and the first faulty line is told with what
-//! is wrong.
+//! lines. A script is read whole before anything runs, and a fault is reported with its line.
 //!
-//! It promises that a text is read exactly where it is a script, and then as that script, else its
-//! first fault is told; and that a text is a script exactly where its lines, without the skipped
-//! ones, are a script's in their order, ranges and numbers.
+//! A text is read exactly if it is a script, and then as that script; otherwise the answer is its
+//! first fault. A text is a script exactly if its lines, without the skipped ones, are a script's
+//! in their order, ranges and numbers.
 //!
 //! ```text
-//! let script = read_script(alloc, b"app A\ncreate p0 4 TLM\nrecv p0\n")?;
-//! let app = AppNo::try_new(1).unwrap();
-//! script.lines(app)                    // 2
-//! script.line(app, 1)                  // Line::Receive { pipe: 0 }
-//! script.budget(app).entries           // 3: one a call line, and one for the end
+//! /// Reads a script of two call lines.
+//! fn read_one(alloc: Global) -> Option<()> {
+//!     let script = read_script(alloc, b"app A\ncreate p0 4 TLM\nrecv p0\n").ok()?;
+//!     let app = AppNo::try_new(1).unwrap();
+//!     let lines = script.lines(app);                   // 2
+//!     let second = script.line(app, 1);                // Line::Receive { pipe: 0 }
+//!     let entries = script.budget(app).entries;        // 3: one a call line, and one for the end
+//!     Some(())
+//! }
 //! ```
+//!
+//! # Proved
+//!
+//! - `read_script` (`grammar`), unless memory runs out. The first fault is that the text is too
+//!   long, or the first fault of the first faulty line, or that there is no application; the first
+//!   and the last have line 0.
+//! - `texts_are_scripts`, in both directions: perhaps a `script` line, configuration with each
+//!   setting once, and 1 to 16 applications with their call lines (`IsText`).
+//! - Every `Script` keeps its ranges (`IsScript`, `IsInRange`; `recall_ranges`), and so does all
+//!   that the grammar gives (`read_scripts_are_in_range`). `Script::new` and `App::of_lines` make a
+//!   script of parts, for a caller who proves the ranges.
+//!
+//! Tested: a script, and one with a fault; 213 scripts by `rows_faults`.
 #![tactic(auto)]
 
 mod app;

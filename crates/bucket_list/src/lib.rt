@@ -19,6 +19,17 @@
 //!     lists.pop(0, steps)
 //! }
 //! ```
+//!
+//! # Proved
+//!
+//! - Each list is its node numbers. `push` and `pop` change the front of one list and leave the
+//!   others. No node is in two lists or twice in one, and each node in a list exists
+//!   (`recall_apart`).
+//! - At most 4 steps a call (`Steps`, which exists only in proofs).
+//!
+//! By reading: no link is read uncounted, since `Links` alone reads links.
+//!
+//! Tested: a small run.
 #![tactic(auto)]
 
 mod links;

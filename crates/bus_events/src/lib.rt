@@ -1,8 +1,7 @@
-//! The events that the software bus tells of its own doings, as cFE's Software Bus sends event
+//! The events that the software bus logs of its own calls, as cFE's Software Bus sends event
 //! messages: their numbers, kinds and texts. The texts are this project's own.
 //!
-//! Number, kind and text of each are exactly those of `Events.antt`. By the code, no call takes
-//! memory.
+//! Number, kind and text of each are exactly those of `Events.antt`.
 //!
 //! The caller below is proved, in the crate `test_bus`.
 //!
@@ -15,6 +14,11 @@
 //!     desk.service(event.number(), event.kind(), text.as_slice());
 //! }
 //! ```
+//!
+//! Proved: `number`, `kind` and `text` byte by byte; no text has more than 64 bytes
+//! (`recall_text`). By reading: no call takes memory.
+//!
+//! Tested: each text once, as worked examples have it, and sent to an event desk.
 #![tactic(auto)]
 
 mod event;

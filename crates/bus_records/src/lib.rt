@@ -1,10 +1,8 @@
-//! What a software bus tells of its calls, and counts: its event desk (cFE Event Services), its
-//! counters, and the peaks of what was in use. A bus has one of it, and tells it of each call.
+//! What a software bus logs and counts of its calls: its event desk (cFE Event Services), its
+//! counters, and the peaks of what was in use. A bus has one of it.
 //!
-//! Each call leaves exactly what the definitions of `Records.antt` say. By the code, an event's
-//! text is put together only where the log takes the line, and no call but `new` takes memory. What
-//! the records are after a call of the bus, by the bus's definitions, is said by lemmas, a shape of
-//! call each.
+//! Each call leaves exactly what the definitions of `Records.antt` say. Lemmas say what the records
+//! are after each shape of call of the bus.
 //!
 //! The caller below is proved, in the crate `test_bus`.
 //!
@@ -17,6 +15,22 @@
 //!     records.tell(ServiceEvent::DuplicateSubscription { id, pipe });
 //! }
 //! ```
+//!
+//! # Proved
+//!
+//! - `tell` sends the desk an event of the bus and raises the event's counter, if it has one.
+//!   `tell_misses` does so for each pipe that missed a message, in order, with a limit as a limit
+//!   and a full pipe as an overflow. `count` raises one counter, and `see` each peak that is
+//!   exceeded.
+//! - `register`, `unregister`, `send_event`, `reset_filter`, `set_log_mode` and `clear_log` change
+//!   the desk by its definitions and leave the counters. `packet` writes the housekeeping packet.
+//! - `proofs/Leaves.antt`: for each shape of call the machine leaves what these calls leave.
+//!   `proofs/Misses.antt`: the events of a send are those of its misses.
+//!
+//! By reading: a log that drops the line makes no text, and only `new` takes memory.
+//!
+//! Tested: it can be opened; the misses of a send in order, each with its counter; a full log, of
+//! which no count is lost.
 #![tactic(auto)]
 
 mod records;

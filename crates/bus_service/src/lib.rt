@@ -1,34 +1,79 @@
-//! The software bus on threads (cFE Software Bus): one core of the bus behind a turn lock, and for
-//! each application a port. A port's call waits for the
-//! application's turn, is the core's call, and passes the turn on.
+//! The software bus on threads (cFE Software Bus): one core of the bus behind a turn lock, and a
+//! port for each application. A port's call waits for the application's turn, makes the core's
+//! call, and passes the turn on.
 //!
-//! It promises that each call answers what the bus of the definitions does after a history that
-//! extends all that the port has seen by entries of others only; that the port's own entries are
-//! those of its own calls, in order; and that the last message of each of the application's pipes
-//! is read from the port alone, without the lock.
+//! Each call answers what the bus of the definitions answers after a history that extends all that
+//! the port has seen by entries of others only. The port's own entries are those of its own calls,
+//! in order. The last message of each of the application's pipes is read from the port, without the
+//! lock.
 //!
 //! ```text
-//! let (bus, mut main) = Bus::new(alloc, &cfg, &budgets, &mut region)?;
-//! let mut port = bus.port(alloc, &mut main, app)?;            // may go to another thread
-//! let pipe = port.create_pipe(&bus, rt, 4, b"TLM");           // Ok(1), at its turn
-//! let done = port.subscribe(&bus, rt, 0x0801, 1, 4, Scope::Global);
-//! let mut told = port.pend(&bus, rt, 1);                      // Ok(Pending) where none waits
-//! let got = port.look(&bus, rt);                              // sleeps until there is news
-//! let bytes = port.last(1);                                   // the message, with no lock
-//! port.end(&bus, rt);
-//! bus.join(&mut main, port.finish());
-//! let core = bus.close(main);
+//! /// One application on a port of its own. Each call is behind a test that it may be made
+//! /// (`may_make`), which is left out here.
+//! fn one_port<R: Threads + Wait>(alloc: Global, rt: &R, region: &mut [u8]) -> Option<()> {
+//!     let app = AppNo::try_new(1)?;
+//!     let budgets = [Budget { entries: 8, bytes: 64, buffers: 1 }];
+//!     let (bus, mut main) = Bus::new(alloc, &Config::usual(), &budgets, region).ok()?;
+//!     let mut port = bus.port(alloc, &mut main, app).ok()?;       // may go to another thread
+//!     let pipe = port.create_pipe(&bus, rt, 4, b"TLM");           // Ok(1), at its turn
+//!     let done = port.subscribe(&bus, rt, 0x0801, 1, 4, Scope::Global);
+//!     let first = port.pend(&bus, rt, 1);                         // Ok(Pending) if none waits
+//!     while port.may_look() {
+//!         let news = port.look(&bus, rt);                         // sleeps until there is news
+//!     }
+//!     let bytes = port.last(1);                                   // the message, with no lock
+//!     port.end(&bus, rt);
+//!     bus.join(&mut main, port.finish());
+//!     let core = bus.close(main);
+//!     Some(())
+//! }
 //! ```
 //!
-//! All memory is taken by [`Bus::new`] and [`Bus::port`], by the code. A call of a port may wait
-//! for the turns of others; nothing is claimed of how long.
+//! # Proved
+//!
+//! - Each call of a port is made where the core as last seen allows it (`MayCall`; `may_make` tests
+//!   it, and `may_look` for a look, without the lock) and, if it asks for a buffer, where the bag
+//!   has room. It answers and leaves what the bus's `step` says after the entries of others. The
+//!   history seen then ends with this entry and is legal (`Answers`). A look that answers Pending
+//!   adds no entry, and the bus answers Pending at the history seen (`AnswersLook`).
+//! - After each call the port's bag is its application's: a view of the last message of each of its
+//!   pipes, and its unsent buffers, with the bytes that they had (clauses `bag`, `buffers`). A
+//!   refused call of buffers and a call on another's pipe leave the whole bag (`bag_refused`), and
+//!   so does a look that answers Pending (`still`). A receive that finds no message takes the
+//!   pipe's view away.
+//! - Each pipe gives what it gives alone, and pipes whose last messages are of one send have one
+//!   loan (`Answers`, fields `alone` and `loans`).
+//! - `last` reads a pipe's last message. `buffer` lends the bytes of an unsent buffer exactly if
+//!   the history seen has one of this number for the application, and its clause says what the port
+//!   is after the writing. `bytes_of_mut` does so if `holds_buffer` answers yes, and `write_buffer`
+//!   has a visitor write. None of these takes the lock or the runtime.
+//! - `entries_left` and `bytes_left` are what the port's own entries leave of its budget. A new
+//!   port has seen what the main part has, has made no call and holds nothing; one that memory was
+//!   too short for can be made later. `finish` keeps a port's application, history and entries;
+//!   `join` keeps the longer of two histories; `close` gives the core, whose history is legal,
+//!   extends what the main part has seen, and has exactly the entries of each application's port,
+//!   in order.
+//!
+//! By reading: only [`Bus::new`] and [`Bus::port`] take memory; a turn moves a pointer and no core;
+//! an application that looked in vain sleeps before its next look until there is another entry; an
+//! entry that nobody waits for wakes nobody. The lock counts no steps.
+//!
+//! Tested: two applications on two threads receive one send and read its bytes at once; sixteen
+//! applications on sixteen threads make 10,000 calls each, and the closed bus has the entries of
+//! each, in order; fifteen wait for a message of one that works, and each looks at most 180 times
+//! while 146 entries are made.
+//!
+//! Not claimed: progress, waking, fairness, order in time between ports that never met, and that a
+//! port goes to another thread (`Send`, `Sync`): who starts a thread shows it by the lemmas of
+//! `Crossing`. A caller of `buffer` doesn't learn what the port becomes, since this kit passes on
+//! no such clause through an `Option` of a slice; by `bytes_of_mut` it does.
 //!
 //! # Implementation
 //!
-//! Who looks in vain notes in the core's box, in that turn, that somebody sleeps, and keeps the
-//! length of the history; its next look sleeps first, until the published count of entries is
-//! another. Whoever makes an entry finds the note in its turn, takes it away, and wakes all once
-//! the entry is published. So no wake-up is lost, and an entry that nobody sleeps for wakes nobody.
+//! An application that looks in vain notes in the core's box, in that turn, that somebody sleeps,
+//! and keeps the length of the history. Its next look sleeps first, until the published count of
+//! entries is another. The maker of the next entry finds the note in its turn, takes it away, and
+//! wakes all once the entry is published. So no waking is lost.
 #![tactic(auto)]
 
 mod boxed;

@@ -1,11 +1,9 @@
-//! The pipes, subscriptions and routes of a software bus, kept so that a send goes along the
-//! destinations of its id alone, with the count of what waits ready at each; by the code, a pipe's
-//! number is looked up first where it stands while no pipe was deleted, and then by halves, and a
-//! route at one place (cFE Software Bus).
+//! The pipes, subscriptions and routes of a software bus (cFE Software Bus). A send goes along the
+//! destinations of its id alone, with the count of waiting messages ready at each.
 //!
 //! Contracts see three lists: pipes and subscriptions in order of number, and routes with their
-//! counts. Behind them stand the table of pipes, the subscriptions and the routes, each of a crate
-//! of its own, and the facts that tie them together. By the code, no call but `new` takes memory.
+//! counts. Behind them are the table of pipes, the subscriptions and the routes, each of a crate of
+//! its own, and the facts that tie them together.
 //!
 //! ```
 //! /// A message for the one subscription of an id reaches its pipe, and waits there.
@@ -28,6 +26,28 @@
 //!     tables.oldest(pipe)
 //! }
 //! ```
+//!
+//! # Proved
+//!
+//! - Each call changes what its contract says of the three lists and leaves the rest:
+//!   `create_pipe`, `delete_pipe` (if no message is left in the pipe), `set_bits`, `take`,
+//!   `take_front`, `take_last`, `subscribe`, `unsubscribe`, `next_count`. `take` answers the
+//!   message that was the pipe's last and the one that is it now.
+//! - `deliver` offers a message to the live subscriptions of its id in order, each by the verdict
+//!   at its turn. It answers how many pipes took it, and leaves those that missed it, or dropped
+//!   their oldest message for it, in a list, with the cause, in order; at most 2 counted steps for
+//!   each and 2 more.
+//! - `recall_uses`: a delivery adds a use of its send for each pipe that took it, the next message
+//!   of a pipe takes away one of the send received last, and a message taken out takes away one of
+//!   its own send.
+//! - Behind this: each subscription's count is the number of its messages that wait, each id's
+//!   destinations are its live subscriptions in order, and no pair is live twice
+//!   (`specs/Inside.antt`).
+//!
+//! By reading: a look-up by id searches nothing; one by a pipe's number looks first where the pipe
+//! is while none was deleted, then by halves; only `new` takes memory.
+//!
+//! Tested: it can be opened; a first message, and a run of most calls.
 #![tactic(auto)]
 
 mod delivery;

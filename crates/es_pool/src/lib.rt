@@ -18,6 +18,21 @@
 //!     pool.get(64, steps)
 //! }
 //! ```
+//!
+//! # Proved
+//!
+//! - `get` answers a block that wasn't out if and only if it fits (`fits`), of the smallest size
+//!   that is large enough, a free one first. `put` gives it back in its own size, or is refused if
+//!   and only if it was never cut or is free. If a block was cut, the rest sufficed
+//!   (`rest_sufficed`). The figures are exact.
+//! - `recall_whole`: the pool's bytes pay for what was cut, and no more blocks are cut than
+//!   `most_blocks`. `draws_take_room_one_by_one`: after a draw so many blocks fit if and only if
+//!   one more fitted before.
+//! - `agree`: for any calls, a pool and its account on paper give and refuse the same draws and
+//!   show the same figures; a refused return is counted in both; the account moves by its own draws
+//!   and returns.
+//!
+//! Tested: a small application pool; 100,000 calls, answered as by the account on paper.
 #![tactic(auto)]
 
 mod agreement;

@@ -1,15 +1,30 @@
 //! What every layer of the flight software core shares: limits, statuses by their printed names,
 //! small value types, and the traits through which the core meets the outside.
 //!
-//! It promises that each type keeps its range, and that a source or a sink tells a failure only
-//! where its count of faults rose. Behind a guard nothing is asked of them any more after a
-//! failure.
+//! Each type keeps its range. A source or a sink reports a failure only if its count of faults
+//! rose. Behind a guard neither is called again after a failure.
 //!
 //! ```text
 //! let app = AppNo::try_new(3).unwrap();       // applications are numbered 1 to 16
 //! let config = Config::usual();               // the usual limits of a mission
 //! config.sizes.class_of(100)                  // Some(6): a block of 128 bytes
 //! ```
+//!
+//! # Proved
+//!
+//! - Each type keeps its range (`AppNo`, `BlockSizes`, `CountStarts`, `FilterList`, `Config`).
+//!   `try_new`, which all but `Config` have, gives none if and only if the values are outside.
+//! - Sources and sinks report a failure only if their count of faults rose, or is at its last
+//!   value, 2^64 - 1 (`Source`, `Sink`). Those in memory do what `specs/Memory.antt` and
+//!   `specs/Clean.antt` say: which bytes, which calls fail. `SourceGuard` and `SinkGuard` pass
+//!   calls on, with the condition that none has failed before.
+//! - Each printed name is its definition's. `extend_reserved` adds bytes to a list that has room;
+//!   the list stays in place with its capacity. `sum_of` is the sum of at most 16,000,000 bytes.
+//!
+//! Trusted: what standard input holds and standard output receives.
+//!
+//! Tested: [`MemSink`] can be opened; a guard returns what it guards; standard input can be read
+//! and standard output written.
 #![tactic(auto)]
 
 mod application;

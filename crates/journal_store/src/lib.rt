@@ -16,6 +16,13 @@
 //!     store.text(at)
 //! }
 //! ```
+//!
+//! Proved: a store is a list of rows and the budgets that it was made with, which never change.
+//! `push` adds one row with its bytes; `app`, `row` and `text` give them back; what an application
+//! may still add (`left`) is its budget less its rows (`left_of`).
+//!
+//! Tested: it can be opened; a row's bytes are read back, and are taken from what its application
+//! may add.
 #![tactic(auto)]
 
 mod allowance;

@@ -5,10 +5,16 @@
 //! reads the spelling of every line that a script can have as that line.
 //!
 //! ```text
-//! print_line(sink, &mut page,
-//! &Line::Subscribe { id: 0x0801, pipe: 0, limit: 4, scope: Scope::Global });
-//! // sub 0x0801 p0 4 global
+//! /// Prints sub 0x0801 p0 4 global.
+//! fn print_one<K: Sink>(sink: &mut SinkGuard<'_, K>, page: &mut Page) {
+//!     let scope = Scope::Global;
+//!     print_line(sink, page, &Line::Subscribe { id: 0x0801, pipe: 0, limit: 4, scope });
+//! }
 //! ```
+//!
+//! Proved: `print_line` puts a line's spelling (`line_text`) on the page;
+//! `printed_lines_read_back`: the spelling of every line that a script can have reads as that line.
+//! Tested: five printed lines.
 #![tactic(auto)]
 
 mod bus_lines;

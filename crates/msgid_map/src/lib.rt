@@ -1,7 +1,7 @@
 //! A finite map from message ids to routes, for ids 1 to 0x1FFF (CCSDS 133.0-B, 4.1.3).
 //!
 //! The Software Bus finds in it the route of a message that is sent. A look-up answers what was
-//! inserted for this id, and None exactly where nothing was. By the code, it reads one place of a
+//! inserted for this id, and None exactly if nothing was. By the code, it reads one place of a
 //! table over all ids, and no call but `new` takes memory.
 //!
 //! ```
@@ -16,6 +16,9 @@
 //!     (map.get(0x1802), map.get(0x0802))
 //! }
 //! ```
+//!
+//! Proved: `get` answers what `insert` gave an id, and none if and only if nothing was inserted;
+//! `insert` leaves all other ids. Tested: two ids and a third.
 #![tactic(auto)]
 
 mod map;

@@ -1,11 +1,10 @@
-//! The live pipes of the software bus (cFE Software Bus, pipe table). Each lies in a place of its
-//! own, where it is reached with no search, and is found by its number among those of the live ones
-//! alone; numbers are 1, 2, 3 and so on in order of creation, none is used again, and nothing is
-//! kept of a pipe that has gone.
+//! The live pipes of the software bus (cFE Software Bus, pipe table). Each is in a place of its
+//! own, where it is reached with no search, and is found by its number among the live ones alone.
+//! Numbers are 1, 2, 3 and so on in order of creation, none is used again, and nothing is kept of a
+//! deleted pipe.
 //!
 //! Contracts see the pipes as a list in order of number, of which each call changes the one named
-//! and leaves the others, and beside it the place of each. By the code, no call but `new` takes
-//! memory.
+//! and leaves the others, and beside it the place of each.
 //!
 //! ```
 //! /// A message queued on a new pipe is the one received last, once it was taken.
@@ -19,6 +18,24 @@
 //!     pipes.last(pipe.number)
 //! }
 //! ```
+//!
+//! # Proved
+//!
+//! - `create` puts a pipe last, numbered one more than were created; `remove` takes out that one;
+//!   `set_bits`, `take`, `take_front`, `take_last` and `offer` change that one. The readers answer
+//!   the pipe of a number, and none if it isn't live.
+//! - `offer` answers the bus's own verdict (`verdict_over` of `bus_words`), the first that applies:
+//!   Skip if the pipe ignores its owner's messages and the owner sent, OverLimit if the caller says
+//!   that the limit is reached, In if fewer messages wait than the pipe's depth, Oldest if the pipe
+//!   has option bit 0x02, otherwise Full. At In and Oldest the message waits last; at Oldest the
+//!   one that waited longest leaves and is answered.
+//! - `take` makes the oldest the last received, and answers that one and the one before;
+//!   `take_front` and `take_last` take the oldest or the last out.
+//!
+//! By reading: `offer` looks once at one place; a look-up by number looks first at the place of the
+//! number less 1, then by halves; only `new` takes memory.
+//!
+//! Tested: it can be opened; one message queued and taken.
 #![tactic(auto)]
 
 mod offered;

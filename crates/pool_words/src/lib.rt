@@ -6,9 +6,14 @@
 //!
 //! ```text
 //! let pool = new_pool sizes bytes in
-//! get_answer pool 60                  -- Ok 1, where there is room for a block of 60 bytes
-//! put_answer (after_get pool 2 60) 1  -- Ok (), whoever gives it back
+//! get_answer pool 60                  -- Ok 1, if there is room for a block of 60 bytes
+//! put_answer (after_get pool 2 60) 1  -- Ok (), for any application
 //! ```
+//!
+//! Proved: `recall_grants_present`: the account, the count of grants and those that are out are
+//! enough: over a history of every grant ever given, creations, requests, returns and ends answer
+//! and leave the same. `recall_grants_counted`: a pool begins with its grants counted
+//! (`IsCounted`), and each call keeps that.
 #![tactic(auto)]
 
 mod laws;

@@ -24,6 +24,15 @@
 //!     Ok(routes.next_count(route))
 //! }
 //! ```
+//!
+//! Proved: a route is the list of its destinations in order of subscription. `add_dest` adds one
+//! last, `remove_dest` takes out that one, `first` and `next` go along them. `MaxMsgsMet` and
+//! `MaxDestsMet` are answered if and only if the numbers given to `new` are reached, and then
+//! nothing changes. `next_count` is the id's start, one for each count given and one more, modulo
+//! 16384 (`recall_counts`). Steps: at most 8 to add, 2 to go on, one for each destination and 8
+//! more to remove.
+//!
+//! Tested: a route whose count wraps; a walk along 64 destinations in the largest configuration.
 #![tactic(auto)]
 
 mod dests;

@@ -2,33 +2,66 @@
 //! reach every pipe subscribed to their id; the memory pools that applications create; and the
 //! events and counters, of applications and of the bus itself.
 //!
-//! It promises that each call answers and changes what the bus of the definitions does by its state
-//! alone, whatever came before; and that a send's steps grow with the subscriptions of its id
-//! alone. No call but [`PlainBus::new`] has an allocator, and none takes memory by its code. Pipes,
-//! subscriptions, messages and grants are numbered as long as their numbers have 32 bits.
+//! Each call answers and changes what the bus of the definitions does by its state alone, with no
+//! history. A send's steps grow with the subscriptions of its id alone. Pipes, subscriptions,
+//! messages and grants are numbered as long as their numbers have 32 bits.
 //!
-//! A message lies in one block of the bus's pool, whoever receives it, and the block goes back once
-//! no pipe names the message. What an application received last on each of its pipes it reads by a
-//! view in its bag: the calls that let a message go or receive one take the bag along, and leave
-//! it with the views of its pipes' last messages and no others.
+//! A message is in one block of the bus's pool for all its receivers, and the block goes back once
+//! no pipe names the message. An application reads its pipes' last messages by views in its bag:
+//! the calls that let a message go or receive one are given the bag, and leave it with these views
+//! and no others.
 //!
-//! An application may ask for a buffer, a block in its bag that it writes a message into, and send
-//! it without a copy: the block is then the message's. An unsent buffer goes back to the pool at
-//! [`PlainBus::release`], or with its application's last call.
+//! An application may request a buffer, a block in its bag that it writes a message into, and send
+//! it without a copy. An unsent buffer goes back to the pool at [`PlainBus::release`], or with its
+//! application's last call.
 //!
-//! The bus counts each call that it refuses, and tells the event desk what went wrong with one that
-//! it doesn't: a subscription that stood already or wasn't there, a message that nobody subscribes
-//! to, and each pipe that misses one. After each call it looks at what is in use, and keeps the
-//! peaks.
+//! The bus counts each call that it refuses. It logs an event for a second subscription, for one
+//! that wasn't there, for a message that nobody subscribes to, and for each pipe that misses one.
+//! After each call it looks at what is in use, and keeps the peaks.
 //!
 //! ```text
-//! let mut core = PlainBus::new(alloc, &Config::usual(), 2, &mut region)?;
-//! let pipe = core.create_pipe(app, 4, b"TLM");             // Ok(1): pipes are numbered from 1
-//! let done = core.subscribe(app, 0x0801, 1, 4, Scope::Global, &mut steps);
-//! let sent = core.transmit(app, packet, true, &mut steps); // Ok(Sent { number: 1, reached: 1 })
-//! let got = core.receive(app, 1, &mut bag, &mut steps);    // Ok(1): the number of the message
-//! let view = bag.view_of(1);                               // its bytes
+//! /// One application sends itself a packet and reads it.
+//! fn one_message<L: Ledger>(
+//!     alloc: Global,
+//!     region: &mut [u8],
+//!     packet: &[u8],
+//!     steps: &mut Steps<L>,
+//! ) -> Option<()> {
+//!     let app = AppNo::try_new(1)?;
+//!     let mut core = PlainBus::new(alloc, &Config::usual(), 1, region).ok()?;
+//!     let mut bag = Held::new(alloc, 64, 0).ok()?;          // room for a view of each pipe
+//!     let pipe = core.create_pipe(app, 4, b"TLM");          // Ok(1): pipes are numbered from 1
+//!     let done = core.subscribe(app, 0x0801, 1, 4, Scope::Global, steps);
+//!     let sent = core.transmit(app, packet, true, steps);   // Ok(Sent { number: 1, reached: 1 })
+//!     let got = core.receive(app, 1, &mut bag, steps);      // Ok(1): the number of the message
+//!     let view = bag.view_of(1);                            // its bytes
+//!     Some(())
+//! }
 //! ```
+//!
+//! # Proved
+//!
+//! - Each of the 27 calls, by an application that may make it (`MayAct`: its standing allows it,
+//!   numbers are left, for a request also a number for the grant, and the bounds on names,
+//!   messages, texts and modes), answers and leaves what `act` of `bus_words` says of the state
+//!   (`Acts`). The five calls that only ask have no condition. A send with a subscriber is refused
+//!   with `BufAlocErr` if the pool has no block, after its other refusals (`transmit_cause`).
+//! - The caller's bag is left with the views of its pipes' last messages, the blocks of its unsent
+//!   buffers, and nothing else (`HasBag`; `bag_refused`, `bag_still`, `empty`). The bags of all
+//!   others are unchanged (`other_bags`, `bags`), and each call says which loans and descriptors
+//!   stay (`loans`, `descs`). If a buffer is the caller's and unsent is read off its bag. `end`
+//!   deletes the caller's pipes, gives its unsent buffers and grants back, and empties its bag.
+//! - The readers `pool`, `desk`, `app_pools`, `app_pool`, `pools`, `events`, `counters`, `in_use`
+//!   and `recall_sends` show of the state what those of `sb_calls` show of the journal's.
+//!   `recall_loans`: last messages of one send have one loan. The steps are those of `sb_calls`.
+//! - Behind this: an application that waits does so on a pipe of its own that has no last message
+//!   (`AreReady` of `specs/Inside.antt`).
+//!
+//! By reading: only [`PlainBus::new`] takes memory, and what is in use is read in constant time.
+//! Not yet: a bound on the steps of `delete_pipe` and `end`.
+//!
+//! Tested by `rows_core` and the tests of `host_run`, through `sb_calls`; `cost_bus` opens it
+//! alone.
 #![tactic(auto)]
 
 mod activities;

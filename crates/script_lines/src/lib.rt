@@ -2,7 +2,7 @@
 //! A line names its registers by number, owns its texts, and has each word that was left out as its
 //! default.
 //!
-//! A reader answers just the line that the words stand for, or the line's first fault; and each
+//! A reader answers just the line that the words mean, or the line's first fault; and each
 //! number, register, name and text of a line that is read is in its range.
 //!
 //! ```
@@ -17,6 +17,13 @@
 //!     }
 //! }
 //! ```
+//!
+//! Proved: `call_word`, `call_line`: a line is read if and only if its words are those of a call
+//! line (`call_line_of`), and then as that line; otherwise the answer is its first fault, unless
+//! memory runs out. `read_lines_are_readable`: each line that is read is one that a script can
+//! have, all within its ranges (`is_readable`).
+//!
+//! Tested: a `Line` takes at most 64 bytes; one line read.
 #![tactic(auto)]
 
 mod bus_lines;

@@ -2,7 +2,7 @@
 //! `script`, `set`, `sizes`, `seq` and `app`, each from the line behind its first word, and the
 //! account of an application's call lines, from which its budget comes.
 //!
-//! A reader answers just what the words stand for, or the line's first fault; an account is just
+//! A reader answers just what the words mean, or the line's first fault; an account is just
 //! the sum of the lines that were counted.
 //!
 //! ```
@@ -13,6 +13,10 @@
 //!     Ok(())
 //! }
 //! ```
+//!
+//! Proved: `version`, `set`, `sizes`, `seq` and `app` answer what the words mean, or the line's
+//! first fault (`set_of` and its like). `put_limit` changes one limit. An [`Account`] is the sum of
+//! its lines: `charge`, `count` and `budget` are exact.
 #![tactic(auto)]
 
 mod account;

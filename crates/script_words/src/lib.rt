@@ -13,6 +13,11 @@
 //!     pipe(word)
 //! }
 //! ```
+//!
+//! Proved: `first_line` and `first_word` cut a text into its lines and a line into its words.
+//! `are_plain` answers if each byte is text or a line feed, and then each line is text. Each reader
+//! of words answers what the definition of its name says, or the fault that it names, unless memory
+//! runs out.
 #![tactic(auto)]
 
 mod content;

@@ -28,6 +28,28 @@
 //!     Ok(held)
 //! }
 //! ```
+//!
+//! # Proved
+//!
+//! - `open` gives a table its blocks, two if it is double buffered, both or neither, if and only if
+//!   they fit; the value is zeros. `close` gives them back.
+//! - A staged value starts as the present one with a range replaced, in the inactive block of a
+//!   double-buffered table or in one of four working buffers; `abort` and `update` free the buffer.
+//!   An update makes it the present one, a version later. A double-buffered table keeps the version
+//!   before beside it; of a single-buffered one no view may be out (a condition). `load` stages and
+//!   updates at once.
+//! - A view shows the version that was present when it was given, until it is back. While a view of
+//!   the version before is out, nothing is staged over it.
+//! - `recall_table`: a table's blocks are out of the pool, and its values have its size.
+//!   `recall_buffers`: four buffers are free or taken. `recall_update`: an update leaves the
+//!   version before under its number. `recall_change`: a change of one table leaves every other.
+//!   [`HeldTables`] is a finite map from handles to views. At most 16 steps a call.
+//!
+//! By reading: a staged value and a load write each byte once; an update exchanges the blocks of a
+//! double-buffered table and copies none; only `TableBlocks::new` and `HeldTables::new` take
+//! memory.
+//!
+//! Tested: it can be opened; a held version of a double-buffered table survives a load.
 #![tactic(auto)]
 
 mod blocks;

@@ -1,7 +1,7 @@
 //! Tests of the crates of the bus, over their public calls.
 //!
 //! They show what no clause says: values from outside, printed text, that memory is found, and the
-//! callers that the crates' first lines show. They stand apart, so that a change of them proves
+//! callers that the crates' first lines show. They are apart, so that a change of them proves
 //! nothing anew of what they test, and each crate is proved without them.
 #![tactic(auto)]
 

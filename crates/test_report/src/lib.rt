@@ -1,4 +1,4 @@
-//! Tests of the report, over its public calls. They stand apart from those of the bus, so that a
+//! Tests of the report, over its public calls. They are apart from those of the bus, so that a
 //! change of the report proves nothing anew of what these test, and neither waits for the other.
 #![tactic(auto)]
 

@@ -5,11 +5,20 @@
 //! write nothing more.
 //!
 //! ```text
-//! let mut page = Page::new();
-//! put(sink, &mut page, b"id=");
-//! put_hex_id(sink, &mut page, 0x0801);
-//! finish(sink, &mut page)?;             // the sink has id=0x0801
+//! /// Writes id=0x0801.
+//! fn write_id<K: Sink>(sink: &mut SinkGuard<'_, K>) -> Result<(), WriteFault> {
+//!     let mut page = Page::new();
+//!     put(sink, &mut page, b"id=");
+//!     put_hex_id(sink, &mut page, 0x0801);
+//!     finish(sink, &mut page)
+//! }
 //! ```
+//!
+//! Proved: `put` and the calls for numbers, ids, names and bytes put their text behind what is on
+//! the page, and leave the sink unchanged after a failed write (`Puts`). `finish` answers an error
+//! if and only if a write through the guard has failed; the call in which it failed says that the
+//! count of faults rose, or is at its last value. `write_text` writes all, or a front of it if the
+//! sink fails. No call follows a failed one (the condition of `SinkGuard::write`).
 #![tactic(auto)]
 
 mod numbers;

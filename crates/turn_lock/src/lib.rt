@@ -1,37 +1,33 @@
 //! A lock that gives its value to one application at a time, in the order of their tickets (the
-//! rule of the lock's words keeps it; no call's clause tells it). The value has a history of
-//! entries, and each application a seat, which remembers in the proof what it has seen of the
+//! rule of the lock's words keeps it; no call's clause says it). The value has a history of
+//! entries. Each application has a seat, which remembers in the proof what it has seen of the
 //! history and which entries it made.
 //!
-//! It promises that there is one history: whoever has a turn finds a history that extends all that
-//! its seat had seen and has of its application just the seat's own entries, in order, and the
-//! closed lock's history extends what every seat saw and has no others' entries.
+//! There is one history. At its turn an application finds a history that extends all that its seat
+//! had seen and has of its application just the seat's own entries, in order. The closed lock's
+//! history extends what every seat saw and has no others' entries.
 //!
 //! ```text
-//! let (lock, mut main) = TurnLock::new(alloc, value, 1)?;     // the one that takes memory
-//! let mut seat = lock.split(&mut main, app);                  // a seat may go to another thread
-//! let mut turn = lock.enter(rt, &mut seat);                   // waits for the seat's turn
-//! if turn.value_mut().note(app.get(), 7) {                    // the value makes an entry,
-//!     turn.mark_entry();                                      // and its maker says so
+//! /// A value makes an entry at its application's turn, and none at the next.
+//! fn two_turns<R: Wait>(alloc: Global, rt: &R, value: Visits, app: AppNo) -> Option<()> {
+//!     let (lock, mut main) = TurnLock::new(alloc, value, 1).ok()?; // the one that takes memory
+//!     let mut seat = lock.split(&mut main, app); // a seat may go to another thread
+//!     let mut turn = lock.enter(rt, &mut seat);                   // waits for the seat's turn
+//!     if turn.value_mut().note(app.get(), 7) {                    // the value makes an entry,
+//!         turn.mark_entry();                                      // and its maker says so
+//!         lock.leave(&mut seat, turn);
+//!         lock.wake();                                            // those that wait for a change
+//!     } else {
+//!         lock.leave(&mut seat, turn);
+//!     }
+//!     let turn = lock.enter(rt, &mut seat);
+//!     let entries = turn.value().len() as u32;
 //!     lock.leave(&mut seat, turn);
-//! } else {
-//!     lock.leave(&mut seat, turn);
+//!     lock.sleep(rt, entries);                                    // not if the count has moved
+//!     lock.join(&mut main, seat);
+//!     let value = lock.close(main);
+//!     Some(())
 //! }
-//! lock.join(&mut main, seat);
-//! let value = lock.close(main);
-//! ```
-//!
-//! Whoever waits for a change of the value sleeps until somebody makes an entry and wakes (no
-//! clause speaks of this):
-//!
-//! ```text
-//! let turn = lock.enter(rt, &mut seat);
-//! let entries = turn.value().len() as u32;
-//! lock.leave(&mut seat, turn);
-//! lock.sleep(rt, entries);                                    // not where the count has moved
-//!
-//! lock.leave(&mut other, turn_with_an_entry);
-//! lock.wake();
 //! ```
 //!
 //! # Implementation
@@ -47,6 +43,19 @@
 //!                                   sleep, wake: who waits for a change
 //! slot          the value           take, after look; give, after publish and before pass
 //! ```
+//!
+//! # Proved
+//!
+//! At `enter` the history extends all that the seat had seen, and has of its application just the
+//! seat's own entries, in order. `leave` takes a history that is unchanged or one entry longer.
+//! `join` keeps the longer of two histories, in which only applications that were split off have
+//! entries. `close` gives a history that has of each application just its seat's entries, in order,
+//! and no others (`specs/Rule.antt`).
+//!
+//! Tested: two threads get through turns of all lengths around the one at which the other goes to
+//! sleep; a thread that waits for long sleeps; an entry wakes the sleepers, and they sleep until
+//! one is made; a lock can be dropped. Not claimed: progress, that a sleeper wakes (`sleep` and
+//! `wake` have no clause), fairness, order in time between callers that never met.
 #![tactic(auto)]
 
 mod board;
