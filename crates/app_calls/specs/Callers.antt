@@ -86,8 +86,8 @@ pub record LeavesBuffers (old new : Holding LentBytes) (call : Call) (answer : B
   pub count : length new.buffers ≤ length old.buffers + buffers_asked call
   pub room : new.buffer_room ≡ old.buffer_room
 
--- The call was answered: as the bus that it met answers it; its entry stands at the history's end, and nothing behind it. The
--- bag is still the application's. The tables have nothing to do with it.
+-- The call was answered as the bus that it met answers it. Its entry is the last of the history, the
+-- bag is still the application's, and the tables are unchanged.
 pub record Answers (old new : Caller) (call : Call) (answer : BusAnswer) : Type 0 where
   pub now : Core
   pub meets : Meets old now

@@ -30,8 +30,8 @@ pub record KeepsBus (old new : Caller) : Type 0 where
   pub core : new.core ≡ old.core
   pub bag : new.bag ≡ old.bag
 
--- The call was answered: as the tables that it met answer it; its entry stands at the history's end, and nothing behind it. The
--- bag is still the application's. The bus has nothing to do with it.
+-- The call was answered as the tables that it met answer it. Its entry is the last of the history,
+-- the bag is still the application's, and the bus is unchanged.
 pub record TablesAnswer (old new : Caller) (call : Call) (answer : TblAnswer) : Type 0 where
   pub now : Core
   pub meets : MeetsTables old now

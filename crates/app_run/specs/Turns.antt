@@ -153,7 +153,7 @@ pub record TakesTurnBy (old new : Progress) (before after : Caller) : Type 0 whe
   pub bag : HasOwnBag after
   pub held : HasOwnTables after
 
--- The application took one turn by these calls, and that is how it stands.
+-- The application took one turn by these calls, and this is its state afterwards.
 pub record Turns (old new : Progress) (before after : Caller) (now : Turned) : Type 0 where
   pub turn : TakesTurnBy old new before after
   pub told : now ≡ turned_of new

@@ -23,7 +23,7 @@ times lists node = sum_by (λ nodes. times_in nodes node) lists
 abbrev pub IsLoose : Listed → ℕ → Type 0
 IsLoose s node = times s.lists node ≡ 0
 
--- no node stands twice, neither in one list nor in two, and each that stands in a list exists
+-- No node is in two lists or twice in one, and each that is in a list exists.
 pub record AreApart (s : Listed) : Type 0 where
   pub once : (node : ℕ) → times s.lists node ≤ 1
   pub exist : (node : ℕ) → s.nodes ≤ node → IsLoose s node

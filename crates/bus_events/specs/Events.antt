@@ -16,7 +16,7 @@ event_number (MessageLimit id pipe sender) = 4
 event_number (PipeOverflow id pipe sender) = 5
 event_number (OldestDropped id pipe sender) = 6
 
--- what it tells of: a message that a pipe missed is an error, one that it dropped as it was configured is not
+-- how grave it is: a message that a pipe missed is an error
 abbrev pub event_kind : ServiceEvent → EventKind
 event_kind (DuplicateSubscription id pipe) = Information
 event_kind (NotSubscribed id pipe) = Information

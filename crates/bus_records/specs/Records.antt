@@ -20,7 +20,7 @@ pub record Recordings : Type 0 where
   pub events : Desk
   pub statistics : Statistics
 
--- nothing was told, counted or seen yet
+-- nothing was logged, counted or seen yet
 abbrev pub no_recordings : Recordings
 no_recordings = record { events = new_desk; statistics = no_statistics }
 
@@ -33,14 +33,15 @@ counter_ticked records name =
 abbrev pub peaks_raised : Recordings → InUse → Recordings
 peaks_raised records now = record records { statistics = record records.statistics { peak = greater records.statistics.peak now } }
 
--- an event of the bus is told: the desk is served it, and the counter that it raises goes up, where it raises one
+-- an event of the bus: the desk is served it, and the counter that it raises goes up, if it raises
+-- one
 abbrev pub told_event : Recordings → ServiceEvent → Recordings
 told_event records event = record {
   events = served_event records.events event;
   statistics = record records.statistics { counts = fold ticked records.statistics.counts (event_counter event) };
 }
 
--- these events are told, in order
+-- these events, in order
 abbrev pub told_all : Recordings → List ServiceEvent → Recordings
 told_all records events = fold told_event records events
 
@@ -54,6 +55,6 @@ missed_by_cause Oldest id pipe sender = OldestDropped id pipe sender
 abbrev pub miss_event : ℕ → ℕ → Miss → ServiceEvent
 miss_event id sender miss = missed_by_cause miss.cause id miss.pipe sender
 
--- what is told of the pipes that miss it, in order
+-- the events of the pipes that miss it, in order
 abbrev pub miss_events : ℕ → ℕ → List Miss → List ServiceEvent
 miss_events id sender misses = map (miss_event id sender) misses

@@ -77,9 +77,9 @@ Takes buf old new told = KeepsBuffers old new buf × (length new.buffers ≤ len
 
 -- Answers. --
 
--- The call came behind the history that the port had seen and entries of others alone, was answered as the bus answers it there,
--- and its entry stands at the end of what the port has seen now, and of its own entries; the bag is the application's again. Each
--- pipe gave what it gives alone, and pipes whose last messages are of one send were given views of one loan.
+-- The call was made after the history that the port had seen and entries of others alone, and was
+-- answered as the bus answers it there. Its entry is the last that the port has seen now, and the
+-- last of its own; the bag is the application's again.
 pub record Answers (old new : PortView) (call : Call) (answer : BusAnswer) : Type 0 where
   pub between : Core
   pub others : CalledByOthers old.seen between old.app

@@ -16,7 +16,7 @@ use Rattle.bus_tables.specs.Missed.{misses_by, misses_of, drops_by, dropped_of}
 abbrev pub Row : Type 0
 Row = PipeOf ItemRow
 
--- the item received last from the pipe of this number, told to the pipe's owner alone
+-- the item received last from the pipe of this number, for the pipe's owner alone
 abbrev pub last_row_item : List Row → ℕ → ℕ → Option ItemRow
 last_row_item rows app number = if owns rows app number then last_on rows number else None
 

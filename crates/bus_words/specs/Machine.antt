@@ -465,10 +465,10 @@ moments_from limits history s (e ∷ es) =
 abbrev pub moments : Limits → ℕ → List Entry → List Moment
 moments limits apps history = moments_from limits [] (opening limits apps) history
 
--- the event desk that a history tells
+-- the event desk of a history
 abbrev pub desk_after : Limits → ℕ → List Entry → Desk
 desk_after limits apps history = desk_told limits (moments limits apps history)
 
--- the statistics that a history tells
+-- the statistics of a history
 abbrev pub statistics_after : Limits → ℕ → List Entry → Statistics
 statistics_after limits apps history = statistics_told limits (moments limits apps history)

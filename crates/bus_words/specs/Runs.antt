@@ -39,7 +39,8 @@ standing_by (Pend pipe) Pending = Waiting pipe
 standing_by End answer = Ended
 standing_by call answer = Active
 
--- how an application with these entries of its own stands: as the last of them leaves it; active before the first
+-- the standing of an application with these entries of its own: as the last of them leaves it;
+-- active before the first
 abbrev pub standing_behind : List Entry → Standing
 standing_behind [] = Active
 standing_behind (e ∷ []) = standing_by e.call e.answer

@@ -38,7 +38,7 @@ data_length bytes = big_number 2 (drop 4 bytes)
 abbrev pub message_size : List ℕ → ℕ
 message_size bytes = data_length bytes + 7
 
--- the four fields that a reader of the header tells
+-- the four fields that a reader of the header answers
 abbrev pub header_of : List ℕ → Header
 header_of bytes =
     record { id = message_id bytes; flags = message_flags bytes; count = message_count bytes; size = message_size bytes }

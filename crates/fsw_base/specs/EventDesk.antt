@@ -58,7 +58,7 @@ passed desk app id kind text = record desk {
   lost = one_more_if (is_full desk.log) desk.lost;
 }
 
--- a service tells an event of its own: application number 0, never filtered
+-- a service logs an event of its own: application number 0, never filtered
 abbrev pub served : Desk → ℕ → EventKind → List ℕ → Desk
 served desk id kind text = passed desk 0 id kind text
 

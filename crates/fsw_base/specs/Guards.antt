@@ -6,8 +6,8 @@ use Rattle.fsw_base.specs.declared.outside.ReadAnswer.TheVariants.{Got, End, Fai
 use Rattle.fsw_base.specs.declared.outside.WriteAnswer.{WriteAnswer}
 use Rattle.fsw_base.specs.declared.outside.WriteAnswer.TheVariants as writes
 
--- A sink behind a guard: which sink it is, the bytes written, where it tells them, and the count of its faults; whether a
--- write through the guard has failed, and whether none was made so far.
+-- A sink behind a guard: which sink it is, the bytes written, if it shows them, and the count of
+-- its faults; whether a write through the guard has failed, and whether none was made so far.
 pub record GuardedSink : Type 0 where
   pub sink : GName
   pub written : Option (List ℕ)
@@ -15,8 +15,8 @@ pub record GuardedSink : Type 0 where
   pub failed : Bool
   pub untouched : Bool
 
--- A source behind a guard: which source it is, the bytes left, where it tells them, and the count of its faults; whether a
--- read through the guard has failed.
+-- A source behind a guard: which source it is, the bytes left, if it shows them, and the count of
+-- its faults; whether a read through the guard has failed.
 pub record GuardedSource : Type 0 where
   pub source : GName
   pub left : Option (List ℕ)

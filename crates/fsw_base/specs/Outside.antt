@@ -6,7 +6,7 @@ use Rattle.fsw_base.specs.declared.outside.ReadAnswer.TheVariants.{Got, End, Fai
 use Rattle.fsw_base.specs.declared.outside.WriteAnswer.{WriteAnswer}
 use Rattle.fsw_base.specs.declared.outside.WriteAnswer.TheVariants as writes
 
--- the count of faults rose, or stands at its last value
+-- The count of faults rose, or is at its last value.
 abbrev pub Rose : ℕ → ℕ → Type 0
 Rose before now = min (before + 1) (2 ^ 64 - 1) ≤ now
 

@@ -4,11 +4,12 @@ use Rattle.std.specs.Prelude.{◌≡◌, ◌⊎◌, List, [], ◌∷◌, ◌++�
 use Rattle.std.specs.Option.{option_map}
 use Rattle.script_runs.specs.Histories.{Histories}
 
--- the histories of the run were put behind those shown before, or nothing is told from now on
+-- The histories of the run were put behind those shown before, or nothing is shown from now on.
 abbrev pub IsShown : Option (List Histories) → Option (List Histories) → Histories → Type 0
 IsShown old new histories = (new ≡ option_map (λ shown. shown ++ histories ∷ []) old) ⊎ (new ≡ None)
 
--- An audit behind a guard: which audit it is, and the histories that it was shown, where it tells them.
+-- An audit behind a guard: which audit it is, and the histories that it was shown, if it shows
+-- them.
 pub record GuardedAudit : Type 0 where
   pub audit : GName
   pub shown : Option (List Histories)

@@ -57,7 +57,8 @@ CopiesTableEntry old new history i done =
     (e : TableEntry) → slice_get history i ≡ Some e →
     (done ≡ has_room (table_left_of old) e.app (table_call_bytes e.call)) × (done ≡ true → new ≡ with_table_entry old e)
 
--- histories within the budgets are copied where there is room for one more run; else nothing is told from now on
+-- histories within the budgets are copied if there is room for one more run; else nothing is shown
+-- from now on
 abbrev pub with_copy : Copies → Histories → Copies
 with_copy c histories =
     if nat_le 1 c.room && are_within c.budgets histories

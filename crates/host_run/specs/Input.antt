@@ -30,21 +30,21 @@ IsTooLarge old new = (bytes : List ℕ) × (length bytes ≡ most_input + 1) × 
 abbrev pub IsPartRead : Option (List ℕ) → Option (List ℕ) → Type 0
 IsPartRead old new = (bytes : List ℕ) × (length bytes ≤ most_input) × (old ≡ input_of bytes new)
 
--- what was read, by what reading tells
+-- What was read, by the answer of the reading.
 abbrev pub ReadsAll : Reading → Option (List ℕ) → Option (List ℕ) → Type 0
 ReadsAll (Whole v) old new = IsWhole v.items old new
 ReadsAll TooLarge old new = IsTooLarge old new
 ReadsAll Fault old new = IsPartRead old new
 ReadsAll NoMemory old new = new ≡ old
 
--- what the count of faults did, by what reading tells
+-- What the count of faults did, by the answer of the reading.
 abbrev pub HasCause : Reading → ℕ → ℕ → Type 0
 HasCause (Whole v) before now = before ≤ now
 HasCause TooLarge before now = before ≤ now
 HasCause Fault before now = (before ≤ now) × Rose before now
 HasCause NoMemory before now = now ≡ before
 
--- whether reading tells that the source failed
+-- whether the reading answers that the source failed
 abbrev pub is_fault : Reading → Bool
 is_fault (Whole v) = false
 is_fault TooLarge = false

@@ -89,7 +89,7 @@ pub record Fed : Type 0 where
   pub left : Option (List ℕ)
   pub faults : ℕ
 
--- a source as it is, by what its trait tells
+-- a source as it is, by what its trait shows
 abbrev pub fed_by : {S : Type 0} → (S → Option (List ℕ)) → (S → ℕ) → S → Fed
 fed_by left faults source = record { left = left source; faults = faults source }
 
@@ -245,7 +245,8 @@ HasCauses status.Done fed fed' old new = Unit {0}
 HasCauses (status.Script fault) fed fed' old new = Unit {0}
 HasCauses status.NoMemory fed fed' old new = Unit {0}
 
--- where the input is told and is a script, and neither count of faults rose, all was done or there was no memory
+-- If the input is shown and is a script, and neither count of faults rose, all was done or there
+-- was no memory.
 abbrev pub Completes : HostStatus → Fed → Fed → Made → Made → Type 0
 Completes result fed fed' old new =
     (input : List ℕ) (script : ScriptText) → fed.left ≡ Some input → grammar input ≡ Ok script →

@@ -75,7 +75,7 @@ counter_number Limit = 8
 counter_number Overflow = 9
 counter_number Oldest = 10
 
--- how often a name stands among those of the events so far
+-- how often a name occurs among those of the events so far
 abbrev pub times : CounterName → List CounterName → ℕ
 times name events = count_by (λ event. counter_number event == counter_number name) events
 

@@ -104,7 +104,7 @@ refuses_told s bytes = nat_le 8 (length s.pools) || not (nat_le bytes s.most) ||
 abbrev pub told_create_answer : ToldPools → ℕ → Result ℕ EsStatus
 told_create_answer s bytes = if refuses_told s bytes then Err ErrMemBlockSize else Ok (length s.pools + 1)
 
--- the pools after a creation: the new one stands last, where it isn't refused
+-- the pools after a creation: the new one is last, if it isn't refused
 abbrev pub told_create : ToldPools → ℕ → ToldPools
 told_create s bytes = if refuses_told s bytes then s else (record s { pools = s.pools ++ new_told s.sizes bytes ∷ [] })
 

@@ -43,8 +43,8 @@ has_plain_name Housekeeping = true
 has_plain_name Figures = true
 has_plain_name End = true
 
--- whether a call can be answered so: refused, or with what it tells where it is done; a receive that may wait also that no
--- message came, or none is there yet
+-- whether a call can be answered so: refused, or with its own kind of answer; a receive that may
+-- wait also that no message arrived, or none is there yet
 abbrev pub can_answer : Call → BusAnswer → Bool
 can_answer call (Sb status) = true
 can_answer call (Es status) = true

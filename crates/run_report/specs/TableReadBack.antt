@@ -26,7 +26,7 @@ has_plain_table_name (ReleaseAddress handle) = true
 has_plain_table_name (Status handle) = true
 has_plain_table_name End = true
 
--- whether a call of the tables can be answered so: refused, or with what it tells where it is done
+-- whether a call of the tables can be answered so: refused, or with its own kind of answer
 abbrev pub can_tables_answer : Call → TblAnswer → Bool
 can_tables_answer call (Refused status) = true
 can_tables_answer (Register name size option rules) (Number number) = true

@@ -55,8 +55,8 @@ pub record MayCall (core : Core) (app : ℕ) (call : Call) : Type 0 where
 abbrev pub with_noted : Core → Entry → Note → Core
 with_noted core e note = record core { log = with_entry core.log e; notes = core.notes ++ note ∷ [] }
 
--- The call was answered as the bus answers it after the core's history, and its entry stands at the history's end, noted with
--- the loan of the view or the descriptor of the buffer that was given, where one was.
+-- The call was answered as the bus answers it after the core's history. Its entry is the last one,
+-- noted with the loan of the view or the descriptor of the buffer that was given, if one was.
 pub record Does (old new : Core) (app : ℕ) (call : Call) (answer : BusAnswer) : Type 0 where
   pub name : ℕ
   pub entry : new ≡ with_noted old (record { app = app; call = call; answer = answer }) (note_due answer call name)

@@ -70,7 +70,7 @@ hex_bytes (high ∷ low ∷ digits) = (16 * digit_value high + digit_value low) 
 abbrev pub is_colon : ℕ → Bool
 is_colon byte = byte == 58
 
--- the parts of a list element: what stands between its colons
+-- the parts of a list element, between its colons
 unfoldable pub parts_of : List ℕ → List (List ℕ)
 parts_of word = slice_split is_colon word
 

@@ -43,7 +43,7 @@ without_empty_last (line ∷ next ∷ lines) = line ∷ without_empty_last (next
 unfoldable pub lines_of : List ℕ → List (List ℕ)
 lines_of bytes = map without_return (without_empty_last (slice_split is_feed bytes))
 
--- The words of a line: what stands between its blanks.
+-- the words of a line, between its blanks
 unfoldable pub words_of : List ℕ → List (List ℕ)
 words_of line = filter has_bytes (slice_split is_blank line)
 

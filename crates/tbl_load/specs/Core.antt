@@ -47,8 +47,8 @@ pub record MayCall (core : Core) (app : ℕ) (call : Call) : Type 0 where
 abbrev pub with_noted : Core → Entry → Note → Core
 with_noted core e note = record core { log = with_entry core.log e; notes = core.notes ++ note ∷ [] }
 
--- The call was answered as the tables answer it after the core's history, and its entry stands at the history's end, noted with
--- the loan of the view that was given, where one was.
+-- The call was answered as the tables answer it after the core's history. Its entry is the last
+-- one, noted with the loan of the view that was given, if one was.
 pub record Does (old new : Core) (app : ℕ) (call : Call) (answer : TblAnswer) : Type 0 where
   pub loan : ℕ
   pub entry : new ≡ with_noted old (record { app = app; call = call; answer = answer }) (note_due answer loan)

@@ -62,7 +62,7 @@ without_handle number handles = filter (λ h. not (h.number == number)) handles
 abbrev pub made_handle : ℕ → ℕ → ℕ → ℕ → Handle
 made_handle number app table key = record { number = number; app = app; table = table; key = key; told = 0; held = None }
 
--- the handle once its application is told of a version and holds it
+-- the handle once its application knows of a version and holds it
 abbrev pub with_hold : ℕ → Handle → Handle
 with_hold version h = record h { told = version; held = Some version }
 
@@ -70,7 +70,8 @@ with_hold version h = record h { told = version; held = Some version }
 abbrev pub without_hold : Handle → Handle
 without_hold h = record h { held = None }
 
--- what a handle's number tells: the key of its table, its application, and whether it is the one of its table's registration
+-- what is kept under a handle's number: the key of its table, its application, and whether it is
+-- the one of its table's registration
 abbrev pub handle_row : Handle → HandleRow
 handle_row h = record { key = h.key; app = h.app; owner = h.number == h.table }
 
@@ -100,7 +101,7 @@ owner_handle handles t = if is_registered handles t then Some t.number else None
 abbrev pub without_table : ℕ → List Table → List Table
 without_table key tables = filter (λ t. not (t.key == key)) tables
 
--- what a table's key tells of it
+-- What is kept of a table under its key.
 pub record Tells (l : Listing) (key : ℕ) (row : TableRow) : Type 0 where
   pub t : Table
   pub there : table_at l.tables key ≡ Some t

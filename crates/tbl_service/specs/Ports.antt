@@ -43,9 +43,9 @@ left_by core mine = left_of (record { budgets = core.log.budgets; entries = mine
 
 -- Answers. --
 
--- The call came behind the history that the port had seen and entries of others alone, was answered as the tables answer it there,
--- and its entry stands at the end of what the port has seen now, and of its own entries; the bag is the application's again. Handles
--- that hold one version of one table were given views of one loan.
+-- The call was made after the history that the port had seen and entries of others alone, and was
+-- answered as the tables answer it there. Its entry is the last that the port has seen now, and the
+-- last of its own; the bag is the application's again.
 pub record Answers (old new : PortView) (call : Call) (answer : TblAnswer) : Type 0 where
   pub between : Core
   pub others : CalledByOthers old.seen between old.app

@@ -4,7 +4,7 @@ use Rattle.std.specs.Option.{option_map}
 use Rattle.fsw_base.specs.Guards.{GuardedSink}
 use Rattle.fsw_base.specs.Outside.{Rose}
 
--- the sink has a text behind what it had, where it tells its bytes
+-- The sink has a text behind what it had, if it shows its bytes.
 abbrev pub Grew : Option (List ℕ) → Option (List ℕ) → List ℕ → Type 0
 Grew old new text = new ≡ option_map (λ before. before ++ text) old
 

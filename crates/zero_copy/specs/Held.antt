@@ -2,8 +2,8 @@
 use Rattle.std.specs.Prelude.{◌≡◌, ◌==◌, ◌<◌, ◌≤◌, ◌-◌, ℕ, not, List, [], filter, slice_index_or}
 use Rattle.bucket_list.specs.Lists.{times, times_in}
 
--- how many descriptors there are, and those that each application holds, the one held last first: application 1's list
--- stands first
+-- How many descriptors there are, and those that each application holds, the newest first, from
+-- application 1 on.
 pub record Held : Type 0 where
   pub descs : ℕ
   pub lists : List (List ℕ)
