@@ -157,7 +157,7 @@ impl<'r> BusStore<'r> {
         let reached = self.tables.deliver(id, &message, &mut self.misses, steps);
         settle_message(&mut self.desk, desc, reached, steps);
         self.desk.recall_live();
-        drop_uses(&mut self.desk, self.misses.dropped(), steps);
+        drop_uses(&mut self.desk, self.misses.dropped_messages(), steps);
         self.desk.recall_live();
         Sent {
             number: buf,

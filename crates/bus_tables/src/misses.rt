@@ -77,9 +77,9 @@ impl Misses {
         &self.items
     }
 
-    /// The messages that pipes dropped, in the order of the destinations: whoever shares messages
-    /// among pipes lets each of them go.
-    pub fn dropped(&self) -> &[ItemRow]
+    /// The messages that pipes dropped, in the order of the destinations. A caller that shares
+    /// messages among pipes lets each of them go.
+    pub fn dropped_messages(&self) -> &[ItemRow]
         ensures { result.now ≡ self.now.dropped }
     {
         &self.dropped

@@ -7,10 +7,11 @@ ghost use Rattle.bus_tables.specs.Rows.{Row, deliver_rows, reached_rows, dropped
 ghost use Rattle.bus_tables.specs.declared.message.Message.{Message};
 ghost use Rattle.bus_tables.specs.Uses.{item_use, uses_among, uses_of};
 
-/// Counting the uses of a send: a delivery adds one for each pipe that it reached, to its own send
-/// alone, and each message that a pipe dropped for it loses one; where the next message of a pipe is taken, the send of the one received last loses one;
-/// and where the message that waits longest, or the one received last, is taken out of a pipe, its
-/// own send does. No other send's count changes. Does nothing.
+/// Counting the uses of a send. A delivery adds one to its own send for each pipe that it reached,
+/// and each message that a pipe dropped for it loses one. If the next message of a pipe is taken,
+/// the send of the one received last loses one. If the message that waits longest, or the one
+/// received last, is taken out of a pipe, its own send loses one. No other send's count changes.
+/// Does nothing.
 pub fn recall_uses()
     ensures delivered { (number : ℕ) (message : Message) (subs : List Subscription)
         (rows : List Row) →

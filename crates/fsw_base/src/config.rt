@@ -34,7 +34,8 @@ pub struct Config {
     pub sizes: BlockSizes,
     /// The sequence counts at which message ids start.
     pub starts: CountStarts,
-    /// Which version of the bus a run has, 1 or 2. In version 2 a pipe has the option to drop its oldest message.
+    /// The version of the bus, 1 or 2. In version 2 a pipe may drop its oldest message when it is
+    /// full.
     pub version: u32,
 
     pub ghost msgids_in_range: { (1 ≤ msgids) × (msgids ≤ 1024) },
@@ -54,7 +55,8 @@ pub struct Config {
 impl Config {
     ghost use Rattle.fsw_base.specs.Limits.{limits_of, usual_limits};
 
-    /// The usual limits of a mission, the usual block sizes, every count starting at 0, and version 1.
+    /// The usual limits of a mission, the usual block sizes, every count starting at 0, and
+    /// version 1.
     pub fn usual() -> Config
         ensures { limits_of result ≡ usual_limits }
     {

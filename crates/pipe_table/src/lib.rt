@@ -43,6 +43,6 @@ mod pipe_no;
 mod place;
 mod table;
 
-pub use offered::Offered;
+pub use offered::OfferOutcome;
 pub use pipe_no::PipeNo;
 pub use table::PipeTable;

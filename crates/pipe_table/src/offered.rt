@@ -6,7 +6,7 @@ use pipe_queue::Item;
 
 /// What became of a message that a pipe was offered.
 #[derive(Clone, Copy, Debug, PartialEq, Eq)]
-pub struct Offered {
+pub struct OfferOutcome {
     /// Whether the pipe queued it, and why it didn't.
     pub verdict: Verdict,
     /// The message that left for it, which waited longest: one if and only if the verdict is
@@ -14,12 +14,12 @@ pub struct Offered {
     pub dropped: Option<Item>,
 }
 
-impl Offered {
+impl OfferOutcome {
     /// This verdict, for which no message left.
-    pub(crate) fn dropping_none(verdict: Verdict) -> Offered
+    pub(crate) fn dropping_none(verdict: Verdict) -> OfferOutcome
         ensures { result ≡ record { verdict = verdict; dropped = None } }
     {
-        Offered {
+        OfferOutcome {
             verdict,
             dropped: None,
         }

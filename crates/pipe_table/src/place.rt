@@ -5,7 +5,7 @@ ghost use Rattle.std.specs.Str.{bytes_eq};
 ghost use Rattle.bus_words.specs.Pipes.{oldest, new_pipe, ignores_sender, verdict_over, offered_over, with_bits, after_receive, without_front, without_last, drops_oldest, dropped_at};
 ghost use Rattle.pipe_table.specs.Inside.{judged};
 
-use crate::offered::Offered;
+use crate::offered::OfferOutcome;
 use bus_words::{PipeText, Verdict};
 use fsw_base::AppNo;
 use pipe_queue::{Full, Item, PipeQueue};
@@ -212,7 +212,7 @@ impl Place {
     /// Offers the pipe a message of this sender, and is told whether its subscription's limit is
     /// reached: queues it, unless something is against it. Of a full pipe that drops its oldest
     /// message, that one leaves.
-    pub(crate) fn offer(&mut self, sender: AppNo, is_over: bool, item: Item) -> Offered
+    pub(crate) fn offer(&mut self, sender: AppNo, is_over: bool, item: Item) -> OfferOutcome
         requires { IsSome self.old.pipe }
         ensures told { option_map (λ pipe. verdict_over is_over pipe sender) self.old.pipe ≡
             Some result.verdict }
@@ -225,32 +225,33 @@ impl Place {
             } }
     {
         if self.ignores(sender) {
-            return Offered::dropping_none(Verdict::Skip);
+            return OfferOutcome::dropping_none(Verdict::Skip);
         }
         if is_over {
-            return Offered::dropping_none(Verdict::OverLimit);
+            return OfferOutcome::dropping_none(Verdict::OverLimit);
         }
         match self.queue.try_put(item) {
-            Ok(()) => Offered::dropping_none(Verdict::In),
+            Ok(()) => OfferOutcome::dropping_none(Verdict::In),
             Err(Full) => self.offer_where_full(item),
         }
     }
 
     // Offers the pipe, which is full, a message: where the pipe drops its oldest one for it, that
     // one leaves, and the message is queued.
-    fn offer_where_full(&mut self, item: Item) -> Offered
+    fn offer_where_full(&mut self, item: Item) -> OfferOutcome
         requires { IsSome self.old.pipe }
-        ensures told { option_map (λ pipe. if drops_oldest pipe then Verdict.Oldest else Verdict.Full)
-            self.old.pipe ≡ Some result.verdict }
+        ensures told { option_map
+            (λ pipe. if drops_oldest pipe then Verdict.Oldest else Verdict.Full) self.old.pipe
+            ≡ Some result.verdict }
         ensures dropped { result.dropped ≡
             option_and_then (λ pipe. dropped_at result.verdict pipe.queue) self.old.pipe }
         ensures after { self.new ≡
             record self.old { pipe = option_map (judged result.verdict item) self.old.pipe } }
     {
         if !self.drops_oldest() {
-            return Offered::dropping_none(Verdict::Full);
+            return OfferOutcome::dropping_none(Verdict::Full);
         }
-        Offered {
+        OfferOutcome {
             verdict: Verdict::Oldest,
             dropped: self.queue.put_for_oldest(item),
         }

@@ -6,7 +6,7 @@ ghost use Rattle.bus_words.specs.Pipes.{pipe_at, is_live, owns, pipe_named, firs
 ghost use Rattle.pipe_table.specs.Table.{Pipes, place_of, without_place};
 ghost use Rattle.pipe_table.specs.Inside.{pipe_in, live_in, place_under, AreRising, AreOrdered, AreFiled};
 
-use crate::offered::Offered;
+use crate::offered::OfferOutcome;
 use crate::pipe_no::PipeNo;
 use crate::place::Place;
 use bus_words::PipeText;
@@ -279,7 +279,7 @@ impl PipeTable {
     /// messages wait as its depth: these are asked in this order, and the first that holds is
     /// answered. A full pipe whose option bits say so drops the message that waits longest, and
     /// queues the new one. By the code, looks once at the pipe's place, and at no other.
-    pub fn offer(&mut self, pipe: PipeNo, sender: AppNo, is_over: bool, item: Item) -> Offered
+    pub fn offer(&mut self, pipe: PipeNo, sender: AppNo, is_over: bool, item: Item) -> OfferOutcome
         requires live { place_of self.old.places pipe.number ≡ Some pipe.place }
         ensures told { option_map (λ pipe. verdict_over is_over pipe sender)
             (pipe_at self.old.live pipe.number) ≡ Some result.verdict }

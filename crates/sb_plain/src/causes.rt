@@ -147,11 +147,7 @@ fn is_bad_option(store: &BusStore<'_>, app: AppNo, pipe: u32, bits: u8, version:
 fn all_bits(version: u32) -> u8
     ensures { result ≡ all_bits version }
 {
-    if version == 2 {
-        3
-    } else {
-        1
-    }
+    if version == 2 { 3 } else { 1 }
 }
 
 // Whether the id is out of its range, or the pipe isn't the application's.

@@ -25,7 +25,8 @@ release_address-requires c = record {
 
 pub returns-clause-may : goal.returns-clause-may
 returns-clause-may c = λ more may.
+    let now = fewer c.args.core.now.state c.args.app (3 + more) (suc (suc (suc more))) (omega arith) may in
     left_by_release c.get_address.new.self c.release_address.new.self c.args.app 1 more _ c.release_address.ensures.does
     (left_by_address c.load.new.self c.get_address.new.self c.args.app 1 (suc more) _ c.get_address.ensures.does
-    (left_by_load c.args.core.now c.load.new.self c.args.app 1 0 (suc (suc more)) c.args.value.now _ c.load.ensures
-    (fewer c.args.core.now.state c.args.app (3 + more) (suc (suc (suc more))) (omega arith) may)))
+    (left_by_load c.args.core.now c.load.new.self c.args.app 1 0 (suc (suc more)) c.args.value.now _
+    (c.load.ensures.does (next_left c.args.core.now.state c.args.app (suc (suc more)) 1 now)) now))

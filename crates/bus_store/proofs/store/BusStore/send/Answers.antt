@@ -26,7 +26,7 @@ invariant_of-self g c =
     c.put_message-desc.ensures.added c.recall_live.ensures.live c.recall_live-2.ensures.live
     c.deliver-reached.ensures.after c.deliver-reached.ensures.reached c.deliver-reached.ensures.missed c.settle_message.ensures.after
     (sealed_live (slot_at c.put_message-desc.new.desk.slots c.put_message-desc.result) c.put_message-desc.ensures.added.seals.sealed)
-    c.drop_uses.new.desk c.recall_live-3.ensures.live (c.drop_uses.ensures.dropped ∙ ap (all_dropped c.settle_message.new.desk) c.dropped.ensures)
+    c.drop_uses.new.desk c.recall_live-3.ensures.live (c.drop_uses.ensures.dropped ∙ ap (all_dropped c.settle_message.new.desk) c.dropped_messages.ensures)
 
 pub returns-clause-reached : goal.returns-clause-reached
 returns-clause-reached g c =
@@ -45,7 +45,7 @@ returns-clause-after g c =
     c.put_message-desc.ensures.added c.recall_live.ensures.live c.recall_live-2.ensures.live
     c.deliver-reached.ensures.after c.deliver-reached.ensures.reached c.deliver-reached.ensures.missed c.settle_message.ensures.after
     (sealed_live (slot_at c.put_message-desc.new.desk.slots c.put_message-desc.result) c.put_message-desc.ensures.added.seals.sealed)
-    c.drop_uses.new.desk c.recall_live-3.ensures.live (c.drop_uses.ensures.dropped ∙ ap (all_dropped c.settle_message.new.desk) c.dropped.ensures) c.recall_live-4.ensures.live
+    c.drop_uses.new.desk c.recall_live-3.ensures.live (c.drop_uses.ensures.dropped ∙ ap (all_dropped c.settle_message.new.desk) c.dropped_messages.ensures) c.recall_live-4.ensures.live
 
 pub returns-clause-bags : goal.returns-clause-bags
 returns-clause-bags g c =
@@ -55,12 +55,12 @@ returns-clause-bags g c =
     c.put_message-desc.ensures.added c.recall_live.ensures.live c.recall_live-2.ensures.live
     c.deliver-reached.ensures.after c.deliver-reached.ensures.reached c.deliver-reached.ensures.missed c.settle_message.ensures.after
     (sealed_live (slot_at c.put_message-desc.new.desk.slots c.put_message-desc.result) c.put_message-desc.ensures.added.seals.sealed)
-    c.drop_uses.new.desk c.recall_live-3.ensures.live (c.drop_uses.ensures.dropped ∙ ap (all_dropped c.settle_message.new.desk) c.dropped.ensures)
+    c.drop_uses.new.desk c.recall_live-3.ensures.live (c.drop_uses.ensures.dropped ∙ ap (all_dropped c.settle_message.new.desk) c.dropped_messages.ensures)
 
 pub drop_uses-requires : goal.drop_uses-requires
 drop_uses-requires g c =
     record {
-      loose = subst (AreLoose c.settle_message.new.desk) (sym c.dropped.ensures)
+      loose = subst (AreLoose c.settle_message.new.desk) (sym c.dropped_messages.ensures)
           (sent_loose c.self.inside c.args.self.now c.args.sender c.args.bytes.now c.args.inc c.id_of-id.result (c.self.inside.given + 1) c.put_message-desc.result c.deliver-reached.result c.next_count-count.result
           c.put_message-desc.new.desk c.settle_message.new.desk c.next_count-count.new.tables c.deliver-reached.new.self c.deliver-reached.new.misses
           c.self.view_is c.self.invariant c.recall_order.ensures c.requires.least c.requires.room c.id_of-id.ensures c.next_count-count.ensures.count c.next_count-count.ensures.after refl
@@ -82,4 +82,4 @@ returns-clause-cost g c =
     ap (λ (t : Tables). length (route t.subscriptions c.id_of-id.result)) c.next_count-count.ensures.after
     ∙ ap (λ i. length (route c.self.inside.tables.subscriptions i)) c.id_of-id.ensures
     ∙ ap (λ (o : Store). length (route o.subscriptions (message_id c.args.bytes.now))) c.self.view_is in
-    omega (arith, few, same, ap length c.dropped.ensures, c.drop_uses.ensures.cost, c.settle_message.ensures.cost, c.deliver-reached.ensures.cost, c.put_message-desc.ensures.cost)
+    omega (arith, few, same, ap length c.dropped_messages.ensures, c.drop_uses.ensures.cost, c.settle_message.ensures.cost, c.deliver-reached.ensures.cost, c.put_message-desc.ensures.cost)

@@ -50,7 +50,7 @@ invariant_of-self g c =
     (c.deliver-reached.ensures.reached ∙ ap (λ d. reached_rows (record { sender = c.args.app; number = c.args.buf; desc = d }) (route c.next_count-count.new.tables.subscriptions c.id_of-id.result) c.next_count-count.new.tables.pipes) c.seal_front-desc.ensures.desc)
     (c.deliver-reached.ensures.missed ∙ ap (λ d. let v : Missed = record c.self.inside.misses { items = missed_rows (record { sender = c.args.app; number = c.args.buf; desc = d }) (route c.next_count-count.new.tables.subscriptions c.id_of-id.result) c.next_count-count.new.tables.pipes; dropped = dropped_rows (record { sender = c.args.app; number = c.args.buf; desc = d }) (route c.next_count-count.new.tables.subscriptions c.id_of-id.result) c.next_count-count.new.tables.pipes } in v) c.seal_front-desc.ensures.desc)
     (c.settle_message.ensures.after ∙ ap (λ d. after_settle (resealed c.seal_front-desc.new.desk d (record (sealed_at c.seal_front-desc.new.desk.slots d) { uses = c.deliver-reached.result })) d) c.seal_front-desc.ensures.desc)
-    c.drop_uses.new.desk c.recall_live-3.ensures.live (c.drop_uses.ensures.dropped ∙ ap (all_dropped c.settle_message.new.desk) c.dropped.ensures)
+    c.drop_uses.new.desk c.recall_live-3.ensures.live (c.drop_uses.ensures.dropped ∙ ap (all_dropped c.settle_message.new.desk) c.dropped_messages.ensures)
 
 pub returns-clause-reached : goal.returns-clause-reached
 returns-clause-reached g c =
@@ -80,7 +80,7 @@ returns-clause-after g c =
     (c.deliver-reached.ensures.reached ∙ ap (λ d. reached_rows (record { sender = c.args.app; number = c.args.buf; desc = d }) (route c.next_count-count.new.tables.subscriptions c.id_of-id.result) c.next_count-count.new.tables.pipes) c.seal_front-desc.ensures.desc)
     (c.deliver-reached.ensures.missed ∙ ap (λ d. let v : Missed = record c.self.inside.misses { items = missed_rows (record { sender = c.args.app; number = c.args.buf; desc = d }) (route c.next_count-count.new.tables.subscriptions c.id_of-id.result) c.next_count-count.new.tables.pipes; dropped = dropped_rows (record { sender = c.args.app; number = c.args.buf; desc = d }) (route c.next_count-count.new.tables.subscriptions c.id_of-id.result) c.next_count-count.new.tables.pipes } in v) c.seal_front-desc.ensures.desc)
     (c.settle_message.ensures.after ∙ ap (λ d. after_settle (resealed c.seal_front-desc.new.desk d (record (sealed_at c.seal_front-desc.new.desk.slots d) { uses = c.deliver-reached.result })) d) c.seal_front-desc.ensures.desc)
-    c.drop_uses.new.desk c.recall_live-3.ensures.live (c.drop_uses.ensures.dropped ∙ ap (all_dropped c.settle_message.new.desk) c.dropped.ensures)
+    c.drop_uses.new.desk c.recall_live-3.ensures.live (c.drop_uses.ensures.dropped ∙ ap (all_dropped c.settle_message.new.desk) c.dropped_messages.ensures)
     (bytes_at c.args.held.now c.args.buf) (bytes_are c.self.inside c.args.self.now c.args.app c.args.buf c.self.view_is c.self.invariant c.requires.has c.args.held.now c.requires.bag c.unwrap-block.result (sym c.unwrap-block.ensures ∙ c.take_buffer.ensures.found)) c.recall_live-4.ensures.live
 
 pub returns-clause-first : goal.returns-clause-first
@@ -99,7 +99,7 @@ returns-clause-descs g c =
     (c.deliver-reached.ensures.reached ∙ ap (λ d. reached_rows (record { sender = c.args.app; number = c.args.buf; desc = d }) (route c.next_count-count.new.tables.subscriptions c.id_of-id.result) c.next_count-count.new.tables.pipes) c.seal_front-desc.ensures.desc)
     (c.deliver-reached.ensures.missed ∙ ap (λ d. let v : Missed = record c.self.inside.misses { items = missed_rows (record { sender = c.args.app; number = c.args.buf; desc = d }) (route c.next_count-count.new.tables.subscriptions c.id_of-id.result) c.next_count-count.new.tables.pipes; dropped = dropped_rows (record { sender = c.args.app; number = c.args.buf; desc = d }) (route c.next_count-count.new.tables.subscriptions c.id_of-id.result) c.next_count-count.new.tables.pipes } in v) c.seal_front-desc.ensures.desc)
     (c.settle_message.ensures.after ∙ ap (λ d. after_settle (resealed c.seal_front-desc.new.desk d (record (sealed_at c.seal_front-desc.new.desk.slots d) { uses = c.deliver-reached.result })) d) c.seal_front-desc.ensures.desc)
-    c.drop_uses.new.desk c.recall_live-3.ensures.live (c.drop_uses.ensures.dropped ∙ ap (all_dropped c.settle_message.new.desk) c.dropped.ensures)
+    c.drop_uses.new.desk c.recall_live-3.ensures.live (c.drop_uses.ensures.dropped ∙ ap (all_dropped c.settle_message.new.desk) c.dropped_messages.ensures)
 
 pub returns-clause-bag : goal.returns-clause-bag
 returns-clause-bag g c =
@@ -114,7 +114,7 @@ returns-clause-bag g c =
     (c.deliver-reached.ensures.reached ∙ ap (λ d. reached_rows (record { sender = c.args.app; number = c.args.buf; desc = d }) (route c.next_count-count.new.tables.subscriptions c.id_of-id.result) c.next_count-count.new.tables.pipes) c.seal_front-desc.ensures.desc)
     (c.deliver-reached.ensures.missed ∙ ap (λ d. let v : Missed = record c.self.inside.misses { items = missed_rows (record { sender = c.args.app; number = c.args.buf; desc = d }) (route c.next_count-count.new.tables.subscriptions c.id_of-id.result) c.next_count-count.new.tables.pipes; dropped = dropped_rows (record { sender = c.args.app; number = c.args.buf; desc = d }) (route c.next_count-count.new.tables.subscriptions c.id_of-id.result) c.next_count-count.new.tables.pipes } in v) c.seal_front-desc.ensures.desc)
     (c.settle_message.ensures.after ∙ ap (λ d. after_settle (resealed c.seal_front-desc.new.desk d (record (sealed_at c.seal_front-desc.new.desk.slots d) { uses = c.deliver-reached.result })) d) c.seal_front-desc.ensures.desc)
-    c.drop_uses.new.desk c.recall_live-3.ensures.live (c.drop_uses.ensures.dropped ∙ ap (all_dropped c.settle_message.new.desk) c.dropped.ensures)
+    c.drop_uses.new.desk c.recall_live-3.ensures.live (c.drop_uses.ensures.dropped ∙ ap (all_dropped c.settle_message.new.desk) c.dropped_messages.ensures)
     c.args.held.now c.take_buffer.new.self c.requires.bag c.take_buffer.ensures.seen
 
 pub returns-clause-other_bags : goal.returns-clause-other_bags
@@ -130,7 +130,7 @@ returns-clause-other_bags g c =
     (c.deliver-reached.ensures.reached ∙ ap (λ d. reached_rows (record { sender = c.args.app; number = c.args.buf; desc = d }) (route c.next_count-count.new.tables.subscriptions c.id_of-id.result) c.next_count-count.new.tables.pipes) c.seal_front-desc.ensures.desc)
     (c.deliver-reached.ensures.missed ∙ ap (λ d. let v : Missed = record c.self.inside.misses { items = missed_rows (record { sender = c.args.app; number = c.args.buf; desc = d }) (route c.next_count-count.new.tables.subscriptions c.id_of-id.result) c.next_count-count.new.tables.pipes; dropped = dropped_rows (record { sender = c.args.app; number = c.args.buf; desc = d }) (route c.next_count-count.new.tables.subscriptions c.id_of-id.result) c.next_count-count.new.tables.pipes } in v) c.seal_front-desc.ensures.desc)
     (c.settle_message.ensures.after ∙ ap (λ d. after_settle (resealed c.seal_front-desc.new.desk d (record (sealed_at c.seal_front-desc.new.desk.slots d) { uses = c.deliver-reached.result })) d) c.seal_front-desc.ensures.desc)
-    c.drop_uses.new.desk c.recall_live-3.ensures.live (c.drop_uses.ensures.dropped ∙ ap (all_dropped c.settle_message.new.desk) c.dropped.ensures)
+    c.drop_uses.new.desk c.recall_live-3.ensures.live (c.drop_uses.ensures.dropped ∙ ap (all_dropped c.settle_message.new.desk) c.dropped_messages.ensures)
 
 pub returns-clause-view_bags : goal.returns-clause-view_bags
 returns-clause-view_bags g c =
@@ -145,12 +145,12 @@ returns-clause-view_bags g c =
     (c.deliver-reached.ensures.reached ∙ ap (λ d. reached_rows (record { sender = c.args.app; number = c.args.buf; desc = d }) (route c.next_count-count.new.tables.subscriptions c.id_of-id.result) c.next_count-count.new.tables.pipes) c.seal_front-desc.ensures.desc)
     (c.deliver-reached.ensures.missed ∙ ap (λ d. let v : Missed = record c.self.inside.misses { items = missed_rows (record { sender = c.args.app; number = c.args.buf; desc = d }) (route c.next_count-count.new.tables.subscriptions c.id_of-id.result) c.next_count-count.new.tables.pipes; dropped = dropped_rows (record { sender = c.args.app; number = c.args.buf; desc = d }) (route c.next_count-count.new.tables.subscriptions c.id_of-id.result) c.next_count-count.new.tables.pipes } in v) c.seal_front-desc.ensures.desc)
     (c.settle_message.ensures.after ∙ ap (λ d. after_settle (resealed c.seal_front-desc.new.desk d (record (sealed_at c.seal_front-desc.new.desk.slots d) { uses = c.deliver-reached.result })) d) c.seal_front-desc.ensures.desc)
-    c.drop_uses.new.desk c.recall_live-3.ensures.live (c.drop_uses.ensures.dropped ∙ ap (all_dropped c.settle_message.new.desk) c.dropped.ensures)
+    c.drop_uses.new.desk c.recall_live-3.ensures.live (c.drop_uses.ensures.dropped ∙ ap (all_dropped c.settle_message.new.desk) c.dropped_messages.ensures)
 
 pub drop_uses-requires : goal.drop_uses-requires
 drop_uses-requires g c =
     record {
-      loose = subst (AreLoose c.settle_message.new.desk) (sym c.dropped.ensures)
+      loose = subst (AreLoose c.settle_message.new.desk) (sym c.dropped_messages.ensures)
           (passed_loose c.self.inside c.args.self.now c.args.app c.args.buf c.unwrap-block.result.bytes c.args.inc c.id_of-id.result c.unwrap-block.result.desc c.deliver-reached.result c.next_count-count.result
           c.seal_front-desc.new.desk c.settle_message.new.desk c.next_count-count.new.tables c.deliver-reached.new.self c.deliver-reached.new.misses c.let_go.new.self
           c.self.view_is c.self.invariant c.recall_order.ensures c.requires.bag.known (in_list c.self.inside c.args.self.now c.args.app c.args.buf c.self.view_is c.self.invariant c.requires.has c.args.held.now c.requires.bag c.unwrap-block.result (sym c.unwrap-block.ensures ∙ c.take_buffer.ensures.found)) (numbered_block c.self.inside c.args.self.now c.args.app c.args.buf c.self.view_is c.self.invariant c.requires.has c.args.held.now c.requires.bag c.unwrap-block.result (sym c.unwrap-block.ensures ∙ c.take_buffer.ensures.found)) (size_block c.self.inside c.args.self.now c.args.app c.args.buf c.self.view_is c.self.invariant c.requires.has c.args.held.now c.requires.bag c.unwrap-block.result (sym c.unwrap-block.ensures ∙ c.take_buffer.ensures.found))
@@ -184,4 +184,4 @@ returns-clause-cost g c =
     ∙ ap (λ i. length (route c.self.inside.tables.subscriptions i)) (c.id_of-id.ensures ∙ ap message_id c.bytes.ensures)
     ∙ ap (λ (o : Store). length (route o.subscriptions (message_id c.unwrap-block.result.bytes))) c.self.view_is
     ∙ ap (λ (l : List ℕ). length (route c.args.self.now.subscriptions (message_id l))) (sym (bytes_are c.self.inside c.args.self.now c.args.app c.args.buf c.self.view_is c.self.invariant c.requires.has c.args.held.now c.requires.bag c.unwrap-block.result (sym c.unwrap-block.ensures ∙ c.take_buffer.ensures.found))) in
-    omega (arith, few, same, ap length c.dropped.ensures, c.drop_uses.ensures.cost, c.settle_message.ensures.cost, c.deliver-reached.ensures.cost, c.let_go.ensures.cost)
+    omega (arith, few, same, ap length c.dropped_messages.ensures, c.drop_uses.ensures.cost, c.settle_message.ensures.cost, c.deliver-reached.ensures.cost, c.let_go.ensures.cost)
