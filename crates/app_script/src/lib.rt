@@ -28,7 +28,7 @@
 //!   that the grammar gives (`read_scripts_are_in_range`). `Script::new` and `App::of_lines` make a
 //!   script of parts, for a caller who proves the ranges.
 //!
-//! Tested: a script, and one with a fault; 213 scripts by `rows_faults`.
+//! Tested: a script, and one with a fault; 220 scripts by `rows_faults`.
 #![tactic(auto)]
 
 mod app;

@@ -19,7 +19,7 @@
 //! Proved: `rotations_merge`: rotation ends with no application left, and its two histories merge
 //! the script; at their end no pipe is live, no buffer is unsent, no send is held, every block of
 //! the bus's pool is back, no handle is live, no table is left and no byte of the tables' pool is
-//! in use. `rotations_are_runs`, `runs_come_to`: rotation is a run, and what follows of a run.
+//! in use. `rotations_are_runs`, `runs_guarantee`: rotation is a run, and what follows from one.
 //! `last_messages_stay`, `held_receipts_stay`: what an application's receipts show of a pipe's last
 //! message, and of what a handle holds, changes by its own calls alone.
 #![tactic(auto)]

@@ -24,7 +24,7 @@
 //! If `run_threads` returns and memory didn't run out, for any order in which the threads came:
 //!
 //! - the two histories are ones that a run of the script may leave (`IsRunOf`, clause `run`), with
-//!   what follows (`ComesTo`, clause `comes_to`), under the script's limits, for as many
+//!   what follows (`Guarantees`, clause `guarantees`), under the script's limits, for as many
 //!   applications as it has (`limits`, `table_limits`, `apps`, `table_apps`);
 //! - each application's receipts are those of its lines (`receipts`).
 //!
