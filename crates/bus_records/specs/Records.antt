@@ -51,10 +51,10 @@ missed_by_cause OverLimit id pipe sender = MessageLimit id pipe sender
 missed_by_cause Full id pipe sender = PipeOverflow id pipe sender
 missed_by_cause Oldest id pipe sender = OldestDropped id pipe sender
 
--- what is told of a pipe that misses a message of this id and sender
+-- the event of a pipe that misses a message of this id and sender, or drops its oldest one for it
 abbrev pub miss_event : ℕ → ℕ → Miss → ServiceEvent
 miss_event id sender miss = missed_by_cause miss.cause id miss.pipe sender
 
--- the events of the pipes that miss it, in order
+-- the events of all such pipes, in order
 abbrev pub miss_events : ℕ → ℕ → List Miss → List ServiceEvent
 miss_events id sender misses = map (miss_event id sender) misses

@@ -19,8 +19,8 @@
 //! # Proved
 //!
 //! - `tell` sends the desk an event of the bus and raises the event's counter, if it has one.
-//!   `tell_misses` does so for each pipe that missed a message, in order, with a limit as a limit
-//!   and a full pipe as an overflow. `count` raises one counter, and `see` each peak that is
+//!   `tell_misses` does so for each pipe that missed a message or dropped its oldest one for it, in
+//!   order. `count` raises one counter, and `see` each peak that is
 //!   exceeded.
 //! - `register`, `unregister`, `send_event`, `reset_filter`, `set_log_mode` and `clear_log` change
 //!   the desk by its definitions and leave the counters. `packet` writes the housekeeping packet.

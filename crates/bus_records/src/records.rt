@@ -56,8 +56,8 @@ impl Records {
         raise(&mut self.counters, &event);
     }
 
-    /// Tells of each pipe that missed a message of this id and sender, in order: by its limit, or
-    /// since it was full.
+    /// Logs an event for each pipe that missed a message of this id and sender, in order: by its
+    /// limit, or since it was full; and for each that dropped its oldest message for it.
     pub fn tell_misses(&mut self, misses: &[Miss], id: u16, sender: AppNo)
         ensures { self.new ≡ told_all self.old (miss_events id sender misses.now) }
     {

@@ -89,7 +89,8 @@ impl<'r> BusStore<'r> {
     /// Sends the message that the application's buffer begins with, whose id has a route, under the
     /// buffer's number. By the code, the buffer's block is then the message's, and nothing is drawn
     /// or copied. The buffer is taken out of the bag. All else is as with [`BusStore::send`]. At
-    /// most 4 steps for each subscription of the id, and 32 more.
+    /// most 4 steps for each subscription of the id, 8 more for each whose pipe drops a message,
+    /// and 32 more.
     pub fn transmit_buffer<L: Ledger>(
         &mut self,
         app: AppNo,

@@ -50,8 +50,8 @@
 //!   takes none. `delete_pipe` lets go of all messages of a pipe.
 //! - `allocate` gives a buffer of zeros under the next number, `transmit_buffer` sends the message
 //!   that a buffer begins with and draws no block, `release` gives a buffer back; at most 16 steps,
-//!   4 for each subscription and 32 more, and 16. `release_all` gives back all of an application's,
-//!   at most 16 for each and 16 more.
+//!   4 for each subscription, 8 for each dropped message and 32 more, and 16. `release_all` gives
+//!   back all of an application's, at most 16 for each and 16 more.
 //! - If a bag has what is due to its application and nothing else, it has so after each call
 //!   (`HoldsViews`, `HoldsBuffers`; clauses `bag`, `bags`, `other_bags`). `receivers_share_views`:
 //!   two applications whose pipes received one send last have the same view of it, by the same

@@ -69,8 +69,8 @@ impl<'r> BusStore<'r> {
     /// Sends a message, whose id has a route, under the next send number: each pipe that takes it
     /// gets it queued. Its bytes are written once, into one block. With `inc` it gets the id's next
     /// sequence count (CCSDS 133.0-B, 4.1.3.4.3). Where no pipe takes it, its block goes back at
-    /// once. A message that a full pipe drops for it is let go behind that: its block goes back
-    /// where no other pipe has a use for it. No bag changes. At most 4 steps for each subscription
+    /// once. A message that a full pipe drops for it is let go after that: its block goes back
+    /// if no other pipe has a use for it. No bag changes. At most 4 steps for each subscription
     /// of the id, 8 more for each whose pipe drops a message, and 32 more.
     pub fn send<L: Ledger>(
         &mut self,

@@ -37,9 +37,9 @@
 //!   at its turn. It answers how many pipes took it, and leaves those that missed it, or dropped
 //!   their oldest message for it, in a list, with the cause, in order; at most 2 counted steps for
 //!   each and 2 more.
-//! - `recall_uses`: a delivery adds a use of its send for each pipe that took it, the next message
-//!   of a pipe takes away one of the send received last, and a message taken out takes away one of
-//!   its own send.
+//! - `recall_uses`: a delivery adds a use of its send for each pipe that took it, and each message
+//!   that a pipe dropped for it loses one. The next message of a pipe takes away one of the send
+//!   received last, and a message taken out takes away one of its own send.
 //! - Behind this: each subscription's count is the number of its messages that wait, each id's
 //!   destinations are its live subscriptions in order, and no pair is live twice
 //!   (`specs/Inside.antt`).

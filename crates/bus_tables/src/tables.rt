@@ -375,9 +375,9 @@ impl BusTables {
 
     /// Offers the message to the subscriptions of its id, in order. Answers how many pipes took it,
     /// and leaves in `misses` those that missed it, or dropped their oldest message for it, with
-    /// the cause of each, and the messages that were dropped. A pipe takes it where it doesn't
-    /// ignore the sender, fewer messages of the subscription wait than its limit says, and fewer in
-    /// all than its depth, or its option bits say that it drops the oldest of them. Goes along the
+    /// the cause of each, and the messages that were dropped. A pipe takes it if it doesn't ignore
+    /// the sender, fewer messages of the subscription wait than its limit says, and either fewer
+    /// wait in all than its depth or its option bits say that it drops the oldest. Goes along the
     /// id's subscriptions alone: at most 2 steps for each, and 2 more.
     pub fn deliver<L: Ledger>(
         &mut self,

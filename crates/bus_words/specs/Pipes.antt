@@ -178,7 +178,7 @@ module _ {item : Type 0} where
   dropped_at Full queue = None
 
   -- the pipe after the offer of an item of this sender, given whether its subscription's limit is
-  -- reached: with the item as its newest if the verdict is In
+  -- reached: it queues what the verdict says
   abbrev pub offered_over : Bool → ℕ → item → PipeOf item → PipeOf item
   offered_over is_over sender newest pipe = record pipe { queue = queue_after (verdict_over is_over pipe sender) newest pipe.queue }
 

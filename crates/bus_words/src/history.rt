@@ -24,7 +24,7 @@ pub enum Call {
     SetOpts {
         /// The pipe's number.
         pipe: u32,
-        /// The option bits: 0x01, or 0.
+        /// The option bits: 0x01 and, in version 2, 0x02, added up; others are refused.
         bits: u8,
     },
     /// Asks for a pipe's option bits.

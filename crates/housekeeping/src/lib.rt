@@ -1,6 +1,6 @@
-//! The housekeeping of a software bus, as cFE has it: ten counters, the peaks of what was in use,
-//! and the packet with the counters and what is in use now. It knows nothing of the bus but its
-//! arguments.
+//! The housekeeping of a software bus: eleven counters, ten of them as cFE has them and in the
+//! packet, the peaks of what was in use, and the packet with these ten and what is in use now. It
+//! knows nothing of the bus but its arguments.
 //!
 //! Each counter shows how often it was ticked, up to 4294967295, each peak is the greatest number
 //! seen, and the packet has exactly the bytes of `housekeeping_packet`.

@@ -7,7 +7,7 @@ use pipe_queue::Item;
 /// What became of a message that a pipe was offered.
 #[derive(Clone, Copy, Debug, PartialEq, Eq)]
 pub struct OfferOutcome {
-    /// Whether the pipe queued it, and why it didn't.
+    /// Whether the pipe queued it; if not, why.
     pub verdict: Verdict,
     /// The message that left for it, which waited longest: one if and only if the verdict is
     /// Oldest.

@@ -21,7 +21,7 @@ wrong_line bytes text = line_ends (alike bytes text) + 1
 abbrev pub EndsLine : List ℕ → Type 0
 EndsLine text = (line : List ℕ) × (text ≡ line ++ 10 ∷ [])
 
--- Whatever run begins with whole lines with which the bytes begin, they are lines with which this text begins.
+-- If whole lines begin both the bytes and the report of some run, this text begins with them too.
 abbrev pub IsForced : ScriptText → List ℕ → List ℕ → Type 0
 IsForced script bytes text =
     (opening front others rest : List ℕ) → Beginning script opening → opening ≡ front ++ others → bytes ≡ front ++ rest → EndsLine front →

@@ -15,9 +15,9 @@ pub fn reports_tell_runs()
     ensures next_at_tables { NextTableEntriesAreOne }
 {}
 
-/// Where each line that the report of some run may have behind the same ones is known, the first
-/// one that a text doesn't have is told by what both have in common: with as many lines no run
-/// begins as the text does, and with any fewer one does.
+/// If a text must begin with every run of whole lines that the report of some run and the bytes
+/// share, and some run's report begins with the text, then the first line in which the bytes differ
+/// from the text is the first wrong one.
 pub fn wrong_lines_are_first()
     ensures { WrongLinesAreFirst }
 {}

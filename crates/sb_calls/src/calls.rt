@@ -112,11 +112,13 @@ impl<'r> BusCore<'r> {
     }
 
     /// Sends a message to every pipe that is subscribed to its id, in order of subscription. A pipe
-    /// that is full, that ignores what its owner sends where that is the sender, or where as many
-    /// messages of the subscription wait as its limit says, misses it. With `inc` the message gets
-    /// the id's next sequence count (CCSDS 133.0-B, 4.1.3.4.3). Where nobody subscribes to the id,
-    /// it takes neither a number nor a block. At most 4 steps for each subscription of the id, and
-    /// 32 more, whatever else there is.
+    /// misses it that ignores what its owner sends and whose owner is the sender; else one where as
+    /// many messages of the subscription wait as its limit says; else one that is full and hasn't
+    /// option 0x02. A full pipe with option 0x02 drops the message that waits longest and takes
+    /// this one. With `inc` the message gets the id's next sequence count (CCSDS 133.0-B,
+    /// 4.1.3.4.3). If nobody subscribes to the id, it takes neither a number nor a block. At most 4
+    /// steps for each subscription of the id, 8 more for each whose pipe drops a message, and 32
+    /// more, whatever else there is.
     ///
     /// # Errors
     /// `BadArgument` for bytes that are no message; `MsgTooBig` for more bytes than the

@@ -67,8 +67,8 @@ impl<'r> BusCore<'r> {
         result
     }
 
-    /// Answers the option bits of a pipe, whoever's it is: 0, or 0x01 where the messages that its
-    /// owner sends are not for it.
+    /// Answers the option bits of any pipe, added up: 0x01 if the messages that its owner sends are
+    /// not for it, 0x02 if it drops its oldest message when it is full.
     ///
     /// # Errors
     /// `BadArgument` for a pipe that isn't live.

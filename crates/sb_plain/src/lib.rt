@@ -16,8 +16,8 @@
 //! application's last call.
 //!
 //! The bus counts each call that it refuses. It logs an event for a second subscription, for one
-//! that wasn't there, for a message that nobody subscribes to, and for each pipe that misses one.
-//! After each call it looks at what is in use, and keeps the peaks.
+//! that wasn't there, for a message that nobody subscribes to, and for each pipe that misses one or
+//! drops its oldest for it. After each call it looks at what is in use, and keeps the peaks.
 //!
 //! ```text
 //! /// One application sends itself a packet and reads it.

@@ -74,8 +74,8 @@ impl<'r> PlainBus<'r> {
         Ok(())
     }
 
-    /// Answers the option bits of a pipe, whoever's it is: 0x01 where the messages that its owner
-    /// sends are not for it, 0x02 where it drops its oldest message when it is full, added up.
+    /// Answers the option bits of any pipe, added up: 0x01 if the messages that its owner sends are
+    /// not for it, 0x02 if it drops its oldest message when it is full.
     ///
     /// # Errors
     /// `BadArgument` for a pipe that isn't live; it is counted.

@@ -5,9 +5,9 @@
 //! It has definitions (`specs`) and their laws, and no code. Rotation of any script ends, in
 //! histories that a run of the script may leave: the bus and the tables can have them, and they
 //! have each application's calls, each once and in the order of its lines. Of any such histories it
-//! is proved that each pipe gave what it gives alone, that the pool's bytes in use were at each
-//! time those of held blocks, that nothing changed what others held of a table, and that nothing is
-//! held at the end and no table is left.
+//! is proved that each pipe gave what it gives alone, that each send number given was new, that at
+//! no time more blocks of the bus's pool were out than were made, or more of its bytes in use than
+//! it has, and that nothing is held at the end and no table is left.
 //!
 //! ```text
 //! rotation script                      // the histories that lockstep makes of a script

@@ -32,8 +32,9 @@
 //!
 //! # Proved
 //!
-//! - Each call, by an application that may make it (`MayAct`: it hasn't ended, names and ranges
-//!   keep to their bounds, and a number is left for a handle and for a version of each table),
+//! - Each call, by an application that may make it (`MayAct`: it hasn't ended, and what it loads
+//!   is 1 to 65536 bytes from an offset of at most 65536; for `register` and `share` also
+//!   `has_handle_number`; names are of any length),
 //!   answers and leaves what `step` of `tbl_words` says of the state (`Acts`); a refused call
 //!   changes nothing. So an update never copies over a buffer that is held, a value is never staged
 //!   over a held version, a load that fails a rule leaves nothing behind, and a table's blocks go

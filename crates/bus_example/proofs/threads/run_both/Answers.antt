@@ -9,7 +9,7 @@ use Rattle.bus_example.proofs.threads.run_both.Goals as goal
 app_send : (e r : NamedLft) → IsSend (app.the_row e r)
 app_send e r = declared_send (app.the_type e r) (shr_send _ _ _ (bus_sync r), (port_send r, tt))
 
-pub join-first-requires-send-F : goal.join-first-requires-send-F
-join-first-requires-send-F g c κs within =
+pub join-received-requires-send-F : goal.join-received-requires-send-F
+join-received-requires-send-F g c κs within =
     let runtime : IsSync g.row.R = search sendable depth 10 in
     search (sendable, app_send) depth 20
