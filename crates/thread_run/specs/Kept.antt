@@ -1,8 +1,10 @@
 -- What a thread promises of its application.
-use Rattle.std.specs.Prelude.{◌≡◌, ℕ, Result, Ok, Err}
-use Rattle.std.specs.declared.thread.PromisedHandle.{PromisedHandle}
+use Rattle.std.specs.Prelude.{◌≡◌, ℕ, ◌≤◌, [], vec_capacity}
 use Rattle.atomic_table.specs.Seated.{TableId}
 use Rattle.app_script.specs.Script.{ScriptText}
+use Rattle.thread_run.specs.declared.lists.Begun.{Begun}
+use Rattle.thread_run.specs.declared.lists.Begun.TheVariants.{OnThread, Here}
+use Rattle.thread_run.specs.declared.starting.Lists.{Lists}
 use Rattle.thread_run.specs.declared.works.Done.{Done}
 use Rattle.thread_run.specs.declared.works.Ends.{Ends}
 use Rattle.thread_run.specs.Works.{IsDone}
@@ -19,11 +21,18 @@ pub record EndsFor (script : ScriptText) (bus tables : TableId) (app : ℕ) (end
   pub app_is : ends.app ≡ app
 
 -- what comes of an application that was begun: what its thread promised, or what it left here
-abbrev pub Comes : Result (PromisedHandle Done Ends) Done → Done → Type 0
-Comes (Ok handle) done = KeptBy handle.promise done
-Comes (Err left) done = done ≡ left
+abbrev pub Comes : Begun → Done → Type 0
+Comes (OnThread handle) done = KeptBy handle.promise done
+Comes (Here left) done = done ≡ left
 
 -- the application runs on a thread with this promise, or is through
-abbrev pub IsBegun : ScriptText → TableId → TableId → ℕ → Result (PromisedHandle Done Ends) Done → Type 0
-IsBegun script bus tables app (Ok handle) = EndsFor script bus tables app handle.promise
-IsBegun script bus tables app (Err done) = IsDone script bus tables app done
+abbrev pub IsBegun : ScriptText → TableId → TableId → ℕ → Begun → Type 0
+IsBegun script bus tables app (OnThread handle) = EndsFor script bus tables app handle.promise
+IsBegun script bus tables app (Here done) = IsDone script bus tables app done
+
+-- both lists are empty, and have room for so many applications
+pub record HaveRoomFor (apps : ℕ) (lists : Lists) : Type 0 where
+  pub none_begun : lists.begun.items ≡ []
+  pub none_done : lists.dones.items ≡ []
+  pub room : apps ≤ vec_capacity lists.begun
+  pub done_room : apps ≤ vec_capacity lists.dones

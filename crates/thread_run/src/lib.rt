@@ -15,8 +15,8 @@
 //! ```
 //!
 //! A run may wait, for the turns of its applications and for messages that they send to each other;
-//! nothing is claimed of how long. By the code, all memory is taken before the first call, but for
-//! what each thread takes when it is started.
+//! nothing is claimed of how long. All memory is taken before the first call, but for what each
+//! thread takes when it is started.
 //!
 //! # Implementation
 //!
@@ -26,6 +26,7 @@
 //! Behind the scope the ports are joined, in order of number, and both services closed.
 #![tactic(auto)]
 
+mod here;
 mod joining;
 mod lists;
 mod opening;
