@@ -1,7 +1,9 @@
 -- The one lemma of all calls: what the core's call, the push of its entry and the note leave.
-use Rattle.std.proofs.Common.{◌≡◌, ℕ, ◌+◌, ◌^◌, ◌<◌, ◌≤◌, true, false, true≢false, List, [], ◌∷◌, ◌++◌, length, Option, Some, None, is_some, IsTrue, refl, ap, sym, ◌∙◌, subst, arith}
+use Rattle.std.proofs.Common.{◌≡◌, ℕ, ◌+◌, ◌^◌, ◌<◌, ◌≤◌, true, false, true≢false, ltb, List, [], ◌∷◌, ◌++◌, length, Option, Some, None, is_some, IsTrue, refl, ap, sym, ◌∙◌, subst, arith}
+use Rattle.std.proofs.lemmas.Bool.Decides.{nat_tests}
 use Rattle.std.proofs.lemmas.List.{length_push}
 use Rattle.fsw_base.specs.Limits.{Limits}
+use Rattle.pool_words.specs.Grants.{has_numbers}
 use Rattle.bus_words.specs.declared.calls.BusAnswer.{BusAnswer}
 use Rattle.bus_words.specs.declared.history.Call.{Call}
 use Rattle.bus_words.specs.declared.history.Entry.{Entry}
@@ -25,12 +27,12 @@ use Rattle.bus_words.proofs.PoolGrants.{ArePools-after}
 use Rattle.journal_store.proofs.Charges.{entries_left-charged}
 use Rattle.bus_words.specs.Pipes.{last_on}
 use Rattle.bus_store.specs.Words.{loan_of, desc_of}
-use Rattle.sb_plain.specs.Core.{Plain, MayAct, Acts, apps_in, has_grant_numbers}
+use Rattle.sb_plain.specs.Core.{Plain, MayAct, Acts, apps_in, has_pipe_number, has_subscription_number, has_send_number}
 use Rattle.sb_calls.specs.declared.bus_core.BusCore.TheInside.{Inside}
 use Rattle.sb_calls.specs.Core.{Core, MayCall, Does, IsLegalCore, IsNoted, with_noted, state_of}
 use Rattle.sb_calls.specs.Inside.{core_of, Stands}
 use Rattle.sb_calls.specs.Notes.{NotedLog, loan_in, note_due, noted, gives_buffer, noted_desc}
-use Rattle.sb_calls.proofs.Grants.{grants_left}
+use Rattle.sb_calls.proofs.Grants.{numbers_left}
 use Rattle.sb_calls.proofs.Notes.{noted-other, noted-given, noted_desc-other, noted_desc-given, desc_in-due, even-due, due-push}
 use Rattle.sb_calls.proofs.UnsentBuffers.{unsent-from}
 
@@ -51,33 +53,57 @@ pub apps_are : (a : Inside) → Stands a → apps_in a.core ≡ length a.noted.l
 apps_are a stands =
     ap (λ (s : State). length s.standings) (bus_is a stands) ∙ length-standings a.core.limits (length a.noted.log.budgets) a.noted.log.entries
 
--- what the journal's call needs is what the core's call needs
-pub may_act : (a : Inside) (old : Core) (app : ℕ) (call : Call) → core_of a ≡ old → Stands a → MayCall old app call → MayAct a.core app call
-may_act a old app call is stands may_old =
+-- a call's entry is one of fewer than 2^32, so a number is left for what it makes
+fits_all : (a : Inside) (old : Core) (app : ℕ) (call : Call) → core_of a ≡ old → Stands a → MayCall old app call →
+    (app ≤ apps_in a.core) × IsTrue (may_call (standing_of a.core.whole.bus app) call) × (a.core.whole.bus.pipes_created + 1 < 2 ^ 32) × (a.core.whole.bus.subscriptions_made + 1 < 2 ^ 32) × (a.core.whole.bus.numbers_given + 1 < 2 ^ 32)
+fits_all a old app call is stands may_old =
     let Q : Core → Type 0 = λ o. MayCall o app call in
     let may : MayCall (core_of a) app call = subst Q (sym is) may_old in
     let apps = length a.noted.log.budgets in
-    let s = state_of (core_of a) in
     let counted = AreCounted-after a.core.limits apps a.noted.log.entries in
     let left = entries_left-charged (left_of a.noted.log) app (call_bytes call) may.room in
-    let P : State → Type 0 = λ t. (app ≤ length t.standings) × IsTrue (may_call (standing_of t app) call) × (t.pipes_created + 1 < 2 ^ 32) × (t.subscriptions_made + 1 < 2 ^ 32) × (t.numbers_given + 1 < 2 ^ 32) × IsTrue (has_grant_numbers t.pools call) in
-    let all : P a.core.whole.bus = subst P (sym (bus_is a stands)) (
+    let P : State → Type 0 = λ t. (app ≤ length t.standings) × IsTrue (may_call (standing_of t app) call) × (t.pipes_created + 1 < 2 ^ 32) × (t.subscriptions_made + 1 < 2 ^ 32) × (t.numbers_given + 1 < 2 ^ 32) in
+    subst P (sym (bus_is a stands)) (
       omega (arith, may.known, length-standings a.core.limits apps a.noted.log.entries),
       may.standing,
       omega (arith, counted.pipes, left, stands.few),
       omega (arith, counted.subscriptions, left, stands.few),
       omega (arith, counted.numbers, left, stands.few),
-      grants_left a.core.limits (length a.noted.log.entries) s.pools call (ArePools-after a.core.limits apps a.noted.log.entries) (omega (arith, left, stands.few)),
-    ) in
-    record {
-      known = all.0;
-      standing = all.1;
-      within = may.within;
-      pipes = all.2;
-      subscriptions = all.3;
-      sends = all.4;
-      grants = all.5;
-    }
+    )
+
+-- what the journal's call needs is what the core's call needs
+pub may_act : (a : Inside) (old : Core) (app : ℕ) (call : Call) → core_of a ≡ old → Stands a → MayCall old app call → MayAct a.core app call
+may_act a old app call is stands may_old =
+    let Q : Core → Type 0 = λ o. MayCall o app call in
+    let may : MayCall (core_of a) app call = subst Q (sym is) may_old in
+    let all = fits_all a old app call is stands may_old in
+    record { known = all.0; standing = all.1; within = may.within }
+
+large : (n : ℕ) → n + 1 < 2 ^ 32 → ltb n 4294967295 ≡ true
+large n lt = grind (arith, nat_tests)
+
+-- a number is left for a pipe
+pub pipe_left : (a : Inside) (old : Core) (app : ℕ) (call : Call) → core_of a ≡ old → Stands a → MayCall old app call → IsTrue (has_pipe_number a.core.whole.bus)
+pipe_left a old app call is stands may_old = large a.core.whole.bus.pipes_created (fits_all a old app call is stands may_old).2
+
+-- a number is left for a subscription
+pub subscription_left : (a : Inside) (old : Core) (app : ℕ) (call : Call) → core_of a ≡ old → Stands a → MayCall old app call → IsTrue (has_subscription_number a.core.whole.bus)
+subscription_left a old app call is stands may_old = large a.core.whole.bus.subscriptions_made (fits_all a old app call is stands may_old).3
+
+-- a number is left for a send or a buffer
+pub send_left : (a : Inside) (old : Core) (app : ℕ) (call : Call) → core_of a ≡ old → Stands a → MayCall old app call → IsTrue (has_send_number a.core.whole.bus)
+send_left a old app call is stands may_old = large a.core.whole.bus.numbers_given (fits_all a old app call is stands may_old).4
+
+-- a number is left for a grant of any pool
+pub grant_left : (a : Inside) (old : Core) (app pool : ℕ) (call : Call) → core_of a ≡ old → Stands a → MayCall old app call → IsTrue (has_numbers a.core.whole.bus.pools pool)
+grant_left a old app pool call is stands may_old =
+    let Q : Core → Type 0 = λ o. MayCall o app call in
+    let may : MayCall (core_of a) app call = subst Q (sym is) may_old in
+    let apps = length a.noted.log.budgets in
+    let left = entries_left-charged (left_of a.noted.log) app (call_bytes call) may.room in
+    let P : State → Type 0 = λ t. IsTrue (has_numbers t.pools pool) in
+    subst P (sym (bus_is a stands))
+    (numbers_left a.core.limits (length a.noted.log.entries) (state_of (core_of a)).pools pool (ArePools-after a.core.limits apps a.noted.log.entries) (omega (arith, left, stands.few)))
 
 -- What a call left: the core did what the bus does, the call brings the bytes that it is about, and with its answer it was
 -- entered. Noted was the loan by which the last message of each pipe that the call gave one from is lent, or the descriptor of the

@@ -1,7 +1,6 @@
 -- The core as its callers see it: its limits, the state, the loans of the last messages, and the descriptors of unsent buffers.
-use Rattle.std.specs.Prelude.{◌≡◌, ℕ, ◌+◌, ◌^◌, ◌<◌, ◌≤◌, nat_le, Bool, true, List, [], length, IsTrue}
+use Rattle.std.specs.Prelude.{◌≡◌, ℕ, ◌≤◌, nat_le, nat_lt, Bool, true, List, [], length, IsTrue}
 use Rattle.fsw_base.specs.Limits.{Limits}
-use Rattle.pool_words.specs.Grants.{Pools, has_numbers}
 use Rattle.housekeeping.specs.declared.names.CounterName.{CounterName}
 use Rattle.housekeeping.specs.Counters.{ticked}
 use Rattle.bus_words.specs.declared.calls.BusAnswer.{BusAnswer}
@@ -68,21 +67,23 @@ is_within Housekeeping = true
 is_within Figures = true
 is_within End = true
 
--- the pool that a grant is asked of, if there is one, has a number left for it
-abbrev pub has_grant_numbers : Pools → Call → Bool
-has_grant_numbers pools (PoolGet pool size) = has_numbers pools pool
-has_grant_numbers pools call = true
-
 -- the application may make this call now
 pub record MayAct (core : Plain) (app : ℕ) (call : Call) : Type 0 where
   pub known : app ≤ apps_in core
   pub standing : IsTrue (may_call (standing_of core.whole.bus app) call)
   pub within : IsTrue (is_within call)
-  -- a number of each kind is left
-  pub pipes : core.whole.bus.pipes_created + 1 < 2 ^ 32
-  pub subscriptions : core.whole.bus.subscriptions_made + 1 < 2 ^ 32
-  pub sends : core.whole.bus.numbers_given + 1 < 2 ^ 32
-  pub grants : IsTrue (has_grant_numbers core.whole.bus.pools call)
+
+-- a number is left for one pipe more: numbers are below 2^32, and none is given twice
+abbrev pub has_pipe_number : State → Bool
+has_pipe_number s = nat_lt s.pipes_created 4294967295
+
+-- a number is left for one subscription more: numbers are below 2^32, and none is given twice
+abbrev pub has_subscription_number : State → Bool
+has_subscription_number s = nat_lt s.subscriptions_made 4294967295
+
+-- a number is left for one send or buffer more: numbers are below 2^32, and none is given twice
+abbrev pub has_send_number : State → Bool
+has_send_number s = nat_lt s.numbers_given 4294967295
 
 -- the call was answered, and left the state, as the machine does by the state alone
 pub record Acts (old new : Plain) (app : ℕ) (call : Call) (answer : BusAnswer) : Type 0 where

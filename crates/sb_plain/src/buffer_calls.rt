@@ -1,13 +1,13 @@
 //! The calls of buffers that an application writes itself, and sends without a copy (cFE Software
 //! Bus, zero copy). Each answers and changes what the bus of the definitions does by its state
 //! alone.
-ghost use Rattle.std.specs.Prelude.{◌≡◌, ◌+◌, ◌*◌, ◌<◌, ◌≤◌, Some, None, not, is_some, length, replicate, IfOk, IfErr, OnErr};
+ghost use Rattle.std.specs.Prelude.{◌≡◌, ◌+◌, ◌*◌, ◌<◌, ◌≤◌, false, Some, None, Err, not, is_some, length, replicate, IsTrue, IfOk, IfErr, OnErr};
 ghost use Rattle.ccsds_msg.specs.Message.{message_id, front_fault};
 ghost use Rattle.bus_words.specs.declared.history.Call.TheVariants.{Allocate, TransmitBuffer, Release};
 ghost use Rattle.bus_words.specs.Bus.{route};
 ghost use Rattle.bus_words.specs.Machine.{allocate_cause};
 ghost use Rattle.buf_desc.specs.Held.{buffer_at, bytes_at};
-ghost use Rattle.sb_plain.specs.Core.{MayAct, Acts, with_tick, drops_for};
+ghost use Rattle.sb_plain.specs.Core.{MayAct, Acts, with_tick, drops_for, has_send_number};
 ghost use Rattle.sb_plain.specs.Answers.{allocated, sent, done};
 ghost use Rattle.sb_plain.specs.Bags.{HasBag, KeepsOtherBags, KeepsBuffers, KeepsAllLoans, KeepsDescs};
 ghost use Rattle.sb_plain.specs.Rows.{buffer_cause};
@@ -56,7 +56,7 @@ impl<'r> PlainBus<'r> {
     /// # Errors
     /// `BadArgument` for fewer than 7 bytes; `MsgTooBig` for more bytes than the configuration
     /// allows; `BufAlocErr` where the bus's pool has no block for so many. The first that applies;
-    /// it is counted.
+    /// it is counted. Where no send number is left, it is `BufAlocErr`.
     pub fn allocate<L: Ledger>(
         &mut self,
         app: AppNo,
@@ -67,7 +67,10 @@ impl<'r> PlainBus<'r> {
         requires may { MayAct self.old app (Allocate size) }
         requires bag { HasBag self.old app held.old }
         requires room { length held.old.buffers < held.old.buffer_room }
-        ensures does { Acts self.old self.new app (Allocate size) (allocated result) }
+        ensures does { IsTrue (has_send_number self.old.whole.bus) →
+            Acts self.old self.new app (Allocate size) (allocated result) }
+        ensures spent { has_send_number self.old.whole.bus ≡ false →
+            result ≡ Err SbStatus.BufAlocErr }
         ensures refused { OnErr result (self.new ≡ with_tick self.old CounterName.Send) }
         ensures bag_refused { OnErr result (held.new ≡ held.old) }
         ensures zeros { IfOk result (λ number. bytes_at held.new number ≡ replicate size 0) }
@@ -80,6 +83,10 @@ impl<'r> PlainBus<'r> {
         ensures count { length held.new.buffers ≤ length held.old.buffers + 1 }
         ensures cost { steps.new ≤ steps.old + 32 }
     {
+        if !self.has_send_number() {
+            self.refuse(CounterName::Send);
+            return Err(SbStatus::BufAlocErr);
+        }
         if let Some(status) = self.allocate_cause(size) {
             self.refuse(CounterName::Send);
             return Err(status);

@@ -1,11 +1,11 @@
 //! The calls of subscriptions and messages, and the last call. Each answers and changes what the
 //! bus of the definitions does by its state alone.
-ghost use Rattle.std.specs.Prelude.{◌≡◌, ◌+◌, ◌*◌, ◌≤◌, false, [], length};
+ghost use Rattle.std.specs.Prelude.{◌≡◌, ◌+◌, ◌*◌, ◌≤◌, false, [], length, Err, OnErr, IsTrue};
 ghost use Rattle.ccsds_msg.specs.Message.{message_id};
 ghost use Rattle.bus_words.specs.declared.calls.BusAnswer.TheVariants.{Done};
 ghost use Rattle.bus_words.specs.declared.history.Call.TheVariants.{Create, Subscribe, Unsubscribe, Transmit, Receive, End};
 ghost use Rattle.bus_words.specs.Bus.{owns, route};
-ghost use Rattle.sb_plain.specs.Core.{MayAct, Acts, with_tick, drops_for};
+ghost use Rattle.sb_plain.specs.Core.{MayAct, Acts, with_tick, drops_for, has_pipe_number, has_subscription_number, has_send_number};
 ghost use Rattle.sb_plain.specs.Answers.{created, done, sent, got};
 ghost use Rattle.sb_plain.specs.Bags.{HasBag, KeepsBags, KeepsOtherBags, KeepsAllLoans, KeepsAllDescs, KeepsLoans, KeepsOtherLoans, KeepsOtherDescs};
 
@@ -32,7 +32,8 @@ pub struct Sent {
 
 impl<'r> PlainBus<'r> {
     /// Creates a pipe that holds up to `depth` messages, and answers its number. Pipes are numbered
-    /// 1, 2, 3 and so on, and no number is used again.
+    /// 1, 2, 3 and so on, and no number is used again. One is left, as
+    /// [`PlainBus::has_pipe_number`] says.
     ///
     /// # Errors
     /// `BadArgument` for a depth of 0 or past the configuration's, and for a name that hasn't 1 to
@@ -40,6 +41,7 @@ impl<'r> PlainBus<'r> {
     /// `PipeCrErr` where a live pipe has the name. The first that applies; it is counted.
     pub fn create_pipe(&mut self, app: AppNo, depth: u32, name: &[u8]) -> Result<u32, SbStatus>
         requires may { MayAct self.old app (Create depth name.now) }
+        requires number { IsTrue (has_pipe_number self.old.whole.bus) }
         ensures does { Acts self.old self.new app (Create depth name.now) (created result) }
         ensures bags { KeepsBags self.old self.new }
         ensures loans { KeepsAllLoans self.old self.new }
@@ -57,7 +59,8 @@ impl<'r> PlainBus<'r> {
 
     /// Has messages of this id queued on the caller's pipe, up to `limit` of them at once. Where
     /// the pipe is subscribed to the id already, the bus tells and counts that, and nothing else
-    /// changes. At most 2 steps for each subscription of the id, and 10 more.
+    /// changes. A number is left for the subscription, as [`PlainBus::has_subscription_number`]
+    /// says. At most 2 steps for each subscription of the id, and 10 more.
     ///
     /// # Errors
     /// `BadArgument` for an id that isn't 1 to 0x1FFF, and for a pipe that isn't live or isn't the
@@ -74,6 +77,7 @@ impl<'r> PlainBus<'r> {
         steps: &mut Steps<L>,
     ) -> Result<(), SbStatus>
         requires may { MayAct self.old app (Subscribe id pipe limit scope) }
+        requires number { IsTrue (has_subscription_number self.old.whole.bus) }
         ensures does { Acts self.old self.new app (Subscribe id pipe limit scope) (done result) }
         ensures cost { steps.new
             ≤ steps.old + 2 * length (route self.old.whole.bus.subscriptions id) + 10 }
@@ -142,7 +146,8 @@ impl<'r> PlainBus<'r> {
     /// # Errors
     /// `BadArgument` for bytes that are no message; `MsgTooBig` for more bytes than the
     /// configuration allows; `BufAlocErr` where somebody subscribes to the id, and the bus's pool
-    /// has no block for so many bytes. The first that applies; it is counted.
+    /// has no block for so many bytes. The first that applies; it is counted. Where no send number
+    /// is left ([`PlainBus::has_send_number`]), it is `BufAlocErr`.
     pub fn transmit<L: Ledger>(
         &mut self,
         app: AppNo,
@@ -151,7 +156,11 @@ impl<'r> PlainBus<'r> {
         steps: &mut Steps<L>,
     ) -> Result<Sent, SbStatus>
         requires may { MayAct self.old app (Transmit bytes.now inc) }
-        ensures does { Acts self.old self.new app (Transmit bytes.now inc) (sent result) }
+        ensures does { IsTrue (has_send_number self.old.whole.bus) →
+            Acts self.old self.new app (Transmit bytes.now inc) (sent result) }
+        ensures spent { has_send_number self.old.whole.bus ≡ false →
+            result ≡ Err SbStatus.BufAlocErr }
+        ensures refused { OnErr result (self.new ≡ with_tick self.old CounterName.Send) }
         ensures cost { steps.new
             ≤ steps.old + 32 + 4 * length
             (route self.old.whole.bus.subscriptions (message_id bytes.now)) +
@@ -160,6 +169,10 @@ impl<'r> PlainBus<'r> {
         ensures loans { KeepsAllLoans self.old self.new }
         ensures descs { KeepsAllDescs self.old self.new }
     {
+        if !self.has_send_number() {
+            self.refuse(CounterName::Send);
+            return Err(SbStatus::BufAlocErr);
+        }
         if let Some(status) = self.transmit_cause(bytes) {
             self.refuse(CounterName::Send);
             return Err(status);

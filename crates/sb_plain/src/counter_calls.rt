@@ -1,13 +1,13 @@
 //! What the bus tells of its counters and of what is in use (cFE Software Bus, housekeeping and
 //! statistics telemetry).
-ghost use Rattle.std.specs.Prelude.{◌≡◌, ℕ, ◌+◌, ◌*◌, ◌≤◌, length};
+ghost use Rattle.std.specs.Prelude.{◌≡◌, ℕ, ◌+◌, ◌*◌, ◌≤◌, false, length, Err, OnErr, IsTrue};
 ghost use Rattle.housekeeping.specs.Packet.{housekeeping_id};
 ghost use Rattle.housekeeping.specs.Peaks.{greater};
 ghost use Rattle.bus_words.specs.declared.calls.BusAnswer.TheVariants.{Bus};
 ghost use Rattle.bus_words.specs.declared.history.Call.TheVariants.{Housekeeping, Figures};
 ghost use Rattle.bus_words.specs.Bus.{route};
 ghost use Rattle.bus_words.specs.Held.{in_use};
-ghost use Rattle.sb_plain.specs.Core.{MayAct, Acts, drops_for};
+ghost use Rattle.sb_plain.specs.Core.{MayAct, Acts, with_tick, drops_for, has_send_number};
 ghost use Rattle.sb_plain.specs.Answers.{sent};
 ghost use Rattle.sb_plain.specs.Bags.{KeepsBags, KeepsAllLoans, KeepsAllDescs};
 
@@ -27,14 +27,18 @@ impl<'r> PlainBus<'r> {
     /// # Errors
     /// `MsgTooBig` where the configuration allows fewer bytes than the packet has; `BufAlocErr`
     /// where somebody subscribes to its id, and the bus's pool has no block for it. The first that
-    /// applies; it is counted.
+    /// applies; it is counted. Where no send number is left, it is `BufAlocErr`.
     pub fn send_housekeeping<L: Ledger>(
         &mut self,
         app: AppNo,
         steps: &mut Steps<L>,
     ) -> Result<Sent, SbStatus>
         requires may { MayAct self.old app Housekeeping }
-        ensures does { Acts self.old self.new app Housekeeping (sent result) }
+        ensures does { IsTrue (has_send_number self.old.whole.bus) →
+            Acts self.old self.new app Housekeeping (sent result) }
+        ensures spent { has_send_number self.old.whole.bus ≡ false →
+            result ≡ Err SbStatus.BufAlocErr }
+        ensures refused { OnErr result (self.new ≡ with_tick self.old CounterName.Send) }
         ensures cost { steps.new
             ≤ steps.old + 32 + 4 * length
             (route self.old.whole.bus.subscriptions housekeeping_id) +

@@ -1,16 +1,14 @@
 //! Whether a call may be made now.
-ghost use Rattle.std.specs.Prelude.{◌≡◌, ◌↔◌, ◌≤◌, ◌+◌, ◌<◌, ◌^◌, ◌&&◌, nat_lt, IsTrue, length};
+ghost use Rattle.std.specs.Prelude.{◌≡◌, ◌↔◌, ◌≤◌, IsTrue};
 ghost use Rattle.bus_words.specs.Bus.{standing_of};
 ghost use Rattle.bus_words.specs.Entries.{call_of};
 ghost use Rattle.bus_words.specs.Machine.{may_call};
-ghost use Rattle.sb_plain.specs.Core.{MayAct, apps_in, is_within, has_grant_numbers};
+ghost use Rattle.sb_plain.specs.Core.{MayAct, apps_in, is_within, has_pipe_number, has_subscription_number, has_send_number};
 ghost use Rattle.sb_plain.specs.Rows.{standing_in};
 
 use crate::activities::Activity;
 use crate::pending::activity_of;
 use crate::plain::PlainBus;
-use app_pools::AppPools;
-use bus_store::BusStore;
 use bus_words::BusCall;
 use fsw_base::{AppNo, MAX_MESSAGE_BYTES, MAX_NAME_BYTES, MAX_TEXT_BYTES};
 
@@ -33,43 +31,42 @@ impl<'r> PlainBus<'r> {
 
     /// Whether the application may make this call now, which is the condition of the call, beside
     /// those on its bag where it takes one along (that the bag is its own and, for an allocation,
-    /// that it has room for a buffer more): the bus serves it, it is active (for a look, it waits
-    /// on that pipe; for its end, it hasn't ended), a number is left for a pipe, a subscription, a
-    /// send and a grant, and a name has at most 64 bytes, a message at most 65542, an event's text
-    /// at most 200, and a log mode is 0 or 1.
+    /// that it has room for a buffer more), and that a number is left for a pipe
+    /// ([`PlainBus::has_pipe_number`]) or a subscription ([`PlainBus::has_subscription_number`])
+    /// where the call makes one: the bus serves it, it is active (for a look, it waits on that
+    /// pipe; for its end, it hasn't ended), and a name has at most 64 bytes, a message at most
+    /// 65542, an event's text at most 200, and a log mode is 0 or 1.
     pub fn may_make(&self, app: AppNo, call: &BusCall<'_>) -> bool
         ensures { IsTrue result ↔ MayAct self.now app (call_of call.now) }
     {
         if app.get() as usize > self.apps() {
             return false;
         }
-        let open = self.is_open(app, call);
-        let numbered = has_numbers(&self.store);
-        let granted = has_grant_numbers(&self.pools, call);
-        open && is_within(call) && numbered && granted
+        self.is_open(app, call) && is_within(call)
     }
-}
 
-// Whether a number is left for a pipe, for a subscription and for a send.
-fn has_numbers(store: &BusStore<'_>) -> bool
-    ensures { result ≡
-        (nat_lt (store.now.pipes_created + 1) (2 ^ 32) &&
-        nat_lt (store.now.subscriptions_made + 1) (2 ^ 32) &&
-        nat_lt (store.now.numbers_given + 1) (2 ^ 32)) }
-{
-    let pipes = store.pipes_created();
-    let subscriptions = store.subscriptions_made();
-    let sends = store.numbers_given();
-    pipes < u32::MAX && subscriptions < u32::MAX && sends < u32::MAX
-}
+    /// Whether a number is left for one pipe more, which is a condition of `create_pipe`:
+    /// 4294967295 pipes can be created.
+    pub fn has_pipe_number(&self) -> bool
+        ensures { result ≡ has_pipe_number self.now.whole.bus }
+    {
+        self.store.pipes_created() < u32::MAX
+    }
 
-// Whether the pool that a grant is asked of, if there is one, has a number left for it.
-fn has_grant_numbers(pools: &AppPools, call: &BusCall<'_>) -> bool
-    ensures { result ≡ has_grant_numbers pools.now (call_of call.now) }
-{
-    match call {
-        BusCall::PoolGet { pool, .. } => pools.has_numbers(*pool),
-        _ => true,
+    /// Whether a number is left for one subscription more, which is a condition of `subscribe`:
+    /// 4294967295 subscriptions can be made.
+    pub fn has_subscription_number(&self) -> bool
+        ensures { result ≡ has_subscription_number self.now.whole.bus }
+    {
+        self.store.subscriptions_made() < u32::MAX
+    }
+
+    /// Whether a number is left for one send or buffer more: 4294967295 can be numbered. Where none
+    /// is left, each further one is refused, as where the bus's pool has no block.
+    pub fn has_send_number(&self) -> bool
+        ensures { result ≡ has_send_number self.now.whole.bus }
+    {
+        self.store.numbers_given() < u32::MAX
     }
 }
 

@@ -1,6 +1,6 @@
 //! The calls of memory pools, which any application may create and use (cFE Executive Services,
 //! memory pools). They lend no bytes: what a pool hands out are numbered grants of its blocks.
-ghost use Rattle.std.specs.Prelude.{◌≡◌, ℕ, ◌+◌, ◌≤◌, length, IsTrue};
+ghost use Rattle.std.specs.Prelude.{◌≡◌, ℕ, ◌+◌, ◌≤◌, false, length, Err, IsTrue};
 ghost use Rattle.es_pool.specs.Account.{IsAccountOf};
 ghost use Rattle.pool_words.specs.Grants.{is_pool, pool_in, has_numbers};
 ghost use Rattle.bus_words.specs.declared.history.Call.TheVariants.{PoolCreate, PoolGet, PoolPut, PoolFigures};
@@ -38,7 +38,7 @@ impl<'r> PlainBus<'r> {
     /// # Errors
     /// `NoPool` where no pool of this number was created; `ErrMemBlockSize` where no block size is
     /// large enough, or the pool has no room for one more block of the smallest that is. The first
-    /// that applies.
+    /// that applies. Where the pool has no number left, it is `ErrMemBlockSize`.
     pub fn pool_get<L: Ledger>(
         &mut self,
         app: AppNo,
@@ -47,12 +47,20 @@ impl<'r> PlainBus<'r> {
         steps: &mut Steps<L>,
     ) -> Result<u32, EsStatus>
         requires may { MayAct self.old app (PoolGet pool size) }
-        ensures does { Acts self.old self.new app (PoolGet pool size) (pool_told result) }
+        ensures does { IsTrue (has_numbers self.old.whole.bus.pools pool) →
+            Acts self.old self.new app (PoolGet pool size) (pool_told result) }
+        ensures spent { has_numbers self.old.whole.bus.pools pool ≡ false →
+            result ≡ Err EsStatus.ErrMemBlockSize }
+        ensures unchanged { has_numbers self.old.whole.bus.pools pool ≡ false →
+            self.new ≡ self.old }
         ensures cost { steps.new ≤ steps.old + 8 }
         ensures bags { KeepsBags self.old self.new }
         ensures loans { KeepsAllLoans self.old self.new }
         ensures descs { KeepsAllDescs self.old self.new }
     {
+        if !self.pools.has_numbers(pool) {
+            return Err(EsStatus::ErrMemBlockSize);
+        }
         self.pools.get(app, pool, size, steps)
     }
 

@@ -2,11 +2,11 @@ use Rattle.std.proofs.Common.{refl}
 use Rattle.bus_words.specs.declared.history.Call.TheVariants.{Create}
 use Rattle.sb_calls.proofs.CoreBags.{bags_over}
 use Rattle.sb_calls.proofs.Made.{made_plain, created-nothing}
-use Rattle.sb_calls.proofs.Over.{may_act, stands_over, does_over}
+use Rattle.sb_calls.proofs.Over.{may_act, pipe_left, stands_over, does_over}
 use Rattle.sb_calls.proofs.bus_core.BusCore.create_pipe.Goals as goal
 
 pub create_pipe-result-requires : goal.create_pipe-result-requires
-create_pipe-result-requires c = record { may = may_act c.self.inside c.args.self.now c.args.app (Create c.args.depth c.args.name.now) c.self.view_is c.self.invariant c.requires.may }
+create_pipe-result-requires c = record { may = may_act c.self.inside c.args.self.now c.args.app (Create c.args.depth c.args.name.now) c.self.view_is c.self.invariant c.requires.may; number = pipe_left c.self.inside c.args.self.now c.args.app (Create c.args.depth c.args.name.now) c.self.view_is c.self.invariant c.requires.may }
 
 pub invariant_of-self : goal.invariant_of-self
 invariant_of-self c =

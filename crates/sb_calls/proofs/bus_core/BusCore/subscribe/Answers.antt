@@ -3,11 +3,11 @@ use Rattle.bus_words.specs.declared.history.Call.TheVariants.{Subscribe}
 use Rattle.bus_words.specs.Bus.{State, route}
 use Rattle.sb_calls.proofs.CoreBags.{bags_over}
 use Rattle.sb_calls.proofs.Made.{made_plain, done-nothing}
-use Rattle.sb_calls.proofs.Over.{may_act, stands_over, does_over, bus_now}
+use Rattle.sb_calls.proofs.Over.{may_act, subscription_left, stands_over, does_over, bus_now}
 use Rattle.sb_calls.proofs.bus_core.BusCore.subscribe.Goals as goal
 
 pub subscribe-result-requires : goal.subscribe-result-requires
-subscribe-result-requires g c = record { may = may_act c.self.inside c.args.self.now c.args.app (Subscribe c.args.id c.args.pipe c.args.limit c.args.scope) c.self.view_is c.self.invariant c.requires.may }
+subscribe-result-requires g c = record { may = may_act c.self.inside c.args.self.now c.args.app (Subscribe c.args.id c.args.pipe c.args.limit c.args.scope) c.self.view_is c.self.invariant c.requires.may; number = subscription_left c.self.inside c.args.self.now c.args.app (Subscribe c.args.id c.args.pipe c.args.limit c.args.scope) c.self.view_is c.self.invariant c.requires.may }
 
 pub invariant_of-self : goal.invariant_of-self
 invariant_of-self g c =

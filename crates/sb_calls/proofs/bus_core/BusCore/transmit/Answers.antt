@@ -5,7 +5,7 @@ use Rattle.bus_words.specs.Bus.{State, route}
 use Rattle.sb_calls.specs.Core.{drops_for}
 use Rattle.sb_calls.proofs.CoreBags.{bags_over}
 use Rattle.sb_calls.proofs.Made.{made_plain, sent-nothing}
-use Rattle.sb_calls.proofs.Over.{may_act, stands_over, does_over, bus_now}
+use Rattle.sb_calls.proofs.Over.{may_act, send_left, stands_over, does_over, bus_now}
 use Rattle.sb_calls.proofs.bus_core.BusCore.transmit.Goals as goal
 
 pub transmit-result-requires : goal.transmit-result-requires
@@ -14,13 +14,13 @@ transmit-result-requires g c = record { may = may_act c.self.inside c.args.self.
 pub invariant_of-self : goal.invariant_of-self
 invariant_of-self g c =
     stands_over c.self.inside c.transmit-result.new.self c.push.new.self c.args.self.now c.args.app (Transmit c.args.bytes.now c.args.inc) _ c.self.view_is c.self.invariant c.requires.may
-    (made_plain c.self.inside c.transmit-result.new.self c.push.new.self c.args.app (Transmit c.args.bytes.now c.args.inc) _ c.of_sent.result c.transmit-result.ensures.does refl refl c.of_sent.ensures
+    (made_plain c.self.inside c.transmit-result.new.self c.push.new.self c.args.app (Transmit c.args.bytes.now c.args.inc) _ c.of_sent.result (c.transmit-result.ensures.does (send_left c.self.inside c.args.self.now c.args.app (Transmit c.args.bytes.now c.args.inc) c.self.view_is c.self.invariant c.requires.may)) refl refl c.of_sent.ensures
     c.push.ensures (sent-nothing c.transmit-result.result (Transmit c.args.bytes.now c.args.inc) 0) (λ pipe. refl) (λ number. refl) c.transmit-result.ensures.loans c.transmit-result.ensures.descs)
 
 pub returns-clause-does : goal.returns-clause-does
 returns-clause-does g c =
     does_over c.self.inside c.transmit-result.new.self c.push.new.self c.args.self.now c.args.app (Transmit c.args.bytes.now c.args.inc) _ c.self.view_is c.self.invariant c.requires.may
-    (made_plain c.self.inside c.transmit-result.new.self c.push.new.self c.args.app (Transmit c.args.bytes.now c.args.inc) _ c.of_sent.result c.transmit-result.ensures.does refl refl c.of_sent.ensures
+    (made_plain c.self.inside c.transmit-result.new.self c.push.new.self c.args.app (Transmit c.args.bytes.now c.args.inc) _ c.of_sent.result (c.transmit-result.ensures.does (send_left c.self.inside c.args.self.now c.args.app (Transmit c.args.bytes.now c.args.inc) c.self.view_is c.self.invariant c.requires.may)) refl refl c.of_sent.ensures
     c.push.ensures (sent-nothing c.transmit-result.result (Transmit c.args.bytes.now c.args.inc) 0) (λ pipe. refl) (λ number. refl) c.transmit-result.ensures.loans c.transmit-result.ensures.descs)
 
 pub returns-clause-bags : goal.returns-clause-bags

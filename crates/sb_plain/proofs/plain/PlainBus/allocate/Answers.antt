@@ -1,4 +1,4 @@
-use Rattle.std.proofs.Common.{None, ap, refl, sym, ◌∙◌}
+use Rattle.std.proofs.Common.{true≢false, None, ap, refl, sym, ◌∙◌}
 use Rattle.housekeeping.specs.declared.names.CounterName.TheVariants as counters
 use Rattle.bus_words.specs.declared.calls.BusAnswer.TheVariants.{Number}
 use Rattle.bus_words.specs.declared.history.Call.TheVariants.{Allocate}
@@ -7,11 +7,24 @@ use Rattle.bus_store.specs.Store.{Store}
 use Rattle.sb_plain.proofs.After.{acts_looked, seen_keeps, refused_acts}
 use Rattle.sb_plain.proofs.Bags.{others_left, views_still}
 use Rattle.sb_plain.proofs.Buffers.{given_keeps, given_sizes, given_made}
+use Rattle.sb_plain.proofs.Numbers.{send_left}
 use Rattle.sb_plain.proofs.Refusals.{at_fields}
 use Rattle.sb_plain.proofs.plain.PlainBus.allocate.Goals as goal
 
+pub returns-then-not-has_send_number-clause-does : goal.returns-then-not-has_send_number-clause-does
+returns-then-not-has_send_number-clause-does g c = λ left. absurd (true≢false (sym left ∙ sym c.has_send_number.ensures ∙ c.if-not-has_send_number.true))
+
+pub returns-in-Some-clause-spent : goal.returns-in-Some-clause-spent
+returns-in-Some-clause-spent g c = λ none. absurd (true≢false (sym (sym c.has_send_number.ensures ∙ c.if-not-has_send_number.false) ∙ none))
+
+pub returns-clause-spent : goal.returns-clause-spent
+returns-clause-spent g c = λ none. absurd (true≢false (sym (sym c.has_send_number.ensures ∙ c.if-not-has_send_number.false) ∙ none))
+
+pub allocate-number-requires-clause-number : goal.allocate-number-requires-clause-number
+allocate-number-requires-clause-number g c = send_left c.self.inside c.args.self.now c.self.view_is (sym c.has_send_number.ensures ∙ c.if-not-has_send_number.false)
+
 pub returns-in-Some-clause-does : goal.returns-in-Some-clause-does
-returns-in-Some-clause-does g c =
+returns-in-Some-clause-does g c = λ left.
     refused_acts c.args.self.now c.refuse.new.self c.args.app (Allocate c.args.size) c.in-Some.status counters.Send c.refuse.ensures.ticked c.refuse.ensures.covered
     (ap by_bus (sym c.allocate_cause.ensures ∙ c.in-Some.is)) refl refl refl
 
@@ -23,7 +36,7 @@ invariant_of-self g c =
     seen_keeps (record a { store = next; records = c.see.new.records }) a.records order c.see.ensures.seen c.see.ensures.held
 
 pub returns-clause-does : goal.returns-clause-does
-returns-clause-does g c =
+returns-clause-does g c = λ left.
     let a = c.self.inside in
     let next = c.allocate-number.new.self in
     let is = c.allocate-number.ensures.after in

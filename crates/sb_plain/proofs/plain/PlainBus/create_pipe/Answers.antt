@@ -10,7 +10,11 @@ use Rattle.sb_plain.specs.Inside.{means}
 use Rattle.sb_plain.proofs.After.{bare, acts_looked, seen_keeps, refused_acts}
 use Rattle.sb_plain.proofs.Bags.{bags_kept, loan_before, loan_pushed}
 use Rattle.sb_plain.proofs.Changes.{created_keeps}
+use Rattle.sb_plain.proofs.Numbers.{pipe_left}
 use Rattle.sb_plain.proofs.plain.PlainBus.create_pipe.Goals as goal
+
+pub create_pipe-number-requires-clause-number : goal.create_pipe-number-requires-clause-number
+create_pipe-number-requires-clause-number c = pipe_left c.self.inside c.args.self.now c.self.view_is c.requires.number
 
 pub returns-in-Some-clause-does : goal.returns-in-Some-clause-does
 returns-in-Some-clause-does c =

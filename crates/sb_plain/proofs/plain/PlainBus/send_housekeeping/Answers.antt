@@ -8,10 +8,10 @@ use Rattle.sb_plain.proofs.Figures.{packet_is, housekeeping_acts}
 use Rattle.sb_plain.proofs.plain.PlainBus.send_housekeeping.Goals as goal
 
 pub returns-clause-does : goal.returns-clause-does
-returns-clause-does g c =
+returns-clause-does g c = λ left.
     let old = c.args.self.now in
     let is = packet_is c.self.inside old c.self.view_is c.in_use.result c.in_use.ensures.now c.packet.new.out c.packet.ensures in
-    housekeeping_acts old c.transmit.new.self c.args.app c.packet.new.out (sent c.transmit.result) is c.transmit.ensures.does
+    housekeeping_acts old c.transmit.new.self c.args.app c.packet.new.out (sent c.transmit.result) is (c.transmit.ensures.does left)
 
 pub returns-clause-cost : goal.returns-clause-cost
 returns-clause-cost g c =

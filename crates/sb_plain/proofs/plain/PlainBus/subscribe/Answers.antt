@@ -14,6 +14,7 @@ use Rattle.bus_records.proofs.Leaves.{subscribed_left, duplicate_left}
 use Rattle.sb_plain.specs.Core.{Plain}
 use Rattle.sb_plain.specs.Inside.{means}
 use Rattle.sb_plain.proofs.After.{acts_from, acts_seen, seen_keeps, told_keeps, refused_acts}
+use Rattle.sb_plain.proofs.Numbers.{subscription_left}
 use Rattle.sb_plain.proofs.Refusals.{at_fields, has_route-rows}
 use Rattle.sb_plain.proofs.Owners.{live_owned}
 use Rattle.sb_plain.proofs.Subscribes.{is_free, id_first, id_last, live_made, subscribed_keeps, subscribed_made}
@@ -21,6 +22,9 @@ use Rattle.sb_plain.proofs.plain.PlainBus.subscribe.Goals as goal
 
 pub subscribe_cause-requires : goal.subscribe_cause-requires
 subscribe_cause-requires g c = c.is_subscribed-there.ensures.is ∙ ap (λ (o : Plain). is_subscribed o.whole.bus.subscriptions c.args.id c.args.pipe) c.self.view_is
+
+pub subscribe-requires-clause-number : goal.subscribe-requires-clause-number
+subscribe-requires-clause-number g c = subscription_left c.self.inside c.args.self.now c.self.view_is c.requires.number
 
 pub returns-in-Some-clause-does : goal.returns-in-Some-clause-does
 returns-in-Some-clause-does g c =

@@ -1,4 +1,4 @@
-use Rattle.std.proofs.Common.{◌≤◌, length, None, refl, ap, sym, ◌∙◌, arith}
+use Rattle.std.proofs.Common.{◌≤◌, true≢false, length, None, refl, ap, sym, ◌∙◌, arith}
 use Rattle.std.proofs.lemmas.List.{nil_from_length}
 use Rattle.fsw_base.specs.Limits.{limits_of}
 use Rattle.fsw_base.specs.PoolAccounts.{Account}
@@ -20,12 +20,28 @@ use Rattle.sb_plain.specs.Rows.{in_use_at}
 use Rattle.sb_plain.proofs.After.{acts_from, acts_seen, seen_keeps, told_keeps, refused_acts}
 use Rattle.sb_plain.proofs.Bags.{bags_kept}
 use Rattle.sb_plain.proofs.Drops.{drops_are}
+use Rattle.sb_plain.proofs.Numbers.{send_left}
 use Rattle.sb_plain.proofs.Refusals.{at_fields}
 use Rattle.sb_plain.proofs.Transmits.{request_stays, long_enough, way_of, some_of, nobody_made, sent_keeps, sent_made, sent_told}
 use Rattle.sb_plain.proofs.plain.PlainBus.transmit.Goals as goal
 
+pub returns-then-not-has_send_number-clause-does : goal.returns-then-not-has_send_number-clause-does
+returns-then-not-has_send_number-clause-does g c = λ left. absurd (true≢false (sym left ∙ sym c.has_send_number.ensures ∙ c.if-not-has_send_number.true))
+
+pub returns-in-Some-clause-spent : goal.returns-in-Some-clause-spent
+returns-in-Some-clause-spent g c = λ none. absurd (true≢false (sym (sym c.has_send_number.ensures ∙ c.if-not-has_send_number.false) ∙ none))
+
+pub returns-then-dests_of-eq0-clause-spent : goal.returns-then-dests_of-eq0-clause-spent
+returns-then-dests_of-eq0-clause-spent g c = λ none. absurd (true≢false (sym (sym c.has_send_number.ensures ∙ c.if-not-has_send_number.false) ∙ none))
+
+pub returns-clause-spent : goal.returns-clause-spent
+returns-clause-spent g c = λ none. absurd (true≢false (sym (sym c.has_send_number.ensures ∙ c.if-not-has_send_number.false) ∙ none))
+
+pub send-sent-requires-clause-number : goal.send-sent-requires-clause-number
+send-sent-requires-clause-number g c = send_left c.self.inside c.args.self.now c.self.view_is (sym c.has_send_number.ensures ∙ c.if-not-has_send_number.false)
+
 pub returns-in-Some-clause-does : goal.returns-in-Some-clause-does
-returns-in-Some-clause-does g c =
+returns-in-Some-clause-does g c = λ left.
     refused_acts c.args.self.now c.refuse.new.self c.args.app (Transmit c.args.bytes.now c.args.inc) c.in-Some.status counters.Send c.refuse.ensures.ticked c.refuse.ensures.covered
     (ap by_bus (sym c.transmit_cause.ensures ∙ c.in-Some.is)) refl refl refl
 
@@ -42,7 +58,7 @@ invariant_of-self g c =
     told_keeps c.self.inside c.tell.new.self (ap (λ (r : Recordings). r.statistics.peak) c.tell.ensures) c.self.invariant
 
 pub returns-then-dests_of-eq0-clause-does : goal.returns-then-dests_of-eq0-clause-does
-returns-then-dests_of-eq0-clause-does g c =
+returns-then-dests_of-eq0-clause-does g c = λ left.
     let a = c.self.inside in
     let limits = limits_of a.config in
     let w = means a in
@@ -77,7 +93,7 @@ invariant_of-self-2 g c =
     seen_keeps (record a { store = next; records = c.see.new.records }) c.tell_misses.new.self order c.see.ensures.seen c.see.ensures.held
 
 pub returns-clause-does : goal.returns-clause-does
-returns-clause-does g c =
+returns-clause-does g c = λ left.
     let a = c.self.inside in
     let limits = limits_of a.config in
     let w = means a in
