@@ -151,8 +151,8 @@ pub unchanged_nowhere : (s : Pools) (pool : ℕ) (x : PoolGrants) → is_pool s 
 unchanged_nowhere s pool x is = sym (ap (λ b. cond b (record s { pools = set s.pools (pool - 1) x }) s) is)
 
 -- a pool that is there has a number left
-pub numbers_there : (s : Pools) (pool : ℕ) → is_pool s pool ≡ true → has_numbers s pool ≡ true → (pool_in s pool).given < 2 ^ 32 - 1
-numbers_there s pool is left = grind (arith, nat_tests, sym (ap (λ b. cond b (ltb (pool_in s pool).given (2 ^ 32 - 1)) true) is) ∙ left)
+pub numbers_there : (s : Pools) (pool : ℕ) → is_pool s pool ≡ true → has_numbers s pool ≡ true → (pool_in s pool).given < 2 ^ 64 - 1
+numbers_there s pool is left = grind (arith, nat_tests, sym (ap (λ b. cond b (ltb (pool_in s pool).given (2 ^ 64 - 1)) true) is) ∙ left)
 
 -- while the pools are gone through, the next one is as it was
 pub still_there : (f : PoolGrants → PoolGrants) (xs ys : List PoolGrants) (i : ℕ) (d : PoolGrants) → i < length xs → ys ≡ map f (take i xs) ++ drop i xs → get_or ys i d ≡ get_or xs i d

@@ -16,7 +16,7 @@ use std::marker::Model;
 #[derive(Clone, Copy)]
 struct Lent {
     // Its number.
-    number: u32,
+    number: u64,
     // The application that it was given to.
     app: AppNo,
     // Its block size, by place.
@@ -34,7 +34,7 @@ pub(crate) struct AppPool {
     // The blocks.
     pool: Pool,
     // How many grants were given, which is the newest one's number.
-    given: u32,
+    given: u64,
     // The grants that are out, by rising number, so that one is found by halves. There is room for
     // as many as blocks can be cut.
     lent: Vec<Lent>,
@@ -92,8 +92,8 @@ impl AppPool {
         app: AppNo,
         size: u32,
         steps: &mut Steps<L>,
-    ) -> Result<u32, EsStatus>
-        requires numbers_left { self.old.given < 2 ^ 32 - 1 }
+    ) -> Result<u64, EsStatus>
+        requires numbers_left { self.old.given < 2 ^ 64 - 1 }
         ensures answer { result ≡ get_answer self.old size }
         ensures after { self.new ≡ after_get self.old app size }
         ensures cost { steps.new ≤ steps.old + 8 }
@@ -121,7 +121,7 @@ impl AppPool {
     /// it was and isn't out any more.
     pub(crate) fn put<L: Ledger>(
         &mut self,
-        grant: u32,
+        grant: u64,
         steps: &mut Steps<L>,
     ) -> Result<(), EsStatus>
         ensures answer { result ≡ put_answer self.old grant }
@@ -152,9 +152,9 @@ impl AppPool {
 
     /// Whether a further grant can be numbered.
     pub(crate) fn has_numbers(&self) -> bool
-        ensures { result ≡ nat_lt self.now.given (2 ^ 32 - 1) }
+        ensures { result ≡ nat_lt self.now.given (2 ^ 64 - 1) }
     {
-        self.given < u32::MAX
+        self.given < u64::MAX
     }
 
     /// The pool's figures.
@@ -173,14 +173,14 @@ impl AppPool {
 }
 
 // Whether a grant of this number was given, where so many were.
-fn was_given(given: u32, number: u32) -> bool
+fn was_given(given: u64, number: u64) -> bool
     ensures { result ≡ (nat_le 1 number && nat_le number given) }
 {
     1 <= number && number <= given
 }
 
 // Where the grant of a number stands, among grants whose numbers rise.
-fn place_of(lent: &[Lent], number: u32) -> Option<usize>
+fn place_of(lent: &[Lent], number: u64) -> Option<usize>
     requires { AreRising lent.now }
     ensures some { IfSome result (λ i. HasNumber lent.now number i) }
     ensures none { result ≡ None → All (λ grant. grant.number ≢ number) lent.now }

@@ -91,7 +91,7 @@ impl AppPools {
         pool: u32,
         size: u32,
         steps: &mut Steps<L>,
-    ) -> Result<u32, EsStatus>
+    ) -> Result<u64, EsStatus>
         requires numbers_left { IsTrue (has_numbers self.old pool) }
         ensures answer { result ≡
             answer_in self.old pool (get_answer (pool_in self.old pool) size) }
@@ -114,7 +114,7 @@ impl AppPools {
     pub fn put<L: Ledger>(
         &mut self,
         pool: u32,
-        grant: u32,
+        grant: u64,
         steps: &mut Steps<L>,
     ) -> Result<(), EsStatus>
         ensures answer { result ≡
@@ -152,7 +152,7 @@ impl AppPools {
         end_all(&mut self.places, self.made, app, steps);
     }
 
-    /// Whether a pool, if there is one of this number, gave fewer than 4294967295 grants, so that a
+    /// Whether a pool, if there is one of this number, gave fewer than 18446744073709551615 grants, so that a
     /// further one can be numbered.
     pub fn has_numbers(&self, pool: u32) -> bool
         ensures { result ≡ has_numbers self.now pool }

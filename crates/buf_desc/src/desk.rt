@@ -78,7 +78,7 @@ impl<'r> Desk<'r> {
     pub fn take<L: Ledger>(
         &mut self,
         size: u32,
-        number: u32,
+        number: u64,
         steps: &mut Steps<L>,
     ) -> Result<Block<'r>, EsStatus>
         ensures given { IsOk result ↔ IsTrue (fits self.old.pool size 1) }
@@ -105,7 +105,7 @@ impl<'r> Desk<'r> {
     pub fn take_copy<L: Ledger>(
         &mut self,
         bytes: &[u8],
-        number: u32,
+        number: u64,
         steps: &mut Steps<L>,
     ) -> Result<Block<'r>, EsStatus>
         requires { length bytes.now < 4294967296 }
@@ -237,7 +237,7 @@ impl<'r> Desk<'r> {
     }
 
     /// The number of the send of a live block.
-    pub fn number(&self, desc: u32) -> u32
+    pub fn number(&self, desc: u32) -> u64
         requires { is_live (slot_at self.now.slots desc) ≡ true }
         ensures { result ≡ number_in (slot_at self.now.slots desc) }
     {
@@ -294,7 +294,7 @@ impl<'r> Desk<'r> {
     fn draw<L: Ledger>(
         &mut self,
         size: u32,
-        number: u32,
+        number: u64,
         steps: &mut Steps<L>,
     ) -> Result<Block<'r>, EsStatus>
         ensures given { IsOk result ↔ IsTrue (fits self.old.pool size 1) }

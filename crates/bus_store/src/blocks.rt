@@ -45,7 +45,7 @@ fn with_its_count<'r>(block: Block<'r>, count: Option<u16>) -> Block<'r>
 fn drawn<'r, L: Ledger>(
     desk: &mut Desk<'r>,
     bytes: &[u8],
-    number: u32,
+    number: u64,
     steps: &mut Steps<L>,
 ) -> Block<'r>
     requires most { length bytes.now < 4294967296 }
@@ -64,7 +64,7 @@ pub(crate) fn put_message<L: Ledger>(
     desk: &mut Desk<'_>,
     bytes: &[u8],
     count: Option<u16>,
-    number: u32,
+    number: u64,
     steps: &mut Steps<L>,
 ) -> u32
     requires header { 6 ≤ length bytes.now }
@@ -84,7 +84,7 @@ pub(crate) fn put_message<L: Ledger>(
 pub(crate) fn drawn_empty<'r, L: Ledger>(
     desk: &mut Desk<'r>,
     size: u32,
-    number: u32,
+    number: u64,
     steps: &mut Steps<L>,
 ) -> Block<'r>
     requires room { fits desk.old.pool size 1 ≡ true }
@@ -196,7 +196,7 @@ pub(crate) fn show<'r>(
     held: &mut Held<'r>,
     pipe: u32,
     item: Option<ItemRow>,
-) -> Option<u32>
+) -> Option<u64>
     requires none { view_at held.old pipe ≡ None }
     requires room { length held.old.views < held.old.view_room }
     requires sealed { IfSome item (λ i. is_sealed (slot_at desk.old.slots i.desc) ≡ true) }
@@ -263,7 +263,7 @@ pub(crate) fn show_next<'r, L: Ledger>(
     last: Option<ItemRow>,
     next: Option<ItemRow>,
     steps: &mut Steps<L>,
-) -> Option<u32>
+) -> Option<u64>
     requires seen { view_at held.old pipe ≡ option_map (view_in desk.old.slots) last }
     requires room { length held.old.views < held.old.view_room + (if is_some last then 1 else 0) }
     requires sealed { IfSome last (λ item. is_sealed (slot_at desk.old.slots item.desc) ≡ true) }

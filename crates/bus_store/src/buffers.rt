@@ -43,10 +43,10 @@ impl<'r> BusStore<'r> {
         size: u32,
         held: &mut Held<'r>,
         steps: &mut Steps<L>,
-    ) -> u32
+    ) -> u64
         requires app { app ≤ length self.old.unsent }
         requires room { has_room self.old.account size ≡ true }
-        requires number { self.old.numbers_given + 1 < 2 ^ 32 }
+        requires number { self.old.numbers_given + 1 < 2 ^ 64 }
         requires bag { HoldsBuffers self.old.unsent self.old.descs self.old.account.sizes app
             held.old }
         requires bag_room { length held.old.buffers < held.old.buffer_room }
@@ -94,7 +94,7 @@ impl<'r> BusStore<'r> {
     pub fn transmit_buffer<L: Ledger>(
         &mut self,
         app: AppNo,
-        buf: u32,
+        buf: u64,
         inc: bool,
         held: &mut Held<'r>,
         steps: &mut Steps<L>,
@@ -171,7 +171,7 @@ impl<'r> BusStore<'r> {
     pub fn release<L: Ledger>(
         &mut self,
         app: AppNo,
-        buf: u32,
+        buf: u64,
         held: &mut Held<'r>,
         steps: &mut Steps<L>,
     )
@@ -212,7 +212,7 @@ impl<'r> BusStore<'r> {
         app: AppNo,
         held: &mut Held<'r>,
         steps: &mut Steps<L>,
-    ) -> Option<u32>
+    ) -> Option<u64>
         requires app { app ≤ length self.old.unsent }
         requires bag { HoldsBuffers self.old.unsent self.old.descs self.old.account.sizes app
             held.old }

@@ -63,7 +63,7 @@ impl<'r> BusStore<'r> {
     }
 
     /// The send number of the message that waits longest on the live pipe of this number.
-    pub fn oldest(&self, number: u32) -> Option<u32>
+    pub fn oldest(&self, number: u32) -> Option<u64>
         ensures { result ≡ option_map (λ item. item.number) (oldest_on self.now.pipes number) }
     {
         let item = self.tables.oldest(number)?;
@@ -72,7 +72,7 @@ impl<'r> BusStore<'r> {
 
     /// The send number of the message that was received last from the application's live pipe of
     /// this number.
-    pub fn last(&self, app: AppNo, number: u32) -> Option<u32>
+    pub fn last(&self, app: AppNo, number: u32) -> Option<u64>
         ensures { result ≡
             (if owns self.now.pipes app number
             then option_map (λ item. item.number) (last_on self.now.pipes number)

@@ -25,7 +25,7 @@ impl<'r> BusStore<'r> {
         pipe: u32,
         held: &mut Held<'r>,
         steps: &mut Steps<L>,
-    ) -> Option<u32>
+    ) -> Option<u64>
         requires own { owns self.old.pipes app pipe ≡ true }
         requires bag { HoldsViews self.old.pipes self.old.loans self.old.room.pipes app held.old }
         ensures number { result ≡
@@ -57,7 +57,7 @@ impl<'r> BusStore<'r> {
 
     /// Takes the message that waits longest on the application's pipe, which has no last message,
     /// if any: answers its number, and puts a view of it into the application's bag.
-    pub fn receive_first(&mut self, app: AppNo, pipe: u32, held: &mut Held<'r>) -> Option<u32>
+    pub fn receive_first(&mut self, app: AppNo, pipe: u32, held: &mut Held<'r>) -> Option<u64>
         requires own { owns self.old.pipes app pipe ≡ true }
         requires none { last_on self.old.pipes pipe ≡ None }
         requires bag { HoldsViews self.old.pipes self.old.loans self.old.room.pipes app held.old }

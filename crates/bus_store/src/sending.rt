@@ -22,7 +22,7 @@ use fsw_base::AppNo;
 #[derive(Clone, Copy, Debug, PartialEq, Eq)]
 pub struct Sent {
     /// The number of the message, from 1.
-    pub number: u32,
+    pub number: u64,
     /// How many pipes it reached.
     pub reached: u32,
 }
@@ -45,7 +45,7 @@ pub(crate) fn next_count(tables: &mut BusTables, id: u16, inc: bool) -> Option<u
 
 impl<'r> BusStore<'r> {
     /// How many send numbers were given.
-    pub fn numbers_given(&self) -> u32
+    pub fn numbers_given(&self) -> u64
         ensures { result ≡ self.now.numbers_given }
     {
         self.given
@@ -83,7 +83,7 @@ impl<'r> BusStore<'r> {
         requires most { length bytes.now ≤ 65542 }
         requires way { has_way self.old.routes (message_id bytes.now) ≡ true }
         requires room { has_room self.old.account (length bytes.now) ≡ true }
-        requires number { self.old.numbers_given + 1 < 2 ^ 32 }
+        requires number { self.old.numbers_given + 1 < 2 ^ 64 }
         ensures number { result.number ≡ self.old.numbers_given + 1 }
         ensures reached { result.reached ≡
             reached (sending_of self.old sender bytes.now inc)

@@ -30,7 +30,7 @@ pub struct BusStore<'r> {
     // The blocks that are unsent buffers, by application; room for all that may be cut.
     pub(crate) lists: HeldLists,
     // How many send numbers were given.
-    pub(crate) given: u32,
+    pub(crate) given: u64,
 }
 
 impl<'r> Model for BusStore<'r> {

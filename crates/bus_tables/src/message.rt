@@ -8,7 +8,7 @@ pub struct Message {
     /// The application that sends it.
     pub sender: AppNo,
     /// The number of its send.
-    pub number: u32,
+    pub number: u64,
     /// The descriptor of its buffer, which each pipe that takes it keeps.
     pub desc: u32,
 }

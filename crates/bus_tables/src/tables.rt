@@ -29,7 +29,7 @@ use subscriptions::Subs;
 #[derive(Clone, Copy, Debug, PartialEq, Eq)]
 pub struct ItemRow {
     /// The number of its send.
-    pub number: u32,
+    pub number: u64,
     /// The descriptor of its buffer.
     pub desc: u32,
     /// The number of the subscription that queued it.

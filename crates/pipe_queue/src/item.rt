@@ -8,7 +8,7 @@ pub struct Item {
     /// Where the message is kept.
     pub desc: u32,
     /// The number of its send.
-    pub number: u32,
+    pub number: u64,
     /// The subscription that queued it.
     pub sub: SubNo,
 }

@@ -136,7 +136,7 @@ pool_in s pool = slice_index_or s.pools (pool - 1) (new_pool [] 0)
 
 -- whether the pool of this number, if there is one, has a number left for a further grant
 abbrev pub has_numbers : Pools → ℕ → Bool
-has_numbers s pool = if is_pool s pool then nat_lt (pool_in s pool).given (2 ^ 32 - 1) else true
+has_numbers s pool = if is_pool s pool then nat_lt (pool_in s pool).given (2 ^ 64 - 1) else true
 
 -- with the pool of this number changed; nothing changes where there is none
 abbrev pub with_pool : Pools → ℕ → PoolGrants → Pools

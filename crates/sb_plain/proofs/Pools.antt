@@ -1,5 +1,5 @@
 -- What a request for a grant answers and leaves.
-use Rattle.std.proofs.Common.{◌≡◌, ℕ, ◌+◌, ◌-◌, Bool, true, false, not, cond, [], set, get_or, Option, Some, None, Result, Ok, Err, refl, ap, sym, ◌∙◌}
+use Rattle.std.proofs.Common.{◌≡◌, ℕ, ◌+◌, ◌-◌, Bool, true, false, not, cond, [], set, get_or, Option, Some, None, Result, Ok, Err, IfOk, refl, ap, sym, ◌∙◌, subst}
 use Rattle.std.proofs.lemmas.List.{set-get_or}
 use Rattle.fsw_base.specs.Blocks.{class_of}
 use Rattle.fsw_base.specs.Limits.{limits_of}
@@ -90,3 +90,15 @@ module _ (a : Inside) (app pool size : ℕ) where
       bare (limits_of a.config) (means a) app (PoolGet pool size) ≡ (pool_told result, means (record a { pools = next }))
   get_made result next answers is =
       made ∙ sym (ap (λ r. with_answer r next) answers ∙ ap (with_answer (answer_in a.pools pool (get_answer it size))) is)
+
+-- a grant's number is the next one
+pub get_numbered : (s : Pools) (pool size : ℕ) (told : Result ℕ EsStatus) → told ≡ answer_in s pool (get_answer (pool_in s pool) size) → IfOk told (λ n. n ≡ (pool_in s pool).given + 1)
+get_numbered s pool size told is = subst (λ (r : Result ℕ EsStatus). IfOk r (λ n. n ≡ (pool_in s pool).given + 1)) (sym is) (by_pool (is_pool s pool))
+  where
+    by_room : (b : Bool) → IfOk (cond {A = Result ℕ EsStatus} b (Ok ((pool_in s pool).given + 1)) (Err ErrMemBlockSize)) (λ n. n ≡ (pool_in s pool).given + 1)
+    by_room true = refl
+    by_room false = tt
+
+    by_pool : (b : Bool) → IfOk (cond {A = Result ℕ EsStatus} b (get_answer (pool_in s pool) size) (Err NoPool)) (λ n. n ≡ (pool_in s pool).given + 1)
+    by_pool true = by_room (has_room (pool_in s pool).account size)
+    by_pool false = tt

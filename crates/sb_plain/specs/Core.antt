@@ -81,9 +81,9 @@ has_pipe_number s = nat_lt s.pipes_created 4294967295
 abbrev pub has_subscription_number : State → Bool
 has_subscription_number s = nat_lt s.subscriptions_made 4294967295
 
--- a number is left for one send or buffer more: numbers are below 2^32, and none is given twice
+-- a number is left for one send or buffer more: numbers are below 2^64, and none is given twice
 abbrev pub has_send_number : State → Bool
-has_send_number s = nat_lt s.numbers_given 4294967295
+has_send_number s = nat_lt s.numbers_given 18446744073709551615
 
 -- the call was answered, and left the state, as the machine does by the state alone
 pub record Acts (old new : Plain) (app : ℕ) (call : Call) (answer : BusAnswer) : Type 0 where

@@ -34,7 +34,7 @@ fn header_in(block: &Block<'_>) -> Result<Header, MsgFault>
 }
 
 // The id of the message that a buffer of the bag begins with, or why it can't be sent.
-fn id_to_send(held: &Held<'_>, buf: u32) -> Result<u16, SbStatus>
+fn id_to_send(held: &Held<'_>, buf: u64) -> Result<u16, SbStatus>
     ensures id { IfOk result (λ id. id ≡ message_id (bytes_at held.now buf)) }
     ensures none { IfOk result (λ id. buffer_cause held.now buf ≡ None) }
     ensures why { IfErr result (λ status. buffer_cause held.now buf ≡ Some status) }
@@ -63,7 +63,7 @@ impl<'r> PlainBus<'r> {
         size: u32,
         held: &mut Held<'r>,
         steps: &mut Steps<L>,
-    ) -> Result<u32, SbStatus>
+    ) -> Result<u64, SbStatus>
         requires may { MayAct self.old app (Allocate size) }
         requires bag { HasBag self.old app held.old }
         requires room { length held.old.buffers < held.old.buffer_room }
@@ -71,6 +71,8 @@ impl<'r> PlainBus<'r> {
             Acts self.old self.new app (Allocate size) (allocated result) }
         ensures spent { has_send_number self.old.whole.bus ≡ false →
             result ≡ Err SbStatus.BufAlocErr }
+        ensures number { IfOk result
+            (λ number. number ≡ self.old.whole.bus.numbers_given + 1) }
         ensures refused { OnErr result (self.new ≡ with_tick self.old CounterName.Send) }
         ensures bag_refused { OnErr result (held.new ≡ held.old) }
         ensures zeros { IfOk result (λ number. bytes_at held.new number ≡ replicate size 0) }
@@ -113,7 +115,7 @@ impl<'r> PlainBus<'r> {
     pub fn transmit_buffer<L: Ledger>(
         &mut self,
         app: AppNo,
-        buf: u32,
+        buf: u64,
         inc: bool,
         held: &mut Held<'r>,
         steps: &mut Steps<L>,
@@ -122,6 +124,7 @@ impl<'r> PlainBus<'r> {
         requires bag { HasBag self.old app held.old }
         ensures does { Acts self.old self.new app (TransmitBuffer buf (bytes_at held.old buf) inc)
             (sent result) }
+        ensures number { IfOk result (λ sent. sent.number ≤ buf) }
         ensures refused { OnErr result (self.new ≡ with_tick self.old CounterName.Send) }
         ensures bag_refused { OnErr result (held.new ≡ held.old) }
         ensures buffers { KeepsBuffers held.old held.new buf }
@@ -169,7 +172,7 @@ impl<'r> PlainBus<'r> {
     pub fn release<L: Ledger>(
         &mut self,
         app: AppNo,
-        buf: u32,
+        buf: u64,
         held: &mut Held<'r>,
         steps: &mut Steps<L>,
     ) -> Result<(), SbStatus>

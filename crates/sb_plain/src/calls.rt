@@ -1,10 +1,11 @@
 //! The calls of subscriptions and messages, and the last call. Each answers and changes what the
 //! bus of the definitions does by its state alone.
-ghost use Rattle.std.specs.Prelude.{◌≡◌, ◌+◌, ◌*◌, ◌≤◌, false, [], length, Err, OnErr, IsTrue};
+ghost use Rattle.std.specs.Prelude.{◌≡◌, ◌+◌, ◌*◌, ◌≤◌, false, [], length, Err, OnErr, IfOk, IsTrue};
 ghost use Rattle.ccsds_msg.specs.Message.{message_id};
 ghost use Rattle.bus_words.specs.declared.calls.BusAnswer.TheVariants.{Done};
 ghost use Rattle.bus_words.specs.declared.history.Call.TheVariants.{Create, Subscribe, Unsubscribe, Transmit, Receive, End};
 ghost use Rattle.bus_words.specs.Bus.{owns, route};
+ghost use Rattle.bus_store.specs.Blocks.{IsGiven};
 ghost use Rattle.sb_plain.specs.Core.{MayAct, Acts, with_tick, drops_for, has_pipe_number, has_subscription_number, has_send_number};
 ghost use Rattle.sb_plain.specs.Answers.{created, done, sent, got};
 ghost use Rattle.sb_plain.specs.Bags.{HasBag, KeepsBags, KeepsOtherBags, KeepsAllLoans, KeepsAllDescs, KeepsLoans, KeepsOtherLoans, KeepsOtherDescs};
@@ -25,7 +26,7 @@ use housekeeping::CounterName;
 #[derive(Clone, Copy, Debug, PartialEq, Eq)]
 pub struct Sent {
     /// The number of the message, from 1; 0 where nobody subscribes to its id.
-    pub number: u32,
+    pub number: u64,
     /// How many pipes it reached.
     pub reached: u32,
 }
@@ -161,6 +162,8 @@ impl<'r> PlainBus<'r> {
         ensures spent { has_send_number self.old.whole.bus ≡ false →
             result ≡ Err SbStatus.BufAlocErr }
         ensures refused { OnErr result (self.new ≡ with_tick self.old CounterName.Send) }
+        ensures number { IfOk result
+            (λ sent. sent.number ≤ self.old.whole.bus.numbers_given + 1) }
         ensures cost { steps.new
             ≤ steps.old + 32 + 4 * length
             (route self.old.whole.bus.subscriptions (message_id bytes.now)) +
@@ -210,10 +213,12 @@ impl<'r> PlainBus<'r> {
         pipe: u32,
         held: &mut Held<'r>,
         steps: &mut Steps<L>,
-    ) -> Result<u32, SbStatus>
+    ) -> Result<u64, SbStatus>
         requires may { MayAct self.old app (Receive pipe) }
         requires bag { HasBag self.old app held.old }
         ensures does { Acts self.old self.new app (Receive pipe) (got result) }
+        ensures given { IfOk result
+            (λ number. IsGiven self.old.whole.bus.numbers_given number) }
         ensures unowned { owns self.old.whole.bus.pipes app pipe ≡ false →
             self.new ≡ with_tick self.old CounterName.Recv }
         ensures bag_refused { owns self.old.whole.bus.pipes app pipe ≡ false →
@@ -231,6 +236,8 @@ impl<'r> PlainBus<'r> {
         }
         // Does nothing; the proof learns of it that no two applications have one pipe.
         self.store.recall_order();
+        // Does nothing; the proof learns of it that each message has a number that was given.
+        self.store.recall_sends();
         let received = self.store.receive(app, pipe, held, steps);
         see(&mut self.records, &self.store);
         let Some(number) = received else {

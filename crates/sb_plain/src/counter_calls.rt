@@ -1,6 +1,6 @@
 //! What the bus tells of its counters and of what is in use (cFE Software Bus, housekeeping and
 //! statistics telemetry).
-ghost use Rattle.std.specs.Prelude.{◌≡◌, ℕ, ◌+◌, ◌*◌, ◌≤◌, false, length, Err, OnErr, IsTrue};
+ghost use Rattle.std.specs.Prelude.{◌≡◌, ℕ, ◌+◌, ◌*◌, ◌≤◌, false, length, Err, OnErr, IfOk, IsTrue};
 ghost use Rattle.housekeeping.specs.Packet.{housekeeping_id};
 ghost use Rattle.housekeeping.specs.Peaks.{greater};
 ghost use Rattle.bus_words.specs.declared.calls.BusAnswer.TheVariants.{Bus};
@@ -39,6 +39,8 @@ impl<'r> PlainBus<'r> {
         ensures spent { has_send_number self.old.whole.bus ≡ false →
             result ≡ Err SbStatus.BufAlocErr }
         ensures refused { OnErr result (self.new ≡ with_tick self.old CounterName.Send) }
+        ensures number { IfOk result
+            (λ sent. sent.number ≤ self.old.whole.bus.numbers_given + 1) }
         ensures cost { steps.new
             ≤ steps.old + 32 + 4 * length
             (route self.old.whole.bus.subscriptions housekeeping_id) +

@@ -1,10 +1,11 @@
 //! Receives that wait. Nothing blocks here: an application that would wait is told so, and looks
 //! again in its next turn.
-ghost use Rattle.std.specs.Prelude.{◌≡◌, ◌≤◌, ◌+◌, ◌-◌, false, not, length, slice_set, slice_index_or, count_by, if◌then◌else◌, OnErr};
+ghost use Rattle.std.specs.Prelude.{◌≡◌, ℕ, ◌≤◌, ◌+◌, ◌-◌, false, Ok, not, length, slice_set, slice_index_or, count_by, if◌then◌else◌, OnErr};
 ghost use Rattle.std.specs.List.{list_all};
 ghost use Rattle.bus_words.specs.declared.history.Call.TheVariants.{Pend, Look};
 ghost use Rattle.bus_words.specs.Bus.{owns, standing_of, waited_on};
 ghost use Rattle.bus_words.specs.Machine.{pended_answer};
+ghost use Rattle.bus_store.specs.Blocks.{IsGiven};
 ghost use Rattle.sb_plain.specs.Answers.{pended, waited, is_pending};
 ghost use Rattle.sb_plain.specs.Core.{MayAct, Acts, apps_in, with_tick};
 ghost use Rattle.sb_plain.specs.Rows.{idle_in, standing_in};
@@ -16,7 +17,6 @@ use crate::uses::see;
 use bucket_list::{Ledger, Steps};
 use buf_desc::Held;
 use bus_store::BusStore;
-use bus_words::BusAnswer;
 use fsw_base::{AppNo, SbStatus};
 use housekeeping::CounterName;
 
@@ -24,7 +24,7 @@ use housekeeping::CounterName;
 #[derive(Clone, Copy, Debug, PartialEq, Eq)]
 pub enum Pended {
     /// The number of the message received.
-    Got(u32),
+    Got(u64),
     /// No message waits, and every other application has ended or waits on an empty pipe.
     TimeOut,
     /// No message waits yet. The application waits on the pipe and may only look again, or end.
@@ -37,17 +37,6 @@ impl Pended {
         ensures { result ≡ is_pending self.now }
     {
         matches!(self, Pended::Pending)
-    }
-
-    /// The answer as entries of a history have it.
-    pub fn told(&self) -> BusAnswer
-        ensures { result ≡ waited self.now }
-    {
-        match self {
-            Pended::Got(number) => BusAnswer::Got(*number),
-            Pended::TimeOut => BusAnswer::TimeOut,
-            Pended::Pending => BusAnswer::Pending,
-        }
     }
 }
 
@@ -71,6 +60,8 @@ impl<'r> PlainBus<'r> {
         requires may { MayAct self.old app (Pend pipe) }
         requires bag { HasBag self.old app held.old }
         ensures does { Acts self.old self.new app (Pend pipe) (pended result) }
+        ensures given { (number : ℕ) → result ≡ Ok (Pended.Got number) →
+            IsGiven self.old.whole.bus.numbers_given number }
         ensures unowned { owns self.old.whole.bus.pipes app pipe ≡ false →
             self.new ≡ with_tick self.old CounterName.Recv }
         ensures bag_refused { OnErr result (held.new ≡ held.old) }
@@ -110,6 +101,8 @@ impl<'r> PlainBus<'r> {
         requires may { MayAct self.old app (Look pipe) }
         requires bag { HasBag self.old app held.old }
         ensures does { Acts self.old self.new app (Look pipe) (waited result) }
+        ensures given { (number : ℕ) → result ≡ Pended.Got number →
+            IsGiven self.old.whole.bus.numbers_given number }
         ensures still { result ≡ Pended.Pending → self.new ≡ self.old }
         ensures bag_still { result ≡ Pended.Pending → held.new ≡ held.old }
         ensures loans { KeepsLoans self.old self.new pipe }
@@ -133,8 +126,12 @@ impl<'r> PlainBus<'r> {
     // What a receive on the pipe that may wait is answered.
     fn pended(&self, app: AppNo, pipe: u32) -> Pended
         requires { app ≤ apps_in self.now }
-        ensures { waited result ≡ pended_answer self.now.whole.bus app pipe }
+        ensures answer { waited result ≡ pended_answer self.now.whole.bus app pipe }
+        ensures given { (number : ℕ) → result ≡ Pended.Got number →
+            IsGiven self.now.whole.bus.numbers_given number }
     {
+        // Does nothing; the proof learns of it that each message has a number that was given.
+        self.store.recall_sends();
         if let Some(number) = self.store.oldest(pipe) {
             return Pended::Got(number);
         }

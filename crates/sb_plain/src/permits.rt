@@ -61,12 +61,12 @@ impl<'r> PlainBus<'r> {
         self.store.subscriptions_made() < u32::MAX
     }
 
-    /// Whether a number is left for one send or buffer more: 4294967295 can be numbered. Where none
-    /// is left, each further one is refused, as where the bus's pool has no block.
+    /// Whether a number is left for one send or buffer more: 2^64 - 1 can be numbered. Where none is
+    /// left, each further one is refused, as where the bus's pool has no block.
     pub fn has_send_number(&self) -> bool
         ensures { result ≡ has_send_number self.now.whole.bus }
     {
-        self.store.numbers_given() < u32::MAX
+        self.store.numbers_given() < u64::MAX
     }
 }
 

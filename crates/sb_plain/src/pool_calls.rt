@@ -1,6 +1,6 @@
 //! The calls of memory pools, which any application may create and use (cFE Executive Services,
 //! memory pools). They lend no bytes: what a pool hands out are numbered grants of its blocks.
-ghost use Rattle.std.specs.Prelude.{◌≡◌, ℕ, ◌+◌, ◌≤◌, false, length, Err, IsTrue};
+ghost use Rattle.std.specs.Prelude.{◌≡◌, ℕ, ◌+◌, ◌≤◌, false, length, Err, IfOk, IsTrue};
 ghost use Rattle.es_pool.specs.Account.{IsAccountOf};
 ghost use Rattle.pool_words.specs.Grants.{is_pool, pool_in, has_numbers};
 ghost use Rattle.bus_words.specs.declared.history.Call.TheVariants.{PoolCreate, PoolGet, PoolPut, PoolFigures};
@@ -45,12 +45,14 @@ impl<'r> PlainBus<'r> {
         pool: u32,
         size: u32,
         steps: &mut Steps<L>,
-    ) -> Result<u32, EsStatus>
+    ) -> Result<u64, EsStatus>
         requires may { MayAct self.old app (PoolGet pool size) }
         ensures does { IsTrue (has_numbers self.old.whole.bus.pools pool) →
             Acts self.old self.new app (PoolGet pool size) (pool_told result) }
         ensures spent { has_numbers self.old.whole.bus.pools pool ≡ false →
             result ≡ Err EsStatus.ErrMemBlockSize }
+        ensures number { IfOk result
+            (λ number. number ≡ (pool_in self.old.whole.bus.pools pool).given + 1) }
         ensures unchanged { has_numbers self.old.whole.bus.pools pool ≡ false →
             self.new ≡ self.old }
         ensures cost { steps.new ≤ steps.old + 8 }
@@ -74,7 +76,7 @@ impl<'r> PlainBus<'r> {
         &mut self,
         app: AppNo,
         pool: u32,
-        grant: u32,
+        grant: u64,
         steps: &mut Steps<L>,
     ) -> Result<(), EsStatus>
         requires may { MayAct self.old app (PoolPut pool grant) }
@@ -121,7 +123,7 @@ impl<'r> PlainBus<'r> {
     }
 
     /// Whether the pool of this number, if there is one, can number a further grant: it gave fewer
-    /// than 4294967295.
+    /// than 2^64 - 1.
     pub fn has_grant_numbers(&self, pool: u32) -> bool
         ensures { result ≡ has_numbers self.now.whole.bus.pools pool }
     {

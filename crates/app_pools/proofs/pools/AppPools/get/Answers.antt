@@ -12,7 +12,7 @@ pub get-requires : goal.get-requires
 get-requires g c =
     let a = c.self.inside in
     let there = c.index_mut.ensures.value ∙ reads a.most a.made a.sizes a.places.items c.self.invariant c.args.self.now c.self.view_is c.args.pool c.in-Some.place c.in-Some.ensures.some _ in
-    record { numbers_left = subst (λ (p : PoolGrants). p.given < 2 ^ 32 - 1) (sym there) (numbers_there c.args.self.now c.args.pool c.in-Some.ensures.some.there c.requires.numbers_left) }
+    record { numbers_left = subst (λ (p : PoolGrants). p.given < 2 ^ 64 - 1) (sym there) (numbers_there c.args.self.now c.args.pool c.in-Some.ensures.some.there c.requires.numbers_left) }
 
 pub invariant_of-self : goal.invariant_of-self
 invariant_of-self g c =

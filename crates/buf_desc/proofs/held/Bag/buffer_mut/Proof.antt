@@ -1,5 +1,5 @@
 -- `buffer_mut` lends the open bytes of one block of a bag, where it is there. The borrow checker shows no write-back clause for an `Option` of a slice, so this proof walks the code by hand: the bag is lent again to look the block up, and then as a whole.
-use Rattle.std.proofs.Common.{◌≡◌, ℕ, ◌*◌, ◌^◌, List, [], ◌∷◌, length, refl, sym, ap, ◌∙◌, lit<, w32, Bool, true, false, not, Some, None}
+use Rattle.std.proofs.Common.{◌≡◌, ℕ, ◌*◌, ◌^◌, List, [], ◌∷◌, length, refl, sym, ap, ◌∙◌, lit<, w64, Bool, true, false, not, Some, None}
 use Rattle.std.proofs.raw_atomic.Walks.{proved, leaves}
 use lib.Dec.{T}
 use base.Fml.{Lft, GName, Share, Fml, ftrue, fsep, flft, fres, fdead}
@@ -19,7 +19,7 @@ use types.Run.{stop, addr, lit, first, branches, skips, exec, returns, returns_w
 use types.ByLocal.{alloc_all, pass_all, free_all, look_at, get, through, sets, lands_as, env}
 use types.Tokens.{lft_new, lft_end, lft-common}
 use denote.Array.{Array}
-use denote.Builtin.{RefMutOf, u8, u32, bool}
+use denote.Builtin.{RefMutOf, u8, u64, bool}
 use denote.Exit.{yes, no}
 use denote.Follow.{follows, follows_by}
 use denote.Lend.{lends_again, comes_back, LentAgain}
@@ -64,14 +64,14 @@ buffer_mut_spec 𝓤 𝓛 𝓜 𝓡 wired S V LS LV ms dm ds dv bm bs bv =
     let En = f.ended S V ms dm ds dv in let c = f.clauses S V ms dm ds dv 𝓛 𝓜.mem 𝓡.returns in
     let inst = bounded (a_type ∷ a_type ∷ []) (S, (V, tt)) (dcons dm (dcons ds (dcons dv dnil))) in let fn = inst_fn inst code.function in
     let B : RattleType = bag.the_row (param 0 S) (param 1 V) ms in
-    let self = RefMutOf (0 ∷ []) tt (plain (λ _. B)) (λ _. tt) in let count = plain (λ _. u32) in
+    let self = RefMutOf (0 ∷ []) tt (plain (λ _. B)) (λ _. tt) in let count = plain (λ _. u64) in
     let hs : Stays En.signature.params En.kept = (stay_dropped self no, (stay_dropped count yes, tt)) in
     proved 𝓛 En hs c 𝓜 𝓡 (Goes-spent_ref 𝓛 3 (0 ∷ []) tt (plain (λ _. B)), (Goes-dropped 𝓛 3 count yes (λ κs x w. refl), tt))
     (f.Key.name inst) fn (code.unfolded 𝓤 H 𝓜 𝓡 wired (S, (V, tt)) dm ds dv)
-    (λ κs. (mut_vals, (uint_vals w32, tt))) (λ κs. (mut_Tells (named 0) κs.0 B, (uint_Tells w32, tt))) (λ κs qs bounds a ghost are.
+    (λ κs. (mut_vals, (uint_vals w64, tt))) (λ κs. (mut_Tells (named 0) κs.0 B, (uint_Tells w64, tt))) (λ κs qs bounds a ghost are.
     let κ : Lft = κs.0 in let κS : Lft = κs.1.0 in let κV : Lft = κs.1.1.0 in let q : Share = qs.0 in let qS : Share = qs.1.0 in let qV : Share = qs.1.1.0 in
     let s = a.0 in let b : ℕ = s.ref_ptr.0 in let o : ℕ = s.ref_ptr.1 in let γ : GName = s.ghost_name in let x = s.now in let n : ℕ = a.1.0 in let fm = are.1.0.1 in
-    let y : (walk_of 𝓛 En hs c).Ghost = ((κs, qs, bounds, a, (vptr b o ∷ [], (vint w32 n ∷ [], tt))), ghost) in
+    let y : (walk_of 𝓛 En hs c).Ghost = ((κs, qs, bounds, a, (vptr b o ∷ [], (vint w64 n ∷ [], tt))), ghost) in
     let Post : Val → SProp 𝓤 = (walk_of 𝓛 En hs c).post y in
     let others : Fml = fsep (flft κS qS) (fsep (flft κV qV) ftrue) in
     let Ref = λ (ν : Lft) (δ : GName). (MutRef (named 0) ν B).own_val (record { ref_ptr = (b, o); ghost_name = δ; now = x }) (vptr b o ∷ []) in
@@ -80,7 +80,7 @@ buffer_mut_spec 𝓤 𝓛 𝓜 𝓡 wired S V LS LV ms dm ds dv bm bs bv =
     qed 𝓛 (((‵ (flft κ q) ⊛ ‵ others) ⊛ ‵ (owns (types_at En.signature.params κs) a y.0.4)) ∷ (raw (fact 𝓤 (κS ⊑ S.lives)) ⊛ raw (fact 𝓤 (κV ⊑ V.lives)) ⊛ ‵ ftrue) ∷ []) ∵
     move ! (1 ∷ []) $ split3 ! $ heard ! (κS ⊑ S.lives) (λ inS. heard ! (κV ⊑ V.lives) (λ inV. drop ! $ split ! $ split ! $ move ! (2 ∷ []) $ fsplit ! $ keep ! (0 ∷ 2 ∷ 3 ∷ []) $
     -- [self; the token of κ; the others]
-    enter ! 𝓣.C 𝓣.Λ fn (vptr b o ∷ vint w32 n ∷ []) Post $
+    enter ! 𝓣.C 𝓣.Λ fn (vptr b o ∷ vint w64 n ∷ []) Post $
     alloc_all ! (λ l. pass_all ! refl ((tt, tt), ((tt, record { fits = fm }), tt)) $
     sets ! (addr ! (through ! refl (stop !))) refl (tt, tt) $
     lft_new ! tt (λ α. let ν : Lft = α ∷ κ in let ql : Share = left q in let qr : Share = right q in let r : Share = (common full_share qr).0 in
@@ -91,9 +91,9 @@ buffer_mut_spec 𝓤 𝓛 𝓜 𝓡 wired S V LS LV ms dm ds dv bm bs bv =
     use2 𝓛 (later (some (λ (δ : GName). ‵ (Ref ν δ) ⊛ ‵ (LentAgain B κ ν ql γ b o δ x)))) (lends_again 𝓛 B (named 0) κ ν ql γ b o (named 0) x) $ await ! tt $ pick ! (λ δ. split ! $
     -- [the loan; what self keeps; the token of ν; the way back; the others]
     let G = triple_of 𝓛 (looks.signature S V ms dm ds dv) (looks.spec S V ms dm ds dv 𝓛 𝓜.mem 𝓡.returns) in
-    let z : G.Ghost = (((ν, (κS, (κV, tt))), (r, (qS, (qV, tt))), (⊑_trans ν κ κS (meet_⊑_right (α ∷ []) κ) bounds.0, (⊑_trans ν κ κV (meet_⊑_right (α ∷ []) κ) bounds.1.0, tt)), (record { ref_ptr = (b, o); ghost_name = δ; now = x }, (n, tt)), (vptr b o ∷ [], (vint w32 n ∷ [], tt))), tt) in
+    let z : G.Ghost = (((ν, (κS, (κV, tt))), (r, (qS, (qV, tt))), (⊑_trans ν κ κS (meet_⊑_right (α ∷ []) κ) bounds.0, (⊑_trans ν κ κV (meet_⊑_right (α ∷ []) κ) bounds.1.0, tt)), (record { ref_ptr = (b, o); ghost_name = δ; now = x }, (n, tt)), (vptr b o ∷ [], (vint w64 n ∷ [], tt))), tt) in
     nothing ! $ use0 𝓛 (raw (fact 𝓤 (κV ⊑ V.lives))) (fact_i 𝓤 (κV ⊑ V.lives) (emp 𝓤) inV) $ join ! $ use0 𝓛 (raw (fact 𝓤 (κS ⊑ S.lives))) (fact_i 𝓤 (κS ⊑ S.lives) (emp 𝓤) inS) $ join ! $
-    nothing ! $ owned ! u32 _ (uint_Makes 𝓛 w32) n _ (refl, fm) $ join ! $ move ! (2 ∷ 0 ∷ []) $ join ! $
+    nothing ! $ owned ! u64 _ (uint_Makes 𝓛 w64) n _ (refl, fm) $ join ! $ move ! (2 ∷ 0 ∷ []) $ join ! $
     -- [what the arguments own; the requires; what self keeps; the token of ν; the way back; the others]
     move ! (3 ∷ 5 ∷ []) $ join ! $ join ! $ use2 𝓛 (raw (G.pre z)) (id⊢ 𝓤 _) $
     calls_at ! (framed 𝓤 H 𝓜 𝓣) G (looks_met.met 𝓤 𝓛 𝓜 𝓡 (code.calls-buf_desc::held::Bag::holds_buffer 𝓡.env wired) S V LS LV ms dm ds dv bm bs bv) z
@@ -114,11 +114,11 @@ buffer_mut_spec 𝓤 𝓛 𝓜 𝓡 wired S V LS LV ms dm ds dv bm bs bv =
     first ! $ branches ! (get ! refl)
     (λ yes_there.
     let G₂ = triple_of 𝓛 (lends.signature S V ms dm ds dv) (lends.spec S V ms dm ds dv 𝓛 𝓜.mem 𝓡.returns) in
-    let z₂ : G₂.Ghost = ((κs, qs, bounds, a, (vptr b o ∷ [], (vint w32 n ∷ [], tt))), tt) in
+    let z₂ : G₂.Ghost = ((κs, qs, bounds, a, (vptr b o ∷ [], (vint w64 n ∷ [], tt))), tt) in
     let found : is_there ≡ true = sym answer ∙ is_true t yes_there in
     sets ! (addr ! (through ! refl (stop !))) refl (tt, tt) $
     use0 𝓛 (raw (fact 𝓤 (IsSome (buffer_at x n)))) (fact_i 𝓤 (IsSome (buffer_at x n)) (emp 𝓤) found) $ use0 𝓛 (raw (fact 𝓤 (κV ⊑ V.lives))) (fact_i 𝓤 (κV ⊑ V.lives) (emp 𝓤) inV) $ join ! $ use0 𝓛 (raw (fact 𝓤 (κS ⊑ S.lives))) (fact_i 𝓤 (κS ⊑ S.lives) (emp 𝓤) inS) $ join ! $
-    nothing ! $ owned ! u32 _ (uint_Makes 𝓛 w32) n _ (refl, fm) $ join ! $ move ! (3 ∷ 0 ∷ []) $ join ! $
+    nothing ! $ owned ! u64 _ (uint_Makes 𝓛 w64) n _ (refl, fm) $ join ! $ move ! (3 ∷ 0 ∷ []) $ join ! $
     -- [what the arguments own; the requires; the token of κ; the others]
     move ! (2 ∷ 3 ∷ []) $ join ! $ join ! $ use2 𝓛 (raw (G₂.pre z₂)) (id⊢ 𝓤 _) $
     calls_at ! (framed 𝓤 H 𝓜 𝓣) G₂ (lends_met.met 𝓤 𝓛 𝓜 𝓡 (code.calls-buf_desc::held::Bag::bytes_of_mut 𝓡.env wired) S V LS LV ms dm ds dv bm bs bv) z₂

@@ -1,4 +1,4 @@
-use Rattle.std.proofs.Common.{true≢false, None, ap, refl, sym, ◌∙◌}
+use Rattle.std.proofs.Common.{◌+◌, true≢false, None, ap, refl, sym, ◌∙◌}
 use Rattle.housekeeping.specs.declared.names.CounterName.TheVariants as counters
 use Rattle.bus_words.specs.declared.calls.BusAnswer.TheVariants.{Number}
 use Rattle.bus_words.specs.declared.history.Call.TheVariants.{Allocate}
@@ -9,6 +9,7 @@ use Rattle.sb_plain.proofs.Bags.{others_left, views_still}
 use Rattle.sb_plain.proofs.Buffers.{given_keeps, given_sizes, given_made}
 use Rattle.sb_plain.proofs.Numbers.{send_left}
 use Rattle.sb_plain.proofs.Refusals.{at_fields}
+use Rattle.sb_plain.specs.Core.{Plain}
 use Rattle.sb_plain.proofs.plain.PlainBus.allocate.Goals as goal
 
 pub returns-then-not-has_send_number-clause-does : goal.returns-then-not-has_send_number-clause-does
@@ -56,3 +57,6 @@ returns-clause-other_bags g c =
     (given_sizes a next c.args.app c.args.size is c.self.invariant.order)
     (λ other bag apart. views_still a.store next other bag (ap (λ (o : Store). o.pipes) is) (ap (λ (o : Store). o.loans) is) (ap (λ (o : Store). o.room) is))
     c.allocate-number.ensures.other_bags
+
+pub returns-clause-number : goal.returns-clause-number
+returns-clause-number g c = c.allocate-number.ensures.number ∙ ap (λ (p : Plain). p.whole.bus.numbers_given + 1) c.self.view_is

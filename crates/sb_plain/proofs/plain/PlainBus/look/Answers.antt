@@ -16,7 +16,7 @@ pub returns-then-is_pending-clause-does : goal.returns-then-is_pending-clause-do
 returns-then-is_pending-clause-does c =
     acts_still c.self.inside c.args.self.now c.args.app (Look c.args.pipe) (waited c.pended-answer.result) c.self.view_is c.self.invariant
     (look_still c.self.inside c.args.app c.args.pipe c.pended-answer.result (sym c.is_pending.ensures ∙ c.if-is_pending.true)
-    (c.pended-answer.ensures ∙ ap (λ (o : Plain). pended_answer o.whole.bus c.args.app c.args.pipe) (sym c.self.view_is))) refl refl refl
+    (c.pended-answer.ensures.answer ∙ ap (λ (o : Plain). pended_answer o.whole.bus c.args.app c.args.pipe) (sym c.self.view_is))) refl refl refl
 
 pub receive_first-requires-clause-own : goal.receive_first-requires-clause-own
 receive_first-requires-clause-own c = (c.self.invariant.order.ready c.args.app c.args.pipe (is_waiting c.self.inside c.args.self.now c.args.app c.args.pipe c.self.view_is c.requires.may)).own
@@ -47,7 +47,7 @@ returns-clause-does c =
     (subst (λ n. 1 ≤ n) c.get.ensures.value c.get.ensures.first) known in
     acts_looked a next acts a.pools c.args.self.now c.args.app (Look c.args.pipe) (waited c.pended-answer.result) c.self.view_is
     (look_made a next acts c.args.app c.args.pipe c.receive_first.ensures.after active c.pended-answer.result (sym c.is_pending.ensures ∙ c.if-is_pending.false)
-    (c.pended-answer.ensures ∙ ap (λ (o : Plain). pended_answer o.whole.bus c.args.app c.args.pipe) (sym c.self.view_is)))
+    (c.pended-answer.ensures.answer ∙ ap (λ (o : Plain). pended_answer o.whole.bus c.args.app c.args.pipe) (sym c.self.view_is)))
     refl refl refl c.see.new.records c.see.ensures.seen order.pool c.see.ensures.held
 
 pub returns-clause-other_bags : goal.returns-clause-other_bags

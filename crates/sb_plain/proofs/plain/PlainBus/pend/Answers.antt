@@ -27,7 +27,7 @@ invariant_of-self g c =
     let active = is_active a c.args.self.now c.args.app (Pend c.args.pipe) c.self.view_is c.requires.may (active_pends c.args.pipe) in
     let known = known_here a c.args.self.now c.args.app (Pend c.args.pipe) c.self.view_is c.requires.may in
     let why = at_fields a c.args.self.now c.self.view_is (λ limits s. unowned_cause s c.args.app c.args.pipe) None (sym c.unowned_cause.ensures ∙ c.in_default.is) in
-    let answers = c.pended-answer.ensures ∙ ap (λ (o : Plain). pended_answer o.whole.bus c.args.app c.args.pipe) (sym c.self.view_is) in
+    let answers = c.pended-answer.ensures.answer ∙ ap (λ (o : Plain). pended_answer o.whole.bus c.args.app c.args.pipe) (sym c.self.view_is) in
     let order = pend_keeps a next c.set_waiting.new.activities c.args.app c.args.pipe c.pended-answer.result c.receive.ensures.after c.set_waiting.ensures answers
     c.self.invariant.order c.recall_order.ensures (not_unowned (means a).bus c.args.app c.args.pipe why) active (active_first a.activities.items c.args.app active) known in
     seen_keeps (record a { store = next; activities = c.set_waiting.new.activities; records = c.see.new.records }) a.records order c.see.ensures.seen c.see.ensures.held
@@ -39,7 +39,7 @@ returns-clause-does g c =
     let active = is_active a c.args.self.now c.args.app (Pend c.args.pipe) c.self.view_is c.requires.may (active_pends c.args.pipe) in
     let known = known_here a c.args.self.now c.args.app (Pend c.args.pipe) c.self.view_is c.requires.may in
     let why = at_fields a c.args.self.now c.self.view_is (λ limits s. unowned_cause s c.args.app c.args.pipe) None (sym c.unowned_cause.ensures ∙ c.in_default.is) in
-    let answers = c.pended-answer.ensures ∙ ap (λ (o : Plain). pended_answer o.whole.bus c.args.app c.args.pipe) (sym c.self.view_is) in
+    let answers = c.pended-answer.ensures.answer ∙ ap (λ (o : Plain). pended_answer o.whole.bus c.args.app c.args.pipe) (sym c.self.view_is) in
     let order = pend_keeps a next c.set_waiting.new.activities c.args.app c.args.pipe c.pended-answer.result c.receive.ensures.after c.set_waiting.ensures answers
     c.self.invariant.order c.recall_order.ensures (not_unowned (means a).bus c.args.app c.args.pipe why) active (active_first a.activities.items c.args.app active) known in
     acts_looked a next c.set_waiting.new.activities a.pools c.args.self.now c.args.app (Pend c.args.pipe) (waited c.pended-answer.result) c.self.view_is

@@ -1,8 +1,10 @@
-use Rattle.std.proofs.Common.{true≢false, refl, sym, ◌∙◌}
+use Rattle.std.proofs.Common.{◌≡◌, ◌+◌, IfOk, refl, subst}
 use Rattle.bus_words.specs.declared.history.Call.TheVariants.{PoolGet}
 use Rattle.sb_plain.specs.Answers.{pool_told}
 use Rattle.sb_plain.proofs.After.{acts_quiet}
-use Rattle.sb_plain.proofs.Pools.{get_made}
+use Rattle.sb_plain.proofs.Pools.{get_made, get_numbered}
+use Rattle.pool_words.specs.Grants.{pool_in}
+use Rattle.sb_plain.specs.Core.{Plain}
 use Rattle.sb_plain.proofs.plain.PlainBus.pool_get.Goals as goal
 
 pub returns-clause-does : goal.returns-clause-does
@@ -10,3 +12,9 @@ returns-clause-does g c = λ left.
     let a = c.self.inside in
     acts_quiet a a.store a.activities c.get.new.self c.args.self.now c.args.app (PoolGet c.args.pool c.args.size) (pool_told c.get.result) c.self.view_is
     (get_made a c.args.app c.args.pool c.args.size c.get.result c.get.new.self c.get.ensures.answer c.get.ensures.after) refl refl refl c.self.invariant.covered
+
+pub returns-clause-number : goal.returns-clause-number
+returns-clause-number g c =
+    let a = c.self.inside in
+    subst (λ (p : Plain). IfOk c.get.result (λ n. n ≡ (pool_in p.whole.bus.pools c.args.pool).given + 1)) c.self.view_is
+    (get_numbered a.pools c.args.pool c.args.size c.get.result c.get.ensures.answer)

@@ -1,4 +1,4 @@
-use Rattle.std.proofs.Common.{Some, None, not, ap, refl, sym, ◌∙◌}
+use Rattle.std.proofs.Common.{Some, None, not, ap, refl, sym, ◌∙◌, subst}
 use Rattle.fsw_base.specs.declared.statuses.SbStatus.TheVariants.{BadArgument, NoMessage}
 use Rattle.housekeeping.specs.declared.names.CounterName.TheVariants as counters
 use Rattle.bus_words.specs.declared.calls.BusAnswer.TheVariants.{Got, Sb}
@@ -12,6 +12,9 @@ use Rattle.sb_plain.proofs.After.{acts_looked, seen_keeps, cause_told, refused_a
 use Rattle.sb_plain.proofs.Bags.{others_kept}
 use Rattle.sb_plain.proofs.Changes.{taken_keeps}
 use Rattle.sb_plain.proofs.Receives.{got_made, none_made}
+use Rattle.bus_store.specs.Blocks.{IsGiven}
+use Rattle.sb_plain.specs.Core.{Plain}
+use Rattle.sb_plain.proofs.Waits.{oldest_given}
 use Rattle.sb_plain.proofs.plain.PlainBus.receive.Goals as goal
 
 pub returns-then-not-owns-clause-does : goal.returns-then-not-owns-clause-does
@@ -75,3 +78,9 @@ returns-clause-other_bags g c =
     let is = c.receive-received.ensures.after in
     others_kept a c.args.self.now c.self.view_is c.self.invariant.order (record a { store = c.receive-received.new.self; records = c.see.new.records }) refl (ap (λ (o : Store). o.room) is) c.args.app
     (record { unsent = ap (λ (o : Store). o.unsent) is; descs = ap (λ (o : Store). o.descs) is; sizes = ap (λ (o : Store). o.account.sizes) is }) c.receive-received.ensures.other_bags
+
+pub returns-clause-given : goal.returns-clause-given
+returns-clause-given g c =
+    let a = c.self.inside in
+    subst (λ (p : Plain). IsGiven p.whole.bus.numbers_given c.in-Some.number) c.self.view_is
+    (oldest_given a.store.numbers_given a.store.pipes c.args.pipe c.in-Some.number c.recall_sends.ensures.given (sym c.receive-received.ensures.number ∙ c.in-Some.is))

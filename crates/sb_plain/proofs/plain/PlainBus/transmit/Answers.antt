@@ -130,3 +130,6 @@ returns-clause-cost g c =
     ∙ ap (λ (p : Plain). drops_for p.whole.bus c.args.app id) c.self.view_is in
     let same = ap (λ (p : Plain). length (route p.whole.bus.subscriptions id)) c.self.view_is in
     omega (arith, few, same, c.send-sent.ensures.cost)
+
+pub returns-clause-number : goal.returns-clause-number
+returns-clause-number g c = omega (arith, c.send-sent.ensures.number, ap (λ (p : Plain). p.whole.bus.numbers_given) c.self.view_is)
