@@ -13,8 +13,9 @@ use Rattle.bus_words.specs.Bus.{State}
 use Rattle.bus_words.specs.Machine.{step}
 use Rattle.bus_words.proofs.Steps.{length-standings}
 use Rattle.bus_store.specs.Bag.{HoldsViews}
-use Rattle.sb_plain.specs.declared.calls.Sent.{Sent}
-use Rattle.sb_plain.specs.Answers.{allocated, sent, done}
+use Rattle.sb_calls.specs.declared.results.Sent.{Sent}
+use Rattle.sb_plain.specs.Answers.{allocated, done}
+use Rattle.sb_calls.specs.Answers.{sent}
 use Rattle.sb_plain.specs.Bags.{KeepsBuffers}
 use Rattle.sb_calls.specs.Bags.{HasBag, loans_of}
 use Rattle.sb_calls.specs.Core.{Core, Does, MayCall, apps_of, state_of}

@@ -8,8 +8,8 @@ use Rattle.bus_words.specs.declared.calls.BusAnswer.{BusAnswer}
 use Rattle.bus_words.specs.declared.history.Call.{Call}
 use Rattle.bus_words.specs.declared.history.Call.TheVariants.{Look, Allocate}
 use Rattle.bus_words.specs.Bus.{standing_of, waited_on}
-use Rattle.sb_plain.specs.declared.pending.Pended.{Pended}
-use Rattle.sb_plain.specs.Answers.{waited}
+use Rattle.sb_calls.specs.declared.results.Pended.{Pended}
+use Rattle.sb_calls.specs.Answers.{waited}
 use Rattle.sb_calls.specs.Bags.{HasBag, CalledByOthers}
 use Rattle.sb_calls.specs.Core.{Core, MayCall, Does, Looks, state_of}
 use Rattle.tbl_blocks.specs.Held.{HeldViews}

@@ -18,8 +18,8 @@ pub(crate) fn form_in(held: &mut Held<'_>, buf: u32, id: u16, fill: u8)
 {
     // Does nothing; the proof learns of it that the other buffers stay.
     recall_written();
-    if held.buffer(buf).is_some() {
-        make_message(held.bytes_of_mut(buf), id, fill);
+    if held.buffer(buf as u64).is_some() {
+        make_message(held.bytes_of_mut(buf as u64), id, fill);
     }
 }
 
@@ -31,7 +31,7 @@ pub(crate) fn put_bytes_in(held: &mut Held<'_>, buf: u32, offset: u32, bytes: &[
 {
     // Does nothing; the proof learns of it that the other buffers stay.
     recall_written();
-    if held.buffer(buf).is_some() {
-        put_in(held.bytes_of_mut(buf), offset, bytes);
+    if held.buffer(buf as u64).is_some() {
+        put_in(held.bytes_of_mut(buf as u64), offset, bytes);
     }
 }

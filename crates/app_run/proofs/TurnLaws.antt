@@ -9,7 +9,7 @@ use Rattle.std.specs.List.{slice_get, All}
 use Rattle.std.proofs.lemmas.Option.{slice_get_within, get_or_from_slice_get}
 use Rattle.std.proofs.lemmas.List.Elements.{All-get_or}
 use Rattle.bus_words.specs.Bus.{waited_on}
-use Rattle.sb_plain.specs.declared.pending.Pended.TheVariants as waits
+use Rattle.sb_calls.specs.declared.results.Pended.TheVariants as waits
 use Rattle.lend_block.specs.Loan.{LentBytes}
 use Rattle.buf_desc.specs.Held.{Holding}
 use Rattle.app_calls.specs.Callers.{AnswersLook, HasOwnBag, KeepsTables, LeavesBuffers, FindsRoom, Meets, MayWrite, SameServices, Writes, buffers_asked, pipe_waited_on, written_in}

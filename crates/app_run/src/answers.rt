@@ -1,6 +1,7 @@
 //! The answers of the calls, as entries of the journal have them.
 ghost use Rattle.std.specs.Prelude.{◌≡◌};
-ghost use Rattle.sb_plain.specs.Answers.{created, done, named, sent, got, waited, pended, allocated, pool_told, grant_back, figures_told, event_told};
+ghost use Rattle.sb_plain.specs.Answers.{created, done, named, got, allocated, pool_told, grant_back, figures_told, event_told};
+ghost use Rattle.sb_calls.specs.Answers.{sent, waited, pended};
 
 use bus_words::{BusAnswer, PipeText};
 use fsw_base::{EsStatus, EvsStatus, PoolStats, SbStatus};

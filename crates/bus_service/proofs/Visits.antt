@@ -17,9 +17,9 @@ use Rattle.sb_calls.specs.Bags.{HasBag, AreOneLoan}
 use Rattle.sb_calls.specs.Core.{Core, Does, Looks, StandAlone, apps_of, state_of}
 use Rattle.sb_calls.specs.Notes.{note_due}
 use Rattle.sb_calls.proofs.Looks.{looks-found}
-use Rattle.sb_plain.specs.declared.pending.Pended.{Pended}
-use Rattle.sb_plain.specs.declared.pending.Pended.TheVariants as waits
-use Rattle.sb_plain.specs.Answers.{waited, is_pending}
+use Rattle.sb_calls.specs.declared.results.Pended.{Pended}
+use Rattle.sb_calls.specs.declared.results.Pended.TheVariants as waits
+use Rattle.sb_calls.specs.Answers.{waited, is_pending}
 use Rattle.bus_words.specs.declared.history.Call.TheVariants.{Look}
 use Rattle.bus_service.specs.Histories.{Fixed, the_fixed, fixed_of, history_of, core_with, entries_in, own_entries}
 use Rattle.bus_service.specs.Inside.{IsPort, Tells, seen_in, mine_in, port_in}

@@ -11,9 +11,9 @@ use Rattle.bus_words.specs.declared.history.Call.{Call}
 use Rattle.bus_words.specs.declared.history.Call.TheVariants.{Allocate, Look}
 use Rattle.bus_words.specs.declared.history.Entry.{Entry}
 use Rattle.bus_words.specs.Log.{left_of}
-use Rattle.sb_plain.specs.declared.pending.Pended.{Pended}
-use Rattle.sb_plain.specs.declared.pending.Pended.TheVariants.{Pending}
-use Rattle.sb_plain.specs.Answers.{waited}
+use Rattle.sb_calls.specs.declared.results.Pended.{Pended}
+use Rattle.sb_calls.specs.declared.results.Pended.TheVariants.{Pending}
+use Rattle.sb_calls.specs.Answers.{waited}
 use Rattle.sb_plain.specs.Bags.{KeepsBuffers}
 use Rattle.sb_calls.specs.Core.{Core, Does, Looks, StandAlone}
 use Rattle.sb_calls.specs.Bags.{HasBag, CalledByOthers, AreOneLoan}

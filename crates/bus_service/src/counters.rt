@@ -2,7 +2,7 @@
 ghost use Rattle.std.specs.Prelude.{◌≡◌};
 ghost use Rattle.bus_words.specs.declared.history.Call.TheVariants as made;
 ghost use Rattle.bus_words.specs.declared.calls.BusAnswer.TheVariants as answered;
-ghost use Rattle.sb_plain.specs.Answers.{sent};
+ghost use Rattle.sb_calls.specs.Answers.{sent};
 ghost use Rattle.sb_calls.specs.Core.{MayCall};
 ghost use Rattle.bus_service.specs.Ports.{Answers};
 

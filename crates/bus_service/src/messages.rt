@@ -1,7 +1,8 @@
 //! Subscriptions and messages, by ports.
 ghost use Rattle.std.specs.Prelude.{◌≡◌};
 ghost use Rattle.bus_words.specs.declared.history.Call.TheVariants as made;
-ghost use Rattle.sb_plain.specs.Answers.{done, sent};
+ghost use Rattle.sb_plain.specs.Answers.{done};
+ghost use Rattle.sb_calls.specs.Answers.{sent};
 ghost use Rattle.sb_calls.specs.Core.{MayCall};
 ghost use Rattle.bus_service.specs.Ports.{Answers};
 

@@ -55,7 +55,7 @@ impl<'r> BusPort<'r> {
             has_unsent (state_of self.now.seen).unsent self.now.app buf }
         ensures seen { result ≡ is_some (buffer_at self.now.bag buf) }
     {
-        self.bag.buffer(buf).is_some()
+        self.bag.buffer(buf as u64).is_some()
     }
 
     /// Has the bytes of an unsent buffer of the application's written. Takes neither the lock nor
@@ -67,7 +67,7 @@ impl<'r> BusPort<'r> {
             with_buffer self.old buf (W.left writer (bytes_at self.old.bag buf)) }
     {
         bags_stay();
-        writer.write(self.bag.bytes_of_mut(buf));
+        writer.write(self.bag.bytes_of_mut(buf as u64));
     }
 }
 
@@ -82,7 +82,7 @@ impl<S: Memory + Drop, V: MessageView + Drop> PortOf<S, V> {
         ensures seen { result ≡ is_some (buffer_at self.old.bag buf) }
         ensures same { self.new ≡ self.old }
     {
-        self.bag.buffer(buf).is_some()
+        self.bag.buffer(buf as u64).is_some()
     }
 
     /// The bytes of an unsent buffer of the application's, for writing. Takes neither the lock nor
@@ -97,7 +97,7 @@ impl<S: Memory + Drop, V: MessageView + Drop> PortOf<S, V> {
     {
         bags_stay();
         let bag = &mut self.bag;
-        bag.bytes_of_mut(buf)
+        bag.bytes_of_mut(buf as u64)
     }
 
     /// The bytes of an unsent buffer of the application's, for writing; None exactly where it has

@@ -5,8 +5,8 @@ use Rattle.bus_words.specs.declared.calls.BusAnswer.{BusAnswer}
 use Rattle.bus_words.specs.declared.history.Call.{Call}
 use Rattle.bus_words.specs.declared.history.Call.TheVariants as calls
 use Rattle.buf_desc.specs.Held.{bytes_at}
-use Rattle.sb_plain.specs.declared.pending.Pended.{Pended}
-use Rattle.sb_plain.specs.Answers.{waited}
+use Rattle.sb_calls.specs.declared.results.Pended.{Pended}
+use Rattle.sb_calls.specs.Answers.{waited}
 use Rattle.sb_calls.specs.Bags.{HasBag}
 use Rattle.bus_words.specs.Bus.{standing_of, waited_on}
 use Rattle.sb_calls.specs.Core.{MayCall, state_of}

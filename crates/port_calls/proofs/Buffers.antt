@@ -6,8 +6,9 @@ use Rattle.buf_desc.specs.Held.{Holding, bytes_at}
 use Rattle.bus_words.specs.declared.calls.BusAnswer.{BusAnswer}
 use Rattle.bus_words.specs.declared.history.Call.{Call}
 use Rattle.bus_words.specs.declared.history.Call.TheVariants as calls
-use Rattle.sb_plain.specs.declared.calls.Sent.{Sent}
-use Rattle.sb_plain.specs.Answers.{allocated, sent, done}
+use Rattle.sb_calls.specs.declared.results.Sent.{Sent}
+use Rattle.sb_plain.specs.Answers.{allocated, done}
+use Rattle.sb_calls.specs.Answers.{sent}
 use Rattle.sb_plain.specs.Bags.{KeepsBuffers}
 use Rattle.sb_calls.specs.Bags.{HasBag}
 use Rattle.sb_calls.specs.Core.{MayCall}

@@ -154,7 +154,7 @@ fn may_transmit(core: &BusCore<'_>, app: AppNo, buf: u32, held: &Held<'_>) -> bo
     ensures { IsTrue result ↔
         MayCall core.now app (Call.TransmitBuffer buf (bytes_at held.now buf) true) }
 {
-    let bytes = match held.buffer(buf) {
+    let bytes = match held.buffer(buf as u64) {
         Some(block) => block.bytes(),
         None => &[],
     };
@@ -172,8 +172,8 @@ fn put_in(held: &mut Held<'_>, buf: u32, bytes: &[u8])
 {
     // Does nothing; the proof learns of it that the other buffers stay.
     recall_written();
-    if held.buffer(buf).is_some() {
-        let target = held.bytes_of_mut(buf);
+    if held.buffer(buf as u64).is_some() {
+        let target = held.bytes_of_mut(buf as u64);
         if bytes.len() <= target.len() {
             target[..bytes.len()].copy_from_slice(bytes);
         }

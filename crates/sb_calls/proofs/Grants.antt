@@ -1,23 +1,17 @@
--- A number is left for every grant that may still be asked for.
-use Rattle.std.proofs.Common.{◌≡◌, ℕ, ◌+◌, ◌-◌, ◌^◌, ◌<◌, ◌≤◌, Bool, true, false, cond, ltb, [], length, IsTrue, refl, arith}
-use Rattle.std.proofs.lemmas.Bool.Decides.{nat_tests}
-use Rattle.std.proofs.lemmas.List.Elements.{All-get_or}
+-- Fewer grants were given than entries were made.
+use Rattle.std.proofs.Common.{ℕ, zero, suc, ◌+◌, ◌-◌, ◌^◌, ◌<◌, ◌≤◌, List, [], ◌∷◌, get_or, All, arith}
+use Rattle.std.proofs.lemmas.List.Elements.{All-head, All-tail}
 use Rattle.fsw_base.specs.Limits.{Limits}
-use Rattle.pool_words.specs.Grants.{PoolGrants, Pools, new_pool, is_pool, pool_in, has_numbers}
+use Rattle.pool_words.specs.Grants.{PoolGrants, Pools, new_pool, pool_in}
 use Rattle.bus_words.specs.Bus.{ArePools}
 
-within : (s : Pools) (pool : ℕ) → is_pool s pool ≡ true → pool - 1 < length s.pools
-within s pool is = grind (arith, nat_tests, is)
+-- at a place behind the last pool is one that gave none
+given_at : (entries : ℕ) (pools : List PoolGrants) (place : ℕ) → All (λ (p : PoolGrants). p.given ≤ entries) pools → (get_or pools place (new_pool [] 0)).given ≤ entries
+given_at entries [] place all = omega arith
+given_at entries (pool ∷ pools) zero all = All-head (λ (p : PoolGrants). p.given ≤ entries) pool pools all
+given_at entries (pool ∷ pools) (suc place) all = given_at entries pools place (All-tail (λ (p : PoolGrants). p.given ≤ entries) pool pools all)
 
-below : (m n : ℕ) → m < n → ltb m n ≡ true
-below m n less = grind (arith, nat_tests)
-
--- fewer grants were given than there are numbers
-pub numbers_left : (limits : Limits) (entries : ℕ) (s : Pools) (pool : ℕ) → ArePools limits entries s → entries + 1 < 2 ^ 32 → has_numbers s pool ≡ true
-numbers_left limits entries s pool are few = by_pool (is_pool s pool) refl
-  where
-    by_pool : (b : Bool) → is_pool s pool ≡ b → cond b (ltb (pool_in s pool).given (2 ^ 32 - 1)) true ≡ true
-    by_pool true is =
-        let given : (pool_in s pool).given ≤ entries = All-get_or (λ (p : PoolGrants). p.given ≤ entries) s.pools (pool - 1) (new_pool [] 0) (within s pool is) are.given in
-        below (pool_in s pool).given (2 ^ 32 - 1) (omega (arith, given, few))
-    by_pool false is = refl
+pub few_given : (limits : Limits) (entries : ℕ) (s : Pools) (pool : ℕ) → ArePools limits entries s → entries + 1 < 2 ^ 32 → (pool_in s pool).given + 1 < 2 ^ 32
+few_given limits entries s pool are few =
+    let given : (pool_in s pool).given ≤ entries = given_at entries s.pools (pool - 1) are.given in
+    omega (arith, given, few)

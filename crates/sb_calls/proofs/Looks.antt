@@ -4,9 +4,9 @@ use Rattle.bus_words.specs.declared.calls.BusAnswer.{BusAnswer}
 use Rattle.bus_words.specs.declared.history.Call.TheVariants.{Look}
 use Rattle.bus_words.specs.Bus.{State, standing_of, waited_on}
 use Rattle.bus_words.specs.Machine.{makes_entry, step}
-use Rattle.sb_plain.specs.declared.pending.Pended.{Pended}
-use Rattle.sb_plain.specs.declared.pending.Pended.TheVariants as waits
-use Rattle.sb_plain.specs.Answers.{waited, is_pending}
+use Rattle.sb_calls.specs.declared.results.Pended.{Pended}
+use Rattle.sb_calls.specs.declared.results.Pended.TheVariants as waits
+use Rattle.sb_calls.specs.Answers.{waited, is_pending}
 use Rattle.sb_plain.specs.Core.{Plain, Acts}
 use Rattle.sb_calls.specs.declared.bus_core.BusCore.TheInside.{Inside}
 use Rattle.sb_calls.specs.Core.{Core, Does, Looks, state_of}

@@ -26,8 +26,9 @@ use Rattle.bus_words.proofs.Unsent.{AreUnsent-after}
 use Rattle.bus_words.proofs.UnsentSteps.{all_gone-unsent}
 use Rattle.bus_words.specs.Pipes.{last_on}
 use Rattle.bus_store.specs.Words.{loan_of, desc_of}
-use Rattle.sb_plain.specs.declared.calls.Sent.{Sent}
-use Rattle.sb_plain.specs.Answers.{created, found, bits_told, named, done, sent, pool_told, grant_back, figures_told, event_told}
+use Rattle.sb_calls.specs.declared.results.Sent.{Sent}
+use Rattle.sb_plain.specs.Answers.{created, found, bits_told, named, done, pool_told, grant_back, figures_told, event_told}
+use Rattle.sb_calls.specs.Answers.{sent}
 use Rattle.sb_plain.specs.Bags.{HasBag, KeepsAllLoans, KeepsLoans, KeepsOtherLoans, KeepsAllDescs, KeepsOtherDescs}
 use Rattle.sb_plain.specs.Core.{Plain, Acts}
 use Rattle.sb_calls.specs.declared.bus_core.BusCore.TheInside.{Inside}

@@ -22,8 +22,9 @@ use Rattle.bus_words.proofs.UnsentSteps.{gone-unsent}
 use Rattle.bus_store.specs.Bag.{Shape, shape_of}
 use Rattle.bus_store.specs.Store.{BufferDesc}
 use Rattle.bus_store.specs.Words.{desc_of, size_for}
-use Rattle.sb_plain.specs.declared.calls.Sent.{Sent as SentTo}
-use Rattle.sb_plain.specs.Answers.{allocated, sent, done}
+use Rattle.sb_calls.specs.declared.results.Sent.{Sent as SentTo}
+use Rattle.sb_plain.specs.Answers.{allocated, done}
+use Rattle.sb_calls.specs.Answers.{sent}
 use Rattle.sb_plain.specs.Bags.{HasBag, KeepsAllLoans, KeepsDescs}
 use Rattle.sb_plain.specs.Core.{Plain, Acts, with_tick}
 use Rattle.sb_calls.specs.declared.bus_core.BusCore.TheInside.{Inside}

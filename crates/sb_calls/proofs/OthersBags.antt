@@ -25,9 +25,9 @@ use Rattle.bus_store.specs.Bag.{HoldsViews, HoldsBuffers}
 use Rattle.bus_store.specs.Store.{LastLoan, BufferDesc}
 use Rattle.bus_words.specs.Pipes.{last_on}
 use Rattle.bus_store.specs.Words.{loan_of, desc_of}
-use Rattle.sb_plain.specs.declared.pending.Pended.{Pended}
-use Rattle.sb_plain.specs.declared.pending.Pended.TheVariants as waits
-use Rattle.sb_plain.specs.Answers.{waited}
+use Rattle.sb_calls.specs.declared.results.Pended.{Pended}
+use Rattle.sb_calls.specs.declared.results.Pended.TheVariants as waits
+use Rattle.sb_calls.specs.Answers.{waited}
 use Rattle.sb_calls.specs.Bags.{HasBag, KeepsOtherBags, CalledByOthers, loans_of, descs_of}
 use Rattle.sb_calls.specs.Core.{Core, Does, Looks, IsLegalCore, IsNoted, with_noted, apps_of, state_of}
 use Rattle.sb_calls.specs.Notes.{noted, noted_desc, note_due, gives_buffer}

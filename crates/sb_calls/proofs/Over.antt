@@ -3,7 +3,7 @@ use Rattle.std.proofs.Common.{◌≡◌, ℕ, ◌+◌, ◌^◌, ◌<◌, ◌≤�
 use Rattle.std.proofs.lemmas.Bool.Decides.{nat_tests}
 use Rattle.std.proofs.lemmas.List.{length_push}
 use Rattle.fsw_base.specs.Limits.{Limits}
-use Rattle.pool_words.specs.Grants.{has_numbers}
+use Rattle.pool_words.specs.Grants.{pool_in}
 use Rattle.bus_words.specs.declared.calls.BusAnswer.{BusAnswer}
 use Rattle.bus_words.specs.declared.history.Call.{Call}
 use Rattle.bus_words.specs.declared.history.Entry.{Entry}
@@ -27,12 +27,12 @@ use Rattle.bus_words.proofs.PoolGrants.{ArePools-after}
 use Rattle.journal_store.proofs.Charges.{entries_left-charged}
 use Rattle.bus_words.specs.Pipes.{last_on}
 use Rattle.bus_store.specs.Words.{loan_of, desc_of}
-use Rattle.sb_plain.specs.Core.{Plain, MayAct, Acts, apps_in, has_pipe_number, has_subscription_number, has_send_number}
+use Rattle.sb_plain.specs.Core.{Plain, MayAct, Acts, apps_in, has_pipe_number, has_subscription_number}
 use Rattle.sb_calls.specs.declared.bus_core.BusCore.TheInside.{Inside}
 use Rattle.sb_calls.specs.Core.{Core, MayCall, Does, IsLegalCore, IsNoted, with_noted, state_of}
 use Rattle.sb_calls.specs.Inside.{core_of, Stands}
 use Rattle.sb_calls.specs.Notes.{NotedLog, loan_in, note_due, noted, gives_buffer, noted_desc}
-use Rattle.sb_calls.proofs.Grants.{numbers_left}
+use Rattle.sb_calls.proofs.Grants.{few_given}
 use Rattle.sb_calls.proofs.Notes.{noted-other, noted-given, noted_desc-other, noted_desc-given, desc_in-due, even-due, due-push}
 use Rattle.sb_calls.proofs.UnsentBuffers.{unsent-from}
 
@@ -90,20 +90,20 @@ pipe_left a old app call is stands may_old = large a.core.whole.bus.pipes_create
 pub subscription_left : (a : Inside) (old : Core) (app : ℕ) (call : Call) → core_of a ≡ old → Stands a → MayCall old app call → IsTrue (has_subscription_number a.core.whole.bus)
 subscription_left a old app call is stands may_old = large a.core.whole.bus.subscriptions_made (fits_all a old app call is stands may_old).3
 
--- a number is left for a send or a buffer
-pub send_left : (a : Inside) (old : Core) (app : ℕ) (call : Call) → core_of a ≡ old → Stands a → MayCall old app call → IsTrue (has_send_number a.core.whole.bus)
-send_left a old app call is stands may_old = large a.core.whole.bus.numbers_given (fits_all a old app call is stands may_old).4
+-- numbers of sends and buffers, one more too, fit into 32 bits
+pub few_sends : (a : Inside) (old : Core) (app : ℕ) (call : Call) → core_of a ≡ old → Stands a → MayCall old app call → a.core.whole.bus.numbers_given + 1 < 2 ^ 32
+few_sends a old app call is stands may_old = (fits_all a old app call is stands may_old).4
 
--- a number is left for a grant of any pool
-pub grant_left : (a : Inside) (old : Core) (app pool : ℕ) (call : Call) → core_of a ≡ old → Stands a → MayCall old app call → IsTrue (has_numbers a.core.whole.bus.pools pool)
-grant_left a old app pool call is stands may_old =
+-- and so do those of the grants of any pool
+pub few_grants : (a : Inside) (old : Core) (app pool : ℕ) (call : Call) → core_of a ≡ old → Stands a → MayCall old app call → (pool_in a.core.whole.bus.pools pool).given + 1 < 2 ^ 32
+few_grants a old app pool call is stands may_old =
     let Q : Core → Type 0 = λ o. MayCall o app call in
     let may : MayCall (core_of a) app call = subst Q (sym is) may_old in
     let apps = length a.noted.log.budgets in
     let left = entries_left-charged (left_of a.noted.log) app (call_bytes call) may.room in
-    let P : State → Type 0 = λ t. IsTrue (has_numbers t.pools pool) in
+    let P : State → Type 0 = λ t. (pool_in t.pools pool).given + 1 < 2 ^ 32 in
     subst P (sym (bus_is a stands))
-    (numbers_left a.core.limits (length a.noted.log.entries) (state_of (core_of a)).pools pool (ArePools-after a.core.limits apps a.noted.log.entries) (omega (arith, left, stands.few)))
+    (few_given a.core.limits (length a.noted.log.entries) (state_of (core_of a)).pools pool (ArePools-after a.core.limits apps a.noted.log.entries) (omega (arith, left, stands.few)))
 
 -- What a call left: the core did what the bus does, the call brings the bytes that it is about, and with its answer it was
 -- entered. Noted was the loan by which the last message of each pipe that the call gave one from is lent, or the descriptor of the

@@ -15,9 +15,9 @@ use Rattle.bus_words.specs.Bus.{State, standing_of}
 use Rattle.bus_words.specs.Entries.{call_bytes}
 use Rattle.journal_store.specs.Budgets.{HasRoom}
 use Rattle.bus_words.specs.Log.{Log, left_of, with_entry}
-use Rattle.sb_plain.specs.declared.pending.Pended.{Pended}
-use Rattle.sb_plain.specs.declared.pending.Pended.TheVariants.{Pending}
-use Rattle.sb_plain.specs.Answers.{waited}
+use Rattle.sb_calls.specs.declared.results.Pended.{Pended}
+use Rattle.sb_calls.specs.declared.results.Pended.TheVariants.{Pending}
+use Rattle.sb_calls.specs.Answers.{waited}
 pub use Rattle.sb_plain.specs.Core.{is_within, drops_for}
 use Rattle.bus_words.specs.Machine.{IsLegal, may_call, state_after, step}
 use Rattle.sb_calls.specs.Notes.{AreDue, note_due}

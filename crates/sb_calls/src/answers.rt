@@ -1,10 +1,11 @@
 //! The answers of the calls, as the journal has them.
 ghost use Rattle.std.specs.Prelude.{◌≡◌};
-ghost use Rattle.sb_plain.specs.Answers.{created, allocated, found, bits_told, named, done, sent, got, pended, pool_told, grant_back, figures_told, event_told};
+ghost use Rattle.sb_plain.specs.Answers.{created, allocated, found, bits_told, named, done, got, pool_told, grant_back, figures_told, event_told};
+ghost use Rattle.sb_calls.specs.Answers.{sent, pended};
 
+use crate::results::{Pended, Sent};
 use bus_words::{BusAnswer, PipeText};
 use fsw_base::{EsStatus, EvsStatus, PoolStats, SbStatus};
-use sb_plain::{Pended, Sent};
 
 /// Of the creation of a pipe.
 pub(crate) fn of_created(told: &Result<u32, SbStatus>) -> BusAnswer

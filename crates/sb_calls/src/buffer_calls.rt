@@ -5,7 +5,8 @@ ghost use Rattle.std.specs.Prelude.{◌≡◌, ℕ, ◌+◌, ◌*◌, ◌<◌, �
 ghost use Rattle.buf_desc.specs.Held.{bytes_at};
 ghost use Rattle.ccsds_msg.specs.Message.{message_id};
 ghost use Rattle.bus_words.specs.Bus.{route};
-ghost use Rattle.sb_plain.specs.Answers.{allocated, sent, done};
+ghost use Rattle.sb_plain.specs.Answers.{allocated, done};
+ghost use Rattle.sb_calls.specs.Answers.{sent};
 ghost use Rattle.sb_plain.specs.Bags.{KeepsBuffers};
 ghost use Rattle.sb_calls.specs.Bags.{HasBag, KeepsOtherBags};
 ghost use Rattle.sb_calls.specs.Core.{MayCall, Does, state_of};
@@ -14,12 +15,13 @@ ghost use Rattle.sb_plain.specs.Core.{drops_for};
 use crate::answers::{of_allocated, of_done, of_sent};
 use crate::bus_core::BusCore;
 use crate::noted::{bytes_of, note_of_buffer};
+use crate::results::Sent;
+use crate::short::{allocate, transmit_buffer};
 use bucket_list::{Ledger, Steps};
 use buf_desc::Held;
 use bus_words::{BusAnswer, BusCall, BusEntry, Call};
 use fsw_base::{AppNo, SbStatus};
 use lend_block::Note;
-use sb_plain::Sent;
 
 impl<'r> BusCore<'r> {
     /// Gives the caller a buffer of `size` bytes to write a message into, and answers its number,
@@ -51,7 +53,7 @@ impl<'r> BusCore<'r> {
         ensures bag_refused { OnErr result (held.new ≡ held.old) }
         ensures cost { steps.new ≤ steps.old + 32 }
     {
-        let result = self.core.allocate(app, size, held, steps);
+        let result = allocate(&mut self.core, app, size, held, steps);
         let note = note_of_buffer(&result, held);
         let entry = BusEntry {
             app,
@@ -110,7 +112,7 @@ impl<'r> BusCore<'r> {
             answer: BusAnswer::Done,
         };
         self.noted.push(&entry, Note::Nothing);
-        let result = self.core.transmit_buffer(app, buf, inc, held, steps);
+        let result = transmit_buffer(&mut self.core, app, buf, inc, held, steps);
         self.noted.set_answer(of_sent(&result));
         result
     }
@@ -138,7 +140,7 @@ impl<'r> BusCore<'r> {
         ensures bag_refused { OnErr result (held.new ≡ held.old) }
         ensures cost { steps.new ≤ steps.old + 32 }
     {
-        let result = self.core.release(app, buf, held, steps);
+        let result = self.core.release(app, buf as u64, held, steps);
         let entry = BusEntry {
             app,
             call: BusCall::Release { buf },

@@ -5,18 +5,20 @@ ghost use Rattle.ccsds_msg.specs.Message.{message_id};
 ghost use Rattle.bus_words.specs.Bus.{owns, route};
 ghost use Rattle.sb_calls.specs.Bags.{HasBag, KeepsBags, KeepsOtherBags};
 ghost use Rattle.sb_calls.specs.Core.{MayCall, Does, GotAlone, state_of};
-ghost use Rattle.sb_plain.specs.Answers.{created, done, sent, got};
+ghost use Rattle.sb_plain.specs.Answers.{created, done, got};
+ghost use Rattle.sb_calls.specs.Answers.{sent};
 ghost use Rattle.sb_plain.specs.Core.{drops_for};
 
 use crate::answers::{of_created, of_done, of_got, of_sent};
 use crate::bus_core::BusCore;
 use crate::noted::note_of;
+use crate::results::Sent;
+use crate::short::{receive, transmit};
 use bucket_list::{Ledger, Steps};
 use buf_desc::Held;
 use bus_words::{BusAnswer, BusCall, BusEntry, Call};
 use fsw_base::{AppNo, SbStatus, Scope};
 use lend_block::Note;
-use sb_plain::Sent;
 
 impl<'r> BusCore<'r> {
     /// Creates a pipe that holds up to `depth` messages, and answers its number. Pipes are numbered
@@ -139,7 +141,7 @@ impl<'r> BusCore<'r> {
             (route (state_of self.old).subscriptions (message_id bytes.now)) +
             8 * drops_for (state_of self.old) app (message_id bytes.now) }
     {
-        let result = self.core.transmit(app, bytes, inc, steps);
+        let result = transmit(&mut self.core, app, bytes, inc, steps);
         let entry = BusEntry {
             app,
             call: BusCall::Transmit { bytes, inc },
@@ -176,7 +178,7 @@ impl<'r> BusCore<'r> {
             GotAlone self.old app pipe (Call.Receive pipe) number held.new }
         ensures cost { steps.new ≤ steps.old + 32 }
     {
-        let result = self.core.receive(app, pipe, held, steps);
+        let result = receive(&mut self.core, app, pipe, held, steps);
         let answer = of_got(&result);
         let note = note_of(&answer, held, pipe);
         let entry = BusEntry {

@@ -8,17 +8,18 @@ ghost use Rattle.bus_words.specs.Held.{in_use};
 ghost use Rattle.bus_words.specs.Machine.{statistics_after};
 ghost use Rattle.sb_calls.specs.Bags.{KeepsBags};
 ghost use Rattle.sb_calls.specs.Core.{MayCall, Does, apps_of, state_of};
-ghost use Rattle.sb_plain.specs.Answers.{sent};
+ghost use Rattle.sb_calls.specs.Answers.{sent};
 ghost use Rattle.sb_plain.specs.Core.{drops_for};
 
 use crate::answers::of_sent;
 use crate::bus_core::BusCore;
+use crate::results::Sent;
+use crate::short::send_housekeeping;
 use bucket_list::{Ledger, Steps};
 use bus_words::{BusAnswer, BusCall, BusEntry, Call, statistics_are_counted};
 use fsw_base::{AppNo, BusStats, SbStatus};
 use housekeeping::{Counters, InUse};
 use lend_block::Note;
-use sb_plain::Sent;
 
 impl<'r> BusCore<'r> {
     /// Sends the housekeeping packet as a message of the caller's, with its id's next sequence
@@ -42,7 +43,7 @@ impl<'r> BusCore<'r> {
             (route (state_of self.old).subscriptions housekeeping_id) +
             8 * drops_for (state_of self.old) app housekeeping_id }
     {
-        let result = self.core.send_housekeeping(app, steps);
+        let result = send_housekeeping(&mut self.core, app, steps);
         let entry = BusEntry {
             app,
             call: BusCall::Housekeeping,

@@ -95,7 +95,9 @@ mod pending;
 mod permits;
 mod pipe_calls;
 mod pool_calls;
+mod results;
+mod short;
 
 pub use bus_core::BusCore;
 pub use laws::bags_stay;
-pub use sb_plain::{Pended, Sent};
+pub use results::{Pended, Sent};

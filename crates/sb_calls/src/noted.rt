@@ -115,7 +115,7 @@ pub(crate) fn note_of_buffer(told: &Result<u32, SbStatus>, held: &Held<'_>) -> N
     let Ok(number) = told else {
         return Note::Nothing;
     };
-    match held.buffer(*number) {
+    match held.buffer(*number as u64) {
         Some(block) => Note::Desc(block.desc()),
         None => Note::Nothing,
     }
@@ -125,7 +125,7 @@ pub(crate) fn note_of_buffer(told: &Result<u32, SbStatus>, held: &Held<'_>) -> N
 pub(crate) fn bytes_of<'a>(held: &'a Held<'_>, buf: u32) -> &'a [u8]
     ensures { result.now ≡ bytes_at held.now buf }
 {
-    match held.buffer(buf) {
+    match held.buffer(buf as u64) {
         Some(block) => block.bytes(),
         None => &[],
     }

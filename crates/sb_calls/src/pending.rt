@@ -3,18 +3,19 @@
 ghost use Rattle.std.specs.Prelude.{◌≡◌, ℕ, ◌+◌, ◌≤◌, Ok, OnErr};
 ghost use Rattle.bus_words.specs.declared.history.Call.TheVariants.{Look};
 ghost use Rattle.bus_words.specs.Bus.{standing_of, waited_on};
-ghost use Rattle.sb_plain.specs.Answers.{pended};
+ghost use Rattle.sb_calls.specs.Answers.{pended};
 ghost use Rattle.sb_calls.specs.Bags.{HasBag, KeepsOtherBags};
 ghost use Rattle.sb_calls.specs.Core.{MayCall, Does, Looks, GotAlone, state_of};
 
 use crate::answers::of_pended;
 use crate::bus_core::BusCore;
 use crate::noted::note_of;
+use crate::results::Pended;
+use crate::short::{look, pend};
 use bucket_list::{Ledger, Steps};
 use buf_desc::Held;
 use bus_words::{BusCall, BusEntry, Call};
 use fsw_base::{AppNo, SbStatus};
-use sb_plain::Pended;
 
 impl<'r> BusCore<'r> {
     /// Takes the oldest message that waits on the caller's pipe, and answers its number: its view
@@ -44,7 +45,7 @@ impl<'r> BusCore<'r> {
             GotAlone self.old app pipe (Call.Pend pipe) number held.new }
         ensures cost { steps.new ≤ steps.old + 32 }
     {
-        let result = self.core.pend(app, pipe, held, steps);
+        let result = pend(&mut self.core, app, pipe, held, steps);
         let answer = of_pended(&result);
         let note = note_of(&answer, held, pipe);
         let entry = BusEntry {
@@ -74,7 +75,7 @@ impl<'r> BusCore<'r> {
             (Look (waited_on (standing_of (state_of self.old) app))) number held.new }
     {
         let pipe = self.core.pipe_waited_on(app);
-        let result = self.core.look(app, pipe, held);
+        let result = look(&mut self.core, app, pipe, held);
         if result.is_pending() {
             return result;
         }

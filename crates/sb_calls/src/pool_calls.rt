@@ -11,6 +11,7 @@ ghost use Rattle.sb_plain.specs.Answers.{pool_told, grant_back, figures_told};
 use crate::answers::{of_back, of_figures, of_pool};
 use crate::bus_core::BusCore;
 use app_pools::AppPools;
+use crate::short::pool_get;
 use bucket_list::{Ledger, Steps};
 use bus_words::{BusCall, BusEntry, Call};
 use es_pool::Pool;
@@ -59,7 +60,7 @@ impl<'r> BusCore<'r> {
         ensures bags { KeepsBags self.old self.new }
         ensures cost { steps.new ≤ steps.old + 8 }
     {
-        let result = self.core.pool_get(app, pool, size, steps);
+        let result = pool_get(&mut self.core, app, pool, size, steps);
         let entry = BusEntry {
             app,
             call: BusCall::PoolGet { pool, size },
@@ -87,7 +88,7 @@ impl<'r> BusCore<'r> {
         ensures bags { KeepsBags self.old self.new }
         ensures cost { steps.new ≤ steps.old + 8 }
     {
-        let result = self.core.pool_put(app, pool, grant, steps);
+        let result = self.core.pool_put(app, pool, grant as u64, steps);
         let entry = BusEntry {
             app,
             call: BusCall::PoolPut { pool, grant },

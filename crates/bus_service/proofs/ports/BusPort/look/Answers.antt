@@ -4,8 +4,8 @@ use Rattle.journal_store.specs.Budgets.{allowance_of}
 use Rattle.bus_words.specs.Bus.{standing_of, waited_on}
 use Rattle.bus_words.specs.Log.{left_of}
 use Rattle.bus_words.specs.declared.history.Call.TheVariants.{Look}
-use Rattle.sb_plain.specs.Answers.{waited}
-use Rattle.sb_plain.specs.declared.pending.Pended.{Pended}
+use Rattle.sb_calls.specs.Answers.{waited}
+use Rattle.sb_calls.specs.declared.results.Pended.{Pended}
 use Rattle.lend_block.specs.Loan.{LentBytes}
 use Rattle.buf_desc.specs.Held.{Holding}
 use Rattle.sb_calls.specs.Bags.{AreOneLoan}

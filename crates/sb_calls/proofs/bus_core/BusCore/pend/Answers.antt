@@ -5,19 +5,20 @@ use Rattle.sb_plain.specs.Core.{Plain}
 use Rattle.sb_calls.proofs.CoreBags.{bag_in, bag_out}
 use Rattle.sb_calls.proofs.Made.{made_pend}
 use Rattle.sb_calls.proofs.OthersBags.{others_keep}
-use Rattle.sb_calls.proofs.Over.{may_act, stands_over, does_over}
+use Rattle.sb_calls.proofs.Over.{may_act, few_sends, stands_over, does_over}
 use Rattle.sb_calls.proofs.bus_core.BusCore.pend.Goals as goal
 
 pub pend-result-requires : goal.pend-result-requires
 pend-result-requires g c = record {
   may = may_act c.self.inside c.args.self.now c.args.app (Pend c.args.pipe) c.self.view_is c.self.invariant c.requires.may;
+  few = few_sends c.self.inside c.args.self.now c.args.app (Pend c.args.pipe) c.self.view_is c.self.invariant c.requires.may;
   bag = bag_in c.self.inside c.args.self.now c.args.app c.args.held.now c.self.view_is c.self.invariant c.requires.bag;
 }
 
 pub invariant_of-self : goal.invariant_of-self
 invariant_of-self g c =
-    stands_over c.self.inside c.pend-result.new.self c.push.new.self c.args.self.now c.args.app (Pend c.args.pipe) _ c.self.view_is c.self.invariant c.requires.may
-    (made_pend c.self.inside c.pend-result.new.self c.push.new.self c.args.app c.args.pipe _ c.of_pended-answer.result c.note_of-note.result c.pend-result.new.held c.pend-result.ensures.bag (record {
+    stands_over c.self.inside c.pend-result.new.core c.push.new.self c.args.self.now c.args.app (Pend c.args.pipe) _ c.self.view_is c.self.invariant c.requires.may
+    (made_pend c.self.inside c.pend-result.new.core c.push.new.self c.args.app c.args.pipe _ c.of_pended-answer.result c.note_of-note.result c.pend-result.new.held c.pend-result.ensures.bag (record {
       stands = c.self.invariant;
       acts = c.pend-result.ensures.does;
       as_told = c.of_pended-answer.ensures;
@@ -29,8 +30,8 @@ invariant_of-self g c =
 
 pub returns-clause-does : goal.returns-clause-does
 returns-clause-does g c =
-    does_over c.self.inside c.pend-result.new.self c.push.new.self c.args.self.now c.args.app (Pend c.args.pipe) _ c.self.view_is c.self.invariant c.requires.may
-    (made_pend c.self.inside c.pend-result.new.self c.push.new.self c.args.app c.args.pipe _ c.of_pended-answer.result c.note_of-note.result c.pend-result.new.held c.pend-result.ensures.bag (record {
+    does_over c.self.inside c.pend-result.new.core c.push.new.self c.args.self.now c.args.app (Pend c.args.pipe) _ c.self.view_is c.self.invariant c.requires.may
+    (made_pend c.self.inside c.pend-result.new.core c.push.new.self c.args.app c.args.pipe _ c.of_pended-answer.result c.note_of-note.result c.pend-result.new.held c.pend-result.ensures.bag (record {
       stands = c.self.invariant;
       acts = c.pend-result.ensures.does;
       as_told = c.of_pended-answer.ensures;
@@ -42,7 +43,7 @@ returns-clause-does g c =
 
 pub returns-clause-bag : goal.returns-clause-bag
 returns-clause-bag g c =
-    bag_out (record { core = c.pend-result.new.self; noted = c.push.new.self }) c.args.app c.pend-result.new.held (invariant_of-self g c) c.pend-result.ensures.bag
+    bag_out (record { core = c.pend-result.new.core; noted = c.push.new.self }) c.args.app c.pend-result.new.held (invariant_of-self g c) c.pend-result.ensures.bag
 
 pub returns-clause-alone : goal.returns-clause-alone
 returns-clause-alone g c = λ number is.

@@ -12,13 +12,14 @@ use Rattle.sb_calls.proofs.bus_core.BusCore.receive.Goals as goal
 pub receive-result-requires : goal.receive-result-requires
 receive-result-requires g c = record {
   may = may_act c.self.inside c.args.self.now c.args.app (Receive c.args.pipe) c.self.view_is c.self.invariant c.requires.may;
+  few = few_sends c.self.inside c.args.self.now c.args.app (Receive c.args.pipe) c.self.view_is c.self.invariant c.requires.may;
   bag = bag_in c.self.inside c.args.self.now c.args.app c.args.held.now c.self.view_is c.self.invariant c.requires.bag;
 }
 
 pub invariant_of-self : goal.invariant_of-self
 invariant_of-self g c =
-    stands_over c.self.inside c.receive-result.new.self c.push.new.self c.args.self.now c.args.app (Receive c.args.pipe) _ c.self.view_is c.self.invariant c.requires.may
-    (made_receive c.self.inside c.receive-result.new.self c.push.new.self c.args.app c.args.pipe _ c.of_got-answer.result c.note_of-note.result c.receive-result.new.held c.receive-result.ensures.bag (record {
+    stands_over c.self.inside c.receive-result.new.core c.push.new.self c.args.self.now c.args.app (Receive c.args.pipe) _ c.self.view_is c.self.invariant c.requires.may
+    (made_receive c.self.inside c.receive-result.new.core c.push.new.self c.args.app c.args.pipe _ c.of_got-answer.result c.note_of-note.result c.receive-result.new.held c.receive-result.ensures.bag (record {
       stands = c.self.invariant;
       acts = c.receive-result.ensures.does;
       as_told = c.of_got-answer.ensures;
@@ -30,8 +31,8 @@ invariant_of-self g c =
 
 pub returns-clause-does : goal.returns-clause-does
 returns-clause-does g c =
-    does_over c.self.inside c.receive-result.new.self c.push.new.self c.args.self.now c.args.app (Receive c.args.pipe) _ c.self.view_is c.self.invariant c.requires.may
-    (made_receive c.self.inside c.receive-result.new.self c.push.new.self c.args.app c.args.pipe _ c.of_got-answer.result c.note_of-note.result c.receive-result.new.held c.receive-result.ensures.bag (record {
+    does_over c.self.inside c.receive-result.new.core c.push.new.self c.args.self.now c.args.app (Receive c.args.pipe) _ c.self.view_is c.self.invariant c.requires.may
+    (made_receive c.self.inside c.receive-result.new.core c.push.new.self c.args.app c.args.pipe _ c.of_got-answer.result c.note_of-note.result c.receive-result.new.held c.receive-result.ensures.bag (record {
       stands = c.self.invariant;
       acts = c.receive-result.ensures.does;
       as_told = c.of_got-answer.ensures;
@@ -43,7 +44,7 @@ returns-clause-does g c =
 
 pub returns-clause-bag : goal.returns-clause-bag
 returns-clause-bag g c =
-    bag_out (record { core = c.receive-result.new.self; noted = c.push.new.self }) c.args.app c.receive-result.new.held (invariant_of-self g c) c.receive-result.ensures.bag
+    bag_out (record { core = c.receive-result.new.core; noted = c.push.new.self }) c.args.app c.receive-result.new.held (invariant_of-self g c) c.receive-result.ensures.bag
 
 pub returns-clause-alone : goal.returns-clause-alone
 returns-clause-alone g c = λ number is.

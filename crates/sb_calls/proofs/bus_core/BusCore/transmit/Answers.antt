@@ -5,27 +5,27 @@ use Rattle.bus_words.specs.Bus.{State, route}
 use Rattle.sb_calls.specs.Core.{drops_for}
 use Rattle.sb_calls.proofs.CoreBags.{bags_over}
 use Rattle.sb_calls.proofs.Made.{made_plain, sent-nothing}
-use Rattle.sb_calls.proofs.Over.{may_act, send_left, stands_over, does_over, bus_now}
+use Rattle.sb_calls.proofs.Over.{may_act, few_sends, stands_over, does_over, bus_now}
 use Rattle.sb_calls.proofs.bus_core.BusCore.transmit.Goals as goal
 
 pub transmit-result-requires : goal.transmit-result-requires
-transmit-result-requires g c = record { may = may_act c.self.inside c.args.self.now c.args.app (Transmit c.args.bytes.now c.args.inc) c.self.view_is c.self.invariant c.requires.may }
+transmit-result-requires g c = record { may = may_act c.self.inside c.args.self.now c.args.app (Transmit c.args.bytes.now c.args.inc) c.self.view_is c.self.invariant c.requires.may; few = few_sends c.self.inside c.args.self.now c.args.app (Transmit c.args.bytes.now c.args.inc) c.self.view_is c.self.invariant c.requires.may }
 
 pub invariant_of-self : goal.invariant_of-self
 invariant_of-self g c =
-    stands_over c.self.inside c.transmit-result.new.self c.push.new.self c.args.self.now c.args.app (Transmit c.args.bytes.now c.args.inc) _ c.self.view_is c.self.invariant c.requires.may
-    (made_plain c.self.inside c.transmit-result.new.self c.push.new.self c.args.app (Transmit c.args.bytes.now c.args.inc) _ c.of_sent.result (c.transmit-result.ensures.does (send_left c.self.inside c.args.self.now c.args.app (Transmit c.args.bytes.now c.args.inc) c.self.view_is c.self.invariant c.requires.may)) refl refl c.of_sent.ensures
+    stands_over c.self.inside c.transmit-result.new.core c.push.new.self c.args.self.now c.args.app (Transmit c.args.bytes.now c.args.inc) _ c.self.view_is c.self.invariant c.requires.may
+    (made_plain c.self.inside c.transmit-result.new.core c.push.new.self c.args.app (Transmit c.args.bytes.now c.args.inc) _ c.of_sent.result c.transmit-result.ensures.does refl refl c.of_sent.ensures
     c.push.ensures (sent-nothing c.transmit-result.result (Transmit c.args.bytes.now c.args.inc) 0) (λ pipe. refl) (λ number. refl) c.transmit-result.ensures.loans c.transmit-result.ensures.descs)
 
 pub returns-clause-does : goal.returns-clause-does
 returns-clause-does g c =
-    does_over c.self.inside c.transmit-result.new.self c.push.new.self c.args.self.now c.args.app (Transmit c.args.bytes.now c.args.inc) _ c.self.view_is c.self.invariant c.requires.may
-    (made_plain c.self.inside c.transmit-result.new.self c.push.new.self c.args.app (Transmit c.args.bytes.now c.args.inc) _ c.of_sent.result (c.transmit-result.ensures.does (send_left c.self.inside c.args.self.now c.args.app (Transmit c.args.bytes.now c.args.inc) c.self.view_is c.self.invariant c.requires.may)) refl refl c.of_sent.ensures
+    does_over c.self.inside c.transmit-result.new.core c.push.new.self c.args.self.now c.args.app (Transmit c.args.bytes.now c.args.inc) _ c.self.view_is c.self.invariant c.requires.may
+    (made_plain c.self.inside c.transmit-result.new.core c.push.new.self c.args.app (Transmit c.args.bytes.now c.args.inc) _ c.of_sent.result c.transmit-result.ensures.does refl refl c.of_sent.ensures
     c.push.ensures (sent-nothing c.transmit-result.result (Transmit c.args.bytes.now c.args.inc) 0) (λ pipe. refl) (λ number. refl) c.transmit-result.ensures.loans c.transmit-result.ensures.descs)
 
 pub returns-clause-bags : goal.returns-clause-bags
 returns-clause-bags g c =
-    bags_over c.self.inside (record { core = c.transmit-result.new.self; noted = c.push.new.self }) c.args.self.now c.self.view_is c.self.invariant (invariant_of-self g c) c.transmit-result.ensures.bags
+    bags_over c.self.inside (record { core = c.transmit-result.new.core; noted = c.push.new.self }) c.args.self.now c.self.view_is c.self.invariant (invariant_of-self g c) c.transmit-result.ensures.bags
 
 pub returns-clause-cost : goal.returns-clause-cost
 returns-clause-cost g c =

@@ -35,8 +35,8 @@ invariant_of-self g c =
     pushed_then_answered a.noted c.push.new.self c.set_answer.new.self (record { app = app; call = TransmitBuffer buf c.bytes_of.result.now inc; answer = Done }) told
     c.push.ensures c.set_answer.ensures.entries c.set_answer.ensures.budgets c.set_answer.ensures.notes
     ∙ ap (λ bs. record { log = with_entry a.noted.log (record { app = app; call = TransmitBuffer buf bs inc; answer = told }); notes = a.noted.notes ++ Nothing ∷ [] }) c.bytes_of.ensures in
-    stands_over a c.transmit_buffer-result.new.self c.set_answer.new.self c.args.self.now app (TransmitBuffer buf bytes inc) _ c.self.view_is c.self.invariant c.requires.may
-    (made_transmit_buffer a c.transmit_buffer-result.new.self c.set_answer.new.self app buf bytes inc c.transmit_buffer-result.result told c.self.invariant (brings-held a app buf inc c.args.held.now bag)
+    stands_over a c.transmit_buffer-result.new.core c.set_answer.new.self c.args.self.now app (TransmitBuffer buf bytes inc) _ c.self.view_is c.self.invariant c.requires.may
+    (made_transmit_buffer a c.transmit_buffer-result.new.core c.set_answer.new.self app buf bytes inc c.transmit_buffer-result.result told c.self.invariant (brings-held a app buf inc c.args.held.now bag)
     c.transmit_buffer-result.ensures.does c.of_sent.ensures c.transmit_buffer-result.ensures.refused c.transmit_buffer-result.ensures.descs c.transmit_buffer-result.ensures.loans pushed)
 
 pub returns-clause-does : goal.returns-clause-does
@@ -52,13 +52,13 @@ returns-clause-does g c =
     pushed_then_answered a.noted c.push.new.self c.set_answer.new.self (record { app = app; call = TransmitBuffer buf c.bytes_of.result.now inc; answer = Done }) told
     c.push.ensures c.set_answer.ensures.entries c.set_answer.ensures.budgets c.set_answer.ensures.notes
     ∙ ap (λ bs. record { log = with_entry a.noted.log (record { app = app; call = TransmitBuffer buf bs inc; answer = told }); notes = a.noted.notes ++ Nothing ∷ [] }) c.bytes_of.ensures in
-    does_over a c.transmit_buffer-result.new.self c.set_answer.new.self c.args.self.now app (TransmitBuffer buf bytes inc) _ c.self.view_is c.self.invariant c.requires.may
-    (made_transmit_buffer a c.transmit_buffer-result.new.self c.set_answer.new.self app buf bytes inc c.transmit_buffer-result.result told c.self.invariant (brings-held a app buf inc c.args.held.now bag)
+    does_over a c.transmit_buffer-result.new.core c.set_answer.new.self c.args.self.now app (TransmitBuffer buf bytes inc) _ c.self.view_is c.self.invariant c.requires.may
+    (made_transmit_buffer a c.transmit_buffer-result.new.core c.set_answer.new.self app buf bytes inc c.transmit_buffer-result.result told c.self.invariant (brings-held a app buf inc c.args.held.now bag)
     c.transmit_buffer-result.ensures.does c.of_sent.ensures c.transmit_buffer-result.ensures.refused c.transmit_buffer-result.ensures.descs c.transmit_buffer-result.ensures.loans pushed)
 
 pub returns-clause-bag : goal.returns-clause-bag
 returns-clause-bag g c =
-    bag_out (record { core = c.transmit_buffer-result.new.self; noted = c.set_answer.new.self }) c.args.app c.transmit_buffer-result.new.held (invariant_of-self g c) c.transmit_buffer-result.ensures.bag
+    bag_out (record { core = c.transmit_buffer-result.new.core; noted = c.set_answer.new.self }) c.args.app c.transmit_buffer-result.new.held (invariant_of-self g c) c.transmit_buffer-result.ensures.bag
 
 pub returns-clause-other_bags : goal.returns-clause-other_bags
 returns-clause-other_bags g c =
