@@ -146,7 +146,7 @@ fn send_and_receive<'r, L: Ledger>(
     core: &mut PlainBus<'r>,
     app: AppNo,
     held: &mut Held<'r>,
-    number: u32,
+    number: u64,
     place: u32,
     steps: &mut Steps<L>,
 ) -> u32
@@ -164,7 +164,7 @@ fn send_and_receive<'r, L: Ledger>(
 }
 
 // Writes the header of a message to an id into a buffer.
-fn write_message(held: &mut Held<'_>, number: u32, id: u16)
+fn write_message(held: &mut Held<'_>, number: u64, id: u16)
     requires size { (7 ≤ length (bytes_at held.old number)) ×
         (length (bytes_at held.old number) ≤ 65542) }
     ensures { IsWrittenOver held.old held.new }

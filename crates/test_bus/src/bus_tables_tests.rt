@@ -34,7 +34,7 @@ fn first_waiting<L: Ledger>(
 fn message(sender: AppNo, number: u32) -> Message {
     Message {
         sender,
-        number,
+        number: number as u64,
         desc: number,
     }
 }

@@ -19,7 +19,7 @@ fn older_of_two(queue: &mut PipeQueue, first: Item, second: Item, third: Item) -
 }
 
 // The item of one send.
-fn item(number: u32) -> Item {
+fn item(number: u64) -> Item {
     let sub = SubNo { slot: 0, number: 1 };
     Item {
         desc: 0,

@@ -27,7 +27,7 @@ fn taken_and_returned<L: Ledger>(
 #[derive(Clone, Copy)]
 enum Call {
     Get(u32, u32),
-    Put(u32, u32),
+    Put(u32, u64),
 }
 
 /// Makes the calls and compares each answer; a return that is accepted answers 0. Then the
@@ -36,7 +36,7 @@ fn answers<L: Ledger, R: Abort>(
     rt: &R,
     pools: &mut AppPools,
     app: AppNo,
-    calls: &[(Call, Result<u32, EsStatus>)],
+    calls: &[(Call, Result<u64, EsStatus>)],
     blank: Blank,
 )
     requires name { blank.name ≡ L.name }

@@ -160,8 +160,8 @@ fn sealed_until_refused<L: Ledger>(desk: &mut Desk<'_>, blank: Blank) -> u32
 {
     let mut steps = Steps::<L>::new(blank);
     let mut sealed = 0;
-    for number in 1..1000 {
-        match desk.take(65542, number, &mut steps) {
+    for number in 1..1000u32 {
+        match desk.take(65542, number as u64, &mut steps) {
             Ok(block) => {
                 let desc = desk.seal(block, 65542);
                 desk.add_use(desc);
@@ -188,7 +188,7 @@ fn the_largest_region_is_cut_to_its_end(rt: HostRuntime) -> Result<(), Fail> {
 fn put_in_any_order<'r, L: Ledger>(
     desk: &mut Desk<'r>,
     held: &mut Held<'r>,
-    keys: &[u32],
+    keys: &[u64],
     blank: Blank,
 )
     requires name { blank.name ≡ L.name }
