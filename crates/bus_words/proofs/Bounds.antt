@@ -27,7 +27,7 @@ neither false b is = (refl, is)
 le-false : (a b : ℕ) → nat_le a b ≡ false → b < a
 le-false a b is = grind (arith, nat_tests)
 
-lt-false : (a b : ℕ) → nat_lt a b ≡ false → b ≤ a
+pub lt-false : (a b : ℕ) → nat_lt a b ≡ false → b ≤ a
 lt-false a b is = grind (arith, nat_tests)
 
 lt-true : (a b : ℕ) → nat_lt a b ≡ true → a < b
@@ -38,11 +38,11 @@ eq-true a b is = grind (arith, nat_tests)
 
 -- Lists. --
 
-by_push : {X : Type 0} (P : X → Type 0) (xs : List X) (x : X) → AllByRecursion P xs → P x → AllByRecursion P (xs ++ x ∷ [])
+pub by_push : {X : Type 0} (P : X → Type 0) (xs : List X) (x : X) → AllByRecursion P xs → P x → AllByRecursion P (xs ++ x ∷ [])
 by_push P [] x all one = (one, tt)
 by_push P (y ∷ xs) x all one = (all.0, by_push P xs x all.1 one)
 
-by_filter : {X : Type 0} (P : X → Type 0) (p : X → Bool) (xs : List X) → AllByRecursion P xs → AllByRecursion P (filter p xs)
+pub by_filter : {X : Type 0} (P : X → Type 0) (p : X → Bool) (xs : List X) → AllByRecursion P xs → AllByRecursion P (filter p xs)
 by_filter P p [] all = tt
 by_filter {X} P p (x ∷ xs) all =
     elim (p x) as (λ b. AllByRecursion P (cond {A = List X} b (x ∷ filter p xs) (filter p xs))) [
@@ -108,7 +108,7 @@ PipeFits-with_bits limits bits pipe fits = record {
   queue = fits.queue;
 }
 
-all-with_pipe : (P : Pipe → Type 0) (change : Pipe → Pipe) → ((pipe : Pipe) → P pipe → P (change pipe)) → (number : ℕ) (pipes : List Pipe) →
+pub all-with_pipe : (P : Pipe → Type 0) (change : Pipe → Pipe) → ((pipe : Pipe) → P pipe → P (change pipe)) → (number : ℕ) (pipes : List Pipe) →
     AllByRecursion P pipes → AllByRecursion P (with_pipe change number pipes)
 all-with_pipe P change keeps number [] all = tt
 all-with_pipe P change keeps number (pipe ∷ pipes) all = (

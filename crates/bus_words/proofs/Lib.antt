@@ -27,3 +27,4 @@ pub mod Ties
 pub mod Told
 pub mod Unsent
 pub mod UnsentSteps
+pub mod VersionBits

@@ -1,11 +1,14 @@
-//! What holds of every bag, whoever has it.
+//! What holds of every bag, whoever has it, and of every history.
 ghost use Rattle.std.specs.Prelude.{◌≡◌, ◌≢◌, ℕ, List};
+ghost use Rattle.fsw_base.specs.Limits.{Limits};
 ghost use Rattle.lend_block.specs.Loan.{LentBytes};
 ghost use Rattle.buf_desc.specs.Held.{Holding, with_bytes_at};
 ghost use Rattle.bus_words.specs.declared.calls.BusAnswer.{BusAnswer};
 ghost use Rattle.bus_words.specs.declared.history.Call.{Call};
+ghost use Rattle.bus_words.specs.declared.history.Entry.{Entry};
+ghost use Rattle.bus_words.specs.Machine.{state_after};
 ghost use Rattle.sb_calls.specs.Bags.{HasBag, KeepsOtherBags, CalledByOthers, last_message};
-ghost use Rattle.sb_calls.specs.Core.{Core, Does, state_of};
+ghost use Rattle.sb_calls.specs.Core.{Core, Does, drops_for, state_of};
 ghost use Rattle.sb_calls.specs.Views.{bytes_seen};
 
 /// An application's bag shows the bytes of the last message of each of its pipes, and nothing of
@@ -28,3 +31,10 @@ pub fn bags_stay()
 {
     bus_store::recall_written();
 }
+
+/// A bus of version 1 drops no message of a full pipe: no pipe of it has option bit 0x02, whatever
+/// the history. Does nothing.
+pub fn version_1_drops_nothing()
+    ensures { (limits : Limits) (apps : ℕ) (history : List Entry) (app id : ℕ) →
+        limits.version ≡ 1 → drops_for (state_after limits apps history) app id ≡ 0 }
+{}

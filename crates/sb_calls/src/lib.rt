@@ -99,5 +99,5 @@ mod results;
 mod short;
 
 pub use bus_core::BusCore;
-pub use laws::bags_stay;
+pub use laws::{bags_stay, version_1_drops_nothing};
 pub use results::{Pended, Sent};
