@@ -1,16 +1,16 @@
 -- An application that calls is active, or waits where it looks.
-use Rattle.std.proofs.Common.{◌≡◌, ℕ, ◌-◌, ◌≤◌, Bool, true, false, cond, eqb, List, length, get_or, refl, ap, sym, ◌∙◌, subst, arith}
+use Rattle.std.proofs.Common.{◌≡◌, ℕ, ◌-◌, ◌≤◌, Bool, true, false, cond, eqb, List, length, get_or, IsTrue, refl, ap, sym, ◌∙◌, subst, arith}
 use Rattle.std.proofs.lemmas.Bool.Decides.{nat_tests}
 use Rattle.std.proofs.lemmas.Bool.{eqb-true}
 use Rattle.std.proofs.lemmas.List.{length-map}
 use Rattle.bus_words.specs.declared.history.Call.{Call}
-use Rattle.bus_words.specs.declared.history.Call.TheVariants.{Delete, Receive, Pend, Look}
-use Rattle.bus_words.specs.Bus.{Standing, standing_of}
+use Rattle.bus_words.specs.declared.history.Call.TheVariants.{Delete, Receive, Pend, Look, Figures}
+use Rattle.bus_words.specs.Bus.{Standing, Active, Waiting, Ended, standing_of}
 use Rattle.bus_words.specs.Machine.{may_call}
 use Rattle.sb_plain.specs.declared.plain.PlainBus.TheInside.{Inside}
 use Rattle.sb_plain.specs.declared.activities.Activity.{Activity}
 use Rattle.sb_plain.specs.declared.activities.Activity.TheVariants as activities
-use Rattle.sb_plain.specs.Core.{Plain, MayAct}
+use Rattle.sb_plain.specs.Core.{Plain, MayAct, is_within}
 use Rattle.sb_plain.specs.Inside.{plain_of, means}
 use Rattle.sb_plain.specs.Rows.{standing_in, activity_at}
 use Rattle.sb_plain.proofs.Ready.{standing_at}
@@ -74,3 +74,15 @@ active_first acts app active = is_numbered acts app (λ ended. wrong (sym active
   where
     wrong : activities.Active ≡ activities.Ended → ⊥
     wrong is = cc (is)
+
+-- one that may ask for the figures is active
+only_active : (s : Standing) → may_call s Figures ≡ true → s ≡ Active
+only_active Active may = refl
+only_active (Waiting pipe) may = absurd (cc (may))
+only_active Ended may = absurd (cc (may))
+
+-- and may make each call that an active application may
+pub of_active : (core : Plain) (app : ℕ) (call : Call) → IsTrue (may_call Active call) → IsTrue (is_within call) → MayAct core app Figures → MayAct core app call
+of_active core app call allowed within may =
+    let active = only_active (standing_of core.whole.bus app) may.standing in
+    record { known = may.known; standing = subst (λ (s : Standing). IsTrue (may_call s call)) (sym active) allowed; within = within }

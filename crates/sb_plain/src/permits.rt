@@ -1,6 +1,7 @@
 //! Whether a call may be made now.
-ghost use Rattle.std.specs.Prelude.{◌≡◌, ◌↔◌, ◌≤◌, IsTrue};
+ghost use Rattle.std.specs.Prelude.{◌≡◌, ◌↔◌, ◌≤◌, ℕ, Bool, List, IsTrue};
 ghost use Rattle.bus_words.specs.Bus.{standing_of};
+ghost use Rattle.bus_words.specs.declared.history.Call.TheVariants.{TransmitBuffer, Release, PoolPut, Figures};
 ghost use Rattle.bus_words.specs.Entries.{call_of};
 ghost use Rattle.bus_words.specs.Machine.{may_call};
 ghost use Rattle.sb_plain.specs.Core.{MayAct, apps_in, is_within, has_pipe_number, has_subscription_number, has_send_number};
@@ -43,6 +44,19 @@ impl<'r> PlainBus<'r> {
             return false;
         }
         self.is_open(app, call) && is_within(call)
+    }
+
+    /// Whether the application may make each call of a buffer that it has or of a grant, whatever its
+    /// number, which may be past those that a [`BusCall`] has: the bus serves it, and it is active.
+    pub fn may_name(&self, app: AppNo) -> bool
+        ensures active { IsTrue result ↔ MayAct self.now app Figures }
+        ensures transmit { IsTrue result → (buf : ℕ) (bytes : List ℕ) (inc : Bool) →
+            MayAct self.now app (TransmitBuffer buf bytes inc) }
+        ensures release { IsTrue result → (buf : ℕ) → MayAct self.now app (Release buf) }
+        ensures put { IsTrue result → (pool grant : ℕ) →
+            MayAct self.now app (PoolPut pool grant) }
+    {
+        self.may_make(app, &BusCall::Figures)
     }
 
     /// Whether a number is left for one pipe more, which is a condition of `create_pipe`:
