@@ -71,7 +71,7 @@ fn listen<L: Ledger>(bus: &mut PlainBus<'_>, app: AppNo, steps: &mut Steps<L>) -
         depth: 4,
         name: b"TLM",
     };
-    if !bus.may_make(app, &create) {
+    if !bus.may_make(app, &create) || !bus.has_pipe_number() {
         return None;
     }
     let Ok(pipe) = bus.create_pipe(app, 4, b"TLM") else {
@@ -91,6 +91,7 @@ fn subscribe<L: Ledger>(bus: &mut PlainBus<'_>, app: AppNo, pipe: u32, steps: &m
         scope: Scope::Global,
     };
     bus.may_make(app, &call)
+        && bus.has_subscription_number()
         && bus
             .subscribe(app, ID, pipe, 4, Scope::Global, steps)
             .is_ok()

@@ -1,5 +1,6 @@
 -- Each call takes at most one number of each kind and leaves the standings, and so many calls after one another as much.
-use Rattle.std.proofs.Common.{◌≡◌, ℕ, suc, ◌+◌, ◌-◌, ◌==◌, if◌then◌else◌, slice_index_or, ◌≤◌, Bool, true, false, cond, List, [], ◌∷◌, length, Option, Some, None, IsTrue, refl, ap, ◌∙◌, subst, arith}
+use Rattle.std.proofs.Common.{◌≡◌, ℕ, suc, ◌+◌, ◌-◌, ◌^◌, ◌==◌, if◌then◌else◌, slice_index_or, ◌<◌, ◌≤◌, Bool, true, false, cond, ltb, List, [], ◌∷◌, length, Option, Some, None, IsTrue, refl, ap, ◌∙◌, subst, arith}
+use Rattle.std.proofs.lemmas.Bool.Decides.{nat_tests}
 use Rattle.fsw_base.specs.declared.config.Scope.{Scope}
 use Rattle.fsw_base.specs.Limits.{Limits}
 use Rattle.ccsds_msg.specs.Message.{message_id}
@@ -11,7 +12,7 @@ use Rattle.bus_words.specs.Refusals.{Refusal}
 use Rattle.bus_words.specs.Machine.{Reads, sent_along, passed_along, sending_in, buffer_gone, stamped, accept_with, decided_with, cause_with, may_call}
 use Rattle.bus_words.specs.Acts.{Whole, act, reads_in}
 use Rattle.bus_words.proofs.Steps.{with_subscription, after_refusal}
-use Rattle.sb_plain.specs.Core.{Plain, MayAct, Acts, is_within, has_grant_numbers}
+use Rattle.sb_plain.specs.Core.{Plain, MayAct, Acts, is_within, has_pipe_number, has_subscription_number, has_send_number}
 use Rattle.cost_bus.specs.Calls.{MayMake, Made}
 
 -- One call, at the state. --
@@ -118,15 +119,22 @@ left_after old mid app first left may made = record {
   sends = omega (arith, may.sends, made.sends);
 }
 
--- what an active application may call, and asks no pool for a grant
+-- what an active application may call
 pub may_act : (core : Plain) (app left : ℕ) (call : Call) → ((standing : Standing) → standing ≡ Active → IsTrue (may_call standing call)) → IsTrue (is_within call) →
-    IsTrue (has_grant_numbers core.whole.bus.pools call) → MayMake core app (suc left) → MayAct core app call
-may_act core app left call active within grants may = record {
-  known = may.known;
-  standing = active (standing_of core.whole.bus app) may.active;
-  within = within;
-  pipes = omega (arith, may.pipes);
-  subscriptions = omega (arith, may.subscriptions);
-  sends = omega (arith, may.sends);
-  grants = grants;
-}
+    MayMake core app (suc left) → MayAct core app call
+may_act core app left call active within may = record { known = may.known; standing = active (standing_of core.whole.bus app) may.active; within = within }
+
+large : (n : ℕ) → n + 1 < 2 ^ 32 → ltb n 4294967295 ≡ true
+large n lt = grind (arith, nat_tests)
+
+-- a number is left for a pipe
+pub pipe_left : (core : Plain) (app left : ℕ) → MayMake core app (suc left) → IsTrue (has_pipe_number core.whole.bus)
+pipe_left core app left may = large core.whole.bus.pipes_created (omega (arith, may.pipes))
+
+-- a number is left for a subscription
+pub subscription_left : (core : Plain) (app left : ℕ) → MayMake core app (suc left) → IsTrue (has_subscription_number core.whole.bus)
+subscription_left core app left may = large core.whole.bus.subscriptions_made (omega (arith, may.subscriptions))
+
+-- a number is left for a send or a buffer
+pub send_left : (core : Plain) (app left : ℕ) → MayMake core app (suc left) → IsTrue (has_send_number core.whole.bus)
+send_left core app left may = large core.whole.bus.numbers_given (omega (arith, may.sends))

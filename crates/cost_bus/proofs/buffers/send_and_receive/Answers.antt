@@ -9,14 +9,14 @@ use Rattle.cost_bus.proofs.buffers.send_and_receive.Goals as goal
 pub transmit_buffer-sent-requires : goal.transmit_buffer-sent-requires
 transmit_buffer-sent-requires g c = record {
   may = may_act c.args.core.now c.args.app 1 (TransmitBuffer c.args.number (bytes_at c.args.held.now c.args.number) true)
-      (λ standing is. subst (λ (s : Standing). IsTrue (may_call s (TransmitBuffer c.args.number (bytes_at c.args.held.now c.args.number) true))) (sym is) refl) refl refl c.requires.may;
+      (λ standing is. subst (λ (s : Standing). IsTrue (may_call s (TransmitBuffer c.args.number (bytes_at c.args.held.now c.args.number) true))) (sym is) refl) refl c.requires.may;
   bag = c.requires.bag;
 }
 
 pub receive-requires : goal.receive-requires
 receive-requires g c = record {
   may = may_act c.transmit_buffer-sent.new.self c.args.app 0 (Receive (c.args.place + 1))
-      (λ standing is. subst (λ (s : Standing). IsTrue (may_call s (Receive (c.args.place + 1)))) (sym is) refl) refl refl
+      (λ standing is. subst (λ (s : Standing). IsTrue (may_call s (Receive (c.args.place + 1)))) (sym is) refl) refl
       (left_after c.args.core.now c.transmit_buffer-sent.new.self c.args.app 1 1 c.requires.may
       (made_transmit_buffer _ _ _ _ _ _ _ c.transmit_buffer-sent.ensures.does));
   bag = c.transmit_buffer-sent.ensures.bag;

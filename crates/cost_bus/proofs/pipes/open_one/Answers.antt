@@ -1,6 +1,14 @@
 use Rattle.std.proofs.Common.{arith}
-use Rattle.cost_bus.proofs.Making.{made_create, made_subscribe, made_more}
+use Rattle.cost_bus.proofs.Making.{made_create, made_subscribe, made_more, left_after, pipe_left, subscription_left}
 use Rattle.cost_bus.proofs.pipes.open_one.Goals as goal
+
+pub create_pipe-requires-clause-number : goal.create_pipe-requires-clause-number
+create_pipe-requires-clause-number g c = pipe_left c.args.core.now c.args.app 1 c.requires.may
+
+pub subscribe-requires-clause-number : goal.subscribe-requires-clause-number
+subscribe-requires-clause-number g c =
+    subscription_left c.create_pipe.new.self c.args.app 0
+    (left_after c.args.core.now c.create_pipe.new.self c.args.app 1 1 c.requires.may (made_create _ _ _ _ _ _ c.create_pipe.ensures.does))
 
 pub returns-in-Ok-clause-made : goal.returns-in-Ok-clause-made
 returns-in-Ok-clause-made g c =

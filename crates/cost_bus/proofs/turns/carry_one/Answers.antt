@@ -1,11 +1,11 @@
 use Rattle.std.proofs.Common.{arith}
-use Rattle.cost_bus.proofs.Making.{made_transmit, made_none, made_more}
+use Rattle.cost_bus.proofs.Making.{made_transmit, made_none, made_more, send_left}
 use Rattle.cost_bus.proofs.turns.carry_one.Goals as goal
 
 pub returns-then-is_err-clause-made : goal.returns-then-is_err-clause-made
 returns-then-is_err-clause-made g c =
     made_more c.args.core.now c.transmit.new.self c.transmit.new.self 1 0 17 (omega arith)
-    (made_transmit _ _ _ _ _ _ c.transmit.ensures.does) (made_none c.transmit.new.self)
+    (made_transmit _ _ _ _ _ _ (c.transmit.ensures.does (send_left c.args.core.now c.args.app 16 c.requires.may))) (made_none c.transmit.new.self)
 
 pub returns-then-is_err-clause-bag : goal.returns-then-is_err-clause-bag
 returns-then-is_err-clause-bag g c = c.transmit.ensures.bags c.args.app c.args.held.now c.requires.bag
