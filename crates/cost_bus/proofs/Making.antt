@@ -127,6 +127,9 @@ may_act core app left call active within may = record { known = may.known; stand
 large : (n : ℕ) → n + 1 < 2 ^ 32 → ltb n 4294967295 ≡ true
 large n lt = grind (arith, nat_tests)
 
+larger : (n : ℕ) → n + 1 < 2 ^ 64 → ltb n 18446744073709551615 ≡ true
+larger n lt = grind (arith, nat_tests)
+
 -- a number is left for a pipe
 pub pipe_left : (core : Plain) (app left : ℕ) → MayMake core app (suc left) → IsTrue (has_pipe_number core.whole.bus)
 pipe_left core app left may = large core.whole.bus.pipes_created (omega (arith, may.pipes))
@@ -137,4 +140,4 @@ subscription_left core app left may = large core.whole.bus.subscriptions_made (o
 
 -- a number is left for a send or a buffer
 pub send_left : (core : Plain) (app left : ℕ) → MayMake core app (suc left) → IsTrue (has_send_number core.whole.bus)
-send_left core app left may = large core.whole.bus.numbers_given (omega (arith, may.sends))
+send_left core app left may = larger core.whole.bus.numbers_given (omega (arith, may.sends))

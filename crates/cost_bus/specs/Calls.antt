@@ -9,7 +9,7 @@ pub record MayMake (core : Plain) (app calls : ℕ) : Type 0 where
   pub active : standing_of core.whole.bus app ≡ Active
   pub pipes : core.whole.bus.pipes_created + calls < 2 ^ 32
   pub subscriptions : core.whole.bus.subscriptions_made + calls < 2 ^ 32
-  pub sends : core.whole.bus.numbers_given + calls < 2 ^ 32
+  pub sends : core.whole.bus.numbers_given + calls < 2 ^ 64
 
 -- so many calls, or fewer, took no application's standing, and of each kind at most one number each
 pub record Made (old new : Plain) (calls : ℕ) : Type 0 where
