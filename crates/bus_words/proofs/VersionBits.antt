@@ -81,11 +81,11 @@ none_counted sending sub pipes all = let one = at pipes all in omega (arith, one
   where
     count : Pipe → ℕ
     count pipe = cond {A = ℕ} (is_oldest (
-      if ignores_own pipe && pipe.owner == sending.sender then Skip
-      else if nat_le sub.limit (waiting_of pipe sub.number) then OverLimit
-      else if nat_lt (length pipe.queue) pipe.depth then In
-      else if drops_oldest pipe then Oldest
-      else Full)) 1 0
+        if ignores_own pipe && pipe.owner == sending.sender then Skip
+        else if nat_le sub.limit (waiting_of pipe sub.number) then OverLimit
+        else if nat_lt (length pipe.queue) pipe.depth then In
+        else if drops_oldest pipe then Oldest
+        else Full)) 1 0
 
     at : (pipes : List Pipe) → AllByRecursion (HasBits 1) pipes → option_map_or count (find (λ (p : Pipe). p.number == sub.pipe) pipes) 0 ≡ 0
     at [] all = refl

@@ -10,8 +10,8 @@ ghost use Rattle.sb_plain.specs.Answers.{pool_told, grant_back, figures_told};
 
 use crate::answers::{of_back, of_figures, of_pool};
 use crate::bus_core::BusCore;
-use app_pools::AppPools;
 use crate::short::pool_get;
+use app_pools::AppPools;
 use bucket_list::{Ledger, Steps};
 use bus_words::{BusCall, BusEntry, Call};
 use es_pool::Pool;
