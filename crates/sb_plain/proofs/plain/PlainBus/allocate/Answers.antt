@@ -25,7 +25,7 @@ allocate-number-requires-clause-number g c = send_left c.self.inside c.args.self
 
 pub returns-in-Some-clause-does : goal.returns-in-Some-clause-does
 returns-in-Some-clause-does g c = λ left.
-    refused_acts c.args.self.now c.refuse.new.self c.args.app (Allocate c.args.size) c.in-Some.status counters.Send c.refuse.ensures.ticked c.refuse.ensures.covered
+    refused_acts c.args.self.now c.refuse-in-Some.new.self c.args.app (Allocate c.args.size) c.in-Some.status counters.Send c.refuse-in-Some.ensures.ticked c.refuse-in-Some.ensures.covered
     (ap by_bus (sym c.allocate_cause.ensures ∙ c.in-Some.is)) refl refl refl
 
 pub invariant_of-self : goal.invariant_of-self

@@ -42,7 +42,7 @@ send-sent-requires-clause-number g c = send_left c.self.inside c.args.self.now c
 
 pub returns-in-Some-clause-does : goal.returns-in-Some-clause-does
 returns-in-Some-clause-does g c = λ left.
-    refused_acts c.args.self.now c.refuse.new.self c.args.app (Transmit c.args.bytes.now c.args.inc) c.in-Some.status counters.Send c.refuse.ensures.ticked c.refuse.ensures.covered
+    refused_acts c.args.self.now c.refuse-in-Some.new.self c.args.app (Transmit c.args.bytes.now c.args.inc) c.in-Some.status counters.Send c.refuse-in-Some.ensures.ticked c.refuse-in-Some.ensures.covered
     (ap by_bus (sym c.transmit_cause.ensures ∙ c.in-Some.is)) refl refl refl
 
 pub id_of-id-requires : goal.id_of-id-requires
