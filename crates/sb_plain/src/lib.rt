@@ -41,12 +41,12 @@
 //!
 //! # Proved
 //!
-//! - Each of the 27 calls, by an application that may make it (`MayAct`: its standing allows it, and
-//!   the bounds on names, messages, texts and modes; for `create_pipe` and `subscribe` also that a
-//!   number is left: `has_pipe_number`, `has_subscription_number`), answers and leaves what `act` of
-//!   `bus_words` says of the state (`Acts`). The five calls that only ask have no condition. A send
-//!   with a subscriber is refused with `BufAlocErr` if the pool has no block, after its other
-//!   refusals (`transmit_cause`).
+//! - Each of the 27 calls, by an application that may make it (`MayAct`: its standing allows it,
+//!   and the bounds on names, messages, texts and modes; for `create_pipe` and `subscribe` also
+//!   that a number is left: `has_pipe_number`, `has_subscription_number`), answers and leaves what
+//!   `act` of `bus_words` says of the state (`Acts`). The five calls that only ask have no
+//!   condition. A send with a subscriber is refused with `BufAlocErr` if the pool has no block,
+//!   after its other refusals (`transmit_cause`).
 //! - No call has a condition on the numbers of sends, buffers and grants. Behind the last of them
 //!   sends and buffers are refused with `BufAlocErr`, grants with `ErrMemBlockSize` (`spent`).
 //! - The caller's bag is left with the views of its pipes' last messages, the blocks of its unsent
