@@ -1,7 +1,6 @@
 -- What waits on a pipe, as the store tells it.
 use Rattle.std.proofs.Common.{◌≡◌, ℕ, Bool, true, false, cond, List, [], ◌∷◌, ◌++◌, All, eqb, length, suc, Option, Some, None, refl, ap, ◌∙◌, subst, arith}
-use Rattle.std.specs.Option.{option_map, option_map_or, option_and_then}
-use Rattle.std.specs.List.{option_to_list}
+use Rattle.std.specs.Option.{option_map, option_map_or, option_and_then, option_to_list}
 use Rattle.std.proofs.lemmas.Bool.Decides.{nat_tests}
 use Rattle.std.proofs.lemmas.List.Elements.{All-head, All-tail}
 use Rattle.bus_words.specs.Bus.{Item, Pipe, pipe_at, oldest, is_empty}
@@ -72,7 +71,7 @@ none-told pipes number empty = at (pipe_at pipes number) empty
     at (Some pipe) empty = queue_at pipe.queue empty
 
 -- the number of a message, where one was received
-pub got_number : Pended → ℕ
+abbrev pub got_number : Pended → ℕ
 got_number (waits.Got number) = number
 got_number waits.TimeOut = 0
 got_number waits.Pending = 0
@@ -86,7 +85,7 @@ later given (x ∷ xs) ys all = later given xs ys (All-tail (λ (item : Item). I
 -- what waits longest has a number that was given, where all items have
 pub oldest_given : (given : ℕ) (pipes : List Pipe) (number n : ℕ) → All (λ (item : Item). IsGiven given item.number) (items_of pipes) → oldest_told pipes number ≡ Some n → IsGiven given n
 oldest_given given [] number n all some = absurd (cc (some))
-oldest_given given (pipe ∷ pipes) number n all some = at (eqb pipe.number number) some
+oldest_given given (pipe ∷ pipes) number n all some = at (eqb pipe.number number) (oldest_given given pipes number n (later given pipe.queue (items_of pipes) behind)) some
   where
     behind : All (λ (item : Item). IsGiven given item.number) (pipe.queue ++ items_of pipes)
     behind = later given (option_to_list pipe.last) (pipe.queue ++ items_of pipes) all
@@ -98,6 +97,6 @@ oldest_given given (pipe ∷ pipes) number n all some = at (eqb pipe.number numb
     queue_at [] those one = absurd (cc (one))
     queue_at (item ∷ items) those one = subst (IsGiven given) (same item.number one) (All-head (λ (item : Item). IsGiven given item.number) item (items ++ items_of pipes) those)
 
-    at : (b : Bool) → option_map (λ (item : Item). item.number) (option_and_then (λ (p : Pipe). oldest p.queue) (cond b (Some pipe) (pipe_at pipes number))) ≡ Some n → IsGiven given n
-    at true one = queue_at pipe.queue behind one
-    at false one = oldest_given given pipes number n (later given pipe.queue (items_of pipes) behind) one
+    at : (b : Bool) → (oldest_told pipes number ≡ Some n → IsGiven given n) → option_map (λ (item : Item). item.number) (option_and_then (λ (p : Pipe). oldest p.queue) (cond b (Some pipe) (pipe_at pipes number))) ≡ Some n → IsGiven given n
+    at true others one = queue_at pipe.queue behind one
+    at false others one = others one
