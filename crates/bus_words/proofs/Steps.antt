@@ -114,7 +114,7 @@ pub record Keeps (F : State → Type 0) (limits : Limits) (s : State) (app : ℕ
       sending.asked ≡ unsent_size s.unsent app sending.number →
       F (record (buffer_gone s app sending.number) { pipes = deliver sending (route s.subscriptions id) s.pipes })
 
-refused_receive : (F : State → Type 0) (s : State) (pipe : ℕ) (why : Refusal) → F s → F (received s pipe) → F (refused_state s (Receive pipe) why)
+pub refused_receive : (F : State → Type 0) (s : State) (pipe : ℕ) (why : Refusal) → F s → F (received s pipe) → F (refused_state s (Receive pipe) why)
 refused_receive F s pipe (OfBus BadArgument) same receives = same
 refused_receive F s pipe (OfBus MaxPipesMet) same receives = same
 refused_receive F s pipe (OfBus PipeCrErr) same receives = same
