@@ -206,12 +206,12 @@ asked-line limits history s app registers written asked (lines.SendRaw bytes inc
 asked-line limits history s app registers written asked (lines.Receive pipe) are = asked-more registers.buffers asked written _ _ are (given-step limits history s app (calls.Receive _))
 asked-line limits history s app registers written asked (lines.Pend pipe) are = asked-more registers.buffers asked written _ _ are (given-step limits history s app (calls.Pend _))
 asked-line limits history s app registers written asked (lines.Allocate buf size) are =
-    asked-alloc limits history s app registers.buffers asked written buf size (cause limits history s app (calls.Allocate size)) are
+    asked-alloc limits history s app registers.buffers asked written buf size (cause limits s app (calls.Allocate size)) are
 asked-line limits history s app registers written asked (lines.TransmitBuffer buf inc) are =
     let call = calls.TransmitBuffer (slice_index registers.buffers buf) (bytes_in written (slice_index registers.buffers buf)) inc in
-    asked-xmit limits history s app registers.buffers asked written (slice_index registers.buffers buf) (bytes_in written (slice_index registers.buffers buf)) inc (cause limits history s app call) are
+    asked-xmit limits history s app registers.buffers asked written (slice_index registers.buffers buf) (bytes_in written (slice_index registers.buffers buf)) inc (cause limits s app call) are
 asked-line limits history s app registers written asked (lines.Release buf) are =
-    asked-release limits history s app registers.buffers asked written (slice_index registers.buffers buf) (cause limits history s app (calls.Release (slice_index registers.buffers buf))) are
+    asked-release limits history s app registers.buffers asked written (slice_index registers.buffers buf) (cause limits s app (calls.Release (slice_index registers.buffers buf))) are
 asked-line limits history s app registers written asked (lines.PoolCreate pool bytes) are = asked-more registers.buffers asked written _ _ are (given-step limits history s app (calls.PoolCreate bytes))
 asked-line limits history s app registers written asked (lines.PoolGet grant pool size) are = asked-more registers.buffers asked written _ _ are (given-step limits history s app (calls.PoolGet _ size))
 asked-line limits history s app registers written asked (lines.PoolPut pool grant) are = asked-more registers.buffers asked written _ _ are (given-step limits history s app (calls.PoolPut _ _))

@@ -130,7 +130,7 @@ passed-told (sub ∷ subs) sending s = refl
 settles-transmit : (limits : Limits) (history : List Entry) (s : State) (app : ℕ) (bytes : List ℕ) (inc : Bool) → standing_of s app ≡ Active →
     Settles app (step limits history s app (calls.Transmit bytes inc)).0 (step limits history s app (calls.Transmit bytes inc)).1 None
 settles-transmit limits history s app bytes inc active =
-    settles-decided limits history s app (calls.Transmit bytes inc) (cause limits history s app (calls.Transmit bytes inc)) (λ why. refl)
+    settles-decided limits history s app (calls.Transmit bytes inc) (cause limits s app (calls.Transmit bytes inc)) (λ why. refl)
     (along limits (route s.subscriptions (message_id bytes)) _ s) (along-told limits (route s.subscriptions (message_id bytes)) _ s) active
 
 -- a receive that may wait
@@ -164,64 +164,64 @@ pub settles-line : (limits : Limits) (history : List Entry) (s : State) (app : �
     SettlesLine limits history s app registers line (call_of registers written line)
 unfolding call_of pipe_waited_for
 settles-line limits history s app registers written (Create pipe depth name) active =
-    settles-decided limits history s app (calls.Create depth name) (cause limits history s app (calls.Create depth name)) (λ why. refl) refl refl active
+    settles-decided limits history s app (calls.Create depth name) (cause limits s app (calls.Create depth name)) (λ why. refl) refl refl active
 settles-line limits history s app registers written (Delete pipe) active =
-    settles-decided limits history s app (calls.Delete _) (cause limits history s app (calls.Delete (slice_index registers.pipes pipe))) (λ why. refl) refl refl active
+    settles-decided limits history s app (calls.Delete _) (cause limits s app (calls.Delete (slice_index registers.pipes pipe))) (λ why. refl) refl refl active
 settles-line limits history s app registers written (SetOpts pipe bits) active =
-    settles-decided limits history s app (calls.SetOpts _ bits) (cause limits history s app (calls.SetOpts (slice_index registers.pipes pipe) bits)) (λ why. refl) refl refl active
+    settles-decided limits history s app (calls.SetOpts _ bits) (cause limits s app (calls.SetOpts (slice_index registers.pipes pipe) bits)) (λ why. refl) refl refl active
 settles-line limits history s app registers written (GetOpts pipe) active =
-    settles-decided limits history s app (calls.GetOpts _) (cause limits history s app (calls.GetOpts (slice_index registers.pipes pipe))) (λ why. refl) refl refl active
+    settles-decided limits history s app (calls.GetOpts _) (cause limits s app (calls.GetOpts (slice_index registers.pipes pipe))) (λ why. refl) refl refl active
 settles-line limits history s app registers written (Find pipe name) active =
-    settles-decided limits history s app (calls.Find name) (cause limits history s app (calls.Find name)) (λ why. refl) refl refl active
+    settles-decided limits history s app (calls.Find name) (cause limits s app (calls.Find name)) (λ why. refl) refl refl active
 settles-line limits history s app registers written (PipeName pipe) active =
-    settles-decided limits history s app (calls.PipeName _) (cause limits history s app (calls.PipeName (slice_index registers.pipes pipe))) (λ why. refl) refl refl active
+    settles-decided limits history s app (calls.PipeName _) (cause limits s app (calls.PipeName (slice_index registers.pipes pipe))) (λ why. refl) refl refl active
 settles-line limits history s app registers written (Subscribe id pipe limit scope) active =
     let at = slice_index registers.pipes pipe in
-    settles-decided limits history s app (calls.Subscribe id at limit scope) (cause limits history s app (calls.Subscribe id at limit scope)) (λ why. refl)
+    settles-decided limits history s app (calls.Subscribe id at limit scope) (cause limits s app (calls.Subscribe id at limit scope)) (λ why. refl)
     (either (is_subscribed s.subscriptions id at) s _ refl) refl active
 settles-line limits history s app registers written (Unsubscribe id pipe) active =
-    settles-decided limits history s app (calls.Unsubscribe id _) (cause limits history s app (calls.Unsubscribe id (slice_index registers.pipes pipe))) (λ why. refl) refl refl active
+    settles-decided limits history s app (calls.Unsubscribe id _) (cause limits s app (calls.Unsubscribe id (slice_index registers.pipes pipe))) (λ why. refl) refl refl active
 settles-line limits history s app registers written (Send id size fill inc) active = settles-transmit limits history s app _ inc active
 settles-line limits history s app registers written (SendRaw bytes inc) active = settles-transmit limits history s app bytes inc active
 settles-line limits history s app registers written (Receive pipe) active =
     let at = slice_index registers.pipes pipe in
-    settles-decided limits history s app (calls.Receive at) (cause limits history s app (calls.Receive at)) (refused-receive s at) refl refl active
+    settles-decided limits history s app (calls.Receive at) (cause limits s app (calls.Receive at)) (refused-receive s at) refl refl active
 settles-line limits history s app registers written (Pend pipe) active =
-    settles-pend limits history s app pipe registers (cause limits history s app (calls.Pend (slice_index registers.pipes pipe))) active
+    settles-pend limits history s app pipe registers (cause limits s app (calls.Pend (slice_index registers.pipes pipe))) active
 settles-line limits history s app registers written (Allocate buf size) active =
-    settles-decided limits history s app (calls.Allocate size) (cause limits history s app (calls.Allocate size)) (λ why. refl) refl refl active
+    settles-decided limits history s app (calls.Allocate size) (cause limits s app (calls.Allocate size)) (λ why. refl) refl refl active
 settles-line limits history s app registers written (TransmitBuffer buf inc) active =
     let call = calls.TransmitBuffer (slice_index registers.buffers buf) (bytes_in written (slice_index registers.buffers buf)) inc in
-    settles-decided limits history s app call (cause limits history s app call) (λ why. refl)
+    settles-decided limits history s app call (cause limits s app call) (λ why. refl)
     (passed _ _ (buffer_gone s app _)) (passed-told _ _ (buffer_gone s app _)) active
 settles-line limits history s app registers written (Release buf) active =
-    settles-decided limits history s app (calls.Release _) (cause limits history s app (calls.Release (slice_index registers.buffers buf))) (λ why. refl) refl refl active
+    settles-decided limits history s app (calls.Release _) (cause limits s app (calls.Release (slice_index registers.buffers buf))) (λ why. refl) refl refl active
 settles-line limits history s app registers written (PoolCreate pool bytes) active =
-    settles-decided limits history s app (calls.PoolCreate bytes) (cause limits history s app (calls.PoolCreate bytes)) (λ why. refl) refl refl active
+    settles-decided limits history s app (calls.PoolCreate bytes) (cause limits s app (calls.PoolCreate bytes)) (λ why. refl) refl refl active
 settles-line limits history s app registers written (PoolGet grant pool size) active =
     let call = calls.PoolGet (slice_index registers.pools pool) size in
-    settles-decided limits history s app call (cause limits history s app call) (λ why. refl) refl refl active
+    settles-decided limits history s app call (cause limits s app call) (λ why. refl) refl refl active
 settles-line limits history s app registers written (PoolPut pool grant) active =
     let call = calls.PoolPut (slice_index registers.pools pool) (slice_index registers.grants grant) in
-    settles-decided limits history s app call (cause limits history s app call) (λ why. refl) refl refl active
+    settles-decided limits history s app call (cause limits s app call) (λ why. refl) refl refl active
 settles-line limits history s app registers written (PoolFigures pool) active =
     let call = calls.PoolFigures (slice_index registers.pools pool) in
-    settles-decided limits history s app call (cause limits history s app call) (λ why. refl) refl refl active
+    settles-decided limits history s app call (cause limits s app call) (λ why. refl) refl refl active
 settles-line limits history s app registers written (Register filters) active =
-    settles-decided limits history s app (calls.Register filters) (cause limits history s app (calls.Register filters)) (λ why. refl) refl refl active
+    settles-decided limits history s app (calls.Register filters) (cause limits s app (calls.Register filters)) (λ why. refl) refl refl active
 settles-line limits history s app registers written (SendEvent id kind text) active =
-    settles-decided limits history s app (calls.SendEvent id kind text) (cause limits history s app (calls.SendEvent id kind text)) (λ why. refl) refl refl active
+    settles-decided limits history s app (calls.SendEvent id kind text) (cause limits s app (calls.SendEvent id kind text)) (λ why. refl) refl refl active
 settles-line limits history s app registers written (ResetFilter id) active =
-    settles-decided limits history s app (calls.ResetFilter id) (cause limits history s app (calls.ResetFilter id)) (λ why. refl) refl refl active
+    settles-decided limits history s app (calls.ResetFilter id) (cause limits s app (calls.ResetFilter id)) (λ why. refl) refl refl active
 settles-line limits history s app registers written (LogMode mode) active =
-    settles-decided limits history s app (calls.LogMode mode) (cause limits history s app (calls.LogMode mode)) (λ why. refl) refl refl active
+    settles-decided limits history s app (calls.LogMode mode) (cause limits s app (calls.LogMode mode)) (λ why. refl) refl refl active
 settles-line limits history s app registers written ClearLog active =
-    settles-decided limits history s app calls.ClearLog (cause limits history s app calls.ClearLog) (λ why. refl) refl refl active
+    settles-decided limits history s app calls.ClearLog (cause limits s app calls.ClearLog) (λ why. refl) refl refl active
 settles-line limits history s app registers written Housekeeping active =
-    settles-decided limits history s app calls.Housekeeping (cause limits history s app calls.Housekeeping) (λ why. refl)
+    settles-decided limits history s app calls.Housekeeping (cause limits s app calls.Housekeeping) (λ why. refl)
     (along limits (route s.subscriptions (message_id (packet_in limits s))) _ s) (along-told limits (route s.subscriptions (message_id (packet_in limits s))) _ s) active
 settles-line limits history s app registers written Figures active =
-    settles-decided limits history s app calls.Figures (cause limits history s app calls.Figures) (λ why. refl) refl refl active
+    settles-decided limits history s app calls.Figures (cause limits s app calls.Figures) (λ why. refl) refl refl active
 settles-line limits history s app registers written line active = tt
 
 -- a look that finds a message, or that none can come

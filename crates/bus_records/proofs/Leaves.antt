@@ -23,7 +23,7 @@ use Rattle.bus_words.specs.Held.{in_use}
 use Rattle.bus_words.specs.Refusals.{Refusal}
 use Rattle.bus_words.specs.Events.{call_events, desk_by}
 use Rattle.bus_words.specs.Counters.{event_counter, refusal_counter, statistics_by}
-use Rattle.bus_words.specs.Machine.{Reads, sending_from, sending_in, cause_with, decided_with, recorded}
+use Rattle.bus_words.specs.Machine.{Reads, sending_from, sending_in, cause, decided_with, recorded}
 use Rattle.bus_words.specs.Acts.{Whole, reads_in, completed, act}
 use Rattle.bus_words.proofs.Told.{is_quiet, leaves_desk, quiet_events, quiet_desk}
 use Rattle.bus_tables.specs.Missed.{missed}
@@ -54,7 +54,7 @@ left limits reads s app call answer t = recordings_of ((recorded reads limits s 
 
 -- what a call answers and leaves: what its decision does, and of the records what `left` says
 pub acts_with : (limits : Limits) (w : Whole) (app : ℕ) (call : Call) (why : Option Refusal) (answer : BusAnswer) (v : Whole) (records : Recordings) →
-    cause_with (reads_in w) limits w.bus app call ≡ why →
+    cause limits w.bus app call ≡ why →
     completed limits w call (decided_with (reads_in w) limits w.bus app call why) ≡ (answer, v) →
     left limits (reads_in w) w.bus app call answer v.bus ≡ records →
     act limits w app call ≡ (answer, whole_with v records)

@@ -25,7 +25,7 @@ use Rattle.bus_words.specs.Refusals.{Refusal, OfBus, OfPools, OfEvents, refusal_
 use Rattle.bus_words.specs.Held.{in_use}
 use Rattle.bus_words.specs.Events.{unless_refused, send_events, sent_events, call_events, desk_by}
 use Rattle.bus_words.specs.Counters.{statistics_by}
-use Rattle.bus_words.specs.Machine.{Reads, sending_from, packet_in, recorded, reads_after, counts_for, next_count, stamped, front_of, delivered, sent_along, transmitted, buffer_gone, passed_along, buffer_transmitted, received, refused_state, accept, accept_with, decided, decided_with, cause, cause_with, step, step_with, state_from, state_after, LegalFrom, IsLegal}
+use Rattle.bus_words.specs.Machine.{Reads, sending_from, packet_in, recorded, reads_after, counts_for, next_count, stamped, front_of, delivered, sent_along, transmitted, buffer_gone, passed_along, buffer_transmitted, received, refused_state, accept, accept_with, decided, decided_with, cause, step, step_with, state_from, state_after, LegalFrom, IsLegal}
 use Rattle.bus_words.specs.Acts.{NextCount, Whole, AreAlike, reads_in, next_in, has_next, moved_on, first_next, nexts_after, completed, act, whole_from, whole_after, nexts_of, whole_of}
 use Rattle.bus_words.proofs.Finds.{Each, Each-push, Each-drop, Each-filter, any-push, any-map, same-self, same-sym}
 use Rattle.bus_words.proofs.Steps.{after_step, after_refusal, after_choice, with_subscription, with_sent, state_from-keeps}
@@ -165,35 +165,6 @@ accepts_alike reads other limits s app Housekeeping same ways = sends_alike read
 accepts_alike reads other limits s app Figures same ways = refl
 accepts_alike reads other limits s app End same ways = refl
 
-pub causes_alike : (reads other : Reads) (limits : Limits) (s : State) (app : ℕ) (call : Call) → cause_with reads limits s app call ≡ cause_with other limits s app call
-causes_alike reads other limits s app (Create depth name) = refl
-causes_alike reads other limits s app (Delete pipe) = refl
-causes_alike reads other limits s app (SetOpts pipe bits) = refl
-causes_alike reads other limits s app (GetOpts pipe) = refl
-causes_alike reads other limits s app (Find name) = refl
-causes_alike reads other limits s app (PipeName pipe) = refl
-causes_alike reads other limits s app (Subscribe id pipe limit scope) = refl
-causes_alike reads other limits s app (Unsubscribe id pipe) = refl
-causes_alike reads other limits s app (Transmit bytes inc) = refl
-causes_alike reads other limits s app (Receive pipe) = refl
-causes_alike reads other limits s app (Pend pipe) = refl
-causes_alike reads other limits s app (Look pipe) = refl
-causes_alike reads other limits s app (Allocate size) = refl
-causes_alike reads other limits s app (TransmitBuffer buf bytes inc) = refl
-causes_alike reads other limits s app (Release buf) = refl
-causes_alike reads other limits s app (PoolCreate bytes) = refl
-causes_alike reads other limits s app (PoolGet pool size) = refl
-causes_alike reads other limits s app (PoolPut pool grant) = refl
-causes_alike reads other limits s app (PoolFigures pool) = refl
-causes_alike reads other limits s app (Register filters) = refl
-causes_alike reads other limits s app (SendEvent event kind text) = refl
-causes_alike reads other limits s app (ResetFilter event) = refl
-causes_alike reads other limits s app (LogMode mode) = refl
-causes_alike reads other limits s app ClearLog = refl
-causes_alike reads other limits s app Housekeeping = refl
-causes_alike reads other limits s app Figures = refl
-causes_alike reads other limits s app End = refl
-
 -- the housekeeping packet's id
 pub id-packet : (limits : Limits) (s : State) → message_id (packet_in limits s) ≡ housekeeping_id
 id-packet limits s = message_id-housekeeping_packet s.statistics.counts (in_use limits s)
@@ -263,9 +234,8 @@ recorded_alike reads other limits s app call made same ways =
 pub steps_alike : (reads other : Reads) (limits : Limits) (s : State) (app : ℕ) (call : Call) → AreAlike reads other s → HaveWays s →
     step_with reads limits s app call ≡ step_with other limits s app call
 steps_alike reads other limits s app call same ways =
-    ap (λ why. recorded reads limits s app call (decided_with reads limits s app call why)) (causes_alike reads other limits s app call)
-    ∙ ap (recorded reads limits s app call) (by_cause (cause_with other limits s app call))
-    ∙ recorded_alike reads other limits s app call (decided_with other limits s app call (cause_with other limits s app call)) same ways
+    ap (recorded reads limits s app call) (by_cause (cause limits s app call))
+    ∙ recorded_alike reads other limits s app call (decided_with other limits s app call (cause limits s app call)) same ways
   where
     by_cause : (why : Option Refusal) → decided_with reads limits s app call why ≡ decided_with other limits s app call why
     by_cause (Some why) = refl
@@ -682,8 +652,8 @@ module _ (limits : Limits) (history : List Entry) (s : State) (app : ℕ) (ways 
       by_cause (Some why) = refuses call why
       by_cause None = accepts call
 
-      decides : Moves limits history s app call (decided limits history s app call (cause limits history s app call))
-      decides = by_cause (cause limits history s app call)
+      decides : Moves limits history s app call (decided limits history s app call (cause limits s app call))
+      decides = by_cause (cause limits s app call)
 
   -- one call of the whole state is the history's step, and leaves what the longer history is read as
   pub acts : (call : Call) →
@@ -753,9 +723,6 @@ reads_after-legal limits apps history legal =
 
 -- and it is refused for the same cause
 pub causes_after : (limits : Limits) (apps : ℕ) (history : List Entry) (app : ℕ) (call : Call) → IsLegal limits apps history →
-    cause_with (reads_in (whole_after limits apps history)) limits (whole_after limits apps history).bus app call
-    ≡ cause limits history (state_after limits apps history) app call
+    cause limits (whole_after limits apps history).bus app call ≡ cause limits (state_after limits apps history) app call
 causes_after limits apps history app call legal =
-    let s = state_after limits apps history in
-    ap (λ w. cause_with (reads_in w) limits w.bus app call) (whole_after-legal limits apps history legal)
-    ∙ causes_alike (reads_in (whole_of limits history s)) (reads_after limits history) limits s app call
+    ap (λ w. cause limits w.bus app call) (whole_after-legal limits apps history legal)

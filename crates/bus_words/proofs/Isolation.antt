@@ -84,7 +84,7 @@ does-receive_refused limits history s p a own app pipe NoMessage alike is = goes
 does-receive_refused limits history s p a own app pipe BufferInvalid alike is = goes_by own p s.subscriptions_made s.pipes s.subscriptions a alike
 
 does-refused : (limits : Limits) (history : List Entry) (s : State) (p : ℕ) (a : Alone) (own : ℕ → ℕ) (app : ℕ) (call : Call) (why : Refusal) →
-    Stand own p s a → cause limits history s app call ≡ Some why → Does limits history s p a app call (refusal_answer why, refused_state s call why)
+    Stand own p s a → cause limits s app call ≡ Some why → Does limits history s p a app call (refusal_answer why, refused_state s call why)
 does-refused limits history s p a own app (Create depth name) (OfBus status) alike is = goes_by own p s.subscriptions_made s.pipes s.subscriptions a alike
 does-refused limits history s p a own app (Delete pipe) (OfBus status) alike is = goes_by own p s.subscriptions_made s.pipes s.subscriptions a alike
 does-refused limits history s p a own app (SetOpts pipe bits) (OfBus status) alike is = goes_by own p s.subscriptions_made s.pipes s.subscriptions a alike
@@ -255,7 +255,7 @@ does-look limits history s p a own app pipe alike enters =
       | false ↦ λ some enter. goes-got own p s.subscriptions_made pipe s.pipes s.subscriptions a alike
     ] refl enters
 
-pub does-accepted : (limits : Limits) (history : List Entry) (s : State) (p : ℕ) (a : Alone) (own : ℕ → ℕ) (app : ℕ) (call : Call) → cause limits history s app call ≡ None →
+pub does-accepted : (limits : Limits) (history : List Entry) (s : State) (p : ℕ) (a : Alone) (own : ℕ → ℕ) (app : ℕ) (call : Call) → cause limits s app call ≡ None →
     AreOrdered s → Stand own p s a →
     IsTrue (makes_entry call ((accept limits history s app call).0)) → Does limits history s p a app call (accept limits history s app call)
 does-accepted limits history s p a own app (Create depth name) none ordered alike enters =
@@ -290,7 +290,7 @@ does-accepted limits history s p a own app Figures none ordered alike enters = g
 does-accepted limits history s p a own app End none ordered alike enters = goes-end own p s.subscriptions_made s.pipes_created app s.pipes s.subscriptions a ordered.numbered.pipes alike
 
 does-decided : (limits : Limits) (history : List Entry) (s : State) (p : ℕ) (a : Alone) (own : ℕ → ℕ) (app : ℕ) (call : Call) (why : Option Refusal) →
-    cause limits history s app call ≡ why → AreOrdered s → Stand own p s a → IsTrue (makes_entry call ((decided limits history s app call why).0)) →
+    cause limits s app call ≡ why → AreOrdered s → Stand own p s a → IsTrue (makes_entry call ((decided limits history s app call why).0)) →
     Does limits history s p a app call (decided limits history s app call why)
 does-decided limits history s p a own app call (Some why) is ordered alike enters = does-refused limits history s p a own app call why alike is
 does-decided limits history s p a own app call None is ordered alike enters = does-accepted limits history s p a own app call is ordered alike enters
@@ -301,7 +301,7 @@ does-step : (limits : Limits) (history : List Entry) (s : State) (p : ℕ) (a : 
     Goes p (inputs_of limits history s p e) (gets_from p e) ((step limits history s e.app e.call).1).subscriptions_made ((step limits history s e.app e.call).1).pipes ((step limits history s e.app e.call).1).subscriptions a
 does-step limits history s p a own e ordered alike answered enters =
     subst (λ (x : BusAnswer). IsTrue (makes_entry e.call x) → Does limits history s p a e.app e.call (x, (step limits history s e.app e.call).1)) (sym answered)
-    (does-decided limits history s p a own e.app e.call (cause limits history s e.app e.call) refl ordered alike) enters
+    (does-decided limits history s p a own e.app e.call (cause limits s e.app e.call) refl ordered alike) enters
 
 AreOrdered-step : (limits : Limits) (history : List Entry) (s : State) (e : Entry) → AreOrdered s → AreOrdered ((step limits history s e.app e.call).1)
 AreOrdered-step limits history s e ordered = record {
@@ -457,7 +457,7 @@ gave-look limits history s p app pipe =
       | false ↦ λ some gets. gave_got s.pipes p pipe some gets
     ] refl
 
-gave-accepted : (limits : Limits) (history : List Entry) (s : State) (p app : ℕ) (call : Call) → cause limits history s app call ≡ None → Gave p app call (accept limits history s app call)
+gave-accepted : (limits : Limits) (history : List Entry) (s : State) (p app : ℕ) (call : Call) → cause limits s app call ≡ None → Gave p app call (accept limits history s app call)
 gave-accepted limits history s p app (Create depth name) none gets = absurd (true≢false (sym gets))
 gave-accepted limits history s p app (Delete pipe) none gets = absurd (true≢false (sym gets))
 gave-accepted limits history s p app (SetOpts pipe bits) none gets = absurd (true≢false (sym gets))
@@ -486,7 +486,7 @@ gave-accepted limits history s p app Housekeeping none gets = absurd (true≢fal
 gave-accepted limits history s p app Figures none gets = absurd (true≢false (sym gets))
 gave-accepted limits history s p app End none gets = absurd (true≢false (sym gets))
 
-gave-decided : (limits : Limits) (history : List Entry) (s : State) (p app : ℕ) (call : Call) (why : Option Refusal) → cause limits history s app call ≡ why → Gave p app call (decided limits history s app call why)
+gave-decided : (limits : Limits) (history : List Entry) (s : State) (p app : ℕ) (call : Call) (why : Option Refusal) → cause limits s app call ≡ why → Gave p app call (decided limits history s app call why)
 gave-decided limits history s p app call (Some why) is = gave-refused s p app call why
 gave-decided limits history s p app call None is = gave-accepted limits history s p app call is
 
@@ -494,7 +494,7 @@ gave-decided limits history s p app call None is = gave-accepted limits history 
 gave-step : (limits : Limits) (history : List Entry) (s : State) (p : ℕ) (e : Entry) → e.answer ≡ (step limits history s e.app e.call).0 → gets_from p e ≡ true →
     (message : Received) × (e.answer ≡ Got message.number) × (newest_on ((step limits history s e.app e.call).1).pipes p ≡ message ∷ [])
 gave-step limits history s p e answered =
-    subst (λ (x : BusAnswer). Gave p e.app e.call (x, (step limits history s e.app e.call).1)) (sym answered) (gave-decided limits history s p e.app e.call (cause limits history s e.app e.call) refl)
+    subst (λ (x : BusAnswer). Gave p e.app e.call (x, (step limits history s e.app e.call).1)) (sym answered) (gave-decided limits history s p e.app e.call (cause limits s e.app e.call) refl)
 
 -- an entry gives this message, from where a history goes on
 record GivesFrom (limits : Limits) (history : List Entry) (s : State) (p : ℕ) (a : Alone) (es : List Entry) (e : Entry) (message : Received) : Type 0 where

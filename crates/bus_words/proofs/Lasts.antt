@@ -229,7 +229,7 @@ module _ (limits : Limits) (history : List Entry) (s : State) (p app : ℕ) (num
       by_tests true e true none = from-empty s.pipes p pipe e
       by_tests true e false none = same
 
-  comes : (call : Call) (why : Option Refusal) → cause limits history s app call ≡ why → Comes call why
+  comes : (call : Call) (why : Option Refusal) → cause limits s app call ≡ why → Comes call why
   comes (Create depth name) (Some why) is none = same
   comes (Create depth name) None is none = from-same s.pipes (s.pipes ++ _ ∷ []) p (last-push s.pipes _ p refl)
   comes (Delete pipe) (Some why) is none = same
@@ -287,7 +287,7 @@ module _ (limits : Limits) (history : List Entry) (s : State) (p app : ℕ) (num
   comes End None is none = from-filter (λ pipe. not (pipe.owner == app)) s.pipes p single
 
   pub from-step : (call : Call) → gets_from p (record { app = app; call = call; answer = (step limits history s app call).0 }) ≡ false → IsFrom s.pipes ((step limits history s app call).1).pipes p
-  from-step call none = comes call (cause limits history s app call) refl none
+  from-step call none = comes call (cause limits s app call) refl none
 
 -- How many pipes of an application have a last message. --
 

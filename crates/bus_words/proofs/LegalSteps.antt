@@ -95,7 +95,7 @@ legal-refused_receive F limits s app pipe (OfBus BufferInvalid) is keeps = keeps
 legal-refused_receive F limits s app pipe (OfPools status) is keeps = keeps.same
 legal-refused_receive F limits s app pipe (OfEvents status) is keeps = keeps.same
 
-legal-refused : (F : State → Type 0) (limits : Limits) (history : List Entry) (s : State) (app : ℕ) (call : Call) (why : Refusal) → cause limits history s app call ≡ Some why →
+legal-refused : (F : State → Type 0) (limits : Limits) (history : List Entry) (s : State) (app : ℕ) (call : Call) (why : Refusal) → cause limits s app call ≡ Some why →
     KeepsLegal F limits s app → F (refused_state s call why)
 legal-refused F limits history s app (Create depth name) why is keeps = keeps.same
 legal-refused F limits history s app (Delete pipe) why is keeps = keeps.same
@@ -132,7 +132,7 @@ legal-transmit F limits history s app bytes inc keeps =
     (keeps.sends (sending_from (reads_after limits history) s app bytes inc) (message_id bytes))
 
 legal-accepted : (F : State → Type 0) (limits : Limits) (history : List Entry) (s : State) (app : ℕ) (call : Call) →
-    cause limits history s app call ≡ None → IsTrue (may_call (standing_of s app) call) → KeepsLegal F limits s app → F ((accept limits history s app call).1)
+    cause limits s app call ≡ None → IsTrue (may_call (standing_of s app) call) → KeepsLegal F limits s app → F ((accept limits history s app call).1)
 legal-accepted F limits history s app (Create depth name) none may keeps = keeps.creates depth name
 legal-accepted F limits history s app (Delete pipe) none may keeps = keeps.deletes pipe (accepted-owns s app pipe (by_bus-none (unowned_cause s app pipe) none))
 legal-accepted F limits history s app (SetOpts pipe bits) none may keeps = keeps.sets pipe bits
@@ -170,7 +170,7 @@ legal-accepted F limits history s app Figures none may keeps = keeps.same
 legal-accepted F limits history s app End none may keeps = keeps.ends
 
 legal-decided : (F : State → Type 0) (limits : Limits) (history : List Entry) (s : State) (app : ℕ) (call : Call) (why : Option Refusal) →
-    cause limits history s app call ≡ why → IsTrue (may_call (standing_of s app) call) → KeepsLegal F limits s app → F ((decided limits history s app call why).1)
+    cause limits s app call ≡ why → IsTrue (may_call (standing_of s app) call) → KeepsLegal F limits s app → F ((decided limits history s app call why).1)
 legal-decided F limits history s app call (Some why) is may keeps = legal-refused F limits history s app call why is keeps
 legal-decided F limits history s app call None is may keeps = legal-accepted F limits history s app call is may keeps
 
@@ -178,9 +178,9 @@ legal-decided F limits history s app call None is may keeps = legal-accepted F l
 pub legal-step : (F : State → Type 0) (limits : Limits) (history : List Entry) (s : State) (app : ℕ) (call : Call) →
     IsTrue (may_call (standing_of s app) call) → KeepsLegal F limits s app → F ((step limits history s app call).1)
 legal-step F limits history s app call may keeps =
-    let made = decided limits history s app call (cause limits history s app call) in
+    let made = decided limits history s app call (cause limits s app call) in
     let next = recorded (reads_after limits history) limits s app call made in
-    keeps.records made.1 next.1.events next.1.statistics (legal-decided F limits history s app call (cause limits history s app call) refl may keeps)
+    keeps.records made.1 next.1.events next.1.statistics (legal-decided F limits history s app call (cause limits s app call) refl may keeps)
 
 -- Standings. --
 

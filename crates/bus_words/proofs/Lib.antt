@@ -20,6 +20,7 @@ pub mod OwnStandings
 pub mod Owners
 pub mod PipeItems
 pub mod PoolGrants
+pub mod Readings
 pub mod Replay
 pub mod Solo
 pub mod Steps

@@ -13,7 +13,7 @@ use Rattle.bus_words.specs.Bus.{Subscription, State, Sending, Waiting, Active, o
 use Rattle.bus_words.specs.Held.{numbers_to}
 use Rattle.ccsds_msg.specs.Message.{message_id}
 use Rattle.bus_words.specs.Sends.{Reads, sending_from, sending_in, packet_in}
-use Rattle.bus_words.specs.Machine.{LegalFrom, accept_with, buffer_gone, cause_with, decided_with, passed_along, reads_after, received, refused_state, sent_along, state_after, state_from, step, subscribed}
+use Rattle.bus_words.specs.Machine.{LegalFrom, accept_with, buffer_gone, cause, decided_with, passed_along, reads_after, received, refused_state, sent_along, state_after, state_from, step, subscribed}
 use Rattle.bus_words.specs.Numbers.{NumbersAreNew, NumbersInOrder, number_given, number_sent, numbers_in}
 use Rattle.bus_words.proofs.Finds.{Each, Each-push, Each-drop}
 use Rattle.bus_words.proofs.LegalSteps.{legal-front}
@@ -151,7 +151,7 @@ accepted-gives reads limits s app End = no_number s _ _ refl refl
 -- whatever the call, its number, if any, is the next one
 step-gives : (limits : Limits) (history : List Entry) (s : State) (app : ℕ) (call : Call) → Gives s call (step limits history s app call)
 step-gives limits history s app call =
-    let gives = by_cause (cause_with reads limits s app call) in
+    let gives = by_cause (cause limits s app call) in
     record { numbers = gives.numbers; next = gives.next }
   where
     reads : Reads

@@ -209,7 +209,7 @@ active_by End answer keeps = absurd (true≢false (sym keeps))
 plain_step : (limits : Limits) (history : List Entry) (s : State) (app : ℕ) (call : Call) → keeps_standing call ≡ true → IsTrue (may_call (standing_of s app) call) →
     standing_of ((step limits history s app call).1) app ≡ standing_by call ((step limits history s app call).0)
 plain_step limits history s app call keeps may =
-    decided_keeps limits history s app call (cause limits history s app call) keeps
+    decided_keeps limits history s app call (cause limits s app call) keeps
     ∙ active_may (standing_of s app) call keeps may
     ∙ sym (active_by call ((step limits history s app call).0) keeps)
 
@@ -273,7 +273,7 @@ own_step limits history s app ClearLog may entered = plain_step limits history s
 own_step limits history s app Housekeeping may entered = plain_step limits history s app Housekeeping refl may
 own_step limits history s app Figures may entered = plain_step limits history s app Figures refl may
 own_step limits history s app (Pend pipe) may entered =
-    pend_decided limits history s app pipe (cause limits history s app (Pend pipe)) (pend_may (standing_of s app) pipe may)
+    pend_decided limits history s app pipe (cause limits s app (Pend pipe)) (pend_may (standing_of s app) pipe may)
 own_step limits history s app (Look pipe) may entered =
     look_by s app pipe (is_empty s.pipes pipe) (others_idle s app) (waits_on (standing_of s app) pipe may) entered
 own_step limits history s app End may entered = standing-ended s app

@@ -21,7 +21,8 @@ one_more limits entries s next are follows = record {
   given = follows.given entries are.given;
 }
 
-ArePools-step : (limits : Limits) (history : List Entry) (s : State) (app : ℕ) (call : Call) (entries : ℕ) →
+-- and so are those that a step leaves
+pub ArePools-step : (limits : Limits) (history : List Entry) (s : State) (app : ℕ) (call : Call) (entries : ℕ) →
     ArePools limits entries s.pools → ArePools limits (entries + 1) ((step limits history s app call).1).pools
 ArePools-step limits history s app call entries are =
     let same = one_more limits entries s.pools s.pools are (follows_same s.pools) in
@@ -52,13 +53,17 @@ pools_from limits history s (e ∷ es) are =
     subst (λ (h : List Entry). ArePools limits (length h) (state_from limits (history ++ e ∷ []) next es).pools) (append_assoc history (e ∷ []) es)
     (pools_from limits (history ++ e ∷ []) next es now)
 
+-- where the bus opens there is no pool
+pub ArePools-opening : (limits : Limits) (apps : ℕ) → ArePools limits 0 (opening limits apps).pools
+ArePools-opening limits apps = record {
+  most = refl;
+  sizes = refl;
+  few = omega arith;
+  counted = All-nil IsCounted;
+  given = All-nil (λ (pool : PoolGrants). pool.given ≤ 0);
+}
+
 -- after every history
 pub ArePools-after : (limits : Limits) (apps : ℕ) (history : List Entry) → ArePools limits (length history) (state_after limits apps history).pools
 ArePools-after limits apps history =
-    pools_from limits [] (opening limits apps) history (record {
-      most = refl;
-      sizes = refl;
-      few = omega arith;
-      counted = All-nil IsCounted;
-      given = All-nil (λ (pool : PoolGrants). pool.given ≤ 0);
-    })
+    pools_from limits [] (opening limits apps) history (ArePools-opening limits apps)

@@ -114,7 +114,7 @@ pub record Keeps (F : State → Type 0) (limits : Limits) (s : State) (app : ℕ
       sending.asked ≡ unsent_size s.unsent app sending.number →
       F (record (buffer_gone s app sending.number) { pipes = deliver sending (route s.subscriptions id) s.pipes })
 
-refused_receive : (F : State → Type 0) (s : State) (pipe : ℕ) (why : Refusal) → F s → F (received s pipe) → F (refused_state s (Receive pipe) why)
+pub refused_receive : (F : State → Type 0) (s : State) (pipe : ℕ) (why : Refusal) → F s → F (received s pipe) → F (refused_state s (Receive pipe) why)
 refused_receive F s pipe (OfBus BadArgument) same receives = same
 refused_receive F s pipe (OfBus MaxPipesMet) same receives = same
 refused_receive F s pipe (OfBus PipeCrErr) same receives = same
@@ -183,7 +183,7 @@ after_transmit F limits history s app bytes inc none keeps =
     (λ some. keeps.sends sending (message_id bytes) refl refl (transmit_cause-none limits s bytes none some))
 
 after_accepted : (F : State → Type 0) (limits : Limits) (history : List Entry) (s : State) (app : ℕ) (call : Call) →
-    cause limits history s app call ≡ None → Keeps F limits s app → F ((accept limits history s app call).1)
+    cause limits s app call ≡ None → Keeps F limits s app → F ((accept limits history s app call).1)
 after_accepted F limits history s app (Create depth name) none keeps = keeps.creates depth name (by_bus-none (create_cause limits s depth name) none)
 after_accepted F limits history s app (Delete pipe) none keeps = keeps.deletes pipe (by_bus-none (unowned_cause s app pipe) none)
 after_accepted F limits history s app (SetOpts pipe bits) none keeps = keeps.sets pipe bits (by_bus-none (set_opts_cause limits s app pipe bits) none)
@@ -223,7 +223,7 @@ after_accepted F limits history s app Figures none keeps = keeps.same
 after_accepted F limits history s app End none keeps = keeps.ends
 
 after_decided : (F : State → Type 0) (limits : Limits) (history : List Entry) (s : State) (app : ℕ) (call : Call) (why : Option Refusal) →
-    cause limits history s app call ≡ why → Keeps F limits s app → F ((decided limits history s app call why).1)
+    cause limits s app call ≡ why → Keeps F limits s app → F ((decided limits history s app call why).1)
 after_decided F limits history s app call (Some why) is keeps = after_refusal F s call why keeps.same keeps.receives keeps.pools
 after_decided F limits history s app call None is keeps = after_accepted F limits history s app call is keeps
 
@@ -231,9 +231,9 @@ after_decided F limits history s app call None is keeps = after_accepted F limit
 pub after_step : (F : State → Type 0) (limits : Limits) (history : List Entry) (s : State) (app : ℕ) (call : Call) →
     Keeps F limits s app → F ((step limits history s app call).1)
 after_step F limits history s app call keeps =
-    let made = decided limits history s app call (cause limits history s app call) in
+    let made = decided limits history s app call (cause limits s app call) in
     let next = recorded (reads_after limits history) limits s app call made in
-    keeps.records made.1 next.1.events next.1.statistics (after_decided F limits history s app call (cause limits history s app call) refl keeps)
+    keeps.records made.1 next.1.events next.1.statistics (after_decided F limits history s app call (cause limits s app call) refl keeps)
 
 -- what each step keeps holds after more entries
 pub state_from-keeps : (F : State → Type 0) (limits : Limits) →

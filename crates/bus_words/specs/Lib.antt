@@ -9,6 +9,7 @@ pub mod Held
 pub mod Log
 pub mod Machine
 pub mod Numbers
+pub mod Readings
 pub mod ReceiptLists
 pub mod Receipts
 pub mod Refusals

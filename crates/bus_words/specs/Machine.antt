@@ -154,38 +154,34 @@ abbrev pub by_events : Option EvsStatus → Option Refusal
 by_events why = option_map OfEvents why
 
 -- the first refusal whose condition holds. Housekeeping is a send of its packet.
-abbrev pub cause_with : Reads → Limits → State → ℕ → Call → Option Refusal
-cause_with reads limits s app (Create depth name) = by_bus (create_cause limits s depth name)
-cause_with reads limits s app (Delete pipe) = by_bus (unowned_cause s app pipe)
-cause_with reads limits s app (SetOpts pipe bits) = by_bus (set_opts_cause limits s app pipe bits)
-cause_with reads limits s app (GetOpts pipe) = by_bus (dead_cause s pipe)
-cause_with reads limits s app (Find name) = by_bus (find_cause s name)
-cause_with reads limits s app (PipeName pipe) = by_bus (dead_cause s pipe)
-cause_with reads limits s app (Subscribe id pipe limit scope) = by_bus (subscribe_cause limits s app id pipe)
-cause_with reads limits s app (Unsubscribe id pipe) = by_bus (unsubscribe_cause s app id pipe)
-cause_with reads limits s app (Transmit bytes inc) = by_bus (transmit_cause limits s bytes)
-cause_with reads limits s app (Receive pipe) = by_bus (receive_cause s app pipe)
-cause_with reads limits s app (Pend pipe) = by_bus (unowned_cause s app pipe)
-cause_with reads limits s app (Look pipe) = None
-cause_with reads limits s app (Allocate size) = by_bus (allocate_cause limits s size)
-cause_with reads limits s app (TransmitBuffer buf bytes inc) = by_bus (transmit_buffer_cause s app buf bytes)
-cause_with reads limits s app (Release buf) = by_bus (release_cause s app buf)
-cause_with reads limits s app (PoolCreate bytes) = by_pools (pool_create_cause s bytes)
-cause_with reads limits s app (PoolGet pool size) = by_pools (pool_get_cause s pool size)
-cause_with reads limits s app (PoolPut pool grant) = by_pools (pool_put_cause s pool grant)
-cause_with reads limits s app (PoolFigures pool) = by_pools (no_pool_cause s pool)
-cause_with reads limits s app (Register filters) = None
-cause_with reads limits s app (SendEvent id kind text) = by_events (send_refusal s.events app)
-cause_with reads limits s app (ResetFilter id) = by_events (reset_refusal s.events app id)
-cause_with reads limits s app (LogMode mode) = None
-cause_with reads limits s app ClearLog = None
-cause_with reads limits s app Housekeeping = by_bus (transmit_cause limits s (packet_in limits s))
-cause_with reads limits s app Figures = None
-cause_with reads limits s app End = None
-
--- the first refusal after a history
-abbrev pub cause : Limits → List Entry → State → ℕ → Call → Option Refusal
-cause limits history s app call = cause_with (reads_after limits history) limits s app call
+abbrev pub cause : Limits → State → ℕ → Call → Option Refusal
+cause limits s app (Create depth name) = by_bus (create_cause limits s depth name)
+cause limits s app (Delete pipe) = by_bus (unowned_cause s app pipe)
+cause limits s app (SetOpts pipe bits) = by_bus (set_opts_cause limits s app pipe bits)
+cause limits s app (GetOpts pipe) = by_bus (dead_cause s pipe)
+cause limits s app (Find name) = by_bus (find_cause s name)
+cause limits s app (PipeName pipe) = by_bus (dead_cause s pipe)
+cause limits s app (Subscribe id pipe limit scope) = by_bus (subscribe_cause limits s app id pipe)
+cause limits s app (Unsubscribe id pipe) = by_bus (unsubscribe_cause s app id pipe)
+cause limits s app (Transmit bytes inc) = by_bus (transmit_cause limits s bytes)
+cause limits s app (Receive pipe) = by_bus (receive_cause s app pipe)
+cause limits s app (Pend pipe) = by_bus (unowned_cause s app pipe)
+cause limits s app (Look pipe) = None
+cause limits s app (Allocate size) = by_bus (allocate_cause limits s size)
+cause limits s app (TransmitBuffer buf bytes inc) = by_bus (transmit_buffer_cause s app buf bytes)
+cause limits s app (Release buf) = by_bus (release_cause s app buf)
+cause limits s app (PoolCreate bytes) = by_pools (pool_create_cause s bytes)
+cause limits s app (PoolGet pool size) = by_pools (pool_get_cause s pool size)
+cause limits s app (PoolPut pool grant) = by_pools (pool_put_cause s pool grant)
+cause limits s app (PoolFigures pool) = by_pools (no_pool_cause s pool)
+cause limits s app (Register filters) = None
+cause limits s app (SendEvent id kind text) = by_events (send_refusal s.events app)
+cause limits s app (ResetFilter id) = by_events (reset_refusal s.events app id)
+cause limits s app (LogMode mode) = None
+cause limits s app ClearLog = None
+cause limits s app Housekeeping = by_bus (transmit_cause limits s (packet_in limits s))
+cause limits s app Figures = None
+cause limits s app End = None
 
 -- What a call that isn't refused answers and changes. --
 
@@ -401,7 +397,7 @@ recorded reads limits s app call made = (
 
 -- what the call answers where it sees this beside the bus, and the bus afterwards
 abbrev pub step_with : Reads → Limits → State → ℕ → Call → BusAnswer × State
-step_with reads limits s app call = recorded reads limits s app call (decided_with reads limits s app call (cause_with reads limits s app call))
+step_with reads limits s app call = recorded reads limits s app call (decided_with reads limits s app call (cause limits s app call))
 
 -- what the call answers after this history, and the bus afterwards
 abbrev pub step : Limits → List Entry → State → ℕ → Call → BusAnswer × State

@@ -10,7 +10,7 @@ ghost use Rattle.bus_words.specs.declared.history.Entry.{Entry};
 ghost use Rattle.bus_words.specs.Bus.{ArePools, State, opening, standing_of, has_ended, owns, unsent_of};
 ghost use Rattle.bus_words.specs.Held.{AreUnsent, IsAccounted, HoldsNothing, held, block_of, account_of, bytes_in_use, in_use};
 ghost use Rattle.bus_words.specs.Log.{Log, left_of};
-ghost use Rattle.bus_words.specs.Machine.{reads_after, cause, cause_with, step, state_after, may_call, makes_entry, brings, desk_after, statistics_after, IsLegal};
+ghost use Rattle.bus_words.specs.Machine.{reads_after, cause, step, state_after, may_call, makes_entry, brings, desk_after, statistics_after, IsLegal};
 ghost use Rattle.bus_words.specs.Sends.{packet_in};
 ghost use Rattle.bus_words.specs.Acts.{AreAlike, Whole, act, reads_in, whole_after, whole_of};
 ghost use Rattle.bus_words.specs.Runs.{callers, stepped, Follows, own_entries, standing_behind};
@@ -90,9 +90,9 @@ pub fn states_are_enough()
         (state_after limits apps history) }
     ensures causes { (limits : Limits) (apps : ℕ) (history : List Entry) (app : ℕ) (call : Call) →
         IsLegal limits apps history →
-        cause_with (reads_in (whole_after limits apps history)) limits
+        cause limits
         (whole_after limits apps history).bus app call
-        ≡ cause limits history (state_after limits apps history) app call }
+        ≡ cause limits (state_after limits apps history) app call }
     ensures acts { (limits : Limits) (apps : ℕ) (history : List Entry) (app : ℕ) (call : Call) →
         IsLegal limits apps history →
         act limits (whole_after limits apps history) app call

@@ -51,6 +51,7 @@ mod laws;
 mod message_receipts;
 mod number_laws;
 mod pipe_text;
+mod pool_laws;
 mod receipts;
 mod verdict;
 
@@ -65,5 +66,6 @@ pub use laws::{
 };
 pub use number_laws::send_numbers_are_new;
 pub use pipe_text::{NAME_BYTES, PipeText};
+pub use pool_laws::pool_counts_are_read;
 pub use receipts::{HEAD_BYTES, Head, Receipt, ReceiptList};
 pub use verdict::Verdict;

@@ -9,7 +9,7 @@ use Rattle.bus_words.specs.declared.history.Call.{Call}
 use Rattle.bus_words.specs.declared.history.Call.TheVariants.{Create, Subscribe, Transmit, Receive, Allocate, TransmitBuffer}
 use Rattle.bus_words.specs.Bus.{State, Subscription, Sending, Active, Ended, Standing, standing_of, is_subscribed, route}
 use Rattle.bus_words.specs.Refusals.{Refusal}
-use Rattle.bus_words.specs.Machine.{Reads, sent_along, passed_along, sending_in, buffer_gone, stamped, accept_with, decided_with, cause_with, may_call}
+use Rattle.bus_words.specs.Machine.{Reads, sent_along, passed_along, sending_in, buffer_gone, stamped, accept_with, decided_with, cause, may_call}
 use Rattle.bus_words.specs.Acts.{Whole, act, reads_in}
 use Rattle.bus_words.proofs.Steps.{with_subscription, after_refusal}
 use Rattle.sb_plain.specs.Core.{Plain, MayAct, Acts, is_within, has_pipe_number, has_subscription_number, has_send_number}
@@ -52,7 +52,7 @@ goes_passed (sub ∷ subs) sending s gone goes = record { standings = goes.stand
 made_one : (old new : Plain) (app : ℕ) (call : Call) (answer : BusAnswer) → Acts old new app call answer →
     Goes old.whole.bus ((accept_with (reads_in old.whole) old.limits old.whole.bus app call).1) → Made old new 1
 made_one old new app call answer acts accepted =
-    let goes = goes_decided (reads_in old.whole) old.limits old.whole.bus app call (cause_with (reads_in old.whole) old.limits old.whole.bus app call) accepted in
+    let goes = goes_decided (reads_in old.whole) old.limits old.whole.bus app call (cause old.limits old.whole.bus app call) accepted in
     let is : ((act old.limits old.whole app call).1) ≡ new.whole = ap (λ (made : BusAnswer × Whole). made.1) acts.made in
     let noted : Goes old.whole.bus (act old.limits old.whole app call).1.bus =
     record { standings = goes.standings; pipes = goes.pipes; subscriptions = goes.subscriptions; sends = goes.sends } in

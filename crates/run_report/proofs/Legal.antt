@@ -156,5 +156,5 @@ pub legal_answers : (limits : Limits) (history : List Entry) (s : State) (es : L
 legal_answers limits history s [] legal = All-nil (λ (e : Entry). IsTrue (can_answer e.call e.answer))
 legal_answers limits history s (e ∷ es) legal =
     All-cons (λ (x : Entry). IsTrue (can_answer x.call x.answer)) e es
-    (ap (can_answer e.call) legal.1 ∙ decided_answer limits history s e.app e.call (cause limits history s e.app e.call))
+    (ap (can_answer e.call) legal.1 ∙ decided_answer limits history s e.app e.call (cause limits s e.app e.call))
     (legal_answers limits (history ++ e ∷ []) ((step limits history s e.app e.call).1) es legal.4)

@@ -75,7 +75,7 @@ module _ (limits : Limits) (history : List Entry) (s : State) (app n : ℕ) wher
   accepted calls.End none = was_unsent n s.unsent (without_all_unsent s.unsent app) (Each-without_all (OtherBuffer n) s.unsent app)
 
   pub unsent-from : (call : Call) → ByCall call (step limits history s app call)
-  unsent-from call = by_cause (cause limits history s app call)
+  unsent-from call = by_cause (cause limits s app call)
     where
       by_cause : (why : Option Refusal) → ByCall call (decided limits history s app call why)
       by_cause (Some why) none = after_refusal (From n s) s call why (λ is. is) (λ pipe is. is) (λ next follows is. is)
@@ -95,7 +95,7 @@ module _ (limits : Limits) (history : List Entry) (s : State) (app n : ℕ) wher
   next_given call gives = absurd (true≢false (sym gives))
 
   pub gives-next : (call : Call) → gives_buffer n (record { app = app; call = call; answer = (step limits history s app call).0 }) ≡ true → n ≡ s.numbers_given + 1
-  gives-next call = by_cause (cause limits history s app call)
+  gives-next call = by_cause (cause limits s app call)
     where
       by_cause : (why : Option Refusal) → gives_buffer n (record { app = app; call = call; answer = (decided limits history s app call why).0 }) ≡ true → n ≡ s.numbers_given + 1
       by_cause (Some why) gives = absurd (true≢false (sym gives ∙ refused-gives call why))

@@ -12,7 +12,7 @@ use Rattle.bus_words.specs.declared.history.Call.{Call}
 use Rattle.bus_words.specs.Counters.{refusal_counter}
 use Rattle.bus_words.specs.Held.{in_use}
 use Rattle.bus_words.specs.Refusals.{Refusal, OfBus}
-use Rattle.bus_words.specs.Machine.{by_bus, cause_with, decided_with, accept_with, refused_state}
+use Rattle.bus_words.specs.Machine.{by_bus, cause, decided_with, accept_with, refused_state}
 use Rattle.bus_words.specs.Acts.{Whole, completed, reads_in}
 use Rattle.bus_words.proofs.Told.{is_quiet, leaves_desk}
 use Rattle.bus_records.specs.Records.{Recordings, counter_ticked, peaks_raised}
@@ -29,15 +29,15 @@ use Rattle.sb_plain.proofs.Accounts.{IsHeld, in_use_is}
 
 -- what a call answers and leaves, but for what is recorded of it
 abbrev pub bare : Limits → Whole → ℕ → Call → BusAnswer × Whole
-bare limits w app call = completed limits w call (decided_with (reads_in w) limits w.bus app call (cause_with (reads_in w) limits w.bus app call))
+bare limits w app call = completed limits w call (decided_with (reads_in w) limits w.bus app call (cause limits w.bus app call))
 
 -- of a call whose cause is known
-pub bare_by : (limits : Limits) (w : Whole) (app : ℕ) (call : Call) (why : Option Refusal) → cause_with (reads_in w) limits w.bus app call ≡ why →
+pub bare_by : (limits : Limits) (w : Whole) (app : ℕ) (call : Call) (why : Option Refusal) → cause limits w.bus app call ≡ why →
     bare limits w app call ≡ completed limits w call (decided_with (reads_in w) limits w.bus app call why)
 bare_by limits w app call why is = ap (λ o. completed limits w call (decided_with (reads_in w) limits w.bus app call o)) is
 
 -- of a call that isn't refused
-pub accepted_by : (limits : Limits) (w : Whole) (app : ℕ) (call : Call) (cause : Option SbStatus) → cause_with (reads_in w) limits w.bus app call ≡ by_bus cause → cause ≡ None →
+pub accepted_by : (limits : Limits) (w : Whole) (app : ℕ) (call : Call) (cause : Option SbStatus) → cause limits w.bus app call ≡ by_bus cause → cause ≡ None →
     bare limits w app call ≡ completed limits w call (accept_with (reads_in w) limits w.bus app call)
 accepted_by limits w app call cause here none = bare_by limits w app call None (here ∙ ap by_bus none)
 
@@ -58,7 +58,7 @@ module _ (a : Inside) (store : Store) (acts : Vec Activity Global) (pools : Pool
       let limits = limits_of a.config in
       let w = means a in
       let P : Plain → Type 0 = λ o. Acts o (plain_of (record b { records = records })) app call answer in
-      subst P viewed (record { made = acts_with limits w app call (cause_with (reads_in w) limits w.bus app call) answer (means b) records refl made told; limits = refl })
+      subst P viewed (record { made = acts_with limits w app call (cause limits w.bus app call) answer (means b) records refl made told; limits = refl })
 
   -- where what is in use is looked at last
   pub acts_seen : (told records : Recordings) → left_at a app call answer (means b) ≡ peaks_raised told (in_use (limits_of a.config) (means b).bus) → records ≡ peaks_raised told (in_use_at store) →
@@ -86,7 +86,7 @@ acts_still a old app call answer viewed keeps made quiet leaves none =
     let P : Plain → Type 0 = λ o. Acts o o app call answer in
     subst P viewed
     (record {
-      made = acts_with limits w app call (cause_with (reads_in w) limits w.bus app call) answer w (recordings_of w.bus) refl made
+      made = acts_with limits w app call (cause limits w.bus app call) answer w (recordings_of w.bus) refl made
           (still_left limits (reads_in w) w.bus app call answer w.bus quiet leaves none keeps.covered);
       limits = refl;
     })
@@ -112,15 +112,15 @@ told_keeps a records same keeps = record {
 -- Refusals. --
 
 -- what is told of the fields is told of the core
-pub cause_told : (a : Inside) (old : Plain) (app : ℕ) (call : Call) (why : Option Refusal) → plain_of a ≡ old → cause_with (reads_in (means a)) (limits_of a.config) (means a).bus app call ≡ why →
-    cause_with (reads_in old.whole) old.limits old.whole.bus app call ≡ why
+pub cause_told : (a : Inside) (old : Plain) (app : ℕ) (call : Call) (why : Option Refusal) → plain_of a ≡ old → cause (limits_of a.config) (means a).bus app call ≡ why →
+    cause old.limits old.whole.bus app call ≡ why
 cause_told a old app call why viewed here =
-    let P : Plain → Type 0 = λ o. cause_with (reads_in o.whole) o.limits o.whole.bus app call ≡ why in
+    let P : Plain → Type 0 = λ o. cause o.limits o.whole.bus app call ≡ why in
     subst P viewed here
 
 -- a refused call that is counted, and changes nothing else
 pub refused_acts : (old new : Plain) (app : ℕ) (call : Call) (status : SbStatus) (which : CounterName) → new ≡ with_tick old which → IsCovered old →
-    cause_with (reads_in old.whole) old.limits old.whole.bus app call ≡ Some (OfBus status) →
+    cause old.limits old.whole.bus app call ≡ Some (OfBus status) →
     completed old.limits old.whole call (Sb status, refused_state old.whole.bus call (OfBus status)) ≡ (Sb status, old.whole) →
     leaves_desk call ≡ true → refusal_counter call (Sb status) ≡ which ∷ [] → Acts old new app call (Sb status)
 refused_acts old new app call status which is covered cause still leaves counter =

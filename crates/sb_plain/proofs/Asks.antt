@@ -9,7 +9,7 @@ use Rattle.bus_words.specs.declared.calls.BusAnswer.TheVariants.{Number, Name}
 use Rattle.bus_words.specs.declared.history.Call.TheVariants.{GetOpts, Find, PipeName}
 use Rattle.bus_words.specs.Acts.{reads_in}
 use Rattle.bus_words.specs.Bus.{Pipe, pipe_at, pipe_named}
-use Rattle.bus_words.specs.Machine.{by_bus, cause_with, refused_if}
+use Rattle.bus_words.specs.Machine.{by_bus, cause, refused_if}
 use Rattle.bus_words.specs.Refusals.{OfBus}
 use Rattle.sb_plain.specs.declared.plain.PlainBus.TheInside.{Inside}
 use Rattle.sb_plain.specs.Inside.{means}
@@ -61,7 +61,7 @@ module _ (a : Inside) (app : ℕ) where
       ∙ ap (λ n. (Number n, means a)) both.1
 
   pub bits_refused : (pipe : ℕ) → option_map (λ p. p.bits) (pipe_at a.store.pipes pipe) ≡ None →
-      cause_with (reads_in (means a)) (limits_of a.config) (means a).bus app (GetOpts pipe) ≡ Some (OfBus BadArgument)
+      cause (limits_of a.config) (means a).bus app (GetOpts pipe) ≡ Some (OfBus BadArgument)
   bits_refused pipe none = ap (λ b. by_bus (refused_if (not b) BadArgument None)) (not_found (λ p. eqb p.number pipe) (λ p. p.bits) a.store.pipes none)
 
   pub number_made : (name : List ℕ) (number : ℕ) → option_map (λ p. p.number) (pipe_named a.store.pipes name) ≡ Some number →
@@ -72,7 +72,7 @@ module _ (a : Inside) (app : ℕ) where
       ∙ ap (λ n. (Number n, means a)) both.1
 
   pub number_refused : (name : List ℕ) → option_map (λ p. p.number) (pipe_named a.store.pipes name) ≡ None →
-      cause_with (reads_in (means a)) (limits_of a.config) (means a).bus app (Find name) ≡ Some (OfBus BadArgument)
+      cause (limits_of a.config) (means a).bus app (Find name) ≡ Some (OfBus BadArgument)
   number_refused name none = ap (λ b. by_bus (refused_if (not b) BadArgument None)) (not_found (λ p. bytes_eq p.name name) (λ p. p.number) a.store.pipes none)
 
   pub name_made : (pipe : ℕ) (name : List ℕ) → option_map (λ p. p.name) (pipe_at a.store.pipes pipe) ≡ Some name →
@@ -83,5 +83,5 @@ module _ (a : Inside) (app : ℕ) where
       ∙ ap (λ n. (Name n, means a)) both.1
 
   pub name_refused : (pipe : ℕ) → option_map (λ p. p.name) (pipe_at a.store.pipes pipe) ≡ None →
-      cause_with (reads_in (means a)) (limits_of a.config) (means a).bus app (PipeName pipe) ≡ Some (OfBus BadArgument)
+      cause (limits_of a.config) (means a).bus app (PipeName pipe) ≡ Some (OfBus BadArgument)
   name_refused pipe none = ap (λ b. by_bus (refused_if (not b) BadArgument None)) (not_found (λ p. eqb p.number pipe) (λ p. p.name) a.store.pipes none)

@@ -10,7 +10,7 @@ use Rattle.pool_words.specs.Grants.{PoolGrants, Pools, new_pool, is_pool, pool_i
 use Rattle.bus_words.specs.declared.calls.BusAnswer.{BusAnswer}
 use Rattle.bus_words.specs.declared.history.Call.TheVariants.{PoolGet}
 use Rattle.bus_words.specs.Refusals.{Refusal, OfPools}
-use Rattle.bus_words.specs.Machine.{by_pools, refused_if, cause_with}
+use Rattle.bus_words.specs.Machine.{by_pools, refused_if, cause}
 use Rattle.bus_words.specs.Acts.{Whole, reads_in}
 use Rattle.sb_plain.specs.declared.plain.PlainBus.TheInside.{Inside}
 use Rattle.sb_plain.specs.Answers.{pool_told}
@@ -53,13 +53,13 @@ module _ (a : Inside) (app pool size : ℕ) where
   made = by_tests (is_pool a.pools pool) (has_room it.account size) refl refl
     where
       why : (there room : Bool) → is_pool a.pools pool ≡ there → has_room it.account size ≡ room →
-          cause_with (reads_in (means a)) (limits_of a.config) (means a).bus app (PoolGet pool size) ≡ by_pools (refused_if (not there) NoPool (refused_if (not room) ErrMemBlockSize None))
+          cause (limits_of a.config) (means a).bus app (PoolGet pool size) ≡ by_pools (refused_if (not there) NoPool (refused_if (not room) ErrMemBlockSize None))
       why there room is fits =
           ap (λ b. by_pools (refused_if (not b) NoPool (refused_if (not (has_room it.account size)) ErrMemBlockSize None))) is
           ∙ ap (λ b. by_pools (refused_if (not there) NoPool (refused_if (not b) ErrMemBlockSize None))) fits
 
       by : (there room : Bool) (o : Option Refusal) → by_pools (refused_if (not there) NoPool (refused_if (not room) ErrMemBlockSize None)) ≡ o →
-          is_pool a.pools pool ≡ there → has_room it.account size ≡ room → cause_with (reads_in (means a)) (limits_of a.config) (means a).bus app (PoolGet pool size) ≡ o
+          is_pool a.pools pool ≡ there → has_room it.account size ≡ room → cause (limits_of a.config) (means a).bus app (PoolGet pool size) ≡ o
       by there room o none is fits = why there room is fits ∙ none
 
       told : (there room : Bool) → is_pool a.pools pool ≡ there → has_room it.account size ≡ room →

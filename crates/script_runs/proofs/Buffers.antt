@@ -313,7 +313,7 @@ agrees-decided limits history s app call written None there agree = agrees-accep
 -- after one's own step what was written still agrees with the buffers
 pub agree-step : (limits : Limits) (history : List Entry) (s : State) (app : ℕ) (call : Call) (written : Written) → app - 1 < length s.unsent → AreWritten s.unsent app written →
     AreWritten ((step limits history s app call).1).unsent app (written_after written call (step limits history s app call).0)
-agree-step limits history s app call written there agree = agrees-decided limits history s app call written (cause limits history s app call) there agree
+agree-step limits history s app call written there agree = agrees-decided limits history s app call written (cause limits s app call) there agree
 
 -- Others' steps. --
 

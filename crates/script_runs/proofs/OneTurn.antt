@@ -556,7 +556,7 @@ turn-call limits apps sofar running line others call sound agree is has some ok 
           (brings-line sofar.state.unsent running.app running.registers running.written line call agree some);
       lists = refl;
       number = refl;
-      stands = decided_stands limits sofar.history sofar.state running.app call (cause limits sofar.history sofar.state running.app call) ok is;
+      stands = decided_stands limits sofar.history sofar.state running.app call (cause limits sofar.state running.app call) ok is;
       others = λ k differ. standing-step limits sofar.history sofar.state running.app k call may differ;
       written = written-call limits apps sofar running call sound (ap is_ended is) agree;
       buffers = λ k first differ. unsent-other limits sofar.history sofar.state running.app k call may differ first;

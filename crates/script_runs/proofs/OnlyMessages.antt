@@ -111,7 +111,7 @@ choice : (test : Bool) (one other : State) → OnlyMessages one → OnlyMessages
 choice true one other first second = first
 choice false one other first second = second
 
-only-decided : (limits : Limits) (history : List Entry) (s : State) (app : ℕ) (call : Call) (why : Option Refusal) → cause limits history s app call ≡ why → OnlyMessages s →
+only-decided : (limits : Limits) (history : List Entry) (s : State) (app : ℕ) (call : Call) (why : Option Refusal) → cause limits s app call ≡ why → OnlyMessages s →
     OnlyMessages (decided limits history s app call why).1
 only-decided limits history s app call (Some why) is only =
     after_refusal OnlyMessages s call why only (λ at. each-with_pipe after_receive holds-receive at s.pipes only) (λ next follows. only)
@@ -153,7 +153,7 @@ only-decided limits history s app calls.End None is only = Each-filter HoldsMess
 -- after every history
 pub OnlyMessages-after : (limits : Limits) (apps : ℕ) (history : List Entry) → OnlyMessages (state_after limits apps history)
 OnlyMessages-after limits apps history =
-    state_from-keeps OnlyMessages limits (λ before s app call only. only-decided limits before s app call (cause limits before s app call) refl only)
+    state_from-keeps OnlyMessages limits (λ before s app call only. only-decided limits before s app call (cause limits s app call) refl only)
     [] (opening limits apps) history tt
 
 -- an application's last message is one
