@@ -2,8 +2,7 @@
 use Rattle.std.proofs.Common.{◌≡◌, ◌↔◌, ℕ, ◌≤◌, Bool, IsTrue, List, [], ◌∷◌, ◌++◌, length, All, Option, Some, refl, ap, ap₂, sym, ◌∙◌, subst}
 use Rattle.atomic_table.specs.Seated.{TableId}
 use Rattle.lend_block.specs.declared.note.Note.{Note}
-use Rattle.turn_lock.specs.declared.view.View.{View}
-use Rattle.turn_lock.specs.Seats.{SeatView, IsReady, view_of, entered_view, left_view}
+use Rattle.turn_lock.specs.Seats.{Known, SeatView, IsReady, view_of, entered_view, left_view}
 use Rattle.journal_store.specs.declared.allowance.Allowance.{Allowance}
 use Rattle.journal_store.specs.Budgets.{allowance_of}
 use Rattle.tbl_words.specs.declared.calls.TblAnswer.{TblAnswer}
@@ -19,15 +18,16 @@ use Rattle.tbl_load.specs.Notes.{note_due}
 use Rattle.tbl_service.specs.Histories.{Fixed, the_fixed, fixed_of, history_of, core_with, entries_in, own_entries}
 use Rattle.tbl_service.specs.Inside.{IsPort, TellsOpen, seen_in, mine_in, port_in}
 use Rattle.tbl_service.specs.Ports.{Answers}
-use Rattle.tbl_service.specs.Turns.{Entered, MadeOne}
+use Rattle.turn_lock.proofs.Callers.{adds_one}
+use Rattle.tbl_service.specs.Turns.{Entered, MadeOwn}
 use Rattle.tbl_service.specs.declared.boxed.NotedCall.{NotedCall}
 use Rattle.tbl_service.proofs.Found.{core_of, even, entries_again, notes_again, fixed_found, own_found, own_at, others_called, known}
 use Rattle.tbl_service.proofs.Histories.{with_notes-push, own-entries_in, own-push}
 use Rattle.tbl_service.proofs.Standing.{callers_from_one}
 
-module _ (s : SeatView Fixed NotedCall) (app : ℕ) (left : Allowance) (bag : HeldViews) (port : IsPort s app left bag) (old : Core) (e : Entered (view_of s) old)
+module _ (s : SeatKnown Fixed NotedCall) (app : ℕ) (left : Allowance) (bag : HeldViews) (port : IsPort s app left bag) (old : Core) (e : Entered (view_of s) old)
     (new : Core) (call : Call) (answer : TblAnswer) (d : Does old new app call answer) where
-  abbrev v : View Fixed NotedCall
+  abbrev v : Known Fixed NotedCall
   v = view_of s
 
   abbrev it : Entry
@@ -47,30 +47,28 @@ module _ (s : SeatView Fixed NotedCall) (app : ℕ) (left : Allowance) (bag : He
   known_after = subst (λ (c : Core). app ≤ apps_of c) (sym d.entry) (known s app left bag port old e)
 
   -- so the turn may end
-  pub made_one : (view : View Fixed NotedCall) (value : Core) → view ≡ entered_view v (history_of old) → value ≡ new → MadeOne view value
+  pub made_one : (view : Known Fixed NotedCall) (value : Core) → view ≡ entered_view v (history_of old) → value ≡ new → MadeOwn view value
   made_one view value is same = record {
-    opening = ap (λ (c : Core). Some (fixed_of c)) same ∙ ap (λ f. Some f) fixed_after ∙ e.opening ∙ sym (ap (λ (w : View Fixed NotedCall). w.fixed) is);
-    entry = (
-      noted,
-      ap history_of same ∙ history_after
-          ∙ ap₂ (λ (l : List (ℕ × NotedCall)) (n : ℕ). l ++ (n, noted) ∷ []) (sym (ap (λ (w : View Fixed NotedCall). w.seen) is)) (sym port.own ∙ sym (ap (λ (w : View Fixed NotedCall). w.app) is)),
-    );
+    opening = ap (λ (c : Core). Some (fixed_of c)) same ∙ ap (λ f. Some f) fixed_after ∙ e.opening ∙ sym (ap (λ (w : Known Fixed NotedCall). w.fixed) is);
+    entries = adds_one view (history_of value) v.app noted (ap (λ (w : Known Fixed NotedCall). w.app) is)
+        (ap history_of same ∙ history_after
+        ∙ ap₂ (λ (l : List (ℕ × NotedCall)) (n : ℕ). l ++ (n, noted) ∷ []) (sym (ap (λ (w : Known Fixed NotedCall). w.seen) is)) (sym port.own));
   }
 
-  module _ (t : SeatView Fixed NotedCall) (now : view_of t ≡ left_view (entered_view v (history_of old)) (history_of new)) where
+  module _ (t : SeatKnown Fixed NotedCall) (now : view_of t ≡ left_view (entered_view v (history_of old)) (history_of new)) where
     fixed_now : (view_of t).fixed ≡ v.fixed
-    fixed_now = ap (λ (w : View Fixed NotedCall). w.fixed) now
+    fixed_now = ap (λ (w : Known Fixed NotedCall). w.fixed) now
 
     -- the port has seen the core as the call left it
     pub seen_after : seen_in t ≡ new
     seen_after =
-        ap (λ (w : View Fixed NotedCall). core_with w.fixed w.seen) now
+        ap (λ (w : Known Fixed NotedCall). core_with w.fixed w.seen) now
         ∙ ap₂ (λ (es : List Entry) (ns : List Note). core_of (the_fixed v.fixed) es ns) (entries_again new d.noted) (notes_again new d.noted)
         ∙ ap (λ (f : Fixed). core_of f new.log.entries new.notes) (fixed_found v old e ∙ sym fixed_after)
 
     pub mine_after : mine_in t ≡ mine_in s ++ it ∷ []
     mine_after =
-        ap (λ (w : View Fixed NotedCall). entries_in w.mine) now
+        ap (λ (w : Known Fixed NotedCall). entries_in w.mine) now
         ∙ sym (own-entries_in v.app (history_of new))
         ∙ ap (own_entries v.app) (entries_again new d.noted)
         ∙ ap (λ (c : Core). own_entries v.app c.log.entries) d.entry
@@ -93,7 +91,7 @@ module _ (s : SeatView Fixed NotedCall) (app : ℕ) (left : Allowance) (bag : He
         IsPort t app less new_bag
     stays_port new_bag less name ready is has = record {
       ready = subst (λ (n : TableId). IsReady t n) (sym ready.lock) ready;
-      own = ap (λ (w : View Fixed NotedCall). w.app) now ∙ port.own;
+      own = ap (λ (w : Known Fixed NotedCall). w.app) now ∙ port.own;
       first = port.first;
       known = subst (λ (f : Option Fixed). app ≤ length (the_fixed f).budgets) (sym fixed_now) port.known;
       called = subst (λ (c : Core). All (λ (x : Entry). 1 ≤ x.app) c.log.entries) (sym seen_after) (callers_from_one new.limits (opening new.limits (apps_of new)) new.log.entries d.legal);

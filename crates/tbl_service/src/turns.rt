@@ -1,9 +1,9 @@
 //! The two ends of a turn.
-ghost use Rattle.std.specs.Prelude.{◌≡◌, false};
+ghost use Rattle.std.specs.Prelude.{◌≡◌};
 ghost use Rattle.turn_lock.specs.Seats.{IsOut, IsReady, view_of, entered_view, left_view};
 ghost use Rattle.tbl_load.specs.Bags.{AreOneLoan};
 ghost use Rattle.tbl_service.specs.Histories.{history_of};
-ghost use Rattle.tbl_service.specs.Turns.{Entered, MadeOne};
+ghost use Rattle.tbl_service.specs.Turns.{Entered, MadeOwn};
 
 use crate::boxed::{BoxedCore, NotedCall, Opening};
 use crate::tables::Tables;
@@ -31,16 +31,15 @@ pub(crate) fn begin<'r, R: Wait>(
 pub(crate) fn finish<'r>(
     tables: &Tables<'r>,
     seat: &mut Seat<Opening, NotedCall>,
-    mut turn: Turn<BoxedCore<'r>>,
+    turn: Turn<BoxedCore<'r>>,
 )
     requires out { IsOut seat.old }
     requires lock { turn.lock ≡ tables.now }
-    requires made { MadeOne turn.view turn.value }
+    requires made { MadeOwn turn.view turn.value }
     ensures seat { IsReady seat.new tables.now }
     ensures view { view_of seat.new ≡ left_view turn.entry.view (history_of turn.entry.value) }
     ensures loans { AreOneLoan turn.entry.value }
 {
     turn.value().recall();
-    turn.mark_entry();
     tables.lock.leave(seat, turn);
 }
