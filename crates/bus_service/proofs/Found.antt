@@ -70,13 +70,13 @@ module _ (v : Known Fixed NotedCall) (core : Core) (e : Entered v core) where
       ∙ ap (λ f. core_of f (entries_in v.seen ++ entries_in since) (notes_in v.seen ++ notes_in since)) (sym fixed_found)
 
 -- what the port's own entries leave is what all that it has seen leaves
-pub own_left : (s : SeatKnown Fixed NotedCall) (app : ℕ) (left : Allowance) (bag : Holding LentBytes) → IsPort s app left bag → allowance_of (left_by (seen_in s) (mine_in s)) app ≡ allowance_of (left_of (seen_in s).log) app
+pub own_left : (s : SeatView Fixed NotedCall) (app : ℕ) (left : Allowance) (bag : Holding LentBytes) → IsPort s app left bag → allowance_of (left_by (seen_in s) (mine_in s)) app ≡ allowance_of (left_of (seen_in s).log) app
 own_left s app left bag port =
     let budgets = (seen_in s).log.budgets in
     ap (λ (es : List Entry). allowance_of (left_of (record { budgets = budgets; entries = es })) app) (sym port.mine)
     ∙ allowed_by_own (allowances budgets) app (seen_in s).log.entries port.first (omega (arith, port.known, length-left_of (record { budgets = budgets; entries = [] }))) port.called
 
-module _ (s : SeatKnown Fixed NotedCall) (app : ℕ) (left : Allowance) (bag : Holding LentBytes) (port : IsPort s app left bag) (core : Core) (e : Entered (view_of s) core) where
+module _ (s : SeatView Fixed NotedCall) (app : ℕ) (left : Allowance) (bag : Holding LentBytes) (port : IsPort s app left bag) (core : Core) (e : Entered (view_of s) core) where
   abbrev v : Known Fixed NotedCall
   v = view_of s
 

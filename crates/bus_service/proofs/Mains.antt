@@ -50,7 +50,7 @@ empty_holding views blocks = record { views = []; buffers = []; view_room = view
 
 -- The opening. --
 
-module _ (s : SeatKnown Fixed NotedCall) (fixed : Fixed) (name : TableId) (main : IsMain s name) (is : view_of s ≡ main_view fixed []) where
+module _ (s : SeatView Fixed NotedCall) (fixed : Fixed) (name : TableId) (main : IsMain s name) (is : view_of s ≡ main_view fixed []) where
   pub opened : main_in s ≡ record { lock = name; seen = core_of fixed [] []; apps = []; ended = [] }
   opened =
       ap₂ (λ (n : TableId) (v : Known Fixed NotedCall). record { lock = n; seen = core_with v.fixed v.seen; apps = v.apps; ended = map ended_in v.ended }) main.lock is
@@ -68,13 +68,13 @@ module _ (s : SeatKnown Fixed NotedCall) (fixed : Fixed) (name : TableId) (main 
 
 -- A port. --
 
-module _ (s : SeatKnown Fixed NotedCall) (budgets : List Budget) (pipes : ℕ) (part : IsMainPart s budgets pipes) (app : ℕ) (first : 1 ≤ app) (last : app ≤ 16)
+module _ (s : SeatView Fixed NotedCall) (budgets : List Budget) (pipes : ℕ) (part : IsMainPart s budgets pipes) (app : ℕ) (first : 1 ≤ app) (last : app ≤ 16)
     (out : ¬ (Contains (view_of s).apps app)) where
   pub room_left : length (view_of s).apps < 16
   room_left = room_for (view_of s).apps app part.distinct part.each first last out
 
   -- the main part has one application more
-  module _ (t : SeatKnown Fixed NotedCall) (name : TableId) (main : IsMain t name) (here : s.lock ≡ name) (is : view_of t ≡ with_app (view_of s) app) where
+  module _ (t : SeatView Fixed NotedCall) (name : TableId) (main : IsMain t name) (here : s.lock ≡ name) (is : view_of t ≡ with_app (view_of s) app) where
     pub one_app_more : main_in t ≡ record (main_in s) { apps = (main_in s).apps ++ app ∷ [] }
     one_app_more =
         ap₂ (λ (n : TableId) (v : Known Fixed NotedCall). record { lock = n; seen = core_with v.fixed v.seen; apps = v.apps; ended = map ended_in v.ended }) (main.lock ∙ sym here) is
@@ -93,7 +93,7 @@ module _ (s : SeatKnown Fixed NotedCall) (budgets : List Budget) (pipes : ℕ) (
     }
 
   -- and the port is one that has made no call
-  module _ (t : SeatKnown Fixed NotedCall) (name : TableId) (ready : IsIn t name) (is : view_of t ≡ seat_view (view_of s) app) (bag : Holding LentBytes) where
+  module _ (t : SeatView Fixed NotedCall) (name : TableId) (ready : IsIn t name) (is : view_of t ≡ seat_view (view_of s) app) (bag : Holding LentBytes) where
     pub new_port : port_in t app bag ≡ record { lock = name; app = app; seen = seen_in s; mine = []; bag = bag }
     new_port =
         ap₂ (λ (n : TableId) (v : Known Fixed NotedCall). record { lock = n; app = app; seen = core_with v.fixed v.seen; mine = entries_in v.mine; bag = bag }) ready.lock is
@@ -171,7 +171,7 @@ begins f g one other is = record {
 
 -- A join. --
 
-module _ (s d t : SeatKnown Fixed NotedCall) (same : (view_of t).fixed ≡ (view_of s).fixed) where
+module _ (s d t : SeatView Fixed NotedCall) (same : (view_of t).fixed ≡ (view_of s).fixed) where
   pub keeps_longer : KeepsLonger (view_of s).seen (view_of d).seen (view_of t).seen → KeepsLongerOf (seen_in s) (seen_in d) (seen_in t)
   keeps_longer one =
       ⊎_elim

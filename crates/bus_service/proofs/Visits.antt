@@ -31,7 +31,7 @@ use Rattle.bus_service.proofs.Found.{core_of, even, entries_again, notes_again, 
 use Rattle.bus_service.proofs.Histories.{with_notes-push, own-entries_in, own-push}
 use Rattle.bus_words.proofs.OwnEntries.{callers_from_one}
 
-module _ (s : SeatKnown Fixed NotedCall) (app : ℕ) (left : Allowance) (bag : Holding LentBytes) (port : IsPort s app left bag) (old : Core) (e : Entered (view_of s) old)
+module _ (s : SeatView Fixed NotedCall) (app : ℕ) (left : Allowance) (bag : Holding LentBytes) (port : IsPort s app left bag) (old : Core) (e : Entered (view_of s) old)
     (new : Core) (call : Call) (answer : BusAnswer) (d : Does old new app call answer) where
   abbrev v : Known Fixed NotedCall
   v = view_of s
@@ -61,7 +61,7 @@ module _ (s : SeatKnown Fixed NotedCall) (app : ℕ) (left : Allowance) (bag : H
         ∙ ap₂ (λ (l : List (ℕ × NotedCall)) (n : ℕ). l ++ (n, noted) ∷ []) (sym (ap (λ (w : Known Fixed NotedCall). w.seen) is)) (sym port.own));
   }
 
-  module _ (t : SeatKnown Fixed NotedCall) (now : view_of t ≡ left_view (entered_view v (history_of old)) (history_of new)) where
+  module _ (t : SeatView Fixed NotedCall) (now : view_of t ≡ left_view (entered_view v (history_of old)) (history_of new)) where
     fixed_now : (view_of t).fixed ≡ v.fixed
     fixed_now = ap (λ (w : Known Fixed NotedCall). w.fixed) now
 
@@ -142,12 +142,12 @@ look_answered old new pipe told found a = record {
   app = a.app;
 }
 
-module _ (s : SeatKnown Fixed NotedCall) (app : ℕ) (left : Allowance) (bag : Holding LentBytes) (port : IsPort s app left bag) (old : Core) (e : Entered (view_of s) old) where
+module _ (s : SeatView Fixed NotedCall) (app : ℕ) (left : Allowance) (bag : Holding LentBytes) (port : IsPort s app left bag) (old : Core) (e : Entered (view_of s) old) where
   -- the pipe waited on is the one that was
   pub waited_found : waited_on (standing_of (state_of old) app) ≡ waited_on (standing_of (state_of (seen_in s)) app)
   waited_found = ap waited_on (standing_found s app left bag port old e)
 
-  module _ (t : SeatKnown Fixed NotedCall) (now : view_of t ≡ left_view (entered_view (view_of s) (history_of old)) (history_of old)) where
+  module _ (t : SeatView Fixed NotedCall) (now : view_of t ≡ left_view (entered_view (view_of s) (history_of old)) (history_of old)) where
     -- a port that looked in vain has seen the core as it found it
     pub seen_idle : seen_in t ≡ old
     seen_idle =

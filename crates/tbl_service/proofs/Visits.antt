@@ -25,7 +25,7 @@ use Rattle.tbl_service.proofs.Found.{core_of, even, entries_again, notes_again, 
 use Rattle.tbl_service.proofs.Histories.{with_notes-push, own-entries_in, own-push}
 use Rattle.tbl_service.proofs.Standing.{callers_from_one}
 
-module _ (s : SeatKnown Fixed NotedCall) (app : ℕ) (left : Allowance) (bag : HeldViews) (port : IsPort s app left bag) (old : Core) (e : Entered (view_of s) old)
+module _ (s : SeatView Fixed NotedCall) (app : ℕ) (left : Allowance) (bag : HeldViews) (port : IsPort s app left bag) (old : Core) (e : Entered (view_of s) old)
     (new : Core) (call : Call) (answer : TblAnswer) (d : Does old new app call answer) where
   abbrev v : Known Fixed NotedCall
   v = view_of s
@@ -55,7 +55,7 @@ module _ (s : SeatKnown Fixed NotedCall) (app : ℕ) (left : Allowance) (bag : H
         ∙ ap₂ (λ (l : List (ℕ × NotedCall)) (n : ℕ). l ++ (n, noted) ∷ []) (sym (ap (λ (w : Known Fixed NotedCall). w.seen) is)) (sym port.own));
   }
 
-  module _ (t : SeatKnown Fixed NotedCall) (now : view_of t ≡ left_view (entered_view v (history_of old)) (history_of new)) where
+  module _ (t : SeatView Fixed NotedCall) (now : view_of t ≡ left_view (entered_view v (history_of old)) (history_of new)) where
     fixed_now : (view_of t).fixed ≡ v.fixed
     fixed_now = ap (λ (w : Known Fixed NotedCall). w.fixed) now
 

@@ -1,5 +1,5 @@
 -- What callers of the lock show before they leave a turn or close the lock.
-use Rattle.std.proofs.Common.{◌≡◌, ◌≢◌, ℕ, Bool, true, false, if◌then◌else◌, map, List, [], ◌∷◌, ◌++◌, sym, ◌∙◌, subst, All, Contains, refl, append-nil}
+use Rattle.std.proofs.Common.{◌≡◌, ℕ, Bool, true, false, if◌then◌else◌, map, List, [], ◌∷◌, ◌++◌, sym, ◌∙◌, subst, All, Contains, refl, append-nil}
 use Rattle.std.proofs.lemmas.List.Elements.{All-contains_itself}
 use Rattle.turn_lock.specs.Seats.{Known, AddsOwn, AllJoined}
 use Rattle.turn_lock.proofs.Entries.{entries_of-one}

@@ -2,8 +2,7 @@
 use Rattle.std.proofs.Common.{◌≡◌, ◌≢◌, ℕ, List, [], ◌∷◌, ◌++◌, get_or, set, true, refl, sym, ap, ◌∙◌, subst, ⊎_elim, inl, inr, arith, Option, Some, length-set}
 use mathlib.Core.Option.{some}
 use mathlib.Core.List.{IsPrefix}
-use lib.ListN.{get_elem?}
-use Rattle.atomic_table.specs.Table.{State, Me, Allows, keeps, gives}
+use Rattle.atomic_table.specs.Table.{Me, Allows, keeps, gives}
 use Rattle.atomic_table.proofs.Lists.{set_here, set_again}
 use Rattle.fsw_base.proofs.Prefix.{prefix_self, prefix_trans}
 use Rattle.turn_lock.specs.declared.view.View.{View}
@@ -14,7 +13,7 @@ use Rattle.turn_lock.specs.Steps.{Grows, Passes}
 use Rattle.turn_lock.proofs.Counting.{turn_set, turn_kept}
 use Rattle.turn_lock.proofs.Entries.{entries_of-append_other}
 use Rattle.turn_lock.proofs.Stages.{off, live_there}
-use Rattle.turn_lock.proofs.ViewLists.{inside, each_set, differ_set, alone, main_set}
+use Rattle.turn_lock.proofs.ViewLists.{each_set, differ_set, alone, main_set}
 
 some_one : {A : Type 0} {a b : A} → Some a ≡ Some b → a ≡ b
 some_one e = cc e

@@ -11,12 +11,12 @@ use Rattle.atomic_table.proofs.Lists.{set_here, set_again}
 use Rattle.fsw_base.proofs.Prefix.{prefix_self}
 use Rattle.turn_lock.specs.declared.view.View.{View}
 use Rattle.turn_lock.specs.declared.view.Stage.TheVariants.{Away}
-use Rattle.turn_lock.specs.Views.{entries_of, is_live, is_served, served_place}
+use Rattle.turn_lock.specs.Views.{entries_of, is_live, served_place}
 use Rattle.turn_lock.specs.Rule.{Fits, IsHome, IsOutWithOne, IsHomeOrOut, Kept}
 use Rattle.turn_lock.specs.Steps.{Seizes}
 use Rattle.turn_lock.proofs.Counting.{set_same, turn_set}
 use Rattle.turn_lock.proofs.Stages.{off, live_there}
-use Rattle.turn_lock.proofs.ViewLists.{inside, each_set, differ_set, main_set, out_set}
+use Rattle.turn_lock.proofs.ViewLists.{inside, each_set, differ_set, main_set}
 
 module _ {T F E : Type 0} (fixed : T → F) (history : T → List (ℕ × E)) (opening : F) where
   -- a step that changes nothing
