@@ -25,6 +25,8 @@ impl Historied for Visits {
     ghost history = { λ v. v.noted.items };
 
     ghost awaited = { λ _. false };
+
+    ghost news = { λ _. false };
 }
 
 impl Visits {

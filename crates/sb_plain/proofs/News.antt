@@ -1,4 +1,4 @@
--- News for who waits: where there is none each look is in vain, and where there is some a look is answered.
+-- News for applications that wait: without news each look is in vain, and with news a look is answered.
 use Rattle.std.proofs.Common.{◌≡◌, ◌≢◌, ℕ, zero, suc, ◌+◌, ◌-◌, ◌<◌, ◌||◌, ◌&&◌, not, Bool, true, false, true≢false, cond, eqb, ne_eqb, nat_eq, if◌then◌else◌, List, [], ◌∷◌, length, map, get_or, set, count_by, refl, ap, ap₂, sym, ◌∙◌, subst, arith}
 use Rattle.std.specs.List.{list_any, list_all}
 use Rattle.std.proofs.lemmas.List.Folds.{list_any_at, list_all-map, Any-from_list_any}
@@ -51,7 +51,7 @@ all_at {X} p (x ∷ xs) i d all within = by (p x) refl all i within (λ k rest b
     by true here rest (suc k) within later = later k rest (omega (arith, within))
     by false here rest k within later = absurd (true≢false (sym rest))
 
--- who waits is one of the applications
+-- one that waits is one of the applications
 waits_within : (standings : List Standing) (i pipe : ℕ) → get_or standings i Ended ≡ Waiting pipe → i < length standings
 waits_within [] i pipe is = absurd (cc is)
 waits_within (x ∷ xs) zero pipe is = omega arith
@@ -99,7 +99,7 @@ module _ (s : State) where
       let here = waits_at s app pipe is in
       ap (λ b. b && list_all (is_idle s.pipes) s.standings) (sym (list_any_at is_waiting s.standings (app - 1) Ended (waits_within s.standings (app - 1) pipe here) (ap is_waiting here))) ∙ none
 
-  -- where there is no news each look is in vain
+  -- without news each look is in vain
   none_answered : has_news s ≡ false → (app pipe : ℕ) → standing_of s app ≡ Waiting pipe → pended_answer s app pipe ≡ Pending
   none_answered none app pipe is =
       let parts = either_false (list_any (has_message s.pipes) s.standings) (list_any is_waiting s.standings && list_all (is_idle s.pipes) s.standings) none in
@@ -121,7 +121,7 @@ module _ (s : State) where
   waiting_of (Waiting pipe) is = (pipe, refl)
   waiting_of Ended is = absurd (true≢false (sym is))
 
-  -- and where there is some a look is answered
+  -- and with news a look is answered
   some_answered : has_news s ≡ true → (app : ℕ) × (pipe : ℕ) × (standing_of s app ≡ Waiting pipe) × (pended_answer s app pipe ≢ Pending)
   some_answered some = by (list_any (has_message s.pipes) s.standings) refl some
     where
@@ -163,7 +163,7 @@ module _ (s : State) where
 
 -- Activities. --
 
--- as the core tells it by its fields
+-- as the core's fields say it
 news-acts : (a : Inside) →
     (list_any (λ (x : Activity). has_message a.store.pipes (standing_in x)) a.activities.items
     || (list_any (λ (x : Activity). is_waiting (standing_in x)) a.activities.items && nat_eq (count_by (λ (x : Activity). not (idle_in a.store.pipes x)) a.activities.items) 0))

@@ -132,9 +132,9 @@ impl<'r> PlainBus<'r> {
         answer
     }
 
-    /// Whether an application that waits would be answered if it looked now: a message is on its
-    /// pipe, or it is a time-out, since every application has ended or waits on an empty pipe.
-    /// Where this is false, each look would be in vain.
+    /// Whether a waiting application would be answered if it looked now: with a message on its
+    /// pipe, or with a time-out, since every application has ended or waits on an empty pipe. If
+    /// this is false, each look would be in vain. For services that wake sleepers.
     pub fn has_news(&self) -> bool
         ensures told { result ≡ has_news self.now.whole.bus }
         ensures none { result ≡ false → (app : ℕ)
@@ -174,8 +174,8 @@ fn are_others_idle(activities: &[Activity], store: &BusStore<'_>, app: AppNo) ->
     busy(activities, store) == busy_once(activity_of(activities, app), store)
 }
 
-// Whether an application that waits would be answered: with a message on its pipe, or with a
-// time-out, since none is busy.
+// Whether a waiting application would be answered: with a message on its pipe, or with a time-out,
+// since no application is busy.
 fn is_anyone_served(activities: &[Activity], store: &BusStore<'_>) -> bool
     ensures { result ≡ (list_any (λ activity. has_message store.now.pipes (standing_in activity))
         activities.now

@@ -75,6 +75,8 @@ impl<'r> Historied for BoxedCore<'r> {
     ghost history = { λ core. history_of core };
 
     ghost awaited = { λ _. false };
+
+    ghost news = { λ _. false };
 }
 
 impl<'r> BoxedCore<'r> {

@@ -88,7 +88,7 @@ module _ {F E : Type 0} where
     pub knows : s.knows ≡ view_of s ∷ []
     pub main : (view_of s).main ≡ false
 
-  -- such a seat that may begin a turn: where it left its last one to sleep, it has slept
+  -- such a seat that may begin a turn: if it left its last one to sleep, it has slept
   pub record IsReady (s : SeatView F E) (name : TableId) : Type 0 where
     pub lock : s.lock ≡ name
     pub knows : s.knows ≡ view_of s ∷ []

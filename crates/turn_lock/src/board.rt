@@ -18,8 +18,7 @@ use std::sync::Wait;
 /// The place in the table with which a seat makes its steps.
 pub(crate) type Place<T> = Seat<Option<T>, View<<T as Historied>::Fixed, <T as Historied>::Event>>;
 
-// The turn: `FREE`, `TAKEN`, or `AWAITED` where it is taken and somebody may sleep until it is
-// free.
+// The turn: `FREE`, `TAKEN`, or `AWAITED` if it is taken and a seat may sleep until it is free.
 const TURN: usize = 0;
 
 // The bell: how often it rang, modulo 2^64.
@@ -34,7 +33,7 @@ const FREE: u64 = 0;
 // A turn is out.
 const TAKEN: u64 = 1;
 
-// A turn is out, and whoever leaves it wakes one who sleeps.
+// A turn is out, and the seat that leaves it wakes one that sleeps.
 const AWAITED: u64 = 2;
 
 // The slot, which has the value while no turn is out.
@@ -53,9 +52,9 @@ pub(crate) struct Board<T: Historied> {
     ghost one: { table.shared.table_id.slots ≡ 1 },
 }
 
-/// The place of a seat that has passed its turn on, and whether somebody may sleep until the turn
-/// is free. Only `Board::wake` gives the place back; this can't be dropped, so that whoever passes
-/// a turn on wakes, and wakes afterwards.
+/// The place of a seat that has passed its turn on, and whether another may sleep until the turn
+/// is free. Only `Board::wake` gives the place back; this can't be dropped, so that each seat that
+/// passes its turn on wakes, and wakes afterwards.
 pub(crate) struct PassedTurn<T: Historied> {
     // The seat's place, which waking gives back.
     place: Place<T>,
@@ -97,7 +96,7 @@ impl<T: Historied> Board<T> {
         self.table.shared.split_seat::<Cut<N>>(main)
     }
 
-    // Takes the turn where it is free, and answers what the word was.
+    // Takes the turn if it is free, and answers what the word was.
     fn seize(&self, place: &mut Place<T>) -> u64
         requires table { place.old.table_id ≡ self.now.table.shared.table_id }
         requires away { (place.old.me.0.stage ≡ Away) × (place.old.me.1 ≡ []) }
@@ -109,8 +108,8 @@ impl<T: Historied> Board<T> {
             .compare_exchange::<Seize>(place, TURN, FREE, TAKEN)
     }
 
-    // Takes the turn where it is free, and else has whoever leaves it wake one who sleeps; answers
-    // what the word was.
+    // Takes the turn if it is free, and else has the seat that leaves it wake one that sleeps;
+    // answers what the word was.
     fn seize_or_await(&self, place: &mut Place<T>) -> u64
         requires table { place.old.table_id ≡ self.now.table.shared.table_id }
         requires away { (place.old.me.0.stage ≡ Away) × (place.old.me.1 ≡ []) }
@@ -120,8 +119,8 @@ impl<T: Historied> Board<T> {
         self.table.shared.swap::<Seize>(place, TURN, AWAITED)
     }
 
-    /// Waits until the turn is free and takes it, and answers how often it looked. Who has looked
-    /// often enough sleeps until it is woken, and then looks once more.
+    /// Waits until the turn is free and takes it, and answers how often it looked. After enough
+    /// looks it sleeps until it is woken, and then looks once more.
     pub(crate) fn wait<R: Wait>(&self, rt: &R, place: &mut Place<T>) -> u32
         requires table { place.old.table_id ≡ self.now.table.shared.table_id }
         requires away { (place.old.me.0.stage ≡ Away) × (place.old.me.1 ≡ []) }
@@ -137,8 +136,8 @@ impl<T: Historied> Board<T> {
         }
     }
 
-    // Looks until the turn is free and takes it, and answers how often it looked; None where it has
-    // looked often enough. It only reads the word while the turn is out.
+    // Looks until the turn is free and takes it, and answers how often it looked; None after enough
+    // looks. It only reads the word while the turn is out.
     fn spin(&self, place: &mut Place<T>) -> Option<u32>
         requires table { place.old.table_id ≡ self.now.table.shared.table_id }
         requires away { (place.old.me.0.stage ≡ Away) × (place.old.me.1 ≡ []) }
@@ -234,8 +233,8 @@ impl<T: Historied> Board<T> {
         PassedTurn { place, found }
     }
 
-    /// Wakes one who sleeps, where there may be one, and gives back the place that passed its turn
-    /// on.
+    /// Wakes a seat that sleeps until the turn is free, if there may be one, and gives back the
+    /// place that passed its turn on.
     pub(crate) fn wake(&self, passed: PassedTurn<T>) -> Place<T>
         ensures { result ≡ passed.place }
     {
@@ -246,7 +245,7 @@ impl<T: Historied> Board<T> {
         place
     }
 
-    /// How often the bell rang so far, modulo 2^32. Who is to sleep asks in its turn.
+    /// How often the bell rang so far, modulo 2^32. A seat that sleeps next asks in its turn.
     pub(crate) fn bell(&self, place: &Place<T>) -> u32
         requires served { place.now.me.0.stage ≡ Has }
     {
@@ -258,7 +257,7 @@ impl<T: Historied> Board<T> {
         self.table.shared.park(rt, BELL, rang);
     }
 
-    /// Rings the bell, which wakes all who sleep at it.
+    /// Rings the bell, which wakes all seats that sleep at it.
     pub(crate) fn ring(&self, place: &mut Place<T>)
         requires table { place.old.table_id ≡ self.now.table.shared.table_id }
         requires away { place.old.me.0.stage ≡ Away }

@@ -2,8 +2,8 @@
 ghost use Rattle.std.specs.Prelude.{ℕ, Bool, List};
 
 /// A value with a fixed part and a history: a list of entries, each beside the number of the
-/// application that made it. It also tells whether somebody sleeps until it changes. These meanings
-/// are of the proof alone, so there are no methods.
+/// application that made it. It is also seen whether an application sleeps until there is news, and
+/// whether there is news. These meanings are of the proof alone, so there are no methods.
 ///
 /// `Fixed` and `Event` name no lifetime, even where the value borrows: what seats know of a history
 /// outlives the borrow. No value of either needs to be made.
@@ -19,4 +19,6 @@ pub trait Historied {
     ghost history: { Self → List (ℕ × Self.Event) };
 
     ghost awaited: { Self → Bool };
+
+    ghost news: { Self → Bool };
 }

@@ -23,8 +23,8 @@
 //! }
 //! ```
 //!
-//! An application that waits for a change of the value leaves its turn to sleep, and one that makes
-//! such a change wakes all sleepers. The value says whether somebody sleeps:
+//! An application that waits for news of the value leaves its turn to sleep, and one that brings
+//! news wakes all sleepers. The value notes whether there are any:
 //!
 //! ```text
 //! let mut turn = lock.enter(rt, &mut seat);
@@ -33,21 +33,20 @@
 //! lock.sleep(rt, &mut seat);                                      // no turn begins before this
 //!
 //! turn.value_mut().awaited = false;                               // in the turn of another seat
-//! lock.leave_and_wake(&mut other, turn);                          // only where somebody slept
+//! lock.leave_and_wake(&mut other, turn);                          // if there were sleepers
 //! ```
 //!
 //! # Implementation
 //!
 //! Two words and a slot. The first word is the turn; the seat that finds it free has the turn, and
 //! the slot with it. It looks a hundred times, and only reads while a turn is out, before it sleeps
-//! at the word. The second word is the bell, at which those sleep who wait for a change.
+//! at the word. The second word is the bell, at which seats sleep that wait for news.
 //!
 //! ```text
-//! turn word   0 free         compare and exchange by 1: where it was 0 the slot is out with the
-//!                            seat
+//! turn word   0 free         compare and exchange by 1: if it was 0 the slot is out with the seat
 //!             1 taken        exchange by 2: the same, and otherwise the seat sleeps while it is 2
 //!             2 and awaited  exchange by 0, with the value back in the slot: the history is
-//!                            published, and one sleeper is woken where the word was 2
+//!                            published, and one sleeper is woken if the word was 2
 //! bell word   rings so far   read in the turn that is left to sleep, which lasts while it is that
 //!                            + 1 once a turn was passed on that wakes; then all are woken
 //! slot        the value      taken after the turn word, and given back before it
@@ -60,8 +59,8 @@
 //! seat's application behind it. `join` keeps the longer of two histories, in which only
 //! applications that were split off have entries. `close` gives a history that has of each
 //! application just its seat's entries, in order, and no others (`specs/Rule.antt`). A seat that
-//! left its turn to sleep begins no turn before it slept; sleepers are woken only if the value says
-//! that somebody sleeps, after the turn was given back; and a turn that takes that note away wakes.
+//! left its turn to sleep begins no turn before it slept. A turn that is left with news while there
+//! are sleepers wakes them, after it was given back, and no other turn does.
 //!
 //! Tested: two threads get through turns of all lengths around the one at which the other goes to
 //! sleep; a thread that waits for long sleeps; an entry wakes the sleepers, and they sleep until

@@ -117,22 +117,24 @@ impl<T: Historied> TurnLock<T> {
     }
 
     /// Ends the turn of this seat. The value has the fixed part that it had at entry, its history
-    /// is the one found with entries of the seat's application behind it, or none, and as before
-    /// somebody sleeps until it changes, or nobody. What is left is published with the turn.
+    /// is the one found with entries of the seat's application behind it, or none, and it notes
+    /// sleepers if and only if it did at entry. If it does, it has no news. What is left is
+    /// published with the turn.
     pub fn leave(&self, seat: &mut Seat<T::Fixed, T::Event>, turn: Turn<T>)
         requires out { IsOut seat.old }
         requires lock { turn.lock ≡ self.now.name }
         requires opening { Some (T.fixed turn.value) ≡ turn.view.fixed }
         requires own { AddsOwn turn.view (T.history turn.value) }
         requires awaited { T.awaited turn.value ≡ T.awaited turn.found }
+        requires no_news { T.awaited turn.value ≡ true → T.news turn.value ≡ false }
         ensures ready { IsReady seat.new self.now.name }
         ensures view { view_of seat.new ≡ left_view turn.view (T.history turn.value) }
     {
         *seat = Seat::of(self.give_back(turn));
     }
 
-    /// Ends the turn of a seat that sleeps next, by [`TurnLock::sleep`], until another one leaves
-    /// its turn by [`TurnLock::leave_and_wake`]. The value tells that somebody sleeps.
+    /// Ends the turn of a seat that sleeps next, by [`TurnLock::sleep`], until another seat leaves
+    /// its turn by [`TurnLock::leave_and_wake`]. The value notes that there are sleepers.
     pub fn leave_to_sleep(&self, seat: &mut Seat<T::Fixed, T::Event>, turn: Turn<T>)
         requires out { IsOut seat.old }
         requires lock { turn.lock ≡ self.now.name }
@@ -147,8 +149,8 @@ impl<T: Historied> TurnLock<T> {
         *seat = Seat::sleeper(self.give_back(turn), rang);
     }
 
-    /// Ends the turn of this seat, and then wakes all who left theirs to sleep. Somebody slept, and
-    /// the value tells that nobody does any more.
+    /// Ends the turn of this seat, and then wakes all seats that left theirs to sleep. At entry the
+    /// value noted that there were sleepers; now it doesn't any more, and it has news.
     pub fn leave_and_wake(&self, seat: &mut Seat<T::Fixed, T::Event>, turn: Turn<T>)
         requires out { IsOut seat.old }
         requires lock { turn.lock ≡ self.now.name }
@@ -156,6 +158,7 @@ impl<T: Historied> TurnLock<T> {
         requires own { AddsOwn turn.view (T.history turn.value) }
         requires slept { T.awaited turn.found ≡ true }
         requires awaited { T.awaited turn.value ≡ false }
+        requires news { T.news turn.value ≡ true }
         ensures ready { IsReady seat.new self.now.name }
         ensures view { view_of seat.new ≡ left_view turn.view (T.history turn.value) }
     {
@@ -164,8 +167,8 @@ impl<T: Historied> TurnLock<T> {
         *seat = Seat::of(place);
     }
 
-    // Gives the value back and passes the turn on, which publishes the history, and then wakes one
-    // who waits for a turn.
+    // Gives the value back and passes the turn on, which publishes the history, and then wakes a
+    // seat that waits for a turn.
     fn give_back(&self, turn: Turn<T>) -> Place<T>
         requires lock { turn.lock ≡ self.now.name }
         requires opening { Some (T.fixed turn.value) ≡ turn.view.fixed }
@@ -185,9 +188,9 @@ impl<T: Historied> TurnLock<T> {
         self.board.wake(self.board.pass::<Brand>(place, &told))
     }
 
-    /// Sleeps where the seat left its last turn to sleep, until the lock is left by
-    /// [`TurnLock::leave_and_wake`], and returns at once where it was since. It may return early,
-    /// and nothing is claimed of how long it sleeps. From then on the seat may begin a turn.
+    /// Sleeps if the seat left its last turn to sleep, until another seat leaves the lock by
+    /// [`TurnLock::leave_and_wake`], and returns at once if one did since. It may return early, and
+    /// nothing is claimed of how long it sleeps. From then on the seat may begin a turn.
     pub fn sleep<R: Wait>(&self, rt: &R, seat: &mut Seat<T::Fixed, T::Event>)
         requires ready { IsIn seat.old self.now.name }
         ensures ready { IsReady seat.new self.now.name }

@@ -21,7 +21,7 @@ impl<T: Historied> TableRule<Option<T>, View<T::Fixed, T::Event>, Snapshot<T>> f
     ghost first = { λ key. main_place (T.fixed key.value) (T.history key.value) };
 }
 
-/// The turn's word is read, and changed. Where it was free the seat takes the slot.
+/// The turn's word is read, and changed. If it was free the seat takes the slot.
 pub(crate) struct Seize;
 
 impl<T: Historied> Play<Option<T>, View<T::Fixed, T::Event>> for Seize {

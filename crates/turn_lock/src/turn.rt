@@ -60,7 +60,7 @@ impl<T: Historied> Turn<T> {
     /// The value, to be changed.
     pub fn value_mut(&mut self) -> &mut T
         ensures* writes_back { sem 𝓛 (LendsValue T.row T.Fixed.row T.Event.row T.fixed T.history
-            T.awaited self.entry result) }
+            T.awaited T.news self.entry result) }
         ensures value { result.now ≡ self.old.value }
     {
         &mut self.value
