@@ -23,8 +23,7 @@ use Rattle.bus_words.specs.declared.history.Call.TheVariants.{Look}
 use Rattle.bus_service.specs.Histories.{Fixed, the_fixed, fixed_of, history_of, core_with, entries_in, own_entries}
 use Rattle.bus_service.specs.Inside.{IsPort, Tells, seen_in, mine_in, port_in}
 use Rattle.bus_service.specs.Ports.{PortView, Answers, AnswersLook, look_entries}
-use Rattle.turn_lock.proofs.Callers.{adds_one}
-use Rattle.bus_service.specs.Turns.{Entered, MadeOwn}
+use Rattle.bus_service.specs.Turns.{Entered, MadeOne}
 use Rattle.bus_service.specs.declared.boxed.NotedCall.{NotedCall}
 use Rattle.bus_service.specs.declared.permits.Permits.{Permits}
 use Rattle.bus_service.proofs.Found.{core_of, even, entries_again, notes_again, fixed_found, own_found, own_at, others_called, known, left_found, standing_found, bag_found}
@@ -53,12 +52,14 @@ module _ (s : SeatView Fixed NotedCall) (app : ℕ) (left : Allowance) (bag : Ho
   known_after = subst (λ (c : Core). app ≤ apps_of c) (sym d.entry) (known s app left bag port old e)
 
   -- so the turn may end
-  pub made_one : (view : Known Fixed NotedCall) (value : Core) → view ≡ entered_view v (history_of old) → value ≡ new → MadeOwn view value
+  pub made_one : (view : Known Fixed NotedCall) (value : Core) → view ≡ entered_view v (history_of old) → value ≡ new → MadeOne view value
   made_one view value is same = record {
     opening = ap (λ (c : Core). Some (fixed_of c)) same ∙ ap (λ f. Some f) fixed_after ∙ e.opening ∙ sym (ap (λ (w : Known Fixed NotedCall). w.fixed) is);
-    entries = adds_one view (history_of value) v.app noted (ap (λ (w : Known Fixed NotedCall). w.app) is)
-        (ap history_of same ∙ history_after
-        ∙ ap₂ (λ (l : List (ℕ × NotedCall)) (n : ℕ). l ++ (n, noted) ∷ []) (sym (ap (λ (w : Known Fixed NotedCall). w.seen) is)) (sym port.own));
+    call = noted;
+    entry =
+        ap history_of same
+        ∙ history_after
+        ∙ ap₂ (λ (l : List (ℕ × NotedCall)) (n : ℕ). l ++ (n, noted) ∷ []) (sym (ap (λ (w : Known Fixed NotedCall). w.seen) is)) (sym port.own ∙ sym (ap (λ (w : Known Fixed NotedCall). w.app) is));
   }
 
   module _ (t : SeatView Fixed NotedCall) (now : view_of t ≡ left_view (entered_view v (history_of old)) (history_of new)) where

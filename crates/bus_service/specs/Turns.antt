@@ -1,7 +1,7 @@
 -- A turn of an application at the lock: what its seat finds, and what it leaves.
-use Rattle.std.specs.Prelude.{◌≡◌, Some}
+use Rattle.std.specs.Prelude.{◌≡◌, [], ◌∷◌, ◌++◌, Some}
 use Rattle.turn_lock.specs.Views.{entries_of}
-use Rattle.turn_lock.specs.Seats.{Known, AddsOwn}
+use Rattle.turn_lock.specs.Seats.{Known}
 use Rattle.sb_calls.specs.Core.{Core, IsLegalCore, IsNoted}
 use Rattle.bus_service.specs.Histories.{Fixed, fixed_of, history_of}
 use Rattle.bus_service.specs.declared.boxed.NotedCall.{NotedCall}
@@ -16,7 +16,8 @@ pub record Entered (v : Known Fixed NotedCall) (core : Core) : Type 0 where
   pub legal : IsLegalCore core
   pub noted : IsNoted core
 
--- the core left has the fixed part of the opening, and no entries more but of the seat's application
-pub record MadeOwn (v : Known Fixed NotedCall) (core : Core) : Type 0 where
+-- the core left has the fixed part of the opening, and one entry more, of the seat's application
+pub record MadeOne (v : Known Fixed NotedCall) (core : Core) : Type 0 where
   pub opening : Some (fixed_of core) ≡ v.fixed
-  pub entries : AddsOwn v (history_of core)
+  pub call : NotedCall
+  pub entry : history_of core ≡ v.seen ++ (v.app, call) ∷ []

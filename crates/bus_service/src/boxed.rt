@@ -58,7 +58,7 @@ pub struct NotedCall {
 pub(crate) struct BoxedCore<'r> {
     // The core.
     core: Box<BusCore<'r>>,
-    // An application that looked in vain sleeps, or is about to, and nobody has woken it.
+    // An application that looked in vain sleeps, or is about to, and no call has woken it.
     asleep: bool,
 }
 
@@ -72,6 +72,8 @@ impl<'r> Model for BoxedCore<'r> {
 }
 
 impl<'r> Historied for BoxedCore<'r> {
+    ghost use Rattle.sb_calls.specs.Core.{state_of};
+    ghost use Rattle.sb_plain.specs.News.{has_news};
     ghost use Rattle.bus_service.specs.Histories.{fixed_of, history_of};
 
     type Fixed = Opening;
@@ -83,6 +85,8 @@ impl<'r> Historied for BoxedCore<'r> {
     ghost history = { λ guarded. history_of guarded.core };
 
     ghost awaited = { λ guarded. guarded.asleep };
+
+    ghost news = { λ guarded. has_news (state_of guarded.core) };
 }
 
 impl<'r> BoxedCore<'r> {
@@ -188,8 +192,8 @@ impl<'r> BoxedCore<'r> {
         self.asleep = true;
     }
 
-    /// Whether somebody sleeps who is to be woken: an application that waits would be answered if
-    /// it looked now. All are woken then, so that from then on nobody sleeps.
+    /// Whether the sleepers are to be woken: there are some, and a waiting application would be
+    /// answered if it looked now. All are woken then, so that nobody sleeps any more.
     pub(crate) fn take_sleepers(&mut self) -> bool
         ensures woken { result ≡ self.old.asleep && has_news (state_of self.old.core) }
         ensures asleep { self.new.asleep ≡ (if result then false else self.old.asleep) }

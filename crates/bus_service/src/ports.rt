@@ -184,8 +184,8 @@ impl<'r> BusPort<'r> {
     }
 
     /// Looks again for a message on the pipe that the application waits on, as [`BusCore::look`]
-    /// does at the application's turn. Where its last look was in vain, it sleeps before until an
-    /// application that waits would be answered, or a little less long; nothing is claimed of how
+    /// does at the application's turn. If its last look was in vain, it sleeps before, until a
+    /// waiting application would be answered, or a little less long; nothing is claimed of how
     /// long.
     ///
     /// [`BusCore::look`]: sb_calls::BusCore::look

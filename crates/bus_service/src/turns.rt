@@ -1,17 +1,17 @@
 //! The two ends of a turn.
-ghost use Rattle.std.specs.Prelude.{◌≡◌, Some};
-ghost use Rattle.turn_lock.specs.Seats.{IsOut, IsIn, view_of, entered_view, left_view};
+ghost use Rattle.std.specs.Prelude.{◌≡◌, true, Some};
+ghost use Rattle.turn_lock.specs.Seats.{IsOut, IsIn, IsReady, view_of, entered_view, left_view};
 ghost use Rattle.sb_calls.specs.Bags.{AreOneLoan};
 ghost use Rattle.sb_calls.specs.Core.{StandAlone};
 ghost use Rattle.bus_service.specs.Histories.{fixed_of, history_of};
-ghost use Rattle.bus_service.specs.Turns.{Entered, MadeOwn};
+ghost use Rattle.bus_service.specs.Turns.{Entered, MadeOne};
 
 use crate::boxed::{BoxedCore, NotedCall, Opening};
 use crate::bus::Bus;
 use std::sync::Wait;
 use turn_lock::{Seat, Turn};
 
-/// Waits for a turn of the seat. Where its application looked in vain in the last one, it sleeps
+/// Waits for a turn of the seat. If its application looked in vain in the last one, it sleeps
 /// before, until there is news.
 pub(crate) fn begin<'r, R: Wait>(
     bus: &Bus<'r>,
@@ -31,8 +31,8 @@ pub(crate) fn begin<'r, R: Wait>(
     turn
 }
 
-/// Ends a turn in which one call was made, and wakes those who sleep exactly where there is news
-/// for one who waits.
+/// Ends a turn in which one call was made, and wakes the sleepers if and only if a waiting
+/// application has news.
 pub(crate) fn finish<'r>(
     bus: &Bus<'r>,
     seat: &mut Seat<Opening, NotedCall>,
@@ -40,9 +40,9 @@ pub(crate) fn finish<'r>(
 )
     requires out { IsOut seat.old }
     requires lock { turn.lock ≡ bus.now }
-    requires made { MadeOwn turn.view turn.value.core }
+    requires made { MadeOne turn.view turn.value.core }
     requires asleep { turn.value.asleep ≡ turn.found.asleep }
-    ensures seat { IsIn seat.new bus.now }
+    ensures seat { IsReady seat.new bus.now }
     ensures view { view_of seat.new ≡ left_view turn.entry.view
         (history_of turn.entry.value.core) }
     ensures alone { StandAlone turn.entry.value.core }
@@ -56,7 +56,8 @@ pub(crate) fn finish<'r>(
     }
 }
 
-/// Ends a turn in which an application looked in vain: it made no entry, and sleeps next.
+/// Ends a turn in which an application looked in vain: it made no entry, and sleeps before its next
+/// turn.
 pub(crate) fn pause<'r>(
     bus: &Bus<'r>,
     seat: &mut Seat<Opening, NotedCall>,
@@ -67,6 +68,7 @@ pub(crate) fn pause<'r>(
     requires opening { Some (fixed_of turn.value.core) ≡ turn.view.fixed }
     requires none { history_of turn.value.core ≡ turn.view.seen }
     ensures seat { IsIn seat.new bus.now }
+    ensures rests { seat.new.rests ≡ true }
     ensures view { view_of seat.new ≡ left_view turn.entry.view
         (history_of turn.entry.value.core) }
     ensures alone { StandAlone turn.entry.value.core }

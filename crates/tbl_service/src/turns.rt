@@ -3,7 +3,7 @@ ghost use Rattle.std.specs.Prelude.{◌≡◌};
 ghost use Rattle.turn_lock.specs.Seats.{IsOut, IsReady, view_of, entered_view, left_view};
 ghost use Rattle.tbl_load.specs.Bags.{AreOneLoan};
 ghost use Rattle.tbl_service.specs.Histories.{history_of};
-ghost use Rattle.tbl_service.specs.Turns.{Entered, MadeOwn};
+ghost use Rattle.tbl_service.specs.Turns.{Entered, MadeOne};
 
 use crate::boxed::{BoxedCore, NotedCall, Opening};
 use crate::tables::Tables;
@@ -35,7 +35,7 @@ pub(crate) fn finish<'r>(
 )
     requires out { IsOut seat.old }
     requires lock { turn.lock ≡ tables.now }
-    requires made { MadeOwn turn.view turn.value }
+    requires made { MadeOne turn.view turn.value }
     ensures seat { IsReady seat.new tables.now }
     ensures view { view_of seat.new ≡ left_view turn.entry.view (history_of turn.entry.value) }
     ensures loans { AreOneLoan turn.entry.value }

@@ -1,7 +1,8 @@
 -- What callers of the lock show before they leave a turn or close the lock.
 use Rattle.std.proofs.Common.{◌≡◌, ℕ, Bool, true, false, if◌then◌else◌, map, List, [], ◌∷◌, ◌++◌, sym, ◌∙◌, subst, All, Contains, refl, append-nil}
 use Rattle.std.proofs.lemmas.List.Elements.{All-contains_itself}
-use Rattle.turn_lock.specs.Seats.{Known, AddsOwn, AllJoined}
+use Rattle.atomic_table.specs.Seated.{TableId}
+use Rattle.turn_lock.specs.Seats.{Known, SeatView, AddsOwn, AllJoined, IsIn, IsReady}
 use Rattle.turn_lock.proofs.Entries.{entries_of-one}
 
 module _ {F E : Type 0} where
@@ -21,3 +22,7 @@ module _ {F E : Type 0} where
   -- the seats were joined in the order in which they were split off
   pub joined_in_order : (main : Known F E) → map (λ e. e.0) main.ended ≡ main.apps → AllJoined main
   joined_in_order main in_order = subst (λ apps. All (Contains apps) main.apps) (sym in_order) (All-contains_itself main.apps)
+
+  -- a seat that may begin a turn is one of the lock
+  pub ready_in : (s : SeatView F E) (name : TableId) → IsReady s name → IsIn s name
+  ready_in s name ready = record { lock = ready.lock; knows = ready.knows; main = ready.main }

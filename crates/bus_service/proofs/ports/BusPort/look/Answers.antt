@@ -1,5 +1,6 @@
 use Rattle.std.proofs.Common.{◌≡◌, ℕ, ap, sym, ◌∙◌, subst, refl, Some}
 use Rattle.turn_lock.specs.Seats.{view_of, entered_view, left_view}
+use Rattle.turn_lock.proofs.Callers.{ready_in}
 use Rattle.journal_store.specs.Budgets.{allowance_of}
 use Rattle.bus_words.specs.Bus.{standing_of, waited_on}
 use Rattle.bus_words.specs.Log.{left_of}
@@ -120,7 +121,7 @@ invariant_of-self-2 g c =
     let does = looked old new app pipe c.look-told.result (sym c.is_pending.ensures ∙ c.if-is_pending.false) looks in
     let after = c.finish.ensures.view ∙ ap (λ w. left_view w (history_of new)) view in (
       stays_port s app c.self.inside.left c.self.inside.bag c.self.invariant.0 old entered new (Look pipe) (waited c.look-told.result) does c.finish.new.seat after
-          c.look-told.new.bag c.left-self-inside.result c.args.bus.now c.finish.ensures.seat
+          c.look-told.new.bag c.left-self-inside.result c.args.bus.now (ready_in c.finish.new.seat c.args.bus.now c.finish.ensures.seat)
           (c.left-self-inside.ensures ∙ ap (λ (k : Guarded). allowance_of (left_of k.core.log) app) c.value-2.ensures)
           c.look-told.ensures.bag,
       stays_telling s app c.self.inside.left c.self.inside.bag c.self.invariant.0 old entered new (Look pipe) (waited c.look-told.result) does c.finish.new.seat after

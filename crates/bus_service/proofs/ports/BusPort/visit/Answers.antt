@@ -1,5 +1,6 @@
 use Rattle.std.proofs.Common.{ap, sym, ◌∙◌, subst, refl}
 use Rattle.turn_lock.specs.Seats.{view_of, entered_view, left_view}
+use Rattle.turn_lock.proofs.Callers.{ready_in}
 use Rattle.journal_store.specs.Budgets.{allowance_of}
 use Rattle.bus_words.specs.Log.{left_of}
 use Rattle.sb_calls.specs.Core.{Core, MayCall}
@@ -43,7 +44,7 @@ invariant_of-self g c =
     let call = g.C.PortCall.call c.args.call args.bag in
     let answer = g.C.PortCall.answer c.make-told.result in (
       stays_port args.seat args.app args.left args.bag c.self.invariant.0 c.value_mut.result.now.core entered new call answer c.make-told.ensures.does c.finish.new.seat after
-          c.make-told.new.bag c.left-self-inside.result c.args.bus.now c.finish.ensures.seat
+          c.make-told.new.bag c.left-self-inside.result c.args.bus.now (ready_in c.finish.new.seat c.args.bus.now c.finish.ensures.seat)
           (c.left-self-inside.ensures ∙ ap (λ (k : Guarded). allowance_of (left_of k.core.log) args.app) c.value.ensures)
           c.make-told.ensures.bag,
       stays_telling args.seat args.app args.left args.bag c.self.invariant.0 c.value_mut.result.now.core entered new call answer c.make-told.ensures.does c.finish.new.seat after
