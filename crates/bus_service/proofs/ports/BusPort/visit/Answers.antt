@@ -3,7 +3,7 @@ use Rattle.turn_lock.specs.Seats.{view_of, entered_view, left_view}
 use Rattle.turn_lock.proofs.Callers.{ready_in}
 use Rattle.journal_store.specs.Budgets.{allowance_of}
 use Rattle.bus_words.specs.Log.{left_of}
-use Rattle.sb_calls.specs.Core.{Core, MayCall}
+use Rattle.sb_calls.specs.Core.{MayCall}
 use Rattle.bus_service.specs.Histories.{Guarded, history_of}
 use Rattle.bus_service.specs.Inside.{Tells, port_in}
 use Rattle.bus_service.specs.Ports.{PortView, Answers, FindsRoom}
