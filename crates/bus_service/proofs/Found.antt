@@ -1,8 +1,7 @@
 -- What a port finds at its turn: others called meanwhile, and what its own entries tell is so at the core.
 use Rattle.std.proofs.Common.{◌≡◌, ℕ, ◌≤◌, List, [], ◌++◌, length, ap, ap₂, sym, ◌∙◌, subst, arith}
 use Rattle.lend_block.specs.declared.note.Note.{Note}
-use Rattle.turn_lock.specs.declared.view.View.{View}
-use Rattle.turn_lock.specs.Seats.{SeatView, view_of}
+use Rattle.turn_lock.specs.Seats.{Known, SeatView, view_of}
 use Rattle.journal_store.specs.declared.allowance.Allowance.{Allowance}
 use Rattle.journal_store.specs.Budgets.{allowance_of, allowances}
 use Rattle.bus_words.specs.declared.history.Call.{Call}
@@ -40,7 +39,7 @@ entries_again core noted = entries_in-with_notes core.log.entries core.notes (ev
 pub notes_again : (core : Core) → IsNoted core → notes_in (history_of core) ≡ core.notes
 notes_again core noted = notes_in-with_notes core.log.entries core.notes (even core noted)
 
-module _ (v : View Fixed NotedCall) (core : Core) (e : Entered v core) where
+module _ (v : Known Fixed NotedCall) (core : Core) (e : Entered v core) where
   pub fixed_found : the_fixed v.fixed ≡ fixed_of core
   fixed_found = ap the_fixed (sym e.opening)
 
@@ -78,7 +77,7 @@ own_left s app left bag port =
     ∙ allowed_by_own (allowances budgets) app (seen_in s).log.entries port.first (omega (arith, port.known, length-left_of (record { budgets = budgets; entries = [] }))) port.called
 
 module _ (s : SeatView Fixed NotedCall) (app : ℕ) (left : Allowance) (bag : Holding LentBytes) (port : IsPort s app left bag) (core : Core) (e : Entered (view_of s) core) where
-  abbrev v : View Fixed NotedCall
+  abbrev v : Known Fixed NotedCall
   v = view_of s
 
   pub own_at : own_entries app core.log.entries ≡ mine_in s

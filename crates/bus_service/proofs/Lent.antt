@@ -30,7 +30,7 @@ module _ (s : SeatView Fixed NotedCall) (app : ℕ) (left : Allowance) (bag : Ho
   -- with another bag of the application's it is a port as well
   pub with_bag : (other : Holding LentBytes) → HasBag (seen_in s) app other → IsPort s app left other
   with_bag other has = record {
-    ready = port.ready;
+    seat = port.seat;
     own = port.own;
     first = port.first;
     known = port.known;

@@ -2,7 +2,7 @@
 use Rattle.std.specs.Prelude.{◌≡◌, ◌↔◌, ℕ, ◌≤◌, nat_eq, Bool, false, IsTrue, List, [], ◌∷◌, length, map, All, Contains}
 use Rattle.std.specs.List.{IsDistinct}
 use Rattle.fsw_base.specs.declared.config.Budget.{Budget}
-use Rattle.turn_lock.specs.Seats.{SeatView, view_of, IsReady, IsMain}
+use Rattle.turn_lock.specs.Seats.{SeatView, view_of, IsIn, IsMain}
 use Rattle.journal_store.specs.declared.allowance.Allowance.{Allowance}
 use Rattle.journal_store.specs.Budgets.{allowance_of}
 use Rattle.bus_words.specs.declared.history.Call.{Call}
@@ -36,10 +36,10 @@ done_in s = record { lock = s.lock; app = (view_of s).app; seen = seen_in s; min
 abbrev pub AreCalled : SeatView Fixed NotedCall → Type 0
 AreCalled s = All (λ e. 1 ≤ e.app) (seen_in s).log.entries
 
--- the seat is the application's and ready, so much is left, the entries made are all that were seen of the application, and the bag
+-- the seat is the application's, with no turn out, so much is left, the entries made are all that were seen of the application, and the bag
 -- is its bag
 pub record IsPort (s : SeatView Fixed NotedCall) (app : ℕ) (left : Allowance) (bag : Holding LentBytes) : Type 0 where
-  pub ready : IsReady s s.lock
+  pub seat : IsIn s s.lock
   pub own : (view_of s).app ≡ app
   pub first : 1 ≤ app
   pub known : app ≤ length (seen_in s).log.budgets
@@ -60,9 +60,9 @@ lets permits (Look pipe) = false
 lets permits End = permits.last
 lets permits call = permits.any
 
--- the seat is ready
+-- the seat has no turn out
 pub record IsDone (s : SeatView Fixed NotedCall) : Type 0 where
-  pub ready : IsReady s s.lock
+  pub seat : IsIn s s.lock
   pub called : AreCalled s
 
 -- an application that ended, with its entries

@@ -1,9 +1,11 @@
 //! What the lock guards: the core in a box, so that a turn moves a pointer.
-ghost use Rattle.std.specs.Prelude.{◌≡◌, ◌<◌, ◌≤◌, IfOk};
+ghost use Rattle.std.specs.Prelude.{◌≡◌, ◌<◌, ◌≤◌, ◌&&◌, true, false, IfOk};
+ghost use Rattle.std.specs.Prelude.{if◌then◌else◌};
 ghost use Rattle.journal_store.specs.Budgets.{allowance_of};
 ghost use Rattle.bus_words.specs.Bus.{standing_of, waited_on};
 ghost use Rattle.bus_words.specs.Log.{left_of};
 ghost use Rattle.bus_words.specs.declared.history.Call.TheVariants.{Look};
+ghost use Rattle.sb_plain.specs.News.{has_news};
 ghost use Rattle.sb_calls.specs.Bags.{HasBag, AreOneLoan};
 ghost use Rattle.sb_calls.specs.Core.{MayCall, Does, Looks, IsLegalCore, IsNoted, StandAlone, apps_of, state_of};
 ghost use Rattle.bus_service.specs.Inside.{Tells};
@@ -51,34 +53,40 @@ pub struct NotedCall {
     pub note: Note,
 }
 
-/// The core in a box, and whether somebody sleeps until its history grows.
+/// The core in a box, and whether somebody sleeps until it has news.
 #[derive(Drop)]
 pub(crate) struct BoxedCore<'r> {
     // The core.
     core: Box<BusCore<'r>>,
-    // An application looked in vain since the last entry.
+    // An application that looked in vain sleeps, or is about to, and no call has woken it.
     asleep: bool,
 }
 
 impl<'r> Model for BoxedCore<'r> {
     ghost use Rattle.std.specs.Prelude.{box_value};
-    ghost use Rattle.sb_calls.specs.Core.{Core};
+    ghost use Rattle.bus_service.specs.Histories.{Guarded};
 
-    ghost Value = { Core };
+    ghost Value = { Guarded };
 
-    ghost view = { λ boxed. box_value boxed.core };
+    ghost view = { λ boxed. record { core = box_value boxed.core; asleep = boxed.asleep } };
 }
 
 impl<'r> Historied for BoxedCore<'r> {
+    ghost use Rattle.sb_calls.specs.Core.{state_of};
+    ghost use Rattle.sb_plain.specs.News.{has_news};
     ghost use Rattle.bus_service.specs.Histories.{fixed_of, history_of};
 
     type Fixed = Opening;
 
     type Event = NotedCall;
 
-    ghost fixed = { λ core. fixed_of core };
+    ghost fixed = { λ guarded. fixed_of guarded.core };
 
-    ghost history = { λ core. history_of core };
+    ghost history = { λ guarded. history_of guarded.core };
+
+    ghost awaited = { λ guarded. guarded.asleep };
+
+    ghost news = { λ guarded. has_news (state_of guarded.core) };
 }
 
 impl<'r> BoxedCore<'r> {
@@ -87,7 +95,8 @@ impl<'r> BoxedCore<'r> {
     /// # Errors
     /// Where memory runs out.
     pub(crate) fn new(alloc: Global, core: BusCore<'r>) -> Result<BoxedCore<'r>, AllocError>
-        ensures { IfOk result (λ boxed. boxed ≡ core.entry) }
+        ensures { IfOk result
+            (λ boxed. boxed ≡ record { core = core.entry; asleep = false }) }
     {
         let core = Box::new(alloc, core)?;
         Ok(BoxedCore {
@@ -98,7 +107,7 @@ impl<'r> BoxedCore<'r> {
 
     /// The core.
     pub(crate) fn into_core(self) -> BusCore<'r>
-        ensures { result ≡ self.entry }
+        ensures { result ≡ self.entry.core }
     {
         let BoxedCore { core, asleep: _ } = self;
         Box::into_inner(core)
@@ -108,23 +117,18 @@ impl<'r> BoxedCore<'r> {
     /// each pipe gave what it gives alone, and pipes whose last messages are of one send were given
     /// views of one loan. Does nothing.
     pub(crate) fn recall(&self)
-        ensures legal { IsLegalCore self.now }
-        ensures noted { IsNoted self.now }
-        ensures alone { StandAlone self.now }
-        ensures loans { AreOneLoan self.now }
+        ensures legal { IsLegalCore self.now.core }
+        ensures noted { IsNoted self.now.core }
+        ensures alone { StandAlone self.now.core }
+        ensures loans { AreOneLoan self.now.core }
     {
         self.core.journal();
     }
 
-    /// How many entries the history has, modulo 2^32.
-    pub(crate) fn len(&self) -> u32 {
-        self.core.journal().len()
-    }
-
     /// What an application may still add to the journal.
     pub(crate) fn left(&self, app: AppNo) -> Allowance
-        requires { app ≤ apps_of self.now }
-        ensures { result ≡ allowance_of (left_of self.now.log) app }
+        requires { app ≤ apps_of self.now.core }
+        ensures { result ≡ allowance_of (left_of self.now.core.log) app }
     {
         Allowance {
             entries: self.core.entries_left(app),
@@ -134,7 +138,7 @@ impl<'r> BoxedCore<'r> {
 
     /// Which calls an application may make that bring no bytes.
     pub(crate) fn permits(&self, app: AppNo) -> Permits
-        ensures { Tells self.now app result }
+        ensures { Tells self.now.core app result }
     {
         Permits {
             any: self.core.may_make(app, &BusCall::Figures),
@@ -153,12 +157,14 @@ impl<'r> BoxedCore<'r> {
         requires name { blank.name ≡ L.name }
         requires parts { blank.parts ≡ L.parts }
         requires some_part { 0 < blank.parts }
-        requires may { MayCall self.old app (C.call call bag.old) }
-        requires bag { HasBag self.old app bag.old }
+        requires may { MayCall self.old.core app (C.call call bag.old) }
+        requires bag { HasBag self.old.core app bag.old }
         requires room { FindsRoom bag.old (C.call call bag.old) }
-        ensures does { Does self.old self.new app (C.call call bag.old) (C.answer result) }
-        ensures bag { HasBag self.new app bag.new }
+        ensures does { Does self.old.core self.new.core app (C.call call bag.old)
+            (C.answer result) }
+        ensures bag { HasBag self.new.core app bag.new }
         ensures left { C.leaves call bag.old bag.new result }
+        ensures asleep { self.new.asleep ≡ self.old.asleep }
     {
         let mut steps = Steps::<L>::new(blank);
         call.make(&mut self.core, app, bag, &mut steps)
@@ -166,32 +172,37 @@ impl<'r> BoxedCore<'r> {
 
     /// Looks again for a message on the pipe that the application waits on, as [`BusCore::look`].
     pub(crate) fn look(&mut self, app: AppNo, bag: &mut Held<'r>) -> Pended
-        requires may { MayCall self.old app
-            (Look (waited_on (standing_of (state_of self.old) app))) }
-        requires bag { HasBag self.old app bag.old }
-        ensures looks { Looks self.old self.new app
-            (waited_on (standing_of (state_of self.old) app)) result }
+        requires may { MayCall self.old.core app
+            (Look (waited_on (standing_of (state_of self.old.core) app))) }
+        requires bag { HasBag self.old.core app bag.old }
+        ensures looks { Looks self.old.core self.new.core app
+            (waited_on (standing_of (state_of self.old.core) app)) result }
         ensures still { result ≡ Pended.Pending → bag.new ≡ bag.old }
-        ensures bag { HasBag self.new app bag.new }
+        ensures bag { HasBag self.new.core app bag.new }
         ensures buffers { bag.new ≡ record bag.old { views = bag.new.views } }
+        ensures asleep { self.new.asleep ≡ self.old.asleep }
     {
         self.core.look(app, bag)
     }
 
-    /// Notes that somebody is about to sleep until the history grows.
+    /// Notes that somebody is about to sleep until there is news.
     pub(crate) fn note_sleeper(&mut self)
-        ensures { self.new ≡ self.old }
+        ensures { self.new ≡ record self.old { asleep = true } }
     {
         self.asleep = true;
     }
 
-    /// Whether somebody sleeps until the history grows, who is to be woken now that it did. From
-    /// now on nobody does.
+    /// Whether the sleepers are to be woken: there are some, and a waiting application would be
+    /// answered if it looked now. All are woken then, so that nobody sleeps any more.
     pub(crate) fn take_sleepers(&mut self) -> bool
-        ensures { self.new ≡ self.old }
+        ensures woken { result ≡ self.old.asleep && has_news (state_of self.old.core) }
+        ensures asleep { self.new.asleep ≡ (if result then false else self.old.asleep) }
+        ensures core { self.new.core ≡ self.old.core }
     {
-        let asleep = self.asleep;
+        if !self.asleep || !self.core.has_news() {
+            return false;
+        }
         self.asleep = false;
-        asleep
+        true
     }
 }

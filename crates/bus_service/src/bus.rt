@@ -152,7 +152,6 @@ impl<'r> Bus<'r> {
             app,
             left,
             permits,
-            looked: None,
             bag,
         })
     }

@@ -45,8 +45,6 @@ pub struct PortOf<S: Memory + Drop, V: MessageView + Drop> {
     pub(crate) left: Allowance,
     // Which calls it may make that bring no bytes.
     pub(crate) permits: Permits,
-    // How many entries the history had when the application looked last, where that was in vain.
-    pub(crate) looked: Option<u32>,
     // What its application holds.
     pub(crate) bag: Bag<S, V>,
 }
@@ -162,7 +160,6 @@ impl<'r> BusPort<'r> {
             app: _,
             left: _,
             permits: _,
-            looked: _,
             bag: _,
         } = self;
         BusDone { seat }
@@ -182,14 +179,14 @@ impl<'r> BusPort<'r> {
             .make::<C, Brand>(call, self.app, &mut self.bag, Blank::new(1));
         self.left = turn.value().left(self.app);
         self.permits = turn.value().permits(self.app);
-        self.looked = None;
         finish(bus, &mut self.seat, turn);
         told
     }
 
     /// Looks again for a message on the pipe that the application waits on, as [`BusCore::look`]
-    /// does at the application's turn. Where its last look was in vain, it sleeps before until the
-    /// bus's history has grown, or a little less long; nothing is claimed of how long.
+    /// does at the application's turn. If its last look was in vain, it sleeps before, until a
+    /// waiting application would be answered, or a little less long; nothing is claimed of how
+    /// long.
     ///
     /// [`BusCore::look`]: sb_calls::BusCore::look
     pub fn look<R: Wait>(&mut self, bus: &Bus<'r>, rt: &R) -> Pended
@@ -201,20 +198,15 @@ impl<'r> BusPort<'r> {
         ensures still { result ≡ Pended.Pending → self.new.bag ≡ self.old.bag }
         ensures buffers { self.new.bag ≡ record self.old.bag { views = self.new.bag.views } }
     {
-        if let Some(entries) = self.looked {
-            bus.lock.sleep(rt, entries);
-        }
         let mut turn = begin(bus, rt, &mut self.seat);
         let told = turn.value_mut().look(self.app, &mut self.bag);
         if told.is_pending() {
             self.permits = turn.value().permits(self.app);
-            self.looked = Some(turn.value().len());
             pause(bus, &mut self.seat, turn);
             return told;
         }
         self.left = turn.value().left(self.app);
         self.permits = turn.value().permits(self.app);
-        self.looked = None;
         finish(bus, &mut self.seat, turn);
         told
     }

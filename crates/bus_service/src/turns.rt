@@ -1,6 +1,6 @@
 //! The two ends of a turn.
-ghost use Rattle.std.specs.Prelude.{◌≡◌, false, Some};
-ghost use Rattle.turn_lock.specs.Seats.{IsOut, IsReady, view_of, entered_view, left_view};
+ghost use Rattle.std.specs.Prelude.{◌≡◌, true, Some};
+ghost use Rattle.turn_lock.specs.Seats.{IsOut, IsIn, IsReady, view_of, entered_view, left_view};
 ghost use Rattle.sb_calls.specs.Bags.{AreOneLoan};
 ghost use Rattle.sb_calls.specs.Core.{StandAlone};
 ghost use Rattle.bus_service.specs.Histories.{fixed_of, history_of};
@@ -11,25 +11,28 @@ use crate::bus::Bus;
 use std::sync::Wait;
 use turn_lock::{Seat, Turn};
 
-/// Waits for the seat's turn.
+/// Waits for a turn of the seat. If its application looked in vain in the last one, it sleeps
+/// before, until there is news.
 pub(crate) fn begin<'r, R: Wait>(
     bus: &Bus<'r>,
     rt: &R,
     seat: &mut Seat<Opening, NotedCall>,
 ) -> Turn<BoxedCore<'r>>
-    requires { IsReady seat.old bus.now }
+    requires { IsIn seat.old bus.now }
     ensures out { IsOut seat.new }
     ensures lock { result.lock ≡ bus.now }
-    ensures unmarked { result.marked ≡ false }
-    ensures entered { Entered (view_of seat.old) result.value }
-    ensures view { result.view ≡ entered_view (view_of seat.old) (history_of result.value) }
+    ensures found { result.found ≡ result.value }
+    ensures entered { Entered (view_of seat.old) result.value.core }
+    ensures view { result.view ≡ entered_view (view_of seat.old) (history_of result.value.core) }
 {
+    bus.lock.sleep(rt, seat);
     let turn = bus.lock.enter(rt, seat);
     turn.value().recall();
     turn
 }
 
-/// Ends a turn in which one call was made, and wakes those who sleep until the history grows.
+/// Ends a turn in which one call was made, and wakes the sleepers if and only if a waiting
+/// application has news.
 pub(crate) fn finish<'r>(
     bus: &Bus<'r>,
     seat: &mut Seat<Opening, NotedCall>,
@@ -37,22 +40,24 @@ pub(crate) fn finish<'r>(
 )
     requires out { IsOut seat.old }
     requires lock { turn.lock ≡ bus.now }
-    requires made { MadeOne turn.view turn.value }
+    requires made { MadeOne turn.view turn.value.core }
+    requires asleep { turn.value.asleep ≡ turn.found.asleep }
     ensures seat { IsReady seat.new bus.now }
-    ensures view { view_of seat.new ≡ left_view turn.entry.view (history_of turn.entry.value) }
-    ensures alone { StandAlone turn.entry.value }
-    ensures loans { AreOneLoan turn.entry.value }
+    ensures view { view_of seat.new ≡ left_view turn.entry.view
+        (history_of turn.entry.value.core) }
+    ensures alone { StandAlone turn.entry.value.core }
+    ensures loans { AreOneLoan turn.entry.value.core }
 {
     turn.value().recall();
-    let wakes = turn.value_mut().take_sleepers();
-    turn.mark_entry();
-    bus.lock.leave(seat, turn);
-    if wakes {
-        bus.lock.wake();
+    if turn.value_mut().take_sleepers() {
+        bus.lock.leave_and_wake(seat, turn);
+    } else {
+        bus.lock.leave(seat, turn);
     }
 }
 
-/// Ends a turn in which an application looked in vain: it made no entry, and sleeps next.
+/// Ends a turn in which an application looked in vain: it made no entry, and sleeps before its next
+/// turn.
 pub(crate) fn pause<'r>(
     bus: &Bus<'r>,
     seat: &mut Seat<Opening, NotedCall>,
@@ -60,15 +65,16 @@ pub(crate) fn pause<'r>(
 )
     requires out { IsOut seat.old }
     requires lock { turn.lock ≡ bus.now }
-    requires unmarked { turn.marked ≡ false }
-    requires opening { Some (fixed_of turn.value) ≡ turn.view.fixed }
-    requires none { history_of turn.value ≡ turn.view.seen }
-    ensures seat { IsReady seat.new bus.now }
-    ensures view { view_of seat.new ≡ left_view turn.entry.view (history_of turn.entry.value) }
-    ensures alone { StandAlone turn.entry.value }
-    ensures loans { AreOneLoan turn.entry.value }
+    requires opening { Some (fixed_of turn.value.core) ≡ turn.view.fixed }
+    requires none { history_of turn.value.core ≡ turn.view.seen }
+    ensures seat { IsIn seat.new bus.now }
+    ensures rests { seat.new.rests ≡ true }
+    ensures view { view_of seat.new ≡ left_view turn.entry.view
+        (history_of turn.entry.value.core) }
+    ensures alone { StandAlone turn.entry.value.core }
+    ensures loans { AreOneLoan turn.entry.value.core }
 {
     turn.value().recall();
     turn.value_mut().note_sleeper();
-    bus.lock.leave(seat, turn);
+    bus.lock.leave_to_sleep(seat, turn);
 }

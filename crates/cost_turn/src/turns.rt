@@ -48,13 +48,9 @@ fn note_turn<R: Wait>(
         ++ (if result then (app, number) ∷ [] else []) }
 {
     let mut turn = lock.enter(rt, seat);
-    if turn.value_mut().note(app, number) {
-        turn.mark_entry();
-        lock.leave(seat, turn);
-        return true;
-    }
+    let noted = turn.value_mut().note(app, number);
     lock.leave(seat, turn);
-    false
+    noted
 }
 
 /// Opens a lock, takes so many turns as one application, notes in one more how many they were,

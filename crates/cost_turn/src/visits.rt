@@ -1,5 +1,5 @@
 //! A small value for the lock to guard.
-ghost use Rattle.std.specs.Prelude.{◌≡◌, ◌<◌, ◌↔◌, ◌++◌, [], ◌∷◌, vec_capacity, vec_len};
+ghost use Rattle.std.specs.Prelude.{◌≡◌, ◌<◌, ◌↔◌, ◌++◌, [], ◌∷◌, false, vec_capacity, vec_len};
 ghost use Rattle.std.specs.Prelude.{IfOk, IsTrue};
 ghost use Rattle.std.specs.Prelude.{if◌then◌else◌};
 
@@ -23,6 +23,10 @@ impl Historied for Visits {
     ghost fixed = { λ v. vec_capacity v.noted };
 
     ghost history = { λ v. v.noted.items };
+
+    ghost awaited = { λ _. false };
+
+    ghost news = { λ _. false };
 }
 
 impl Visits {

@@ -1,9 +1,12 @@
 //! Receives that wait. Nothing blocks here: an application that would wait is told so, and looks
 //! again in its next turn.
-ghost use Rattle.std.specs.Prelude.{◌≡◌, ℕ, ◌+◌, ◌≤◌, Ok, OnErr};
+ghost use Rattle.std.specs.Prelude.{◌≡◌, ◌≢◌, ℕ, ◌+◌, ◌≤◌, true, false, Ok, OnErr};
 ghost use Rattle.bus_words.specs.declared.history.Call.TheVariants.{Look};
+ghost use Rattle.bus_words.specs.declared.calls.BusAnswer.TheVariants.{Pending};
 ghost use Rattle.bus_words.specs.Bus.{standing_of, waited_on};
 ghost use Rattle.sb_calls.specs.Answers.{pended};
+ghost use Rattle.bus_words.specs.Machine.{pended_answer};
+ghost use Rattle.sb_plain.specs.News.{has_news, is_waiting};
 ghost use Rattle.sb_calls.specs.Bags.{HasBag, KeepsOtherBags};
 ghost use Rattle.sb_calls.specs.Core.{MayCall, Does, Looks, GotAlone, state_of};
 
@@ -55,6 +58,22 @@ impl<'r> BusCore<'r> {
         };
         self.noted.push(&entry, note);
         result
+    }
+
+    /// Whether an application that waits would be answered if it looked now: a message is on its
+    /// pipe, or it is a time-out. Where this is false, each look would be in vain.
+    pub fn has_news(&self) -> bool
+        ensures told { result ≡ has_news (state_of self.now) }
+        ensures none { result ≡ false → (app : ℕ)
+            → is_waiting (standing_of (state_of self.now) app) ≡ true
+            → pended_answer (state_of self.now) app
+            (waited_on (standing_of (state_of self.now) app)) ≡ Pending }
+        ensures some { result ≡ true → (app : ℕ)
+            × (is_waiting (standing_of (state_of self.now) app) ≡ true)
+            × (pended_answer (state_of self.now) app
+            (waited_on (standing_of (state_of self.now) app)) ≢ Pending) }
+    {
+        self.core.has_news()
     }
 
     /// Looks again for a message on the pipe that the caller waits on. The view of a message is put

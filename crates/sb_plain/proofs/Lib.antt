@@ -10,6 +10,7 @@ pub mod Ends
 pub mod Events
 pub mod Figures
 pub mod Looks
+pub mod News
 pub mod Numbers
 pub mod Opened
 pub mod Owners

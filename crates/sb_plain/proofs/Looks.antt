@@ -35,7 +35,7 @@ use Rattle.sb_plain.proofs.Waits.{oldest_told, empty-none, empty-some, oldest-so
 -- Counting the busy. --
 
 -- all pass where none fails
-none_fails : {X : Type 0} (p : X → Bool) (xs : List X) → list_all p xs ≡ eqb (count_by (λ x. not (p x)) xs) 0
+pub none_fails : {X : Type 0} (p : X → Bool) (xs : List X) → list_all p xs ≡ eqb (count_by (λ x. not (p x)) xs) 0
 none_fails p [] = refl
 none_fails {X} p (x ∷ xs) = at (p x) (none_fails p xs) ∙ ap (λ n. eqb n 0) (sym (sum_by-cons (λ (y : X). cond {A = ℕ} (not (p y)) 1 0) x xs))
   where

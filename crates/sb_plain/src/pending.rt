@@ -1,13 +1,15 @@
 //! Receives that wait. Nothing blocks here: an application that would wait is told so, and looks
 //! again in its next turn.
-ghost use Rattle.std.specs.Prelude.{◌≡◌, ℕ, ◌≤◌, ◌+◌, ◌-◌, false, Ok, not, length, slice_set, slice_index_or, count_by, if◌then◌else◌, OnErr};
-ghost use Rattle.std.specs.List.{list_all};
+ghost use Rattle.std.specs.Prelude.{◌≡◌, ℕ, ◌≤◌, ◌+◌, ◌-◌, false, Ok, not, length, slice_set, slice_index_or, count_by, if◌then◌else◌, OnErr, ◌≢◌, true, nat_eq, ◌&&◌, ◌||◌};
+ghost use Rattle.std.specs.List.{list_all, list_any};
 ghost use Rattle.bus_words.specs.declared.history.Call.TheVariants.{Pend, Look};
 ghost use Rattle.bus_words.specs.Bus.{owns, standing_of, waited_on};
+ghost use Rattle.bus_words.specs.declared.calls.BusAnswer.TheVariants.{Pending};
 ghost use Rattle.bus_words.specs.Machine.{pended_answer};
 ghost use Rattle.bus_store.specs.Blocks.{IsGiven};
 ghost use Rattle.sb_plain.specs.Answers.{pended, waited, is_pending};
 ghost use Rattle.sb_plain.specs.Core.{MayAct, Acts, apps_in, with_tick};
+ghost use Rattle.sb_plain.specs.News.{has_news, has_message, is_waiting};
 ghost use Rattle.sb_plain.specs.Rows.{idle_in, standing_in};
 ghost use Rattle.sb_plain.specs.Bags.{HasBag, KeepsOtherBags, KeepsLoans, KeepsAllDescs};
 
@@ -123,6 +125,23 @@ impl<'r> PlainBus<'r> {
         answer
     }
 
+    /// Whether a waiting application would be answered if it looked now: with a message on its
+    /// pipe, or with a time-out, since every application has ended or waits on an empty pipe. If
+    /// this is false, each look would be in vain. For services that wake sleepers.
+    pub fn has_news(&self) -> bool
+        ensures told { result ≡ has_news self.now.whole.bus }
+        ensures none { result ≡ false → (app : ℕ)
+            → is_waiting (standing_of self.now.whole.bus app) ≡ true
+            → pended_answer self.now.whole.bus app (waited_on (standing_of self.now.whole.bus app))
+            ≡ Pending }
+        ensures some { result ≡ true → (app : ℕ)
+            × (is_waiting (standing_of self.now.whole.bus app) ≡ true)
+            × (pended_answer self.now.whole.bus app
+            (waited_on (standing_of self.now.whole.bus app)) ≢ Pending) }
+    {
+        is_anyone_served(&self.activities, &self.store)
+    }
+
     // What a receive on the pipe that may wait is answered.
     fn pended(&self, app: AppNo, pipe: u32) -> Pended
         requires { app ≤ apps_in self.now }
@@ -150,6 +169,37 @@ fn are_others_idle(activities: &[Activity], store: &BusStore<'_>, app: AppNo) ->
         list_all (idle_in store.now.pipes) (slice_set activities.now (app - 1) Activity.Ended) }
 {
     busy(activities, store) == busy_once(activity_of(activities, app), store)
+}
+
+// Whether a waiting application would be answered: with a message on its pipe, or with a time-out,
+// since no application is busy.
+fn is_anyone_served(activities: &[Activity], store: &BusStore<'_>) -> bool
+    ensures { result ≡ (list_any (λ activity. has_message store.now.pipes (standing_in activity))
+        activities.now
+        || (list_any (λ activity. is_waiting (standing_in activity)) activities.now
+        && nat_eq
+        (count_by (λ activity. not (idle_in store.now.pipes activity)) activities.now) 0)) }
+{
+    let served = is_message_awaited(activities, store);
+    let waiting = is_anyone_waiting(activities);
+    served || (waiting && busy(activities, store) == 0)
+}
+
+// Whether an application waits on a pipe that has a message.
+fn is_message_awaited(activities: &[Activity], store: &BusStore<'_>) -> bool
+    ensures { result ≡
+        list_any (λ activity. has_message store.now.pipes (standing_in activity)) activities.now }
+{
+    activities
+        .iter()
+        .any(|activity| has_message(activity, store))
+}
+
+// Whether an application waits.
+fn is_anyone_waiting(activities: &[Activity]) -> bool
+    ensures { result ≡ list_any (λ activity. is_waiting (standing_in activity)) activities.now }
+{
+    activities.iter().any(|activity| is_waiting(activity))
 }
 
 /// What the application does.
@@ -181,6 +231,20 @@ fn is_idle(activity: &Activity, store: &BusStore<'_>) -> bool
         Activity::Waiting(pipe) => store.oldest(*pipe).is_none(),
         Activity::Ended => true,
     }
+}
+
+// Whether the application waits.
+fn is_waiting(activity: &Activity) -> bool
+    ensures { result ≡ is_waiting (standing_in activity.now) }
+{
+    matches!(activity, Activity::Waiting(_))
+}
+
+// Whether the application waits on a pipe that has a message.
+fn has_message(activity: &Activity, store: &BusStore<'_>) -> bool
+    ensures { result ≡ has_message store.now.pipes (standing_in activity.now) }
+{
+    is_waiting(activity) && !is_idle(activity, store)
 }
 
 // 1 where the application isn't idle.

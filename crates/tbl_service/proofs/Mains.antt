@@ -9,9 +9,8 @@ use Rattle.atomic_table.specs.Seated.{TableId}
 use Rattle.fsw_base.specs.declared.config.Budget.{Budget}
 use Rattle.journal_store.specs.declared.allowance.Allowance.{Allowance}
 use Rattle.journal_store.specs.Budgets.{allowance_of, allowances}
-use Rattle.turn_lock.specs.declared.view.View.{View}
-use Rattle.turn_lock.specs.Views.{entries_of, main_view, seat_view, with_app}
-use Rattle.turn_lock.specs.Seats.{SeatView, IsMain, IsReady, KeepsLonger, view_of}
+use Rattle.turn_lock.specs.Views.{entries_of}
+use Rattle.turn_lock.specs.Seats.{Known, main_view, seat_view, with_app, SeatView, IsMain, IsReady, KeepsLonger, view_of}
 use Rattle.tbl_words.specs.declared.history.Entry.{Entry}
 use Rattle.tbl_words.specs.Log.{left_of}
 use Rattle.tbl_blocks.specs.Held.{HeldViews}
@@ -39,17 +38,17 @@ Called pairs = All (λ (e : Entry). 1 ≤ e.app) (entries_in pairs)
 module _ (s : SeatView Fixed NotedCall) (fixed : Fixed) (name : TableId) (main : IsMain s name) (is : view_of s ≡ main_view fixed []) where
   pub opened : main_in s ≡ record { lock = name; seen = core_of fixed [] []; apps = []; ended = [] }
   opened =
-      ap₂ (λ (n : TableId) (v : View Fixed NotedCall). record { lock = n; seen = core_with v.fixed v.seen; apps = v.apps; ended = map ended_in v.ended }) main.lock is
+      ap₂ (λ (n : TableId) (v : Known Fixed NotedCall). record { lock = n; seen = core_with v.fixed v.seen; apps = v.apps; ended = map ended_in v.ended }) main.lock is
 
   pub opens : IsMainPart s fixed.budgets fixed.limits.handles
   opens = record {
     main = subst (λ n. IsMain s n) (sym main.lock) main;
-    given = ap (λ (v : View Fixed NotedCall). (the_fixed v.fixed).budgets) is;
-    room = ap (λ (v : View Fixed NotedCall). (the_fixed v.fixed).limits.handles) is;
-    distinct = subst (λ (v : View Fixed NotedCall). IsDistinct eqb (0 ∷ v.apps)) (sym is) none_once;
-    each = subst (λ (v : View Fixed NotedCall). All (λ (app : ℕ). app ≤ 16) v.apps) (sym is) (All-nil (λ (app : ℕ). app ≤ 16));
-    called = subst (λ (v : View Fixed NotedCall). Called v.seen) (sym is) (All-nil (λ (e : Entry). 1 ≤ e.app));
-    others = λ app out. ap (λ (v : View Fixed NotedCall). own_entries app (entries_in v.seen)) is;
+    given = ap (λ (v : Known Fixed NotedCall). (the_fixed v.fixed).budgets) is;
+    room = ap (λ (v : Known Fixed NotedCall). (the_fixed v.fixed).limits.handles) is;
+    distinct = subst (λ (v : Known Fixed NotedCall). IsDistinct eqb (0 ∷ v.apps)) (sym is) none_once;
+    each = subst (λ (v : Known Fixed NotedCall). All (λ (app : ℕ). app ≤ 16) v.apps) (sym is) (All-nil (λ (app : ℕ). app ≤ 16));
+    called = subst (λ (v : Known Fixed NotedCall). Called v.seen) (sym is) (All-nil (λ (e : Entry). 1 ≤ e.app));
+    others = λ app out. ap (λ (v : Known Fixed NotedCall). own_entries app (entries_in v.seen)) is;
   }
 
 -- A port. --
@@ -63,26 +62,26 @@ module _ (s : SeatView Fixed NotedCall) (budgets : List Budget) (handles : ℕ) 
   module _ (t : SeatView Fixed NotedCall) (name : TableId) (main : IsMain t name) (here : s.lock ≡ name) (is : view_of t ≡ with_app (view_of s) app) where
     pub one_app_more : main_in t ≡ record (main_in s) { apps = (main_in s).apps ++ app ∷ [] }
     one_app_more =
-        ap₂ (λ (n : TableId) (v : View Fixed NotedCall). record { lock = n; seen = core_with v.fixed v.seen; apps = v.apps; ended = map ended_in v.ended }) (main.lock ∙ sym here) is
+        ap₂ (λ (n : TableId) (v : Known Fixed NotedCall). record { lock = n; seen = core_with v.fixed v.seen; apps = v.apps; ended = map ended_in v.ended }) (main.lock ∙ sym here) is
 
     pub stays_main : IsMainPart t budgets handles
     stays_main = record {
       main = subst (λ n. IsMain t n) (sym main.lock) main;
-      given = ap (λ (v : View Fixed NotedCall). (the_fixed v.fixed).budgets) is ∙ part.given;
-      room = ap (λ (v : View Fixed NotedCall). (the_fixed v.fixed).limits.handles) is ∙ part.room;
-      distinct = subst (λ (v : View Fixed NotedCall). IsDistinct eqb (0 ∷ v.apps)) (sym is) (one_more (view_of s).apps app part.distinct first out);
-      each = subst (λ (v : View Fixed NotedCall). All (λ (n : ℕ). n ≤ 16) v.apps) (sym is) (All-push (λ (n : ℕ). n ≤ 16) (view_of s).apps app part.each last);
-      called = subst (λ (v : View Fixed NotedCall). Called v.seen) (sym is) part.called;
+      given = ap (λ (v : Known Fixed NotedCall). (the_fixed v.fixed).budgets) is ∙ part.given;
+      room = ap (λ (v : Known Fixed NotedCall). (the_fixed v.fixed).limits.handles) is ∙ part.room;
+      distinct = subst (λ (v : Known Fixed NotedCall). IsDistinct eqb (0 ∷ v.apps)) (sym is) (one_more (view_of s).apps app part.distinct first out);
+      each = subst (λ (v : Known Fixed NotedCall). All (λ (n : ℕ). n ≤ 16) v.apps) (sym is) (All-push (λ (n : ℕ). n ≤ 16) (view_of s).apps app part.each last);
+      called = subst (λ (v : Known Fixed NotedCall). Called v.seen) (sym is) part.called;
       others = λ other away.
-          ap (λ (v : View Fixed NotedCall). own_entries other (entries_in v.seen)) is
-          ∙ part.others other (λ there. away (subst (λ (v : View Fixed NotedCall). Contains v.apps other) (sym is) (Contains-append_left (view_of s).apps (app ∷ []) other there)));
+          ap (λ (v : Known Fixed NotedCall). own_entries other (entries_in v.seen)) is
+          ∙ part.others other (λ there. away (subst (λ (v : Known Fixed NotedCall). Contains v.apps other) (sym is) (Contains-append_left (view_of s).apps (app ∷ []) other there)));
     }
 
   -- and the port is one that has made no call
   module _ (t : SeatView Fixed NotedCall) (name : TableId) (ready : IsReady t name) (is : view_of t ≡ seat_view (view_of s) app) (bag : HeldViews) where
     pub new_port : port_in t app bag ≡ record { lock = name; app = app; seen = seen_in s; mine = []; bag = bag }
     new_port =
-        ap₂ (λ (n : TableId) (v : View Fixed NotedCall). record { lock = n; app = app; seen = core_with v.fixed v.seen; mine = entries_in v.mine; bag = bag }) ready.lock is
+        ap₂ (λ (n : TableId) (v : Known Fixed NotedCall). record { lock = n; app = app; seen = core_with v.fixed v.seen; mine = entries_in v.mine; bag = bag }) ready.lock is
 
     pub is_port : (left : Allowance) (d : Budget) → app ≤ length budgets → left ≡ record { entries = (get_or budgets (app - 1) d).entries; bytes = (get_or budgets (app - 1) d).bytes } →
         bag ≡ record { views = []; room = handles } → IsPort t app left bag
@@ -92,10 +91,10 @@ module _ (s : SeatView Fixed NotedCall) (budgets : List Budget) (handles : ℕ) 
         let none = part.others app out in
         record {
           ready = subst (λ n. IsReady t n) (sym ready.lock) ready;
-          own = ap (λ (v : View Fixed NotedCall). v.app) is;
+          own = ap (λ (v : Known Fixed NotedCall). v.app) is;
           first = first;
-          known = subst (λ (v : View Fixed NotedCall). app ≤ length (the_fixed v.fixed).budgets) (sym is) long;
-          called = subst (λ (v : View Fixed NotedCall). Called v.seen) (sym is) part.called;
+          known = subst (λ (v : Known Fixed NotedCall). app ≤ length (the_fixed v.fixed).budgets) (sym is) long;
+          called = subst (λ (v : Known Fixed NotedCall). Called v.seen) (sym is) part.called;
           allows =
               given
               ∙ sym (get_or-map budget budgets (app - 1) d (record { entries = 0; bytes = 0 }) (omega (arith, first, known)))
@@ -103,10 +102,10 @@ module _ (s : SeatView Fixed NotedCall) (budgets : List Budget) (handles : ℕ) 
               ∙ ap (λ (es : List Entry). allowance_of (left_of (record { budgets = (seen_in s).log.budgets; entries = es })) app) (sym none)
               ∙ allowed_by_own (allowances (seen_in s).log.budgets) app (seen_in s).log.entries first
               (omega (arith, long, length-left_of (record { budgets = (seen_in s).log.budgets; entries = [] }))) part.called
-              ∙ ap (λ (v : View Fixed NotedCall). allowance_of (left_of (core_with v.fixed v.seen).log) app) (sym is);
-          mine = ap (λ (v : View Fixed NotedCall). own_entries app (entries_in v.seen)) is ∙ none ∙ ap (λ (v : View Fixed NotedCall). entries_in v.mine) (sym is);
+              ∙ ap (λ (v : Known Fixed NotedCall). allowance_of (left_of (core_with v.fixed v.seen).log) app) (sym is);
+          mine = ap (λ (v : Known Fixed NotedCall). own_entries app (entries_in v.seen)) is ∙ none ∙ ap (λ (v : Known Fixed NotedCall). entries_in v.mine) (sym is);
           holds =
-              subst (λ (v : View Fixed NotedCall). HasBag (core_with v.fixed v.seen) app bag) (sym is)
+              subst (λ (v : Known Fixed NotedCall). HasBag (core_with v.fixed v.seen) app bag) (sym is)
               (empty_bag (seen_in s) app bag none (ap (λ (b : HeldViews). b.views) empty) (omega (arith, part.room, ap (λ (b : HeldViews). b.room) empty)));
         }
 
@@ -114,7 +113,7 @@ module _ (s : SeatView Fixed NotedCall) (budgets : List Budget) (handles : ℕ) 
     pub is_open : (left : Allowance) (open_to : Bool) → IsPort t app left bag → open_to ≡ leb 1 left.entries → TellsOpen t app open_to
     is_open left open_to port tests =
         let core = seen_in t in
-        let none : own_entries app core.log.entries ≡ [] = ap (λ (v : View Fixed NotedCall). own_entries app (entries_in v.seen)) is ∙ part.others app out in (
+        let none : own_entries app core.log.entries ≡ [] = ap (λ (v : Known Fixed NotedCall). own_entries app (entries_in v.seen)) is ∙ part.others app out in (
           λ yes. record {
             known = port.known;
             standing = ap (λ b. not b) (open_alone core app first port.known port.called (by_others app core.log.entries none));

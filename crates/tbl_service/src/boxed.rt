@@ -63,6 +63,7 @@ impl<'r> Model for BoxedCore<'r> {
 }
 
 impl<'r> Historied for BoxedCore<'r> {
+    ghost use Rattle.std.specs.Prelude.{false};
     ghost use Rattle.tbl_service.specs.Histories.{fixed_of, history_of};
 
     type Fixed = Opening;
@@ -72,6 +73,10 @@ impl<'r> Historied for BoxedCore<'r> {
     ghost fixed = { λ core. fixed_of core };
 
     ghost history = { λ core. history_of core };
+
+    ghost awaited = { λ _. false };
+
+    ghost news = { λ _. false };
 }
 
 impl<'r> BoxedCore<'r> {

@@ -1,5 +1,5 @@
 //! The two ends of a turn.
-ghost use Rattle.std.specs.Prelude.{◌≡◌, false};
+ghost use Rattle.std.specs.Prelude.{◌≡◌};
 ghost use Rattle.turn_lock.specs.Seats.{IsOut, IsReady, view_of, entered_view, left_view};
 ghost use Rattle.tbl_load.specs.Bags.{AreOneLoan};
 ghost use Rattle.tbl_service.specs.Histories.{history_of};
@@ -31,7 +31,7 @@ pub(crate) fn begin<'r, R: Wait>(
 pub(crate) fn finish<'r>(
     tables: &Tables<'r>,
     seat: &mut Seat<Opening, NotedCall>,
-    mut turn: Turn<BoxedCore<'r>>,
+    turn: Turn<BoxedCore<'r>>,
 )
     requires out { IsOut seat.old }
     requires lock { turn.lock ≡ tables.now }
@@ -41,6 +41,5 @@ pub(crate) fn finish<'r>(
     ensures loans { AreOneLoan turn.entry.value }
 {
     turn.value().recall();
-    turn.mark_entry();
     tables.lock.leave(seat, turn);
 }

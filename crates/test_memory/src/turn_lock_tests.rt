@@ -1,5 +1,5 @@
 //! Two threads share one value through the lock.
-ghost use Rattle.std.specs.Prelude.{◌≡◌, ◌≤◌, ℕ, ◌++◌, List, [], ◌∷◌};
+ghost use Rattle.std.specs.Prelude.{◌≡◌, ◌≤◌, ℕ, ◌++◌, List, [], ◌∷◌, true, false};
 ghost use Rattle.std.specs.Prelude.{if◌then◌else◌};
 ghost use Rattle.turn_lock.specs.Seats.{view_of, IsReady};
 
@@ -17,19 +17,21 @@ use turn_lock::{Historied, LockName, Seat, TurnLock};
 const PAIRS: usize = 10;
 
 /// Pairs of an application and a number, beside a borrowed slice that has each pair's number at
-/// the pair's place. Contracts see the pairs, and how many bytes the slice has.
+/// the pair's place. Contracts see the pairs, how many bytes the slice has, and whether somebody
+/// sleeps until a pair is added.
 #[derive(Drop)]
 struct Pad<'r> {
     pairs: Vec<(u32, u8)>,
     bytes: &'r mut [u8],
+    awaited: bool,
 }
 
 impl<'r> Model for Pad<'r> {
-    ghost use Rattle.std.specs.Prelude.{ℕ, List, length};
+    ghost use Rattle.std.specs.Prelude.{ℕ, Bool, List, length};
 
-    ghost Value = { List (ℕ × ℕ) × ℕ };
+    ghost Value = { List (ℕ × ℕ) × ℕ × Bool };
 
-    ghost view = { λ p. (p.pairs.items, length p.bytes.now) };
+    ghost view = { λ p. (p.pairs.items, length p.bytes.now, p.awaited) };
 }
 
 impl<'r> Historied for Pad<'r> {
@@ -40,13 +42,19 @@ impl<'r> Historied for Pad<'r> {
     ghost fixed = { λ p. p.1 };
 
     ghost history = { λ p. p.0 };
+
+    ghost awaited = { λ p. p.2 };
 }
 
 impl<'r> Pad<'r> {
     /// Adds a pair and answers true; false, and nothing is added, where there is no room.
     fn add(&mut self, app: u32, number: u8) -> bool
         ensures { self.new
-            ≡ (self.old.0 ++ (if result then (app, number) ∷ [] else []), self.old.1) }
+            ≡ (
+              self.old.0 ++ (if result then (app, number) ∷ [] else []),
+              self.old.1,
+              self.old.2,
+            ) }
     {
         let at = self.pairs.len();
         if at >= self.bytes.len() || at >= self.pairs.capacity() {
@@ -55,6 +63,23 @@ impl<'r> Pad<'r> {
         self.bytes[at] = number;
         self.pairs.push_reserved((app, number));
         true
+    }
+
+    /// Notes that somebody is about to sleep until a pair is added.
+    fn note_sleeper(&mut self)
+        ensures { self.new ≡ (self.old.0, self.old.1, true) }
+    {
+        self.awaited = true;
+    }
+
+    /// Whether somebody sleeps, who is to be woken; from then on nobody does.
+    fn take_sleepers(&mut self) -> bool
+        ensures told { result ≡ self.old.2 }
+        ensures taken { self.new ≡ (self.old.0, self.old.1, false) }
+    {
+        let awaited = self.awaited;
+        self.awaited = false;
+        awaited
     }
 }
 
@@ -82,13 +107,9 @@ fn add_one<'r, R: Wait>(
 {
     let mut turn = lock.enter(rt, seat);
     dawdle();
-    if turn.value_mut().add(app, number) {
-        turn.mark_entry();
-        lock.leave(seat, turn);
-        return true;
-    }
+    let added = turn.value_mut().add(app, number);
     lock.leave(seat, turn);
-    false
+    added
 }
 
 /// Adds five pairs, one in each turn.
@@ -147,6 +168,7 @@ fn pairs_of_two_threads<'r, R: Threads + Wait + Sync>(
     let pad = Pad {
         pairs: Vec::with_capacity(alloc, PAIRS)?,
         bytes,
+        awaited: false,
     };
     let (lock, mut main) = TurnLock::new(alloc, pad, 2)?;
     let one = lock.split(&mut main, AppNo::try_new(1).unwrap());
@@ -154,7 +176,11 @@ fn pairs_of_two_threads<'r, R: Threads + Wait + Sync>(
     let (one, two) = add_in_two_threads::<Brand, _>(rt, &lock, one, two);
     lock.join(&mut main, one);
     lock.join(&mut main, two);
-    let Pad { pairs, bytes: _ } = lock.close(main);
+    let Pad {
+        pairs,
+        bytes: _,
+        awaited: _,
+    } = lock.close(main);
     Ok(pairs)
 }
 

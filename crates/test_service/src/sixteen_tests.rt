@@ -1,5 +1,5 @@
-//! Sixteen applications at one bus, each on a thread of its own: all make many calls; or fifteen
-//! wait for a message of the one that works.
+//! Sixteen applications at one bus, each on a thread of its own: all make many calls; fifteen wait
+//! for a message of the one that works; or fifteen wait for what never comes, and one ends.
 ghost use Rattle.std.specs.Prelude.{◌≡◌, ◌<◌, ◌≤◌, ◌++◌, ◌∷◌, [], length, All, IfSome, IsTrue};
 ghost use Rattle.bus_service.specs.Ports.{DoneView};
 ghost use Rattle.test_service.specs.Sixteen.{AreJoinedBut, joined};
@@ -27,10 +27,10 @@ const STEPS: u32 = 100;
 
 const PACE: u32 = 100;
 
-// How often one that waits looks at most. Behind a look in vain it sleeps until there is an entry
-// more, or a little less long; until the message is sent there are three entries of each that waits
-// and 101 of the one that works.
-const LOOKS: u32 = 180;
+// How often one that waits looks at most. Behind a look in vain it sleeps until an application that
+// waits has news, or a little less long. Until the message is sent there are 146 entries of others
+// that are no news. Where nobody sends, each of the others that ends is news: 15 at most.
+const LOOKS: u32 = 40;
 
 // The id and the message that all others wait for.
 const ID: u16 = 0x0801;
@@ -53,6 +53,8 @@ enum Plan {
     AllCall,
     // The first works and then sends; the others wait for its message.
     OneWorks,
+    // The first ends once all others wait for a message that nobody sends.
+    OneEnds,
 }
 
 // What all applications share: the bus, how many of them wait, and what they do.
@@ -199,13 +201,14 @@ fn wait<'r, R: Wait>(rt: &R, shared: SharedBus<'_, 'r>, port: &mut BusPort<'r>) 
     let told = port.pend(shared.bus, rt, pipe);
     shared.waiting.fetch_add(1, SeqCst);
     match told {
-        Ok(Pended::Pending) => look_often(rt, shared.bus, port),
+        Ok(Pended::Pending) => look_often(rt, shared.bus, port, shared.plan),
         _ => false,
     }
 }
 
-// Looks until the message is there; whether that took no more looks than there is news.
-fn look_often<'r, R: Wait>(rt: &R, bus: &Bus<'r>, port: &mut BusPort<'r>) -> bool
+// Looks until the message is there or, where nobody sends it, a time-out; whether that took no more
+// looks than there is news.
+fn look_often<'r, R: Wait>(rt: &R, bus: &Bus<'r>, port: &mut BusPort<'r>, plan: Plan) -> bool
     requires { port.old.lock ≡ bus.now }
     ensures { (port.new.lock ≡ port.old.lock) × (port.new.app ≡ port.old.app) }
 {
@@ -215,8 +218,8 @@ fn look_often<'r, R: Wait>(rt: &R, bus: &Bus<'r>, port: &mut BusPort<'r>) -> boo
         }
         match port.look(bus, rt) {
             Pended::Pending => (),
-            Pended::Got(_) => return true,
-            Pended::TimeOut => return false,
+            Pended::Got(_) => return plan == Plan::OneWorks,
+            Pended::TimeOut => return plan == Plan::OneEnds,
         }
     }
     false
@@ -230,10 +233,13 @@ fn follow<'r, R: Wait>(rt: &R, shared: SharedBus<'_, 'r>, port: &mut BusPort<'r>
     if shared.plan == Plan::AllCall {
         return call_often(rt, shared.bus, port, CALLS, 0);
     }
-    if port.app().get() == 1 {
-        return work_and_send(rt, shared, port);
+    if port.app().get() != 1 {
+        return wait(rt, shared, port);
     }
-    wait(rt, shared, port)
+    if shared.plan == Plan::OneEnds {
+        return meets(shared.waiting);
+    }
+    work_and_send(rt, shared, port)
 }
 
 // The application ends; what is left of its port.
@@ -457,6 +463,16 @@ fn fifteen_applications_wait_for_one_that_works(rt: HostRuntime) -> Result<(), A
     let cfg = Config::usual();
     let mut region = vec![in alloc; 0_u8; cfg.pool as usize]?;
     let ran = run_plan(&rt, alloc, &cfg, region.as_mut_slice(), Plan::OneWorks)?;
+    assert!(rt; ran.is_some());
+    Ok(())
+}
+
+#[test]
+fn an_end_is_a_time_out_for_fifteen_that_wait(rt: HostRuntime) -> Result<(), AllocError> {
+    let alloc: Global = rt.alloc();
+    let cfg = Config::usual();
+    let mut region = vec![in alloc; 0_u8; cfg.pool as usize]?;
+    let ran = run_plan(&rt, alloc, &cfg, region.as_mut_slice(), Plan::OneEnds)?;
     assert!(rt; ran.is_some());
     Ok(())
 }

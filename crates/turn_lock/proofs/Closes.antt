@@ -1,5 +1,5 @@
 -- What the value of a closed lock is.
-use Rattle.std.proofs.Common.{◌≡◌, ◌≢◌, ℕ, List, map, true, refl, sym, ap, ◌∙◌, subst, ⊎_elim, All, Contains, Option, Some}
+use Rattle.std.proofs.Common.{◌≡◌, ◌≢◌, ℕ, List, map, get_or, true, refl, sym, ap, ◌∙◌, subst, ⊎_elim, All, Contains, Option, Some}
 use Rattle.std.proofs.lemmas.List.Elements.{All-map, All-contains}
 use mathlib.Core.Logic.{dite}
 use native.Mathlib.Decide.{ℕ_discrete}
@@ -9,8 +9,7 @@ use lib.ListN.{get_elem?}
 use Rattle.atomic_table.specs.Table.{State, Final, Seen}
 use Rattle.turn_lock.specs.declared.view.View.{View}
 use Rattle.turn_lock.specs.declared.view.Stage.TheVariants.{Main}
-use Rattle.turn_lock.specs.Views.{entries_of, is_live, is_main, is_there}
-use Rattle.turn_lock.specs.Seats.{AllJoined}
+use Rattle.turn_lock.specs.Views.{entries_of, is_live, is_main, is_there, AreAllBack}
 use Rattle.turn_lock.specs.Rule.{IsHome, IsOutWithOne, Kept}
 use Rattle.turn_lock.specs.Steps.{Closes}
 use Rattle.turn_lock.proofs.Stages.{off, served_live}
@@ -21,7 +20,7 @@ none_of app ended differs there = All-contains (λ other. app ≢ other) (map (�
 
 module _ {T F E : Type 0} (fixed : T → F) (history : T → List (ℕ × E)) (opening : F) where
   -- once all seats were joined no seat has a turn
-  none_live : (id : ℕ) (v : View F E) → v.stage ≡ Main → AllJoined v → (s : State (Option T) (View F E)) (h : Kept fixed history opening s) → get_elem? s.views id ≡ some v
+  none_live : (id : ℕ) (v : View F E) → v.stage ≡ Main → AreAllBack v → (s : State (Option T) (View F E)) (h : Kept fixed history opening s) → get_elem? s.views id ≡ some v
       → (j : ℕ) (u : View F E) → get_elem? s.views j ≡ some u → is_live u.stage ≡ true → ⊥
   none_live id v main all s h at j u e live =
       let idle : is_live v.stage ≡ true → ⊥ = λ c. off (sym (ap is_live main) ∙ c) in
@@ -30,7 +29,7 @@ module _ {T F E : Type 0} (fixed : T → F) (history : T → List (ℕ × E)) (o
       (λ same. idle (subst (λ (x : View F E). is_live x.stage ≡ true) (some-injective u v (sym e ∙ (ap (get_elem? s.views) same ∙ at))) live))
       (λ away. none_of u.app v.ended ((h.differ j id u v away e at).left live) (All-contains (Contains (map (λ x. x.0) v.ended)) v.apps u.app all (among.live live)))
 
-  closes : (id : ℕ) (v : View F E) (words : List ℕ) (slots : List (Option T)) → v.stage ≡ Main → AllJoined v → Final (Seen (Kept fixed history opening) id v) words slots
+  closes : (id : ℕ) (v : View F E) (words : List ℕ) (slots : List (Option T)) → v.stage ≡ Main → AreAllBack v → Final (Seen (Kept fixed history opening) id v) words slots
       → (x : T) × (get_elem? slots 0 ≡ some (Some x)) × Closes fixed history v x
   closes id v words slots main all final =
       let s = final.0 in
@@ -39,7 +38,7 @@ module _ {T F E : Type 0} (fixed : T → F) (history : T → List (ℕ × E)) (o
       let f = h.each id v at in
       let r = h.main id v at (ap is_main main) in
       ⊎_elim
-      (λ (o : IsHome fixed history opening h.log s.homes s.views). (
+      (λ (y : (get_or s.words 0 0 ≡ 0) × IsHome fixed history opening h.log s.homes s.views). let o = y.1 in (
         o.0,
         final.4 0 (Some o.0) o.1,
         record {
@@ -49,11 +48,11 @@ module _ {T F E : Type 0} (fixed : T → F) (history : T → List (ℕ × E)) (o
           others = λ app out. ap (entries_of app) o.2 ∙ r.others app out;
         },
       ))
-      (λ (o : IsOutWithOne s.views). absurd (none_live id v main all s h at o.0 o.1 o.2 (served_live o.1.stage o.3)))
+      (λ (y : (get_or s.words 0 0 ≢ 0) × IsOutWithOne s.views). let o = y.1 in absurd (none_live id v main all s h at o.0 o.1 o.2 (served_live o.1.stage o.3)))
       h.value
 
   -- the slot that was taken has that value
-  pub closes_as : (id : ℕ) (v : View F E) (words : List ℕ) (slots : List (Option T)) (taken : Option T) → v.stage ≡ Main → AllJoined v → Final (Seen (Kept fixed history opening) id v) words slots → get_elem? slots 0 ≡ some taken
+  pub closes_as : (id : ℕ) (v : View F E) (words : List ℕ) (slots : List (Option T)) (taken : Option T) → v.stage ≡ Main → AreAllBack v → Final (Seen (Kept fixed history opening) id v) words slots → get_elem? slots 0 ≡ some taken
       → (x : T) × (taken ≡ Some x) × Closes fixed history v x
   closes_as id v words slots taken main all final there =
       let r = closes id v words slots main all final in (r.0, some-injective taken (Some r.0) (sym there ∙ r.1), r.2)

@@ -1,5 +1,5 @@
 -- The entries of one application in a history.
-use Rattle.std.proofs.Common.{◌≡◌, ◌≢◌, ℕ, List, [], ◌∷◌, ◌++◌, refl, ap, sym, ◌∙◌, append-nil}
+use Rattle.std.proofs.Common.{◌≡◌, ◌≢◌, ℕ, cond, ne_eqb, List, [], ◌∷◌, ◌++◌, refl, ap, sym, ◌∙◌, append-nil}
 use Rattle.std.specs.Prelude.{◌==◌}
 use Rattle.std.proofs.lemmas.List.Elements.{filter-append}
 use mathlib.Core.List.{IsPrefix}
@@ -8,6 +8,10 @@ use Rattle.turn_lock.specs.Views.{entries_of}
 module _ {E : Type 0} where
   entries_of-append : (app : ℕ) (log more : List (ℕ × E)) → entries_of app (log ++ more) ≡ entries_of app log ++ entries_of app more
   entries_of-append app log more = filter-append (λ e. e.0 == app) log more
+
+  -- one entry of another application
+  pub entries_of-one : (app other : ℕ) (event : E) → app ≢ other → entries_of app ((other, event) ∷ []) ≡ []
+  entries_of-one app other event apart = ap (λ b. cond {A = List (ℕ × E)} b ((other, event) ∷ []) []) (ne_eqb other app (λ e. apart (sym e)))
 
   -- entries of one application leave those of another as they were
   pub entries_of-append_other : (other app : ℕ) (log more : List (ℕ × E)) → ((third : ℕ) → third ≢ app → entries_of third more ≡ []) → other ≢ app → entries_of other (log ++ more) ≡ entries_of other log

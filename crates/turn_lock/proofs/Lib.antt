@@ -1,6 +1,7 @@
 pub mod Counting
 pub mod Entries
 pub mod Stages
+pub mod Seated
 pub mod ViewLists
 pub mod TakesTurns
 pub mod LeavesTurns

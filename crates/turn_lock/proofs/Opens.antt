@@ -5,7 +5,7 @@ use mathlib.Core.Option.{some-ne-none, some-injective}
 use Rattle.atomic_table.specs.Table.{opening}
 use Rattle.fsw_base.proofs.Prefix.{prefix_self}
 use Rattle.turn_lock.specs.declared.view.View.{View}
-use Rattle.turn_lock.specs.Views.{entries_of, main_view, is_served, is_main}
+use Rattle.turn_lock.specs.Views.{entries_of, main_place, is_served, is_main}
 use Rattle.turn_lock.specs.Rule.{Fits, Each, AllDiffer, IsAmong, Governs, Kept}
 use Rattle.turn_lock.proofs.Stages.{off}
 
@@ -20,22 +20,18 @@ module _ {F E : Type 0} where
   one_differs w (suc i) j u v apart ei ej = absurd (some-ne-none u (sym ei))
 
 module _ {T F E : Type 0} (fixed : T → F) (history : T → List (ℕ × E)) where
-  opens : (x : T) → history x ≡ [] → Kept fixed history (fixed x) (opening (0 ∷ 0 ∷ 0 ∷ []) (Some x ∷ []) (main_view (fixed x) (history x)))
-  opens x empty = let main : View F E = main_view (fixed x) [] in let log : List (ℕ × E) = [] in
-      subst (λ l. Kept fixed history (fixed x) (opening (0 ∷ 0 ∷ 0 ∷ []) (Some x ∷ []) (main_view (fixed x) l))) (sym empty) record {
+  opens : (x : T) → history x ≡ [] → Kept fixed history (fixed x) (opening (0 ∷ 0 ∷ []) (Some x ∷ []) (main_place (fixed x) (history x)))
+  opens x empty = let main : View F E = main_place (fixed x) [] in let log : List (ℕ × E) = [] in
+      subst (λ l. Kept fixed history (fixed x) (opening (0 ∷ 0 ∷ []) (Some x ∷ []) (main_place (fixed x) l))) (sym empty) record {
         log = log;
-        low = 0;
-        high = 0;
-        words = record { three = refl; ticket = refl; serving = refl; count = refl };
-        queue = refl;
-        few = omega arith;
-        each = each_one (Fits (fixed x) log 0 0) main record { opening = λ _. refl; seen = prefix_self log; joined = prefix_self log; mine = λ c. absurd (off c); ticket = λ c. absurd (off c); served = λ c. absurd (off c); ended = All-nil (λ e. entries_of e.0 log ≡ e.1); alive = λ c. absurd (off c) };
+        words = refl;
+        each = each_one (Fits (fixed x) log) main record { opening = λ _. refl; seen = prefix_self log; joined = prefix_self log; mine = λ c. absurd (off c); served = λ c. absurd (off c); ended = All-nil (λ e. entries_of e.0 log ≡ e.1); alive = λ c. absurd (off c) };
         differ = one_differs main;
         main = each_one (λ u. is_main u.stage ≡ true → Governs log (main ∷ []) u) main (λ _. record { count = refl; others = λ _ _. refl; all = each_one (IsAmong []) main record { live = λ c. absurd (off c); ended = λ k e i. absurd (omega (arith, i)) } });
-        value = inl (x, refl, empty, refl, each_one (λ u. is_served u.stage ≢ true) main off);
+        value = inl (refl, (x, refl, empty, refl, each_one (λ u. is_served u.stage ≢ true) main off));
       }
 
   -- the same with the words as the code has them
-  pub opens_as : (x about : T) (slots : List (Option T)) → history x ≡ [] → about ≡ x → slots ≡ Some x ∷ [] → Kept fixed history (fixed about) (opening (0 ∷ 0 ∷ 0 ∷ []) slots (main_view (fixed about) (history about)))
+  pub opens_as : (x about : T) (slots : List (Option T)) → history x ≡ [] → about ≡ x → slots ≡ Some x ∷ [] → Kept fixed history (fixed about) (opening (0 ∷ 0 ∷ []) slots (main_place (fixed about) (history about)))
   opens_as x about slots empty same is =
-      subst₂ (λ (y : T) (l : List (Option T)). Kept fixed history (fixed y) (opening (0 ∷ 0 ∷ 0 ∷ []) l (main_view (fixed y) (history y)))) (sym same) (sym is) (opens x empty)
+      subst₂ (λ (y : T) (l : List (Option T)). Kept fixed history (fixed y) (opening (0 ∷ 0 ∷ []) l (main_place (fixed y) (history y)))) (sym same) (sym is) (opens x empty)

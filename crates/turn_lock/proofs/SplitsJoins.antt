@@ -1,7 +1,6 @@
 -- The steps by which seats come and end keep the rule.
-use Rattle.std.proofs.Common.{◌≡◌, ◌≢◌, ℕ, ◌+◌, ◌<◌, ◌≤◌, List, [], ◌∷◌, ◌++◌, length, get_or, set, cond, true, refl, sym, ap, ◌∙◌, subst, ⊎_elim, inl, inr, arith, count_by, All, Contains, Option, length-set, length-append}
+use Rattle.std.proofs.Common.{◌≡◌, ◌≢◌, ℕ, ◌+◌, ◌<◌, List, [], ◌∷◌, ◌++◌, length, get_or, set, true, refl, sym, ap, ◌∙◌, subst, ⊎_elim, inl, inr, arith, All, Contains, Option, length-set, length-append}
 use Rattle.std.proofs.lemmas.List.Elements.{All-nil, All-push, Contains-push, Contains-append_left}
-use Rattle.std.proofs.lemmas.List.Sums.{sum_by_push}
 use mathlib.Core.Logic.{dite}
 use native.Mathlib.Decide.{dec_le}
 use native.Mathlib.Nat.{lt_of_not-le}
@@ -12,14 +11,14 @@ use Rattle.atomic_table.proofs.Lists.{at_set, set_else}
 use Rattle.fsw_base.proofs.Prefix.{prefix_shorter}
 use Rattle.turn_lock.specs.declared.view.View.{View}
 use Rattle.turn_lock.specs.declared.view.Stage.TheVariants.{Main, Away}
-use Rattle.turn_lock.specs.Views.{entries_of, is_live, is_queued, is_served, is_main, is_there, is_in_queue, with_app, seat_view, joined_view, spent_view}
-use Rattle.turn_lock.specs.Rule.{Fits, Differ, Each, IsAmong, Governs, Kept}
+use Rattle.turn_lock.specs.Views.{entries_of, is_live, is_served, is_main, is_there, with_seat, seat_place, joined_place, spent_place}
+use Rattle.turn_lock.specs.Rule.{Fits, Differ, Each, IsAmong, Governs, IsHomeOrOut, Kept}
 use Rattle.turn_lock.specs.Steps.{Meets}
-use Rattle.turn_lock.proofs.Counting.{counts_again, queue_same}
+use Rattle.turn_lock.proofs.Counting.{set_same}
 use Rattle.turn_lock.proofs.Entries.{entries_of-beginning}
 use Rattle.turn_lock.proofs.Stages.{off}
 use Rattle.turn_lock.proofs.TakesTurns.{stays}
-use Rattle.turn_lock.proofs.ViewLists.{set_comm, tickets_same, few_set, each_set, each_push, differ_set, differ_push, value_set, value_push}
+use Rattle.turn_lock.proofs.ViewLists.{set_comm, each_set, each_push, differ_set, differ_push, value_set, value_push}
 
 -- what is not in a list is none of what is in it
 apart_from : {A : Type 0} (apps : List A) (app other : A) → ¬ (Contains apps app) → Contains apps other → app ≢ other
@@ -29,10 +28,10 @@ module _ {T F E : Type 0} (fixed : T → F) (history : T → List (ℕ × E)) (o
   -- the main seat steps, and only what it has split off changes
   split_main : (id app : ℕ) (v : View F E) → v.stage ≡ Main → (s : State (Option T) (View F E)) (h : Kept fixed history opening s) → get_elem? s.views id ≡ some v
       → (r : Governs h.log s.views v) → ¬ (Contains v.apps app)
-      → Governs h.log (set s.views id (with_app v app) ++ seat_view v app ∷ []) (with_app v app)
+      → Governs h.log (set s.views id (with_seat v app) ++ seat_place v app ∷ []) (with_seat v app)
   split_main id app v main s h at r out =
-      let w : View F E = with_app v app in
-      let n : View F E = seat_view v app in
+      let w : View F E = with_seat v app in
+      let n : View F E = seat_place v app in
       let mid : List (View F E) = set s.views id w in
       let dead : is_live v.stage ≡ true → ⊥ = λ c. off (sym (ap is_live main) ∙ c) in
       let wide : (other : ℕ) → Contains v.apps other → Contains (v.apps ++ app ∷ []) other = λ other there. Contains-append_left v.apps (app ∷ []) other there in
@@ -48,43 +47,34 @@ module _ {T F E : Type 0} (fixed : T → F) (history : T → List (ℕ × E)) (o
       }
 
   pub split_keeps : (id app : ℕ) (v : View F E) → v.stage ≡ Main → length v.apps < 16 → ¬ (Contains v.apps app)
-      → Splits (Kept fixed history opening) id v (with_app v app) (seat_view v app)
+      → Splits (Kept fixed history opening) id v (with_seat v app) (seat_place v app)
   split_keeps id app v main room out s h at =
-      let w : View F E = with_app v app in
-      let n : View F E = seat_view v app in
+      let w : View F E = with_seat v app in
+      let n : View F E = seat_place v app in
       let mid : List (View F E) = set s.views id w in
       let f = h.each id v at in
       let is_it : is_main v.stage ≡ true = ap is_main main in
       let dead : is_live v.stage ≡ true → ⊥ = λ c. off (sym (ap is_live main) ∙ c) in
       let r = h.main id v at is_it in
-      let seats : ℕ = length v.apps in
-      let long : length (mid ++ n ∷ []) ≡ seats + 1 + 1 = length-append mid (n ∷ []) ∙ ap (λ (k : ℕ). k + 1) (length-set s.views id w ∙ r.count) in
-      let pushed : count_by is_in_queue (mid ++ n ∷ []) ≡ count_by is_in_queue mid + 0 = sum_by_push (λ (u : View F E). cond {A = ℕ} (is_in_queue u) 1 0) mid n in
-      let same : count_by is_in_queue mid ≡ count_by is_in_queue s.views = tickets_same s.views id v w at refl in
-      let queue : h.high ≡ h.low + count_by is_in_queue s.views = h.queue in
       record {
         log = h.log;
-        low = h.low;
-        high = h.high;
         words = h.words;
-        queue = queue_same h.low h.high (count_by is_in_queue s.views) (count_by is_in_queue (mid ++ n ∷ [])) queue (omega (arith, pushed, same));
-        few = (let fits : seats < 16 = room in omega (arith, long));
-        each = each_push (Fits opening h.log h.low h.high) mid n
-            (each_set (Fits opening h.log h.low h.high) s.views id w (λ j u other e. h.each j u e)
-            record { opening = f.opening; seen = f.seen; joined = f.joined; mine = f.mine; ticket = f.ticket; served = f.served; ended = f.ended; alive = f.alive })
-            record { opening = λ _. f.opening (ap is_there main); seen = f.seen; joined = (h.log, refl); mine = λ _. r.others app out; ticket = λ c. absurd (off c); served = λ c. absurd (off c); ended = All-nil (λ e. entries_of e.0 h.log ≡ e.1); alive = λ _. All-nil (λ e. app ≢ e.0) };
+        each = each_push (Fits opening h.log) mid n
+            (each_set (Fits opening h.log) s.views id w (λ j u other e. h.each j u e)
+            record { opening = f.opening; seen = f.seen; joined = f.joined; mine = f.mine; served = f.served; ended = f.ended; alive = f.alive })
+            record { opening = λ _. f.opening (ap is_there main); seen = f.seen; joined = (h.log, refl); mine = λ _. r.others app out; served = λ c. absurd (off c); ended = All-nil (λ e. entries_of e.0 h.log ≡ e.1); alive = λ _. All-nil (λ e. app ≢ e.0) };
         differ = differ_push mid n
-            (differ_set s.views id w h.differ (λ j u other e. let d = h.differ id j v u (λ x. other (sym x)) at e in record { tickets = d.tickets; apps = d.apps; left = d.left; right = d.right; mains = d.mains }))
+            (differ_set s.views id w h.differ (λ j u other e. let d = h.differ id j v u (λ x. other (sym x)) at e in record { turns = d.turns; apps = d.apps; left = d.left; right = d.right; mains = d.mains }))
             (each_set (Differ n) s.views id w
             (λ j u other e. let among = r.all j u e in record {
-              tickets = λ c. absurd (off c);
+              turns = λ c. absurd (off c);
               apps = λ _ c. apart_from v.apps app u.app out (among.live c);
               left = λ _ k x i. apart_from v.apps app (get_or u.ended k x).0 out (among.ended k x i);
               right = λ _. All-nil (λ e'. u.app ≢ e'.0);
               mains = λ c _. absurd (off c);
             })
             record {
-              tickets = λ c. absurd (off c);
+              turns = λ c. absurd (off c);
               apps = λ _ c. absurd (dead c);
               left = λ _ k x i. apart_from v.apps app (get_or v.ended k x).0 out ((r.all id v at).ended k x i);
               right = λ c. absurd (dead c);
@@ -95,7 +85,7 @@ module _ {T F E : Type 0} (fixed : T → F) (history : T → List (ℕ × E)) (o
             (λ j u other e also. absurd ((h.differ id j v u (λ x. other (sym x)) at e).mains is_it also))
             (λ _. split_main id app v main s h at r out))
             (λ c. absurd (off c));
-        value = value_push fixed history opening h.log s.homes mid n off (value_set fixed history opening h.log s.homes s.views id v w at (λ c. off (sym (ap is_served main) ∙ c)) (λ c. off (sym (ap is_served main) ∙ c)) h.value);
+        value = value_push fixed history opening s.words h.log s.homes mid n off (value_set fixed history opening s.words h.log s.homes s.views id v w at (λ c. off (sym (ap is_served main) ∙ c)) (λ c. off (sym (ap is_served main) ∙ c)) h.value);
       }
 
   -- the main seat has seen more, and nothing else of it changes
@@ -107,21 +97,16 @@ module _ {T F E : Type 0} (fixed : T → F) (history : T → List (ℕ × E)) (o
       let is_it : is_main v.stage ≡ true = ap is_main main in
       let idle : is_served v.stage ≢ true = λ c. off (sym (ap is_served main) ∙ c) in
       let r = h.main id v at is_it in
-      let queue : h.high ≡ h.low + count_by is_in_queue s.views = h.queue in
       record {
         log = h.log;
-        low = h.low;
-        high = h.high;
-        words = counts_again s.words 0 h.low h.high (length h.log) h.words;
-        queue = queue_same h.low h.high (count_by is_in_queue s.views) (count_by is_in_queue (set s.views id w)) queue (tickets_same s.views id v w at refl);
-        few = few_set s.views id w h.few;
-        each = each_set (Fits opening h.log h.low h.high) s.views id w (λ j u other e. h.each j u e)
-            record { opening = f.opening; seen = f.joined; joined = f.joined; mine = f.mine; ticket = f.ticket; served = λ c. absurd (idle c); ended = f.ended; alive = f.alive };
-        differ = differ_set s.views id w h.differ (λ j u other e. let d = h.differ id j v u (λ y. other (sym y)) at e in record { tickets = d.tickets; apps = d.apps; left = d.left; right = d.right; mains = d.mains });
+        words = length-set s.words 0 (get_or s.words 0 0) ∙ h.words;
+        each = each_set (Fits opening h.log) s.views id w (λ j u other e. h.each j u e)
+            record { opening = f.opening; seen = f.joined; joined = f.joined; mine = f.mine; served = λ c. absurd (idle c); ended = f.ended; alive = f.alive };
+        differ = differ_set s.views id w h.differ (λ j u other e. let d = h.differ id j v u (λ y. other (sym y)) at e in record { turns = d.turns; apps = d.apps; left = d.left; right = d.right; mains = d.mains });
         main = each_set (λ u. is_main u.stage ≡ true → Governs h.log (set s.views id w) u) s.views id w
             (λ j u other e also. absurd ((h.differ id j v u (λ y. other (sym y)) at e).mains is_it also))
             (λ _. record { count = length-set s.views id w ∙ r.count; others = r.others; all = each_set (IsAmong v.apps) s.views id w (λ j u other e. r.all j u e) record { live = (r.all id v at).live; ended = (r.all id v at).ended } });
-        value = value_set fixed history opening h.log s.homes s.views id v w at idle idle h.value;
+        value = subst (λ (l : List ℕ). IsHomeOrOut fixed history opening l h.log s.homes (set s.views id w)) (sym (set_same s.words 0)) (value_set fixed history opening s.words h.log s.homes s.views id v w at idle idle h.value);
       }
 
   pub meet_keeps : (slots id : ℕ) (me : Me (Option T) (View F E)) → me.0.stage ≡ Main
@@ -152,28 +137,28 @@ module _ {T F E : Type 0} (fixed : T → F) (history : T → List (ℕ × E)) (o
 
   -- the main seat with an ended one's entries differs from every other
   differ_joined : (id other : ℕ) (v w : View F E) → v.stage ≡ Main → w.stage ≡ Away → (s : State (Option T) (View F E)) (h : Kept fixed history opening s) → get_elem? s.views id ≡ some v → get_elem? s.views other ≡ some w
-      → (j : ℕ) (u : View F E) → j ≢ id → j ≢ other → get_elem? s.views j ≡ some u → Differ (joined_view v w) u
+      → (j : ℕ) (u : View F E) → j ≢ id → j ≢ other → get_elem? s.views j ≡ some u → Differ (joined_place v w) u
   differ_joined id other v w main away s h at at' j u not_main not_ended e =
       let d = h.differ id j v u (λ x. not_main (sym x)) at e in
       let ends = h.differ other j w u (λ x. not_ended (sym x)) at' e in
       record {
-        tickets = d.tickets;
+        turns = d.turns;
         apps = d.apps;
         left = d.left;
         right = λ c. All-push (λ x. u.app ≢ x.0) v.ended (w.app, w.mine) (d.right c) (λ same. ends.apps (ap is_live away) c (sym same));
         mains = d.mains;
       }
 
-  spent_differs : (u : View F E) → Differ spent_view u
-  spent_differs u = record { tickets = λ c. absurd (off c); apps = λ c. absurd (off c); left = λ c. absurd (off c); right = λ _. All-nil (λ e. u.app ≢ e.0); mains = λ c _. absurd (off c) }
+  spent_differs : (u : View F E) → Differ spent_place u
+  spent_differs u = record { turns = λ c. absurd (off c); apps = λ c. absurd (off c); left = λ c. absurd (off c); right = λ _. All-nil (λ e. u.app ≢ e.0); mains = λ c _. absurd (off c) }
 
-  joined_differs_spent : (v w : View F E) → v.stage ≡ Main → Differ (joined_view v w) spent_view
-  joined_differs_spent v w main = record { tickets = λ _ c. absurd (off c); apps = λ _ c. absurd (off c); left = λ _. All-nil (λ e. v.app ≢ e.0); right = λ c. absurd (off c); mains = λ _ c. absurd (off c) }
+  joined_differs_spent : (v w : View F E) → v.stage ≡ Main → Differ (joined_place v w) spent_place
+  joined_differs_spent v w main = record { turns = λ _ c. absurd (off c); apps = λ _ c. absurd (off c); left = λ _. All-nil (λ e. v.app ≢ e.0); right = λ c. absurd (off c); mains = λ _ c. absurd (off c) }
 
-  pub join_keeps : (id other : ℕ) (v w : View F E) → v.stage ≡ Main → w.stage ≡ Away → Joins (Kept fixed history opening) id v other w (joined_view v w) spent_view
+  pub join_keeps : (id other : ℕ) (v w : View F E) → v.stage ≡ Main → w.stage ≡ Away → Joins (Kept fixed history opening) id v other w (joined_place v w) spent_place
   join_keeps id other v w main away s h at apart there =
-      let b : View F E = joined_view v w in
-      let z : View F E = spent_view in
+      let b : View F E = joined_place v w in
+      let z : View F E = spent_place in
       let at' : get_elem? s.views other ≡ some w = ⊎_elim (λ (x : (other ≡ id) × (b ≡ w)). absurd (apart x.0)) (λ (x : (other ≢ id) × (get_elem? s.views other ≡ some w)). x.1) (at_set s.views id other b w there) in
       let mid : List (View F E) = set s.views other z in
       let in_mid : get_elem? mid id ≡ some v = set_else s.views other id z (λ e. apart (sym e)) ∙ at in
@@ -187,19 +172,12 @@ module _ {T F E : Type 0} (fixed : T → F) (history : T → List (ℕ × E)) (o
       let live : is_live w.stage ≡ true = ap is_live away in
       let r = h.main id v at is_it in
       let long : length fin ≡ length s.views = length-set mid id b ∙ length-set s.views other z in
-      let first : count_by is_in_queue mid ≡ count_by is_in_queue s.views = tickets_same s.views other w z at' (ap is_queued away) in
-      let second : count_by is_in_queue fin ≡ count_by is_in_queue mid = tickets_same mid id v b in_mid refl in
-      let queue : h.high ≡ h.low + count_by is_in_queue s.views = h.queue in
       subst (λ (l : List (View F E)). Kept fixed history opening record { words = s.words; homes = s.homes; views = l }) (set_comm s.views other id z b apart) record {
         log = h.log;
-        low = h.low;
-        high = h.high;
         words = h.words;
-        queue = queue_same h.low h.high (count_by is_in_queue s.views) (count_by is_in_queue fin) queue (second ∙ first);
-        few = subst (λ (n : ℕ). n ≤ 17) (sym long) h.few;
-        each = each_joined (Fits opening h.log h.low h.high) s.views id other b z (λ j u e. h.each j u e)
-            record { opening = λ c. absurd (off c); seen = (h.log, refl); joined = (h.log, refl); mine = λ c. absurd (off c); ticket = λ c. absurd (off c); served = λ c. absurd (off c); ended = All-nil (λ e. entries_of e.0 h.log ≡ e.1); alive = λ c. absurd (off c) }
-            record { opening = f.opening; seen = f.seen; joined = g.seen; mine = f.mine; ticket = f.ticket; served = f.served; ended = All-push (λ e. entries_of e.0 h.log ≡ e.1) v.ended (w.app, w.mine) f.ended (g.mine live); alive = λ c. absurd (dead c) };
+        each = each_joined (Fits opening h.log) s.views id other b z (λ j u e. h.each j u e)
+            record { opening = λ c. absurd (off c); seen = (h.log, refl); joined = (h.log, refl); mine = λ c. absurd (off c); served = λ c. absurd (off c); ended = All-nil (λ e. entries_of e.0 h.log ≡ e.1); alive = λ c. absurd (off c) }
+            record { opening = f.opening; seen = f.seen; joined = g.seen; mine = f.mine; served = f.served; ended = All-push (λ e. entries_of e.0 h.log ≡ e.1) v.ended (w.app, w.mine) f.ended (g.mine live); alive = λ c. absurd (dead c) };
         differ = differ_set mid id b (differ_set s.views other z h.differ (λ j u not_ended e. spent_differs u))
             (λ j u not_main e. ⊎_elim
             (λ (x : (j ≡ other) × (z ≡ u)). subst (Differ b) x.1 (joined_differs_spent v w main))
@@ -217,5 +195,5 @@ module _ {T F E : Type 0} (fixed : T → F) (history : T → List (ℕ × E)) (o
                   record { live = λ c. absurd (off c); ended = All-nil (λ e. Contains v.apps e.0) }
                   record { live = λ c. absurd (dead c); ended = All-push (λ e. Contains v.apps e.0) v.ended (w.app, w.mine) (r.all id v at).ended ((r.all other w at').live live) };
             });
-        value = value_set fixed history opening h.log s.homes mid id v b in_mid idle idle (value_set fixed history opening h.log s.homes s.views other w z at' idle' off h.value);
+        value = value_set fixed history opening s.words h.log s.homes mid id v b in_mid idle idle (value_set fixed history opening s.words h.log s.homes s.views other w z at' idle' off h.value);
       }

@@ -1,5 +1,6 @@
-pub mod Views
+pub mod Rule
 pub mod Seats
 pub mod Lending
-pub mod Rule
+pub mod Views
 pub mod Steps
+pub mod Inside

@@ -1,8 +1,8 @@
 -- What seats know, and what each kind of step makes of it.
-use Rattle.std.specs.Prelude.{ℕ, ◌==◌, Bool, true, false, List, [], ◌∷◌, ◌++◌, filter, Some, None}
+use Rattle.std.specs.Prelude.{ℕ, ◌==◌, Bool, true, false, List, [], ◌∷◌, ◌++◌, filter, Some, None, map, All, Contains}
 use Rattle.turn_lock.specs.declared.view.View.{View}
 use Rattle.turn_lock.specs.declared.view.Stage.{Stage}
-use Rattle.turn_lock.specs.declared.view.Stage.TheVariants.{Main, Away, Waits, Has, Spent}
+use Rattle.turn_lock.specs.declared.view.Stage.TheVariants.{Main, Away, Has, Spent}
 
 -- the entries of one application, in order
 abbrev pub entries_of : {E : Type 0} → ℕ → List (ℕ × E) → List (ℕ × E)
@@ -12,23 +12,13 @@ entries_of app = filter (λ e. e.0 == app)
 abbrev pub is_live : Stage → Bool
 is_live Main = false
 is_live Away = true
-is_live Waits = true
 is_live Has = true
 is_live Spent = false
-
--- whether it has a ticket
-abbrev pub is_queued : Stage → Bool
-is_queued Main = false
-is_queued Away = false
-is_queued Waits = true
-is_queued Has = true
-is_queued Spent = false
 
 -- whether the value is out with it
 abbrev pub is_served : Stage → Bool
 is_served Main = false
 is_served Away = false
-is_served Waits = false
 is_served Has = true
 is_served Spent = false
 
@@ -36,7 +26,6 @@ is_served Spent = false
 abbrev pub is_main : Stage → Bool
 is_main Main = true
 is_main Away = false
-is_main Waits = false
 is_main Has = false
 is_main Spent = false
 
@@ -44,47 +33,38 @@ is_main Spent = false
 abbrev pub is_there : Stage → Bool
 is_there Main = true
 is_there Away = true
-is_there Waits = true
 is_there Has = true
 is_there Spent = false
 
 module _ {F E : Type 0} where
   -- the main seat of a new lock, whose value has this fixed part and this history
-  abbrev pub main_view : F → List (ℕ × E) → View F E
-  main_view fixed log = record { fixed = Some fixed; seen = log; app = 0; mine = []; stage = Main; ticket = 0; apps = []; ended = []; joined = [] }
+  abbrev pub main_place : F → List (ℕ × E) → View F E
+  main_place fixed log = record { fixed = Some fixed; seen = log; app = 0; mine = []; stage = Main; apps = []; ended = []; joined = [] }
 
   -- a seat for an application, new from the main seat: it has seen as much, and made no entry
-  abbrev pub seat_view : View F E → ℕ → View F E
-  seat_view main app = record { fixed = main.fixed; seen = main.seen; app = app; mine = []; stage = Away; ticket = 0; apps = []; ended = []; joined = [] }
+  abbrev pub seat_place : View F E → ℕ → View F E
+  seat_place main app = record { fixed = main.fixed; seen = main.seen; app = app; mine = []; stage = Away; apps = []; ended = []; joined = [] }
 
   -- the main seat, with one application more split off
-  abbrev pub with_app : View F E → ℕ → View F E
-  with_app main app = record main { apps = main.apps ++ app ∷ [] }
-
-  -- a seat with a ticket
-  abbrev pub queued_view : View F E → ℕ → View F E
-  queued_view v ticket = record v { stage = Waits; ticket = ticket }
+  abbrev pub with_seat : View F E → ℕ → View F E
+  with_seat main app = record main { apps = main.apps ++ app ∷ [] }
 
   -- a seat whose turn has come, and which has seen this history
-  abbrev pub served_view : View F E → List (ℕ × E) → View F E
-  served_view v log = record v { seen = log; stage = Has }
+  abbrev pub served_place : View F E → List (ℕ × E) → View F E
+  served_place v log = record v { seen = log; stage = Has }
 
-  -- a seat that published this history in its turn
-  abbrev pub published_view : View F E → List (ℕ × E) → View F E
-  published_view v log = record v { seen = log; mine = entries_of v.app log; stage = Has }
-
-  -- a seat without a ticket
-  abbrev pub rested_view : View F E → View F E
-  rested_view v = record v { stage = Away; ticket = 0 }
+  -- a seat that left its turn, with this history seen, of which its own entries are its application's
+  abbrev pub passed_place : View F E → List (ℕ × E) → View F E
+  passed_place v log = record v { seen = log; mine = entries_of v.app log; stage = Away }
 
   -- the main seat, which takes in an ended seat's entries, and what that one had seen
-  abbrev pub joined_view : View F E → View F E → View F E
-  joined_view main v = record main { ended = main.ended ++ (v.app, v.mine) ∷ []; joined = v.seen }
+  abbrev pub joined_place : View F E → View F E → View F E
+  joined_place main v = record main { ended = main.ended ++ (v.app, v.mine) ∷ []; joined = v.seen }
 
   -- what is left of an ended seat
-  abbrev pub spent_view : View F E
-  spent_view = record { fixed = None; seen = []; app = 0; mine = []; stage = Spent; ticket = 0; apps = []; ended = []; joined = [] }
+  abbrev pub spent_place : View F E
+  spent_place = record { fixed = None; seen = []; app = 0; mine = []; stage = Spent; apps = []; ended = []; joined = [] }
 
-  -- whether a view has a ticket
-  abbrev pub is_in_queue : View F E → Bool
-  is_in_queue v = is_queued v.stage
+  -- the seat of each application that was split off was joined
+  abbrev pub AreAllBack : View F E → Type 0
+  AreAllBack main = All (Contains (map (λ e. e.0) main.ended)) main.apps

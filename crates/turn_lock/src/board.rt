@@ -1,68 +1,66 @@
-//! The lock's three words and its slot, and a method for each kind of atomic step.
-ghost use Rattle.std.specs.Prelude.{◌≡◌, ◌≢◌, ℕ, ◌<◌, ◌%◌, ◌+◌, List, [], ◌∷◌, length, Contains};
-ghost use Rattle.std.specs.Prelude.{IfOk, Some, None};
-ghost use Rattle.turn_lock.specs.Rule.{wrap};
-ghost use Rattle.turn_lock.specs.Seats.{AllJoined};
-ghost use Rattle.turn_lock.specs.Views.{main_view, seat_view, with_app, joined_view};
-ghost use Rattle.turn_lock.specs.Steps.{Draws, IsServed, Looks, Publishes, Passes, Meets, Grows};
+//! The lock's two words and its slot, and a method for each kind of atomic step.
+ghost use Rattle.std.specs.Prelude.{◌≡◌, ℕ, ◌<◌, List, [], ◌∷◌, length, Contains};
+ghost use Rattle.std.specs.Prelude.{IfOk, IfSome, IfNone, Some, None};
+ghost use Rattle.turn_lock.specs.Views.{main_place, seat_place, with_seat, joined_place, AreAllBack};
+ghost use Rattle.turn_lock.specs.Steps.{Seizes, IsServed, Passes, Meets, Grows};
 ghost use Rattle.turn_lock.specs.Steps.{Stays, Closes};
-ghost use Rattle.turn_lock.specs.declared.view.Stage.TheVariants.{Main, Away, Waits, Has};
+ghost use Rattle.turn_lock.specs.declared.view.Stage.TheVariants.{Main, Away, Has};
 
 use crate::historied::Historied;
-use crate::rule::{Cut, Draw, Glue, Look, Meet, NamedApp, Pass, Publish, PublishedLog, Turns};
+use crate::rule::{Cut, Glue, Meet, NamedApp, Pass, PassedLog, Ring, Seize, Turns};
 use crate::view::View;
 use atomic_table::{Seat, Table};
 use std::alloc::{AllocError, Global};
+use std::hint;
 use std::snapshot::Snapshot;
 use std::sync::Wait;
-use std::thread;
 
 /// The place in the table with which a seat makes its steps.
 pub(crate) type Place<T> = Seat<Option<T>, View<<T as Historied>::Fixed, <T as Historied>::Event>>;
 
-// The tickets drawn so far, modulo 2^64.
-const TICKET: usize = 0;
+// The turn: `FREE`, `TAKEN`, or `AWAITED` if it is taken and a seat may sleep until it is free.
+const TURN: usize = 0;
 
-// The ticket that is served, modulo 2^64.
-const SERVING: usize = 1;
-
-// The entries published so far, modulo 2^64.
-const COUNT: usize = 2;
-
-// The slot, which has the value while no turn is out.
-const VALUE: usize = 0;
-
-/// How often a thread looks before it sleeps. A turn is short, so that most waits end before.
-pub const LOOKS: u32 = 100;
+// The bell: how often it rang, modulo 2^64.
+const BELL: usize = 1;
 
 // How many numbers the half of a word has that a sleep compares.
 const HALF: u64 = 4294967296;
 
-/// The table of the lock: three words and one slot.
+// No turn is out, and the slot is at home.
+const FREE: u64 = 0;
+
+// A turn is out.
+const TAKEN: u64 = 1;
+
+// A turn is out, and the seat that leaves it wakes one that sleeps.
+const AWAITED: u64 = 2;
+
+// The slot, which has the value while no turn is out.
+const VALUE: usize = 0;
+
+/// How often a thread looks for a turn before it sleeps. A turn is short, so that most waits end
+/// before.
+pub const LOOKS: u32 = 100;
+
+/// The table of the lock: two words and one slot.
 #[derive(Drop)]
 pub(crate) struct Board<T: Historied> {
     // The words and the slot.
     table: Table<Option<T>, View<T::Fixed, T::Event>, Snapshot<T>, Turns<T>, Global>,
-    ghost three: { table.shared.table_id.words ≡ 3 },
+    ghost two: { table.shared.table_id.words ≡ 2 },
     ghost one: { table.shared.table_id.slots ≡ 1 },
 }
 
-/// The place of a seat that has passed its turn on, and the ticket that is served since, modulo
-/// 2^64. Who waits for that turn may sleep, and only `Board::wake` gives the place back; this
-/// can't be dropped, so that whoever passes a turn on wakes, and wakes afterwards.
+/// The place of a seat that has passed its turn on, and whether another may sleep until the turn
+/// is free. Only `Board::wake` gives the place back; this can't be dropped, so that each seat that
+/// passes its turn on wakes, and wakes afterwards.
 pub(crate) struct PassedTurn<T: Historied> {
     // The seat's place, which waking gives back.
     place: Place<T>,
-    // The ticket that is served now, modulo 2^64.
-    next: u64,
+    // What the turn's word was.
+    found: u64,
     ghost passed: { place.me.0.stage ≡ Away },
-}
-
-// The low half of a word, which is the one that a sleep compares and a pass moves.
-fn low_half(word: u64) -> u32
-    ensures { result ≡ word % HALF }
-{
-    (word % HALF) as u32
 }
 
 impl<T: Historied> Board<T> {
@@ -73,12 +71,12 @@ impl<T: Historied> Board<T> {
         requires { T.history value ≡ [] }
         ensures { IfOk result
             (λ r. (r.1.table_id ≡ r.0.table.shared.table_id)
-            × (r.1.me ≡ (main_view (T.fixed value) [], []))) }
+            × (r.1.me ≡ (main_place (T.fixed value) [], []))) }
     {
         let about = Snapshot::of(&value);
         let mut slots: Vec<Option<T>> = Vec::new(alloc);
         slots.push(Some(value))?;
-        match Table::new(alloc, &[0, 0, 0], slots, &about) {
+        match Table::new(alloc, &[0, 0], slots, &about) {
             Ok((table, place)) => Ok((Board { table }, place)),
             Err(_) => Err(AllocError),
         }
@@ -91,65 +89,88 @@ impl<T: Historied> Board<T> {
         requires main { (main.old.me.0.stage ≡ Main) × (length main.old.me.0.apps < 16)
             × ¬ (Contains main.old.me.0.apps N.app) }
         ensures place { Stays main.old main.new }
-        ensures main { main.new.me ≡ (with_app main.old.me.0 N.app, main.old.me.1) }
+        ensures main { main.new.me ≡ (with_seat main.old.me.0 N.app, main.old.me.1) }
         ensures new { (result.table_id ≡ main.old.table_id)
-            × (result.me ≡ (seat_view main.old.me.0 N.app, [])) }
+            × (result.me ≡ (seat_place main.old.me.0 N.app, [])) }
     {
         self.table.shared.split_seat::<Cut<N>>(main)
     }
 
-    /// Draws a ticket, and answers it modulo 2^64.
-    pub(crate) fn draw(&self, place: &mut Place<T>) -> u64
+    // Takes the turn if it is free, and answers what the word was.
+    fn seize(&self, place: &mut Place<T>) -> u64
         requires table { place.old.table_id ≡ self.now.table.shared.table_id }
-        requires away { place.old.me.0.stage ≡ Away }
+        requires away { (place.old.me.0.stage ≡ Away) × (place.old.me.1 ≡ []) }
         ensures place { Stays place.old place.new }
-        ensures drawn { Draws place.old.me result place.new.me }
+        ensures seized { Seizes T.fixed T.history place.old.me result place.new.me }
     {
-        self.table.shared.fetch_add::<Draw>(place, TICKET, 1)
+        self.table
+            .shared
+            .compare_exchange::<Seize>(place, TURN, FREE, TAKEN)
     }
 
-    // Reads which ticket is served, modulo 2^64. Where it is this place's, the slot is out with
-    // it.
-    fn look(&self, place: &mut Place<T>) -> u64
+    // Takes the turn if it is free, and else has the seat that leaves it wake one that sleeps;
+    // answers what the word was.
+    fn seize_or_await(&self, place: &mut Place<T>) -> u64
         requires table { place.old.table_id ≡ self.now.table.shared.table_id }
-        requires waits { (place.old.me.0.stage ≡ Waits) × (place.old.me.1 ≡ []) }
+        requires away { (place.old.me.0.stage ≡ Away) × (place.old.me.1 ≡ []) }
         ensures place { Stays place.old place.new }
-        ensures looked { Looks T.fixed T.history place.old.me result place.new.me }
+        ensures seized { Seizes T.fixed T.history place.old.me result place.new.me }
     {
-        self.table.shared.load::<Look>(place, SERVING)
+        self.table.shared.swap::<Seize>(place, TURN, AWAITED)
     }
 
-    /// Waits until this ticket is served, and answers how often it looked. Who has looked often
-    /// enough sleeps until a turn is passed on, and then looks once more.
-    pub(crate) fn wait<R: Wait>(&self, rt: &R, place: &mut Place<T>, ticket: u64) -> u32
+    /// Waits until the turn is free and takes it, and answers how often it looked. After enough
+    /// looks it sleeps until it is woken, and then looks once more.
+    pub(crate) fn wait<R: Wait>(&self, rt: &R, place: &mut Place<T>) -> u32
         requires table { place.old.table_id ≡ self.now.table.shared.table_id }
-        requires waits { (place.old.me.0.stage ≡ Waits) × (place.old.me.1 ≡ [])
-            × (place.old.me.0.ticket % wrap ≡ ticket) }
+        requires away { (place.old.me.0.stage ≡ Away) × (place.old.me.1 ≡ []) }
         ensures place { Stays place.old place.new }
         ensures served { IsServed T.fixed T.history place.old.me place.new.me }
     {
-        let mut looks = 0_u32;
-        for _ in rt.forever() {
-            let serving = self.look(place);
-            looks = looks.saturating_add(1);
-            if serving == ticket {
-                return looks;
-            }
-            if looks < LOOKS {
-                thread::yield_now();
-            } else {
-                self.sleep(rt, place, serving);
-            }
+        if self.seize(place) == FREE {
+            return 1;
         }
-        unreachable!()
+        match self.spin(place) {
+            Some(looks) => looks,
+            None => self.wait_asleep(rt, place),
+        }
     }
 
-    // Sleeps if this ticket, which is not the place's own, is still served, until a turn is passed
-    // on. It may return early.
-    fn sleep<R: Wait>(&self, rt: &R, place: &Place<T>, serving: u64)
-        requires other { place.now.me.0.ticket % wrap ≢ serving }
+    // Looks until the turn is free and takes it, and answers how often it looked; None after enough
+    // looks. It only reads the word while the turn is out.
+    fn spin(&self, place: &mut Place<T>) -> Option<u32>
+        requires table { place.old.table_id ≡ self.now.table.shared.table_id }
+        requires away { (place.old.me.0.stage ≡ Away) × (place.old.me.1 ≡ []) }
+        ensures place { Stays place.old place.new }
+        ensures served { IfSome result
+            (λ _. IsServed T.fixed T.history place.old.me place.new.me) }
+        ensures waits { IfNone result (place.new.me ≡ place.old.me) }
     {
-        self.table.shared.park(rt, SERVING, low_half(serving));
+        for looks in 2..LOOKS {
+            hint::spin_loop();
+            if self.table.shared.peek(TURN) == FREE && self.seize(place) == FREE {
+                return Some(looks);
+            }
+        }
+        None
+    }
+
+    // Sleeps until the turn is free and takes it, and answers how often it looked.
+    fn wait_asleep<R: Wait>(&self, rt: &R, place: &mut Place<T>) -> u32
+        requires table { place.old.table_id ≡ self.now.table.shared.table_id }
+        requires away { (place.old.me.0.stage ≡ Away) × (place.old.me.1 ≡ []) }
+        ensures place { Stays place.old place.new }
+        ensures served { IsServed T.fixed T.history place.old.me place.new.me }
+    {
+        let mut looks = LOOKS;
+        for _ in rt.forever() {
+            looks = looks.saturating_add(1);
+            if self.seize_or_await(place) == FREE {
+                return looks;
+            }
+            self.table.shared.park(rt, TURN, AWAITED as u32);
+        }
+        unreachable!()
     }
 
     /// Takes the value out of the slot.
@@ -166,26 +187,6 @@ impl<T: Historied> Board<T> {
         }
     }
 
-    /// Publishes the history of the value, which has so many entries more than the place has seen.
-    /// The value is not back in the slot yet, so no turn takes what was not published.
-    pub(crate) fn publish<N: PublishedLog<T::Event>>(
-        &self,
-        place: &mut Place<T>,
-        told: &Snapshot<T>,
-        entries: u64,
-    )
-        requires log { T.history told.now.value ≡ N.log }
-        requires table { place.old.table_id ≡ self.now.table.shared.table_id }
-        requires served { (place.old.me.0.stage ≡ Has) × (place.old.me.1 ≡ (0, None) ∷ []) }
-        requires grows { Grows place.old.me.0 entries N.log }
-        ensures place { Stays place.old place.new }
-        ensures published { Publishes N.log place.old.me place.new.me }
-    {
-        self.table
-            .shared
-            .fetch_add::<Publish<N>>(place, COUNT, entries);
-    }
-
     /// Puts the value into the slot.
     pub(crate) fn give(&self, place: &mut Place<T>, value: T)
         requires table { place.old.table_id ≡ self.now.table.shared.table_id }
@@ -199,58 +200,72 @@ impl<T: Historied> Board<T> {
         }
     }
 
-    // Serves the next ticket, with the slot home again, and answers the one served before.
-    fn serve_next(&self, place: &mut Place<T>) -> u64
+    // Frees the turn, with the slot home again, and answers what the word was.
+    fn free<N: PassedLog<T::Event>>(&self, place: &mut Place<T>) -> u64
         requires table { place.old.table_id ≡ self.now.table.shared.table_id }
         requires served { place.old.me.0.stage ≡ Has }
-        requires full { (x : T) × (place.old.me.1 ≡ (0, Some x) ∷ [])
-            × (T.history x ≡ place.old.me.0.seen) × (Some (T.fixed x) ≡ place.old.me.0.fixed) }
+        requires full { (x : T) × (place.old.me.1 ≡ (0, Some x) ∷ []) × (T.history x ≡ N.log)
+            × (Some (T.fixed x) ≡ place.old.me.0.fixed) }
+        requires grows { Grows place.old.me.0 N.log }
         ensures place { Stays place.old place.new }
-        ensures passed { Passes place.old.me place.new.me }
-        ensures before { result ≡ place.old.me.0.ticket % wrap }
+        ensures passed { Passes N.log place.old.me place.new.me }
     {
-        self.table.shared.fetch_add::<Pass>(place, SERVING, 1)
+        self.table.shared.swap::<Pass<N>>(place, TURN, FREE)
     }
 
-    /// Passes the turn on to the next ticket, with the slot home again. Nobody is woken yet.
-    pub(crate) fn pass(&self, mut place: Place<T>) -> PassedTurn<T>
+    /// Passes the turn on, with the slot home again and its history published, which has at most
+    /// entries of the seat's application more than the place has seen. Nobody is woken yet.
+    pub(crate) fn pass<N: PassedLog<T::Event>>(
+        &self,
+        mut place: Place<T>,
+        told: &Snapshot<T>,
+    ) -> PassedTurn<T>
+        requires log { T.history told.now.value ≡ N.log }
         requires table { place.table_id ≡ self.now.table.shared.table_id }
         requires served { place.me.0.stage ≡ Has }
-        requires full { (x : T) × (place.me.1 ≡ (0, Some x) ∷ []) × (T.history x ≡ place.me.0.seen)
+        requires full { (x : T) × (place.me.1 ≡ (0, Some x) ∷ []) × (T.history x ≡ N.log)
             × (Some (T.fixed x) ≡ place.me.0.fixed) }
+        requires grows { Grows place.me.0 N.log }
         ensures place { Stays place result.place }
-        ensures passed { Passes place.me result.place.me }
-        ensures next { result.next ≡ (place.me.0.ticket + 1) % wrap }
+        ensures passed { Passes N.log place.me result.place.me }
     {
-        let served = self.serve_next(&mut place);
-        PassedTurn {
-            place,
-            next: served.wrapping_add(1),
-        }
+        let found = self.free::<N>(&mut place);
+        PassedTurn { place, found }
     }
 
-    /// Wakes those who sleep, and gives back the place that passed its turn on. Nobody sleeps where
-    /// the ticket that is served was not drawn yet: who draws it later looks later too, and finds
-    /// it served.
+    /// Wakes a seat that sleeps until the turn is free, if there may be one, and gives back the
+    /// place that passed its turn on.
     pub(crate) fn wake(&self, passed: PassedTurn<T>) -> Place<T>
         ensures { result ≡ passed.place }
     {
-        let PassedTurn { place, next } = passed;
-        if self.table.shared.peek(TICKET) != next {
-            self.table.shared.wake_all(SERVING);
+        let PassedTurn { place, found } = passed;
+        if found == AWAITED {
+            self.table.shared.wake_one(TURN);
         }
         place
     }
 
-    /// Sleeps while the low half of the count word is this, until `wake_at_count` is called. It may
-    /// return early.
-    pub(crate) fn sleep_at_count<R: Wait>(&self, rt: &R, entries: u32) {
-        self.table.shared.park(rt, COUNT, entries);
+    /// How often the bell rang so far, modulo 2^32. A seat that sleeps next asks in its turn.
+    pub(crate) fn bell(&self, place: &Place<T>) -> u32
+        requires served { place.now.me.0.stage ≡ Has }
+    {
+        (self.table.shared.peek(BELL) % HALF) as u32
     }
 
-    /// Wakes all who sleep at the count word.
-    pub(crate) fn wake_at_count(&self) {
-        self.table.shared.wake_all(COUNT);
+    /// Sleeps while the bell rang so often, modulo 2^32, until it rings. It may return early.
+    pub(crate) fn sleep_at_bell<R: Wait>(&self, rt: &R, rang: u32) {
+        self.table.shared.park(rt, BELL, rang);
+    }
+
+    /// Rings the bell, which wakes all seats that sleep at it.
+    pub(crate) fn ring(&self, place: &mut Place<T>)
+        requires table { place.old.table_id ≡ self.now.table.shared.table_id }
+        requires away { place.old.me.0.stage ≡ Away }
+        ensures place { Stays place.old place.new }
+        ensures me { place.new.me ≡ place.old.me }
+    {
+        self.table.shared.fetch_add::<Ring>(place, BELL, 1);
+        self.table.shared.wake_all(BELL);
     }
 
     /// Takes an ended place into the main one, with what it made and had seen.
@@ -260,7 +275,7 @@ impl<T: Historied> Board<T> {
         requires main { main.old.me.0.stage ≡ Main }
         requires other { (other.me.0.stage ≡ Away) × (other.me.1 ≡ []) }
         ensures place { Stays main.old main.new }
-        ensures glued { main.new.me ≡ (joined_view main.old.me.0 other.me.0, main.old.me.1) }
+        ensures glued { main.new.me ≡ (joined_place main.old.me.0 other.me.0, main.old.me.1) }
     {
         self.table.shared.join_seat::<Glue>(main, other)
     }
@@ -272,14 +287,14 @@ impl<T: Historied> Board<T> {
         ensures place { Stays main.old main.new }
         ensures met { Meets main.old.me main.new.me }
     {
-        self.table.shared.load::<Meet>(main, TICKET);
+        self.table.shared.load::<Meet>(main, TURN);
     }
 
     /// Ends the table, and answers the value.
     pub(crate) fn close(self, main: Place<T>) -> T
         requires table { main.table_id ≡ self.table.shared.table_id }
         requires main { (main.me.0.stage ≡ Main) × (main.me.1 ≡ []) }
-        requires joined { AllJoined main.me.0 }
+        requires joined { AreAllBack main.me.0 }
         ensures { Closes T.fixed T.history main.me.0 result }
     {
         let Board { table } = self;

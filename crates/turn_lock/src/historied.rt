@@ -1,8 +1,9 @@
 //! What the lock has to know of the value that it guards.
-ghost use Rattle.std.specs.Prelude.{ℕ, List};
+ghost use Rattle.std.specs.Prelude.{ℕ, Bool, List};
 
 /// A value with a fixed part and a history: a list of entries, each beside the number of the
-/// application that made it. Both meanings are of the proof alone, so there are no methods.
+/// application that made it. It is also seen whether an application sleeps until there is news, and
+/// whether there is news. These meanings are of the proof alone, so there are no methods.
 ///
 /// `Fixed` and `Event` name no lifetime, even where the value borrows: what seats know of a history
 /// outlives the borrow. No value of either needs to be made.
@@ -16,4 +17,8 @@ pub trait Historied {
     ghost fixed: { Self → Self.Fixed };
 
     ghost history: { Self → List (ℕ × Self.Event) };
+
+    ghost awaited: { Self → Bool };
+
+    ghost news: { Self → Bool };
 }

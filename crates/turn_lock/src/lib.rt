@@ -1,7 +1,6 @@
-//! A lock that gives its value to one application at a time, in the order of their tickets (the
-//! rule of the lock's words keeps it; no call's clause says it). The value has a history of
-//! entries. Each application has a seat, which remembers in the proof what it has seen of the
-//! history and which entries it made.
+//! A lock that gives its value to one application at a time, in no promised order. The value has a
+//! history of entries. Each application has a seat, which remembers in the proof what it has seen
+//! of the history and which entries it made.
 //!
 //! There is one history. At its turn an application finds a history that extends all that its seat
 //! had seen and has of its application just the seat's own entries, in order. The closed lock's
@@ -12,50 +11,61 @@
 //! fn two_turns<R: Wait>(alloc: Global, rt: &R, value: Visits, app: AppNo) -> Option<()> {
 //!     let (lock, mut main) = TurnLock::new(alloc, value, 1).ok()?; // the one that takes memory
 //!     let mut seat = lock.split(&mut main, app); // a seat may go to another thread
-//!     let mut turn = lock.enter(rt, &mut seat);                   // waits for the seat's turn
-//!     if turn.value_mut().note(app.get(), 7) {                    // the value makes an entry,
-//!         turn.mark_entry();                                      // and its maker says so
-//!         lock.leave(&mut seat, turn);
-//!         lock.wake();                                            // those that wait for a change
-//!     } else {
-//!         lock.leave(&mut seat, turn);
-//!     }
+//!     let mut turn = lock.enter(rt, &mut seat);                   // waits until no turn is out
+//!     let noted = turn.value_mut().note(app.get(), 7);            // the value makes an entry
+//!     lock.leave(&mut seat, turn);                                // and is the next one's
 //!     let turn = lock.enter(rt, &mut seat);
-//!     let entries = turn.value().len() as u32;
+//!     let entries = turn.value().len();
 //!     lock.leave(&mut seat, turn);
-//!     lock.sleep(rt, entries);                                    // not if the count has moved
 //!     lock.join(&mut main, seat);
 //!     let value = lock.close(main);
 //!     Some(())
 //! }
 //! ```
 //!
-//! # Implementation
-//!
-//! Three words, modulo 2^64, and a slot. A seat draws a ticket from the first word, and waits until
-//! the second, the ticket that is served, is its own; the third counts the entries of the history.
+//! An application that waits for news of the value leaves its turn to sleep, and one that brings
+//! news wakes all sleepers. The value notes whether there are any:
 //!
 //! ```text
-//! ticket word   drawn so far        draw: + 1, the seat has that ticket
-//! serving word  served now          look: the seat's own ticket, and the slot is out with it
-//!                                   pass: + 1, and the slot is home again; then wake
-//! count word    entries             publish: + 1, or + 0 in a turn without an entry
-//!                                   sleep, wake: who waits for a change
-//! slot          the value           take, after look; give, after publish and before pass
+//! let mut turn = lock.enter(rt, &mut seat);
+//! turn.value_mut().awaited = true;
+//! lock.leave_to_sleep(&mut seat, turn);
+//! lock.sleep(rt, &mut seat);                                      // no turn begins before this
+//!
+//! turn.value_mut().awaited = false;                               // in the turn of another seat
+//! lock.leave_and_wake(&mut other, turn);                          // if there were sleepers
+//! ```
+//!
+//! # Implementation
+//!
+//! Two words and a slot. The first word is the turn; the seat that finds it free has the turn, and
+//! the slot with it. It looks a hundred times, and only reads while a turn is out, before it sleeps
+//! at the word. The second word is the bell, at which seats sleep that wait for news.
+//!
+//! ```text
+//! turn word   0 free         compare and exchange by 1: if it was 0 the slot is out with the seat
+//!             1 taken        exchange by 2: the same, and otherwise the seat sleeps while it is 2
+//!             2 and awaited  exchange by 0, with the value back in the slot: the history is
+//!                            published, and one sleeper is woken if the word was 2
+//! bell word   rings so far   read in the turn that is left to sleep, which lasts while it is that
+//!                            + 1 once a turn was passed on that wakes; then all are woken
+//! slot        the value      taken after the turn word, and given back before it
 //! ```
 //!
 //! # Proved
 //!
 //! At `enter` the history extends all that the seat had seen, and has of its application just the
-//! seat's own entries, in order. `leave` takes a history that is unchanged or one entry longer.
-//! `join` keeps the longer of two histories, in which only applications that were split off have
-//! entries. `close` gives a history that has of each application just its seat's entries, in order,
-//! and no others (`specs/Rule.antt`).
+//! seat's own entries, in order. `leave` takes a history that is the one found with entries of the
+//! seat's application behind it. `join` keeps the longer of two histories, in which only
+//! applications that were split off have entries. `close` gives a history that has of each
+//! application just its seat's entries, in order, and no others (`specs/Rule.antt`). A seat that
+//! left its turn to sleep begins no turn before it slept. A turn that is left with news while there
+//! are sleepers wakes them, after it was given back, and no other turn does.
 //!
 //! Tested: two threads get through turns of all lengths around the one at which the other goes to
 //! sleep; a thread that waits for long sleeps; an entry wakes the sleepers, and they sleep until
-//! one is made; a lock can be dropped. Not claimed: progress, that a sleeper wakes (`sleep` and
-//! `wake` have no clause), fairness, order in time between callers that never met.
+//! one is made; a lock can be dropped. Not claimed: progress, that a turn comes, that a sleeper
+//! wakes or how long it sleeps, fairness, order in time between callers that never met.
 #![tactic(auto)]
 
 mod board;

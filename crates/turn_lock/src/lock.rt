@@ -1,12 +1,15 @@
-//! The lock: a value that goes from seat to seat, in the order of the tickets.
+//! The lock: a value that goes from seat to seat.
 ghost use Rattle.std.specs.Prelude.{◌≡◌, ℕ, ◌≤◌, ◌<◌, ◌++◌, [], ◌∷◌, length, true, false, All};
 ghost use Rattle.std.specs.Prelude.{Contains, IfOk, Some};
 ghost use mathlib.Core.List.{IsPrefix};
-ghost use Rattle.turn_lock.specs.Views.{entries_of, main_view, seat_view, with_app};
-ghost use Rattle.turn_lock.specs.Seats.{view_of, entered_view, left_view, IsOut, IsMain, IsReady};
-ghost use Rattle.turn_lock.specs.Seats.{AddsOne, KeepsLonger, AllJoined};
+ghost use Rattle.turn_lock.specs.Views.{entries_of};
+ghost use Rattle.turn_lock.specs.Seats.{main_view, seat_view, with_app, entered_view, left_view};
+ghost use Rattle.turn_lock.specs.Seats.{view_of, IsOut, IsMain, IsIn, IsReady, AddsOwn};
+ghost use Rattle.turn_lock.specs.Seats.{KeepsLonger, AllJoined};
+ghost use Rattle.turn_lock.specs.Inside.{known};
+ghost use Rattle.turn_lock.specs.declared.view.Stage.TheVariants.{Away};
 
-use crate::board::Board;
+use crate::board::{Board, Place};
 use crate::historied::Historied;
 use crate::seat::Seat;
 use crate::turn::Turn;
@@ -16,13 +19,13 @@ use std::marker::{Brand, Model};
 use std::snapshot::Snapshot;
 use std::sync::Wait;
 
-/// The most seats that can be split off one lock, and so the most tickets that are out at a time.
+/// The most seats that can be split off one lock.
 pub const MOST_SEATS: u32 = 16;
 
-/// A value that one seat at a time has, in the order in which they drew their tickets. It can be
-/// shared by threads where the value may move between them, and lives no longer than what the
-/// value borrows. Where the value can be dropped the lock can be let go with it, at any time, and
-/// nothing is learnt then of the history; closing gives the value and its history.
+/// A value that one seat at a time has, in no promised order. It can be shared by threads where the
+/// value may move between them, and lives no longer than what the value borrows. Where the value
+/// can be dropped the lock can be let go with it, at any time, and nothing is learnt then of the
+/// history; closing gives the value and its history.
 ///
 /// Contracts see which lock it is and how many seats can be split off.
 #[derive(Drop)]
@@ -86,14 +89,15 @@ impl<T: Historied> TurnLock<T> {
         Seat::of(new)
     }
 
-    /// Waits until this seat's turn has come, and answers it with the value. The value's history
+    /// Waits until no other seat has a turn, and answers one with the value. The value's history
     /// extends all that the seat had seen, and of the seat's application it has just the seat's
-    /// own entries, in order.
+    /// own entries, in order. A seat that left its last turn to sleep sleeps before, by
+    /// [`TurnLock::sleep`].
     pub fn enter<R: Wait>(&self, rt: &R, seat: &mut Seat<T::Fixed, T::Event>) -> Turn<T>
-        requires seat { IsReady seat.old self.now.name }
+        requires ready { IsReady seat.old self.now.name }
         ensures out { IsOut seat.new }
         ensures lock { result.lock ≡ self.now.name }
-        ensures unmarked { result.marked ≡ false }
+        ensures found { result.found ≡ result.value }
         ensures opening { Some (T.fixed result.value) ≡ (view_of seat.old).fixed }
         ensures extends { IsPrefix (view_of seat.old).seen (T.history result.value) }
         ensures mine { entries_of (view_of seat.old).app (T.history result.value)
@@ -101,56 +105,100 @@ impl<T: Historied> TurnLock<T> {
         ensures view { result.view ≡ entered_view (view_of seat.old) (T.history result.value) }
     {
         let mut place = seat.take_place();
-        let ticket = self.board.draw(&mut place);
-        let looks = self.board.wait(rt, &mut place, ticket);
+        let looks = self.board.wait(rt, &mut place);
         let value = self.board.take(&mut place);
+        let found = Snapshot::of(&value);
         Turn {
             place,
             value,
-            marked: false,
+            found,
             looks,
         }
     }
 
-    /// Ends the turn of this seat. The value has the fixed part that it had at entry, and its
-    /// history, which has one entry more of the seat's application where the turn is marked, and
-    /// is the one at entry where it isn't. The history is published before the value is given back.
+    /// Ends the turn of this seat. The value has the fixed part that it had at entry, its history
+    /// is the one found with entries of the seat's application behind it, or none, and it notes
+    /// sleepers if and only if it did at entry. If it does, it has no news. What is left is
+    /// published with the turn.
     pub fn leave(&self, seat: &mut Seat<T::Fixed, T::Event>, turn: Turn<T>)
         requires out { IsOut seat.old }
         requires lock { turn.lock ≡ self.now.name }
         requires opening { Some (T.fixed turn.value) ≡ turn.view.fixed }
-        requires entry { turn.marked ≡ true → AddsOne turn.view (T.history turn.value) }
-        requires none { turn.marked ≡ false → T.history turn.value ≡ turn.view.seen }
-        ensures seat { IsReady seat.new self.now.name }
+        requires own { AddsOwn turn.view (T.history turn.value) }
+        requires awaited { T.awaited turn.value ≡ T.awaited turn.found }
+        requires no_news { T.awaited turn.value ≡ true → T.news turn.value ≡ false }
+        ensures ready { IsReady seat.new self.now.name }
         ensures view { view_of seat.new ≡ left_view turn.view (T.history turn.value) }
+    {
+        *seat = Seat::of(self.give_back(turn));
+    }
+
+    /// Ends the turn of a seat that sleeps next, by [`TurnLock::sleep`], until another seat leaves
+    /// its turn by [`TurnLock::leave_and_wake`]. The value notes that there are sleepers.
+    pub fn leave_to_sleep(&self, seat: &mut Seat<T::Fixed, T::Event>, turn: Turn<T>)
+        requires out { IsOut seat.old }
+        requires lock { turn.lock ≡ self.now.name }
+        requires opening { Some (T.fixed turn.value) ≡ turn.view.fixed }
+        requires own { AddsOwn turn.view (T.history turn.value) }
+        requires awaited { T.awaited turn.value ≡ true }
+        ensures seat { IsIn seat.new self.now.name }
+        ensures rests { seat.new.rests ≡ true }
+        ensures view { view_of seat.new ≡ left_view turn.view (T.history turn.value) }
+    {
+        let rang = self.board.bell(&turn.place);
+        *seat = Seat::sleeper(self.give_back(turn), rang);
+    }
+
+    /// Ends the turn of this seat, and then wakes all seats that left theirs to sleep. At entry the
+    /// value noted that there were sleepers; now it doesn't any more, and it has news.
+    pub fn leave_and_wake(&self, seat: &mut Seat<T::Fixed, T::Event>, turn: Turn<T>)
+        requires out { IsOut seat.old }
+        requires lock { turn.lock ≡ self.now.name }
+        requires opening { Some (T.fixed turn.value) ≡ turn.view.fixed }
+        requires own { AddsOwn turn.view (T.history turn.value) }
+        requires slept { T.awaited turn.found ≡ true }
+        requires awaited { T.awaited turn.value ≡ false }
+        requires news { T.news turn.value ≡ true }
+        ensures ready { IsReady seat.new self.now.name }
+        ensures view { view_of seat.new ≡ left_view turn.view (T.history turn.value) }
+    {
+        let mut place = self.give_back(turn);
+        self.board.ring(&mut place);
+        *seat = Seat::of(place);
+    }
+
+    // Gives the value back and passes the turn on, which publishes the history, and then wakes a
+    // seat that waits for a turn.
+    fn give_back(&self, turn: Turn<T>) -> Place<T>
+        requires lock { turn.lock ≡ self.now.name }
+        requires opening { Some (T.fixed turn.value) ≡ turn.view.fixed }
+        requires own { AddsOwn turn.view (T.history turn.value) }
+        ensures lock { result.table_id ≡ self.now.name }
+        ensures away { (result.me.0.stage ≡ Away) × (result.me.1 ≡ []) }
+        ensures view { known result.me.0 ≡ left_view turn.view (T.history turn.value) }
     {
         let Turn {
             mut place,
             value,
-            marked,
+            found: _,
             looks: _,
         } = turn;
         let told = Snapshot::of(&value);
-        self.board
-            .publish::<Brand>(&mut place, &told, u64::from(marked));
         self.board.give(&mut place, value);
-        let passed = self.board.pass(place);
-        *seat = Seat::of(self.board.wake(passed));
+        self.board.wake(self.board.pass::<Brand>(place, &told))
     }
 
-    /// Sleeps while the history that was published last has so many entries, modulo 2^32, until
-    /// [`TurnLock::wake`] is called, and returns at once where it has another number. It may return
-    /// early. So whoever waits for a change takes a turn, reads the history's length, leaves, and
-    /// sleeps with that length; no turn should be out with who sleeps. No clause speaks of
-    /// sleeping.
-    pub fn sleep<R: Wait>(&self, rt: &R, entries: u32) {
-        self.board.sleep_at_count(rt, entries);
-    }
-
-    /// Wakes all who sleep with [`TurnLock::sleep`]. Whoever made an entry calls it after `leave`,
-    /// which publishes it.
-    pub fn wake(&self) {
-        self.board.wake_at_count();
+    /// Sleeps if the seat left its last turn to sleep, until another seat leaves the lock by
+    /// [`TurnLock::leave_and_wake`], and returns at once if one did since. It may return early, and
+    /// nothing is claimed of how long it sleeps. From then on the seat may begin a turn.
+    pub fn sleep<R: Wait>(&self, rt: &R, seat: &mut Seat<T::Fixed, T::Event>)
+        requires ready { IsIn seat.old self.now.name }
+        ensures ready { IsReady seat.new self.now.name }
+        ensures view { view_of seat.new ≡ view_of seat.old }
+    {
+        if let Some(rang) = seat.take_rest() {
+            self.board.sleep_at_bell(rt, rang);
+        }
     }
 
     /// Takes a seat that ends into the main one, which keeps its entries and the longer of what
@@ -158,7 +206,7 @@ impl<T: Historied> TurnLock<T> {
     /// of applications that were split off.
     pub fn join(&self, main: &mut Seat<T::Fixed, T::Event>, seat: Seat<T::Fixed, T::Event>)
         requires main { IsMain main.old self.now.name }
-        requires seat { IsReady seat self.now.name }
+        requires seat { IsIn seat self.now.name }
         ensures main { IsMain main.new self.now.name }
         ensures seen { KeepsLonger (view_of main.old).seen (view_of seat).seen
             (view_of main.new).seen }

@@ -14,61 +14,49 @@ pub struct Turns<T> {
 
 impl<T: Historied> TableRule<Option<T>, View<T::Fixed, T::Event>, Snapshot<T>> for Turns<T> {
     ghost use Rattle.turn_lock.specs.Rule.{Kept};
-    ghost use Rattle.turn_lock.specs.Views.{main_view};
+    ghost use Rattle.turn_lock.specs.Views.{main_place};
 
     ghost holds = { λ key s. Kept T.fixed T.history (T.fixed key.value) s };
 
-    ghost first = { λ key. main_view (T.fixed key.value) (T.history key.value) };
+    ghost first = { λ key. main_place (T.fixed key.value) (T.history key.value) };
 }
 
-/// A ticket is drawn.
-pub(crate) struct Draw;
+/// The turn's word is read, and changed. If it was free the seat takes the slot.
+pub(crate) struct Seize;
 
-impl<T: Historied> Play<Option<T>, View<T::Fixed, T::Event>> for Draw {
-    ghost use Rattle.turn_lock.specs.Steps.{Draws};
+impl<T: Historied> Play<Option<T>, View<T::Fixed, T::Event>> for Seize {
+    ghost use Rattle.turn_lock.specs.Steps.{Seizes};
 
-    ghost then = { λ _ before found now. Draws before found now };
+    ghost then = { λ _ before found now. Seizes T.fixed T.history before found now };
 }
 
-/// The serving word is read. Where the turn has come the seat takes the slot.
-pub(crate) struct Look;
-
-impl<T: Historied> Play<Option<T>, View<T::Fixed, T::Event>> for Look {
-    ghost use Rattle.turn_lock.specs.Steps.{Looks};
-
-    ghost then = { λ _ before found now. Looks T.fixed T.history before found now };
-}
-
-/// The history that a publishing tells. Each call picks it.
-pub(crate) trait PublishedLog<E> {
+/// The history with which a turn is passed on. Each call picks it.
+pub(crate) trait PassedLog<E> {
     ghost log: { List (ℕ × E) };
 }
 
-impl<E> PublishedLog<E> for Brand {
+impl<E> PassedLog<E> for Brand {
     ghost log = { [] };
 }
 
-/// The history is published.
-pub(crate) struct Publish<N> {
+/// The turn is free, the slot goes home, and its history is that of the lock.
+pub(crate) struct Pass<N> {
     of: PhantomData<N>,
 }
 
-impl<T: Historied, N: PublishedLog<T::Event>> Play<Option<T>, View<T::Fixed, T::Event>>
-    for Publish<N> {
-    ghost use Rattle.turn_lock.specs.Steps.{Publishes};
-
-    ghost then = { λ _ before _ now. Publishes N.log before now };
-}
-
-/// The next ticket is served, and the slot goes home.
-pub(crate) struct Pass;
-
-impl<T: Historied> Play<Option<T>, View<T::Fixed, T::Event>> for Pass {
-    ghost use Rattle.std.specs.Prelude.{◌≡◌, ◌%◌};
-    ghost use Rattle.turn_lock.specs.Rule.{wrap};
+impl<T: Historied, N: PassedLog<T::Event>> Play<Option<T>, View<T::Fixed, T::Event>> for Pass<N> {
     ghost use Rattle.turn_lock.specs.Steps.{Passes};
 
-    ghost then = { λ _ before found now. Passes before now × (found ≡ before.0.ticket % wrap) };
+    ghost then = { λ _ before _ now. Passes N.log before now };
+}
+
+/// The bell's word is changed.
+pub(crate) struct Ring;
+
+impl<T: Historied> Play<Option<T>, View<T::Fixed, T::Event>> for Ring {
+    ghost use Rattle.std.specs.Prelude.{◌≡◌};
+
+    ghost then = { λ _ before _ now. now ≡ before };
 }
 
 /// Which application a seat is split off for. Each call picks it.
@@ -86,22 +74,22 @@ pub(crate) struct Cut<N: NamedApp> {
 }
 
 impl<F, E, N: NamedApp> Split<View<F, E>> for Cut<N> {
-    ghost use Rattle.turn_lock.specs.Views.{with_app, seat_view};
+    ghost use Rattle.turn_lock.specs.Views.{with_seat, seat_place};
 
-    ghost left = { λ v. with_app v N.app };
+    ghost left = { λ v. with_seat v N.app };
 
-    ghost right = { λ v. seat_view v N.app };
+    ghost right = { λ v. seat_place v N.app };
 }
 
 /// The main seat takes in an ended seat.
 pub(crate) struct Glue;
 
 impl<F, E> Join<View<F, E>> for Glue {
-    ghost use Rattle.turn_lock.specs.Views.{joined_view, spent_view};
+    ghost use Rattle.turn_lock.specs.Views.{joined_place, spent_place};
 
-    ghost both = { joined_view };
+    ghost both = { joined_place };
 
-    ghost spent = { spent_view };
+    ghost spent = { spent_place };
 }
 
 /// The main seat keeps the longer of what it and the ended seat had seen.

@@ -1,61 +1,105 @@
 //! The token that a thread takes its turns with.
-ghost use Rattle.std.specs.Prelude.{◌≡◌, [], ◌∷◌};
+ghost use Rattle.std.specs.Prelude.{◌≡◌, true, false, [], ◌∷◌, is_some};
 ghost use Rattle.atomic_table.specs.Seated.{TableId};
-ghost use Rattle.turn_lock.specs.Seats.{IsOut};
+ghost use Rattle.turn_lock.specs.Seats.{IsOut, view_of};
+ghost use Rattle.turn_lock.specs.Inside.{known, is_idle};
+ghost use Rattle.turn_lock.specs.declared.view.Stage.TheVariants.{Main, Away};
 
 use crate::view::View;
 use atomic_table::{Badge, Seat as Place};
 use std::marker::{Brand, Model};
 use std::mem;
 
-/// A token of no bytes, which may go from thread to thread. The main seat comes with the lock and
-/// takes no turns; each application's seat is split off from it, and is joined to it in the end.
+/// A token that may go from thread to thread. The main seat comes with the lock and takes no turns;
+/// each application's seat is split off from it, and is joined to it in the end.
 ///
-/// Contracts see which lock it is of and what it knows, which is nothing while its turn is out.
-/// The type names neither the lock's value nor a lifetime.
+/// Contracts see which lock it is of, what it knows, which is nothing while its turn is out, and
+/// whether it left its last turn to sleep and hasn't slept since. The type names neither the lock's
+/// value nor a lifetime.
 #[derive(Drop)]
 pub struct Seat<F, E> {
+    // The seat of the lock's table, which has no bytes.
     badge: Badge<View<F, E>>,
+    // How often the bell had rung, modulo 2^32, in the turn that the seat left to sleep; None where
+    // it has slept since.
+    rang: Option<u32>,
 }
 
 impl<F, E> Model for Seat<F, E> {
+    ghost use Rattle.std.specs.Prelude.{◌≡◌, true, map, All, is_some};
     ghost use Rattle.turn_lock.specs.Seats.{SeatView};
+    ghost use Rattle.turn_lock.specs.Inside.{known, is_idle};
 
     ghost Value = { SeatView F E };
 
-    ghost view = { λ s. record { lock = s.badge.table_id; knows = s.badge.views } };
+    ghost view = { λ s. record {
+      lock = s.badge.table_id;
+      knows = map known s.badge.views;
+      rests = is_some s.rang;
+    } };
+
+    ghost invariant = { λ s. All (λ v. is_idle v.stage ≡ true) s.badge.views };
 }
 
 impl<F, E> Seat<F, E> {
-    /// The seat of a place of the table that holds no slot.
+    /// The seat of a place of the table that has no turn.
     pub(crate) fn of<S>(place: Place<S, View<F, E>>) -> Seat<F, E>
-        requires { place.me.1 ≡ [] }
-        ensures { result ≡ record { lock = place.table_id; knows = place.me.0 ∷ [] } }
+        requires empty { place.me.1 ≡ [] }
+        requires idle { is_idle place.me.0.stage ≡ true }
+        ensures { result ≡
+            record { lock = place.table_id; knows = known place.me.0 ∷ []; rests = false } }
     {
         Seat {
             badge: place.into_badge(),
+            rang: None,
         }
+    }
+
+    /// The same, and it sleeps next: until the bell has rung oftener than so often, modulo 2^32.
+    pub(crate) fn sleeper<S>(place: Place<S, View<F, E>>, rang: u32) -> Seat<F, E>
+        requires empty { place.me.1 ≡ [] }
+        requires idle { is_idle place.me.0.stage ≡ true }
+        ensures { result ≡
+            record { lock = place.table_id; knows = known place.me.0 ∷ []; rests = true } }
+    {
+        Seat {
+            badge: place.into_badge(),
+            rang: Some(rang),
+        }
+    }
+
+    /// How often the bell had rung in the turn that it left to sleep, where it has to sleep; from
+    /// then on it has slept.
+    pub(crate) fn take_rest(&mut self) -> Option<u32>
+        ensures rested { self.new ≡ record self.old { rests = false } }
+        ensures found { is_some result ≡ self.old.rests }
+    {
+        self.rang.take()
     }
 
     /// The place of this seat, which is out until it is put back.
     pub(crate) fn take_place<S>(&mut self) -> Place<S, View<F, E>>
-        requires { (v : View F E) × (self.old.knows ≡ v ∷ []) }
+        requires { self.old.knows ≡ view_of self.old ∷ [] }
         ensures lock { result.table_id ≡ self.old.lock }
-        ensures knows { self.old.knows ≡ result.me.0 ∷ [] }
+        ensures knows { known result.me.0 ≡ view_of self.old }
         ensures empty { result.me.1 ≡ [] }
         ensures out { IsOut self.new }
+        ensures main { (view_of self.old).main ≡ true → result.me.0.stage ≡ Main }
+        ensures away { (view_of self.old).main ≡ false → result.me.0.stage ≡ Away }
     {
         mem::replace(&mut self.badge, Badge::blank()).into_seat()
     }
 
     /// The place of a seat that ends.
     pub(crate) fn into_place<S>(self) -> Place<S, View<F, E>>
-        requires { (v : View F E) × (self.knows ≡ v ∷ []) }
+        requires { self.knows ≡ view_of self ∷ [] }
         ensures lock { result.table_id ≡ self.lock }
-        ensures knows { self.knows ≡ result.me.0 ∷ [] }
+        ensures knows { known result.me.0 ≡ view_of self }
         ensures empty { result.me.1 ≡ [] }
+        ensures main { (view_of self).main ≡ true → result.me.0.stage ≡ Main }
+        ensures away { (view_of self).main ≡ false → result.me.0.stage ≡ Away }
     {
-        let Seat { badge } = self;
+        let Seat { badge, rang: _ } = self;
         badge.into_seat()
     }
 }

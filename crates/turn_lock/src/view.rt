@@ -13,8 +13,6 @@ pub struct View<F, E> {
     pub mine: LinkedList<(u32, E)>,
     /// Where the seat stands in a turn.
     pub stage: Stage,
-    /// The number of the ticket that it drew, counted from 0 and not modulo 2^64.
-    pub ticket: u64,
     /// Of the main seat: the applications that were split off.
     pub apps: LinkedList<u32>,
     /// Of the main seat: the applications whose seats were joined, each with its entries.
@@ -27,11 +25,9 @@ pub struct View<F, E> {
 pub enum Stage {
     /// It is the main seat, which takes no turns.
     Main,
-    /// It has no ticket.
+    /// It has no turn.
     Away,
-    /// It has a ticket, which may not be served yet.
-    Waits,
-    /// Its ticket is served, and the value is out with it.
+    /// It has a turn, and the value is out with it.
     Has,
     /// It was joined to the main seat.
     Spent,

@@ -1,6 +1,6 @@
 //! Threads that must sleep: until their turn comes, and until the history has grown.
 ghost use Rattle.std.specs.Prelude.{◌≡◌, IfOk};
-ghost use Rattle.turn_lock.specs.Seats.{view_of, IsReady};
+ghost use Rattle.turn_lock.specs.Seats.{view_of, IsIn, IsReady};
 
 use super::{PAIRS, Pad, add_one};
 use fsw_base::AppNo;
@@ -27,6 +27,7 @@ fn open<'r>(alloc: Global, bytes: &'r mut [u8]) -> Result<Opened<'r>, AllocError
     let pad = Pad {
         pairs: Vec::with_capacity(alloc, PAIRS)?,
         bytes,
+        awaited: false,
     };
     let (lock, mut main) = TurnLock::new(alloc, pad, 2)?;
     let one = lock.split(&mut main, AppNo::try_new(1).unwrap());
@@ -147,33 +148,47 @@ fn turns_until_an_entry<'r, B: LockName, R: Wait>(
     let mut turns = 0_u32;
     for _ in rt.forever() {
         turns = turns.saturating_add(1);
-        let entries = entries_in_a_turn(rt, lock, &mut seat);
-        if entries > 0 {
+        if finds_an_entry(rt, lock, &mut seat) {
             return turns;
         }
-        lock.sleep(rt, entries);
+        lock.sleep(rt, &mut seat);
     }
     unreachable!()
 }
 
-// Takes a turn, and answers how many entries the history has.
-fn entries_in_a_turn<'r, R: Wait>(
-    rt: &R,
-    lock: &TurnLock<Pad<'r>>,
-    seat: &mut Seat<usize, u8>,
-) -> u32
+// Takes a turn, and answers whether the history has an entry; where it has none the seat sleeps
+// next.
+fn finds_an_entry<'r, R: Wait>(rt: &R, lock: &TurnLock<Pad<'r>>, seat: &mut Seat<usize, u8>) -> bool
     requires seat { IsReady seat.old lock.now.name }
-    ensures seat { IsReady seat.new lock.now.name }
-    ensures app { (view_of seat.new).app ≡ (view_of seat.old).app }
+    ensures seat { IsIn seat.new lock.now.name }
 {
-    let turn = lock.enter(rt, seat);
-    let entries = turn.value().pairs.len().min(PAIRS) as u32;
-    lock.leave(seat, turn);
-    entries
+    let mut turn = lock.enter(rt, seat);
+    if !turn.value().pairs.is_empty() {
+        lock.leave(seat, turn);
+        return true;
+    }
+    turn.value_mut().note_sleeper();
+    lock.leave_to_sleep(seat, turn);
+    false
+}
+
+// Adds a pair, and wakes who sleeps until then.
+fn add_and_wake<'r, R: Wait>(rt: &R, lock: &TurnLock<Pad<'r>>, seat: &mut Seat<usize, u8>, app: u32)
+    requires seat { IsReady seat.old lock.now.name }
+    requires app { (view_of seat.old).app ≡ app }
+    ensures seat { IsReady seat.new lock.now.name }
+{
+    let mut turn = lock.enter(rt, seat);
+    turn.value_mut().add(app, 7);
+    if turn.value_mut().take_sleepers() {
+        lock.leave_and_wake(seat, turn);
+    } else {
+        lock.leave(seat, turn);
+    }
 }
 
 // Adds a pair a little later, and wakes who sleeps until then.
-fn add_and_wake<'r, B: LockName, R: Wait + Clock>(
+fn add_and_wake_later<'r, B: LockName, R: Wait + Clock>(
     rt: &R,
     lock: &TurnLock<Pad<'r>>,
     mut seat: Seat<usize, u8>,
@@ -184,8 +199,7 @@ fn add_and_wake<'r, B: LockName, R: Wait + Clock>(
     requires app { (view_of seat).app ≡ app }
 {
     thread::sleep(rt, Duration::from_millis(5));
-    add_one(rt, lock, &mut seat, app, 7);
-    lock.wake();
+    add_and_wake(rt, lock, &mut seat, app);
 }
 
 // One thread sleeps until the history has an entry, which another makes: how many turns it took.
@@ -206,7 +220,7 @@ fn turns_beside_an_entry<'r, B: LockName + Send + Sync, R: Threads + Wait + Cloc
         { turns_until_an_entry::<B, _>(rt, lock, one) },
         move ||
             requires { (lock.now.name ≡ B.name) × IsReady two B.name × ((view_of two).app ≡ 2) }
-        { add_and_wake::<B, _>(rt, lock, two, 2) },
+        { add_and_wake_later::<B, _>(rt, lock, two, 2) },
     );
     turns
 }
@@ -223,9 +237,7 @@ fn every_sleeper_is_woken(rt: HostRuntime) -> Result<(), AllocError> {
 fn a_seat_that_waits_for_long_sleeps(rt: HostRuntime) -> Result<(), AllocError> {
     for _ in 0..20_u32 {
         let mut bytes = [0; PAIRS];
-        let (lock, mut one, two) = open(rt.alloc(), &mut bytes)?;
-        // Later than at the first ticket of all, at which both halves of the word are 0.
-        take_turn(&rt, &lock, &mut one, 0);
+        let (lock, one, two) = open(rt.alloc(), &mut bytes)?;
         let looks = looks_in_a_long_turn::<Brand, _>(&rt, &lock, one, two);
         assert!(rt; looks < LOOKS + 10);
     }
@@ -244,12 +256,12 @@ fn an_entry_wakes_who_sleeps_until_one_is_made(rt: HostRuntime) -> Result<(), Al
 }
 
 #[test]
-fn nobody_sleeps_where_the_count_has_moved(rt: HostRuntime) -> Result<(), AllocError> {
+fn nobody_sleeps_who_was_woken_before(rt: HostRuntime) -> Result<(), AllocError> {
     let mut bytes = [0; PAIRS];
-    let (lock, mut one, _) = open(rt.alloc(), &mut bytes)?;
-    let entries = entries_in_a_turn(&rt, &lock, &mut one);
-    add_one(&rt, &lock, &mut one, 1, 7);
-    lock.sleep(&rt, entries);
+    let (lock, mut one, mut two) = open(rt.alloc(), &mut bytes)?;
+    assert!(rt; !finds_an_entry(&rt, &lock, &mut one));
+    add_and_wake(&rt, &lock, &mut two, 2);
+    lock.sleep(&rt, &mut one);
     Ok(())
 }
 

@@ -2,6 +2,7 @@ use Rattle.std.proofs.Common.{◌≡◌, ℕ, ◌-◌, ◌<◌, ◌≤◌, List,
 use Rattle.fsw_base.specs.declared.config.Budget.{Budget}
 use Rattle.journal_store.specs.declared.allowance.Allowance.{Allowance}
 use Rattle.turn_lock.specs.Seats.{view_of}
+use Rattle.turn_lock.proofs.Callers.{ready_in}
 use Rattle.bus_service.specs.Inside.{IsPort}
 use Rattle.bus_service.specs.Ports.{MainView}
 use Rattle.bus_service.proofs.Mains.{room_left, stays_main, is_port, is_telling, opened_port, empty_holding}
@@ -29,10 +30,10 @@ invariant_of-result c =
     let out = λ (there : Contains (view_of s).apps c.args.app). c.requires.new (subst (λ (m : MainView). Contains m.apps c.args.app) c.main.view_is there) in
     let left : Allowance = allowance budget in
     let port : IsPort c.split-seat.result c.args.app left c.in_ok-bag.bag =
-    is_port s budgets c.main.inside.pipes c.main.invariant c.args.app first last out c.split-seat.result c.self.inside.lock.name c.split-seat.ensures.seat c.split-seat.ensures.view c.in_ok-bag.bag
+    is_port s budgets c.main.inside.pipes c.main.invariant c.args.app first last out c.split-seat.result c.self.inside.lock.name (ready_in c.split-seat.result c.self.inside.lock.name c.split-seat.ensures.seat) c.split-seat.ensures.view c.in_ok-bag.bag
     left budget budget.buffers known (ap allowance given) c.in_ok-bag.ensures in (
       port,
-      is_telling s budgets c.main.inside.pipes c.main.invariant c.args.app first last out c.split-seat.result c.self.inside.lock.name c.split-seat.ensures.seat c.split-seat.ensures.view
+      is_telling s budgets c.main.inside.pipes c.main.invariant c.args.app first last out c.split-seat.result c.self.inside.lock.name (ready_in c.split-seat.result c.self.inside.lock.name c.split-seat.ensures.seat) c.split-seat.ensures.view
           c.in_ok-bag.bag left _ port refl refl,
     )
 
@@ -57,6 +58,6 @@ returns-clause-port c =
     let given : budget ≡ get_or budgets (c.args.app - 1) budget = c.index-budget.ensures ∙ ap (λ (n : ℕ). get_or budgets (n - 1) budget) c.get.ensures.value in
     opened_port s budgets c.main.inside.pipes c.main.invariant c.args.app first last
     (λ there. c.requires.new (subst (λ (m : MainView). Contains m.apps c.args.app) c.main.view_is there))
-    c.split-seat.result c.self.inside.lock.name c.split-seat.ensures.seat c.split-seat.ensures.view c.in_ok-bag.bag
+    c.split-seat.result c.self.inside.lock.name (ready_in c.split-seat.result c.self.inside.lock.name c.split-seat.ensures.seat) c.split-seat.ensures.view c.in_ok-bag.bag
     c.args.self.now c.args.main.now budget c.self.view_is c.main.view_is known
     (c.in_ok-bag.ensures ∙ ap (λ (b : Budget). empty_holding c.main.inside.pipes b.buffers) given)

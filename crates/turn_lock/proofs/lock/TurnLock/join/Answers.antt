@@ -1,13 +1,11 @@
 use Rattle.std.proofs.Common.{◌∙◌, ◌++◌, ◌∷◌, [], ap, ap₂, sym, subst, Contains}
-use Rattle.turn_lock.specs.Seats.{view_of, first_view}
+use Rattle.turn_lock.specs.Seats.{view_of}
 use Rattle.turn_lock.specs.Views.{entries_of}
 use Rattle.turn_lock.proofs.lock.TurnLock.join.Goals as goal
 
 pub returns-clause-ended : goal.returns-clause-ended
 returns-clause-ended g c =
-    let main = ap first_view c.take_place-place.ensures.knows in
-    let seat = ap first_view c.into_place.ensures.knows in
-    ap (λ s. (view_of s).ended) c.of.ensures ∙ (ap (λ m. m.0.ended) c.meet.ensures.met.0 ∙ (ap (λ m. m.0.ended) c.glue.ensures.glued ∙ ap₂ (λ v w. v.ended ++ (w.app, w.mine) ∷ []) (sym main) (sym seat)))
+    ap (λ s. (view_of s).ended) c.of.ensures ∙ (ap (λ m. m.0.ended) c.meet.ensures.met.0 ∙ (ap (λ m. m.0.ended) c.glue.ensures.glued ∙ ap₂ (λ v w. v.ended ++ (w.app, w.mine) ∷ []) c.take_place-place.ensures.knows c.into_place.ensures.knows))
 
 pub returns-clause-others : goal.returns-clause-others
 returns-clause-others g c = λ app out.

@@ -1,0 +1,13 @@
+use Rattle.std.proofs.Common.{arith}
+use Rattle.std.specs.Prelude.{◌==◌}
+use prog.Atomic.{either}
+use Rattle.turn_lock.proofs.TakesTurns.{seize_keeps_as}
+use Rattle.turn_lock.proofs.Counting.{seized}
+use Rattle.turn_lock.proofs.board.Board.seize.Goals as goal
+
+pub compare_exchange-requires : goal.compare_exchange-requires
+compare_exchange-requires g c = let away = c.requires.away in (
+  c.requires.table,
+  omega (arith, c.args.self.now.two),
+  seize_keeps_as g.T.Historied.fixed g.T.Historied.history (g.T.Historied.fixed c.args.self.now.table.shared.key.value) c.args.self.now.table.shared.table_id.slots c.args.place.now.id c.args.place.now.me (λ n. either (n == 0) 1 n) seized away.1 away.0,
+)

@@ -1,0 +1,18 @@
+-- What a seat of the table stands for, and which ones stand for a seat.
+use Rattle.std.specs.Prelude.{Bool, true, false}
+use Rattle.turn_lock.specs.declared.view.View.{View}
+use Rattle.turn_lock.specs.declared.view.Stage.{Stage}
+use Rattle.turn_lock.specs.declared.view.Stage.TheVariants.{Main, Away, Has, Spent}
+use Rattle.turn_lock.specs.Views.{is_main}
+use Rattle.turn_lock.specs.Seats.{Known}
+
+-- whether it has no turn, as the main seat, and an application's between its turns
+abbrev pub is_idle : Stage → Bool
+is_idle Main = true
+is_idle Away = true
+is_idle Has = false
+is_idle Spent = false
+
+-- what its seat knows
+abbrev pub known : {F E : Type 0} → View F E → Known F E
+known v = record { fixed = v.fixed; main = is_main v.stage; app = v.app; seen = v.seen; mine = v.mine; apps = v.apps; ended = v.ended }
