@@ -1,11 +1,12 @@
 -- The blocks in which the tables lie.
-use Rattle.std.proofs.Common.{◌≡◌, ℕ, ◌+◌, ◌&&◌, Bool, true, false, eqb, cond, Option, Some, None, IsSome, List, [], ◌∷◌, map, find, get_or, count_by, refl, ap, sym, ◌∙◌, subst, arith}
+use Rattle.std.proofs.Common.{◌≡◌, ℕ, ◌+◌, ◌&&◌, Bool, true, false, eqb, cond, Option, Some, None, IsSome, IfSome, List, [], ◌∷◌, map, find, get_or, count_by, All, refl, ap, sym, ◌∙◌, subst, arith}
 use Rattle.std.specs.Option.{option_map, option_map_or}
 use Rattle.std.proofs.lemmas.Bool.Decides.{nat_tests}
+use Rattle.std.proofs.lemmas.List.Elements.{All-map}
 use Rattle.fsw_base.proofs.Lists.{count_by-map, find-map}
 use Rattle.tbl_words.specs.Tables as state
 use Rattle.tbl_registry.specs.declared.rows.Handle.{Handle}
-use Rattle.tbl_registry.specs.Listing.{Table, IsTied, table_at}
+use Rattle.tbl_registry.specs.Listing.{Table, IsTied, table_at, number_at}
 use Rattle.tbl_registry.proofs.Leaving.{either_way}
 use Rattle.tbl_blocks.specs.Blocks.{IsPlaced, has_block, buffers_taken}
 use Rattle.tbl_blocks.specs.Contents.{Content, version_at, is_open, content_at}
@@ -14,7 +15,7 @@ use Rattle.tbl_plain.specs.Blocks.{is_version, IsInBlocks, IsKeptAt, AreTableBlo
 use Rattle.tbl_plain.specs.Core.{HoldsVersion, loan_of}
 use Rattle.tbl_plain.specs.Inside.{plain_of, means, table_in, handle_in, hold_of, is_this, is_other, IsFilled, Keeps}
 use Rattle.tbl_plain.proofs.Buffers.{taken_alike}
-use Rattle.tbl_plain.proofs.Meaning.{found_all, count_alike, known_by, its_table}
+use Rattle.tbl_plain.proofs.Meaning.{found_all, count_alike, known_by, table_there, its_table}
 use Rattle.tbl_plain.proofs.OneLoan.{lends, number_of}
 use Rattle.tbl_plain.proofs.Shares.{found_by_key}
 
@@ -85,20 +86,40 @@ module _ (a : Inside) (keeps : Keeps a) (tied : IsTied a.registry)
       alike c None = refl
       alike c (Some v) = refl
 
-  in_blocks : (u : Table) → IsFilled a.registry.handles a.blocks.tables u → IsInBlocks a.blocks (means a).handles (table_in a.registry.handles a.blocks.tables u) (content_at a.blocks.tables u.key)
-  in_blocks u filled = record {
+  key_is : (n : ℕ) (u : Table) → row_of n ≡ Some u → u.key ≡ key_of n
+  key_is n u there = sym (ap (λ (o : Option Table). option_map_or (λ (t : Table). t.key) o 0) there)
+
+  -- a handle of a table has its key
+  key_of_handle : (u : Table) → row_of u.number ≡ Some u → (h : Handle) → number_at a.registry.tables h.key ≡ Some h.table → h.table ≡ u.number → h.key ≡ u.key
+  key_of_handle u there h its same =
+      let of = table_there a h its in
+      sym (known_by a.registry.tables h.key of.t of.there) ∙ key_is h.table of.t (number_of a tied h of) ∙ ap key_of same ∙ sym (key_is u.number u there)
+
+  -- and what it holds has the bytes of that table's version
+  abbrev HoldsBytes : Table → state.Handle → Type 0
+  HoldsBytes u h = h.table ≡ u.number → IfSome h.hold (λ hold. hold.value ≡ (version_at (content_at a.blocks.tables u.key) hold.version).bytes)
+
+  held_bytes : (u : Table) → row_of u.number ≡ Some u → All (HoldsBytes u) (means a).handles
+  held_bytes u there =
+      All-map (HoldsBytes u) (handle_in a.blocks.tables) a.registry.handles
+      (λ k d within. let h = get_or a.registry.handles k d in λ same. by_held h.held (content_at a.blocks.tables h.key) (ap (content_at a.blocks.tables) (key_of_handle u there h (tied.tables_there k d within) same)))
+    where
+      by_held : (held : Option ℕ) (c : Content) → c ≡ content_at a.blocks.tables u.key → IfSome (option_map (hold_of c) held) (λ hold. hold.value ≡ (version_at (content_at a.blocks.tables u.key) hold.version).bytes)
+      by_held None c is = tt
+      by_held (Some v) c is = ap (λ x. (version_at x v).bytes) is
+
+  in_blocks : (u : Table) → row_of u.number ≡ Some u → IsFilled a.registry.handles a.blocks.tables u → IsInBlocks a.blocks (means a).handles (table_in a.registry.handles a.blocks.tables u) (content_at a.blocks.tables u.key)
+  in_blocks u there filled = record {
     size = filled.size;
     option = filled.option;
     version = refl;
     present = refl;
     views = filled.views ∙ views_of u.number (content_at a.blocks.tables u.key).version;
     older_views = filled.older_views ∙ older_views_of u.number (content_at a.blocks.tables u.key).version;
+    held = held_bytes u there;
     staged = refl;
     placed = placed u.key filled.there;
   }
-
-  key_is : (n : ℕ) (u : Table) → row_of n ≡ Some u → u.key ≡ key_of n
-  key_is n u there = sym (ap (λ (o : Option Table). option_map_or (λ (t : Table). t.key) o 0) there)
 
   kept : (n : ℕ) (t : state.Table) → state.table_at (means a).tables n ≡ Some t → IsKeptAt a.blocks (plain_of a) key_of n t
   kept n t at =
@@ -106,7 +127,7 @@ module _ (a : Inside) (keeps : Keeps a) (tied : IsTied a.registry)
       let filled = found_all (IsFilled a.registry.handles a.blocks.tables) (λ u. eqb u.number n) a.registry.tables r.row keeps.filled r.there in
       let K : ℕ → Type 0 = λ key. (is_open a.blocks.tables key ≡ true) × IsInBlocks a.blocks (means a).handles t (content_at a.blocks.tables key) in
       let T : state.Table → Type 0 = λ x. IsInBlocks a.blocks (means a).handles x (content_at a.blocks.tables r.row.key) in
-      subst K (key_is n r.row r.there) (filled.there, subst T r.is (in_blocks r.row filled))
+      subst K (key_is n r.row r.there) (filled.there, subst T r.is (in_blocks r.row (ap row_of (passes n a.registry.tables r.row r.there) ∙ r.there) filled))
 
   by_key : (n : ℕ) (u : Table) → row_of n ≡ Some u → table_at a.registry.tables u.key ≡ Some u
   by_key n u there = found_by_key (λ t. eqb t.number n) a.registry.tables u tied.keys_apart there

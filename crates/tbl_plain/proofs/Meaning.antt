@@ -72,10 +72,8 @@ pub record IsOf (a : Inside) (h : Handle) : Type 0 where
   pub there : table_at a.registry.tables h.key ≡ Some t
   pub number : t.number ≡ h.table
 
-pub its_table : (a : Inside) → IsTied a.registry → (n : ℕ) (h : Handle) → handle_at a.registry.handles n ≡ Some h → IsOf a h
-its_table a tied n h is =
-    by_found (table_at a.registry.tables h.key) refl
-    (found_all (λ (k : Handle). number_at a.registry.tables k.key ≡ Some k.table) (λ k. eqb k.number n) a.registry.handles h tied.tables_there is)
+pub table_there : (a : Inside) (h : Handle) → number_at a.registry.tables h.key ≡ Some h.table → IsOf a h
+table_there a h there = by_found (table_at a.registry.tables h.key) refl there
   where
     some_is : (x y : ℕ) → Some x ≡ Some y → x ≡ y
     some_is x y same = ap (λ o. option_map_or (λ w. w) o x) same
@@ -83,6 +81,10 @@ its_table a tied n h is =
     by_found : (o : Option Table) → table_at a.registry.tables h.key ≡ o → option_map (λ (t : Table). t.number) o ≡ Some h.table → IsOf a h
     by_found None at never = absurd (cc (never))
     by_found (Some t) at number = record { t = t; there = at; number = some_is t.number h.table number }
+
+pub its_table : (a : Inside) → IsTied a.registry → (n : ℕ) (h : Handle) → handle_at a.registry.handles n ≡ Some h → IsOf a h
+its_table a tied n h is =
+    table_there a h (found_all (λ (k : Handle). number_at a.registry.tables k.key ≡ Some k.table) (λ k. eqb k.number n) a.registry.handles h tied.tables_there is)
 
 -- the table that a key finds has it
 pub known_by : (tables : List Table) (key : ℕ) (t : Table) → table_at tables key ≡ Some t → t.key ≡ key

@@ -1,6 +1,6 @@
 -- The blocks in which the tables lie, told by the state: each table has its own; its present value lies in one of them, what is held
 -- of an older version in the other, and a staged value in the other one too, or in a working buffer.
-use Rattle.std.specs.Prelude.{◌≡◌, ℕ, ◌+◌, ◌==◌, ◌&&◌, Bool, true, false, List, count_by, Option, Some, None}
+use Rattle.std.specs.Prelude.{◌≡◌, ℕ, ◌+◌, ◌==◌, ◌&&◌, Bool, true, false, List, count_by, All, Option, Some, None, IfSome}
 use Rattle.es_pool.specs.Pool.{PoolState}
 use Rattle.tbl_words.specs.Tables.{Table, Handle, Hold, Staged, table_at, is_other, buffers_taken}
 use Rattle.tbl_blocks.specs.declared.next.Next.{Next}
@@ -21,8 +21,9 @@ is_version version None = false
 is_version version (Some hold) = hold.version == version
 
 -- What is kept for a table is the table's: its present value, in one sealed block, of which as many views are out as handles hold
--- it; of the version in the other block as many as handles hold one before; its staged value; and its blocks are out of the pool,
--- two where it is double buffered, of the smallest size that is large enough.
+-- it; of the version in the other block as many as handles hold one before; what a handle holds has the bytes of the block in which
+-- that version lies; its staged value; and its blocks are out of the pool, two where it is double buffered, of the smallest size that
+-- is large enough.
 pub record IsInBlocks (b : Stored) (handles : List Handle) (t : Table) (c : Content) : Type 0 where
   pub size : c.size ≡ t.size
   pub option : c.option ≡ t.option
@@ -30,6 +31,7 @@ pub record IsInBlocks (b : Stored) (handles : List Handle) (t : Table) (c : Cont
   pub present : c.present.bytes ≡ t.value
   pub views : c.present.views ≡ count_by (λ h. h.table == t.number && is_version t.version h.hold) handles
   pub older_views : (older_in c.next).views ≡ count_by (λ h. h.table == t.number && is_other t.version h.hold) handles
+  pub held : All (λ h. h.table ≡ t.number → IfSome h.hold (λ hold. hold.value ≡ (version_at c hold.version).bytes)) handles
   pub staged : staged_of c.next ≡ t.staged
   pub placed : IsPlaced b.pool c
 

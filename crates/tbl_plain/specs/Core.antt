@@ -1,12 +1,14 @@
 -- The core as its callers see it: its limits, the state and what is lent; and what an application has in its bag of what it holds.
 use Rattle.std.specs.Prelude.{◌≡◌, ◌≢◌, ℕ, ◌+◌, ◌^◌, ◌<◌, ◌≤◌, ◌==◌, nat_le, nat_lt, ◌&&◌, Bool, true, false, if◌then◌else◌, List, length, find, count_by, IsTrue, Option, Some, None, is_some, IfSome, IsSomeAnd}
-use Rattle.std.specs.Option.{option_map, option_map_or, option_and_then}
+use Rattle.std.specs.Option.{unwrap_or, option_map, option_map_or, option_and_then}
 use Rattle.fsw_base.specs.Limits.{Limits}
+use Rattle.tbl_words.specs.declared.statuses.TblStatus.TheVariants.{InfoTableLocked}
 use Rattle.tbl_words.specs.declared.calls.TblAnswer.{TblAnswer}
+use Rattle.tbl_words.specs.declared.calls.TblAnswer.TheVariants.{Refused}
 use Rattle.tbl_words.specs.declared.history.Call.{Call}
 use Rattle.tbl_words.specs.declared.history.Call.TheVariants.{Register, Share, Unregister, Stage, Validate, Update, Abort, Load, GetAddress, ReleaseAddress, Status, End}
 use Rattle.tbl_words.specs.Tables.{Handle, State, handle_at, table_of}
-use Rattle.tbl_words.specs.Machine.{may_call, step}
+use Rattle.tbl_words.specs.Machine.{may_call, cause, step}
 use Rattle.lend_block.specs.Loan.{LentBytes}
 use Rattle.tbl_blocks.specs.Held.{HeldViews, held_at}
 
@@ -89,6 +91,11 @@ has_handle_number s = nat_lt s.handles_made 4294967295
 -- a number is left for one version more of the table of this handle, if there is one: numbers of versions are below 2^64
 abbrev pub HasNextVersion : State → ℕ → Type 0
 HasNextVersion s handle = IfSome (table_of s handle) (λ t. t.version + 1 < 2 ^ 64)
+
+-- What an update or a load is answered that would make a version behind the last: its refusal, or where it has none, that the table
+-- is locked.
+abbrev pub answer_behind_last : Plain → ℕ → Call → TblAnswer
+answer_behind_last core app call = Refused (unwrap_or (cause core.limits core.state app call) InfoTableLocked)
 
 -- whether the call changes what its own application holds
 abbrev pub changes_bag : Call → Bool

@@ -1,7 +1,7 @@
 //! Loads: a value is staged, validated and made the table's.
 ghost use Rattle.std.specs.Prelude.{◌≡◌};
 ghost use Rattle.tbl_words.specs.declared.history.Call.TheVariants.{Stage, Validate, Update, Abort, Load};
-ghost use Rattle.tbl_plain.specs.Core.{MayAct, Acts, HasNextVersion};
+ghost use Rattle.tbl_plain.specs.Core.{MayAct, Acts, HasNextVersion, answer_behind_last};
 ghost use Rattle.tbl_plain.specs.Answers.{done};
 
 use crate::handles::own_table;
@@ -105,6 +105,8 @@ impl<'r> PlainTables<'r> {
         ensures does { HasNextVersion self.old.state handle →
             Acts self.old self.new app (Update handle) (done result) }
         ensures spent { (HasNextVersion self.old.state handle → ⊥) → self.new ≡ self.old }
+        ensures behind_last { (HasNextVersion self.old.state handle → ⊥) →
+            done result ≡ answer_behind_last self.old app (Update handle) }
     {
         self.registry.recall_ties();
         let row = own_table(&self.registry, app, handle)?;
@@ -147,6 +149,8 @@ impl<'r> PlainTables<'r> {
         ensures does { HasNextVersion self.old.state handle →
             Acts self.old self.new app (Load handle offset bytes.now) (done result) }
         ensures spent { (HasNextVersion self.old.state handle → ⊥) → self.new ≡ self.old }
+        ensures behind_last { (HasNextVersion self.old.state handle → ⊥) →
+            done result ≡ answer_behind_last self.old app (Load handle offset bytes.now) }
     {
         self.registry.recall_ties();
         let row = own_table(&self.registry, app, handle)?;

@@ -9,7 +9,7 @@ use Rattle.tbl_registry.specs.Listing.{is_registered}
 use Rattle.tbl_blocks.specs.Blocks.{Stored}
 use Rattle.tbl_blocks.specs.Contents.{content_at}
 use Rattle.tbl_plain.specs.Inside.{means}
-use Rattle.tbl_plain.proofs.Called.{table_by, own_content, call_barred, call_asked, call_refused}
+use Rattle.tbl_plain.proofs.Called.{table_by, own_content, call_barred, call_asked, call_refused, barred_behind_last, refused_behind_last, locked_behind_last}
 use Rattle.tbl_plain.proofs.Loads.{load_checked, loaded_so, is_next, never_next, next_here, next_left}
 use Rattle.tbl_plain.proofs.Reached.{reaches}
 use Rattle.tbl_plain.proofs.Stagings.{stage_alike, staging_refused, can_stage, none_apart, locked_alike, unlent}
@@ -21,6 +21,11 @@ pub returns-in_err-row-clause-does : goal.returns-in_err-row-clause-does
 returns-in_err-row-clause-does c = λ left.
     let p = err_from_is_err_and c.from_residual.result c.from_residual.ensures.1 in
     rw (p.1, p.2) (call_barred c.self.inside c.args.self.now c.self.view_is c.recall_ties.ensures c.args.app c.args.handle (Load c.args.handle c.args.offset c.args.bytes.now) (load_cause (means c.self.inside) c.args.offset c.args.bytes.now) refl c.in_err-row.field-0.0 (sym c.own_table.ensures ∙ c.in_err-row.was))
+
+pub returns-in_err-row-clause-behind_last : goal.returns-in_err-row-clause-behind_last
+returns-in_err-row-clause-behind_last c = λ none.
+    let p = err_from_is_err_and c.from_residual.result c.from_residual.ensures.1 in
+    rw (p.1, p.2) (barred_behind_last c.self.inside c.args.self.now c.self.view_is c.recall_ties.ensures c.args.app c.args.handle (Load c.args.handle c.args.offset c.args.bytes.now) (load_cause (means c.self.inside) c.args.offset c.args.bytes.now) refl c.in_err-row.field-0.0 (sym c.own_table.ensures ∙ c.in_err-row.was))
 
 pub overflow_cast-key : goal.overflow_cast-key
 overflow_cast-key c =
@@ -38,6 +43,17 @@ returns-in-Some-clause-does c = λ left.
     let has = own_content a c.self.invariant c.recall_ties.ensures c.args.app c.args.handle h is in
     let others = rules_cause has.t.rules (with_range (content_at a.blocks.tables h.key).present.bytes c.args.offset c.args.bytes.now) (refused_if (is_locked (means a) (table_by a h has.t)) InfoTableLocked None) in
     call_refused a c.args.self.now c.self.view_is c.recall_ties.ensures c.args.app c.args.handle (Load c.args.handle c.args.offset c.args.bytes.now) (load_cause (means a) c.args.offset c.args.bytes.now) refl h is has c.in-Some.status
+    (stage_alike a h has c.self.invariant c.recall_ties.ensures c.recall_buffers.ensures c.args.offset c.args.bytes.now others
+    ∙ staging_refused a.blocks.free (content_at a.blocks.tables h.key) c.args.offset c.args.bytes.now c.in-Some.status others (sym c.unstaged_cause.ensures ∙ c.in-Some.is))
+
+pub returns-in-Some-clause-behind_last : goal.returns-in-Some-clause-behind_last
+returns-in-Some-clause-behind_last c = λ none.
+    let a = c.self.inside in
+    let h = c.in_ok-row.row in
+    let is = sym c.own_table.ensures ∙ c.in_ok-row.was in
+    let has = own_content a c.self.invariant c.recall_ties.ensures c.args.app c.args.handle h is in
+    let others = rules_cause has.t.rules (with_range (content_at a.blocks.tables h.key).present.bytes c.args.offset c.args.bytes.now) (refused_if (is_locked (means a) (table_by a h has.t)) InfoTableLocked None) in
+    refused_behind_last a c.args.self.now c.self.view_is c.recall_ties.ensures c.args.app c.args.handle (Load c.args.handle c.args.offset c.args.bytes.now) (load_cause (means a) c.args.offset c.args.bytes.now) refl h is has c.in-Some.status
     (stage_alike a h has c.self.invariant c.recall_ties.ensures c.recall_buffers.ensures c.args.offset c.args.bytes.now others
     ∙ staging_refused a.blocks.free (content_at a.blocks.tables h.key) c.args.offset c.args.bytes.now c.in-Some.status others (sym c.unstaged_cause.ensures ∙ c.in-Some.is))
 
@@ -62,6 +78,20 @@ returns-in-Some-failed_rule-clause-does c = λ left.
     ∙ load_checked (means a) (is_registered a.registry.handles has.t) has.t content c.as_slice.result.now c.bytes-value.result.now c.args.offset c.args.bytes.now (Some c.in-Some-failed_rule.number) (is_locked (means a) (table_by a h has.t))
     (c.as_slice.ensures.rules ∙ row_rules a c.self.invariant h has c.table.result c.table.ensures) c.bytes-value.ensures (sym c.in-Some-failed_rule.is ∙ c.failed_rule.ensures) refl)
 
+pub returns-in-Some-failed_rule-clause-behind_last : goal.returns-in-Some-failed_rule-clause-behind_last
+returns-in-Some-failed_rule-clause-behind_last c = λ none.
+    let a = c.self.inside in
+    let h = c.in_ok-row.row in
+    let is = sym c.own_table.ensures ∙ c.in_ok-row.was in
+    let has = own_content a c.self.invariant c.recall_ties.ensures c.args.app c.args.handle h is in
+    let content = content_at a.blocks.tables h.key in
+    let others = rules_cause has.t.rules (with_range content.present.bytes c.args.offset c.args.bytes.now) (refused_if (is_locked (means a) (table_by a h has.t)) InfoTableLocked None) in
+    refused_behind_last a c.args.self.now c.self.view_is c.recall_ties.ensures c.args.app c.args.handle (Load c.args.handle c.args.offset c.args.bytes.now) (load_cause (means a) c.args.offset c.args.bytes.now) refl h is has (Validation c.in-Some-failed_rule.number)
+    (stage_alike a h has c.self.invariant c.recall_ties.ensures c.recall_buffers.ensures c.args.offset c.args.bytes.now others
+    ∙ (can_stage a.blocks.free content c.args.offset c.args.bytes.now (sym c.unstaged_cause.ensures ∙ c.in_default.is)).passed others
+    ∙ load_checked (means a) (is_registered a.registry.handles has.t) has.t content c.as_slice.result.now c.bytes-value.result.now c.args.offset c.args.bytes.now (Some c.in-Some-failed_rule.number) (is_locked (means a) (table_by a h has.t))
+    (c.as_slice.ensures.rules ∙ row_rules a c.self.invariant h has c.table.result c.table.ensures) c.bytes-value.ensures (sym c.in-Some-failed_rule.is ∙ c.failed_rule.ensures) refl)
+
 pub returns-then-is_lent-clause-does : goal.returns-then-is_lent-clause-does
 returns-then-is_lent-clause-does c = λ left.
     let a = c.self.inside in
@@ -77,6 +107,21 @@ returns-then-is_lent-clause-does c = λ left.
     (c.as_slice.ensures.rules ∙ row_rules a c.self.invariant h has c.table.result c.table.ensures) c.bytes-value.ensures (sym c.in_default-failed_rule.is ∙ c.failed_rule.ensures)
     (locked_alike a h has c.recall_table.ensures.inactive ∙ (sym c.is_lent.ensures ∙ c.if-is_lent.true)))
 
+pub returns-then-is_lent-clause-behind_last : goal.returns-then-is_lent-clause-behind_last
+returns-then-is_lent-clause-behind_last c = λ none.
+    let a = c.self.inside in
+    let h = c.in_ok-row.row in
+    let is = sym c.own_table.ensures ∙ c.in_ok-row.was in
+    let has = own_content a c.self.invariant c.recall_ties.ensures c.args.app c.args.handle h is in
+    let content = content_at a.blocks.tables h.key in
+    let others = rules_cause has.t.rules (with_range content.present.bytes c.args.offset c.args.bytes.now) (refused_if (is_locked (means a) (table_by a h has.t)) InfoTableLocked None) in
+    refused_behind_last a c.args.self.now c.self.view_is c.recall_ties.ensures c.args.app c.args.handle (Load c.args.handle c.args.offset c.args.bytes.now) (load_cause (means a) c.args.offset c.args.bytes.now) refl h is has InfoTableLocked
+    (stage_alike a h has c.self.invariant c.recall_ties.ensures c.recall_buffers.ensures c.args.offset c.args.bytes.now others
+    ∙ (can_stage a.blocks.free content c.args.offset c.args.bytes.now (sym c.unstaged_cause.ensures ∙ c.in_default.is)).passed others
+    ∙ load_checked (means a) (is_registered a.registry.handles has.t) has.t content c.as_slice.result.now c.bytes-value.result.now c.args.offset c.args.bytes.now None true
+    (c.as_slice.ensures.rules ∙ row_rules a c.self.invariant h has c.table.result c.table.ensures) c.bytes-value.ensures (sym c.in_default-failed_rule.is ∙ c.failed_rule.ensures)
+    (locked_alike a h has c.recall_table.ensures.inactive ∙ (sym c.is_lent.ensures ∙ c.if-is_lent.true)))
+
 pub returns-then-not-has_next_version-clause-does : goal.returns-then-not-has_next_version-clause-does
 returns-then-not-has_next_version-clause-does c = λ left.
     let a = c.self.inside in
@@ -86,6 +131,21 @@ returns-then-not-has_next_version-clause-does c = λ left.
     let found = (reaches a c.recall_ties.ensures c.args.app c.args.handle h is).own.found in
     absurd (never_next (content_at a.blocks.tables h.key).version (sym c.has_next_version.ensures ∙ c.if-not-has_next_version.true)
     (next_here a c.args.self.now c.self.view_is c.recall_ties.ensures c.args.handle h found has left))
+
+pub returns-then-not-has_next_version-clause-behind_last : goal.returns-then-not-has_next_version-clause-behind_last
+returns-then-not-has_next_version-clause-behind_last c = λ none.
+    let a = c.self.inside in
+    let h = c.in_ok-row.row in
+    let is = sym c.own_table.ensures ∙ c.in_ok-row.was in
+    let has = own_content a c.self.invariant c.recall_ties.ensures c.args.app c.args.handle h is in
+    let content = content_at a.blocks.tables h.key in
+    let others = rules_cause has.t.rules (with_range content.present.bytes c.args.offset c.args.bytes.now) (refused_if (is_locked (means a) (table_by a h has.t)) InfoTableLocked None) in
+    locked_behind_last a c.args.self.now c.self.view_is c.recall_ties.ensures c.args.app c.args.handle (Load c.args.handle c.args.offset c.args.bytes.now) (load_cause (means a) c.args.offset c.args.bytes.now) refl h is has
+    (stage_alike a h has c.self.invariant c.recall_ties.ensures c.recall_buffers.ensures c.args.offset c.args.bytes.now others
+    ∙ (can_stage a.blocks.free content c.args.offset c.args.bytes.now (sym c.unstaged_cause.ensures ∙ c.in_default.is)).passed others
+    ∙ load_checked (means a) (is_registered a.registry.handles has.t) has.t content c.as_slice.result.now c.bytes-value.result.now c.args.offset c.args.bytes.now None false
+    (c.as_slice.ensures.rules ∙ row_rules a c.self.invariant h has c.table.result c.table.ensures) c.bytes-value.ensures (sym c.in_default-failed_rule.is ∙ c.failed_rule.ensures)
+    (locked_alike a h has c.recall_table.ensures.inactive ∙ (sym c.is_lent.ensures ∙ c.if-is_lent.false)))
 
 pub load-requires-clause-room : goal.load-requires-clause-room
 load-requires-clause-room c = is_next (content_at c.self.inside.blocks.tables c.in_ok-row.row.key).version (sym c.has_next_version.ensures ∙ c.if-not-has_next_version.false)
@@ -123,6 +183,16 @@ returns-clause-does c = λ left.
 
 pub returns-clause-spent : goal.returns-clause-spent
 returns-clause-spent c = λ none.
+    let a = c.self.inside in
+    let h = c.in_ok-row.row in
+    let is = sym c.own_table.ensures ∙ c.in_ok-row.was in
+    let has = own_content a c.self.invariant c.recall_ties.ensures c.args.app c.args.handle h is in
+    let found = (reaches a c.recall_ties.ensures c.args.app c.args.handle h is).own.found in
+    absurd (none (next_left a c.args.self.now c.self.view_is c.recall_ties.ensures c.args.handle h found has
+    (is_next (content_at a.blocks.tables h.key).version (sym c.has_next_version.ensures ∙ c.if-not-has_next_version.false))))
+
+pub returns-clause-behind_last : goal.returns-clause-behind_last
+returns-clause-behind_last c = λ none.
     let a = c.self.inside in
     let h = c.in_ok-row.row in
     let is = sym c.own_table.ensures ∙ c.in_ok-row.was in

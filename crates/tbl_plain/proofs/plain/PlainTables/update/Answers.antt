@@ -9,7 +9,7 @@ use Rattle.tbl_registry.specs.Listing.{is_registered}
 use Rattle.tbl_blocks.specs.Blocks.{Stored}
 use Rattle.tbl_blocks.specs.Contents.{content_at, staged_in}
 use Rattle.tbl_plain.specs.Inside.{means}
-use Rattle.tbl_plain.proofs.Called.{table_by, own_content, call_barred, call_asked, call_refused}
+use Rattle.tbl_plain.proofs.Called.{table_by, own_content, call_barred, call_asked, call_refused, barred_behind_last, refused_behind_last, locked_behind_last}
 use Rattle.tbl_plain.proofs.Loads.{unstaged_update, update_checked, updated_so, is_next, never_next, next_here, next_left}
 use Rattle.tbl_plain.proofs.Reached.{reaches}
 use Rattle.tbl_plain.proofs.Registers.{none_staged}
@@ -22,6 +22,11 @@ pub returns-in_err-row-clause-does : goal.returns-in_err-row-clause-does
 returns-in_err-row-clause-does c = λ left.
     let p = err_from_is_err_and c.from_residual.result c.from_residual.ensures.1 in
     rw (p.1, p.2) (call_barred c.self.inside c.args.self.now c.self.view_is c.recall_ties.ensures c.args.app c.args.handle (Update c.args.handle) (update_cause (means c.self.inside)) refl c.in_err-row.field-0.0 (sym c.own_table.ensures ∙ c.in_err-row.was))
+
+pub returns-in_err-row-clause-behind_last : goal.returns-in_err-row-clause-behind_last
+returns-in_err-row-clause-behind_last c = λ none.
+    let p = err_from_is_err_and c.from_residual.result c.from_residual.ensures.1 in
+    rw (p.1, p.2) (barred_behind_last c.self.inside c.args.self.now c.self.view_is c.recall_ties.ensures c.args.app c.args.handle (Update c.args.handle) (update_cause (means c.self.inside)) refl c.in_err-row.field-0.0 (sym c.own_table.ensures ∙ c.in_err-row.was))
 
 pub overflow_cast-key : goal.overflow_cast-key
 overflow_cast-key c =
@@ -40,6 +45,15 @@ returns-then-not-is_staged-clause-does c = λ left.
     call_refused a c.args.self.now c.self.view_is c.recall_ties.ensures c.args.app c.args.handle (Update c.args.handle) (update_cause (means a)) refl h is has InfoNoUpdatePending
     (unstaged_update (means a) (is_registered a.registry.handles has.t) has.t (content_at a.blocks.tables h.key) (none_staged (content_at a.blocks.tables h.key).next (sym c.is_staged.ensures ∙ c.if-not-is_staged.true)))
 
+pub returns-then-not-is_staged-clause-behind_last : goal.returns-then-not-is_staged-clause-behind_last
+returns-then-not-is_staged-clause-behind_last c = λ none.
+    let a = c.self.inside in
+    let h = c.in_ok-row.row in
+    let is = sym c.own_table.ensures ∙ c.in_ok-row.was in
+    let has = own_content a c.self.invariant c.recall_ties.ensures c.args.app c.args.handle h is in
+    refused_behind_last a c.args.self.now c.self.view_is c.recall_ties.ensures c.args.app c.args.handle (Update c.args.handle) (update_cause (means a)) refl h is has InfoNoUpdatePending
+    (unstaged_update (means a) (is_registered a.registry.handles has.t) has.t (content_at a.blocks.tables h.key) (none_staged (content_at a.blocks.tables h.key).next (sym c.is_staged.ensures ∙ c.if-not-is_staged.true)))
+
 pub returns-then-not-is_validated-clause-does : goal.returns-then-not-is_validated-clause-does
 returns-then-not-is_validated-clause-does c = λ left.
     let a = c.self.inside in
@@ -47,6 +61,15 @@ returns-then-not-is_validated-clause-does c = λ left.
     let is = sym c.own_table.ensures ∙ c.in_ok-row.was in
     let has = own_content a c.self.invariant c.recall_ties.ensures c.args.app c.args.handle h is in
     call_refused a c.args.self.now c.self.view_is c.recall_ties.ensures c.args.app c.args.handle (Update c.args.handle) (update_cause (means a)) refl h is has NotValidated
+    (update_checked (means a) (is_registered a.registry.handles has.t) has.t (content_at a.blocks.tables h.key) false (is_locked (means a) (table_by a h has.t)) (sym c.is_staged.ensures ∙ c.if-not-is_staged.false) (sym c.is_validated.ensures ∙ c.if-not-is_validated.true) refl)
+
+pub returns-then-not-is_validated-clause-behind_last : goal.returns-then-not-is_validated-clause-behind_last
+returns-then-not-is_validated-clause-behind_last c = λ none.
+    let a = c.self.inside in
+    let h = c.in_ok-row.row in
+    let is = sym c.own_table.ensures ∙ c.in_ok-row.was in
+    let has = own_content a c.self.invariant c.recall_ties.ensures c.args.app c.args.handle h is in
+    refused_behind_last a c.args.self.now c.self.view_is c.recall_ties.ensures c.args.app c.args.handle (Update c.args.handle) (update_cause (means a)) refl h is has NotValidated
     (update_checked (means a) (is_registered a.registry.handles has.t) has.t (content_at a.blocks.tables h.key) false (is_locked (means a) (table_by a h has.t)) (sym c.is_staged.ensures ∙ c.if-not-is_staged.false) (sym c.is_validated.ensures ∙ c.if-not-is_validated.true) refl)
 
 pub returns-then-is_lent-clause-does : goal.returns-then-is_lent-clause-does
@@ -60,6 +83,17 @@ returns-then-is_lent-clause-does c = λ left.
     (update_checked (means a) (is_registered a.registry.handles has.t) has.t (content_at a.blocks.tables h.key) true true staged (sym c.is_validated.ensures ∙ c.if-not-is_validated.false)
     (locked_alike a h has (λ none. absurd (cc (sym staged ∙ none))) ∙ (sym c.is_lent.ensures ∙ c.if-is_lent.true)))
 
+pub returns-then-is_lent-clause-behind_last : goal.returns-then-is_lent-clause-behind_last
+returns-then-is_lent-clause-behind_last c = λ none.
+    let a = c.self.inside in
+    let h = c.in_ok-row.row in
+    let is = sym c.own_table.ensures ∙ c.in_ok-row.was in
+    let has = own_content a c.self.invariant c.recall_ties.ensures c.args.app c.args.handle h is in
+    let staged = sym c.is_staged.ensures ∙ c.if-not-is_staged.false in
+    refused_behind_last a c.args.self.now c.self.view_is c.recall_ties.ensures c.args.app c.args.handle (Update c.args.handle) (update_cause (means a)) refl h is has InfoTableLocked
+    (update_checked (means a) (is_registered a.registry.handles has.t) has.t (content_at a.blocks.tables h.key) true true staged (sym c.is_validated.ensures ∙ c.if-not-is_validated.false)
+    (locked_alike a h has (λ none. absurd (cc (sym staged ∙ none))) ∙ (sym c.is_lent.ensures ∙ c.if-is_lent.true)))
+
 pub returns-then-not-has_next_version-clause-does : goal.returns-then-not-has_next_version-clause-does
 returns-then-not-has_next_version-clause-does c = λ left.
     let a = c.self.inside in
@@ -69,6 +103,17 @@ returns-then-not-has_next_version-clause-does c = λ left.
     let found = (reaches a c.recall_ties.ensures c.args.app c.args.handle h is).own.found in
     absurd (never_next (content_at a.blocks.tables h.key).version (sym c.has_next_version.ensures ∙ c.if-not-has_next_version.true)
     (next_here a c.args.self.now c.self.view_is c.recall_ties.ensures c.args.handle h found has left))
+
+pub returns-then-not-has_next_version-clause-behind_last : goal.returns-then-not-has_next_version-clause-behind_last
+returns-then-not-has_next_version-clause-behind_last c = λ none.
+    let a = c.self.inside in
+    let h = c.in_ok-row.row in
+    let is = sym c.own_table.ensures ∙ c.in_ok-row.was in
+    let has = own_content a c.self.invariant c.recall_ties.ensures c.args.app c.args.handle h is in
+    let staged = sym c.is_staged.ensures ∙ c.if-not-is_staged.false in
+    locked_behind_last a c.args.self.now c.self.view_is c.recall_ties.ensures c.args.app c.args.handle (Update c.args.handle) (update_cause (means a)) refl h is has
+    (update_checked (means a) (is_registered a.registry.handles has.t) has.t (content_at a.blocks.tables h.key) true false staged (sym c.is_validated.ensures ∙ c.if-not-is_validated.false)
+    (locked_alike a h has (λ none. absurd (cc (sym staged ∙ none))) ∙ (sym c.is_lent.ensures ∙ c.if-is_lent.false)))
 
 pub update-requires-clause-room : goal.update-requires-clause-room
 update-requires-clause-room c = is_next (content_at c.self.inside.blocks.tables c.in_ok-row.row.key).version (sym c.has_next_version.ensures ∙ c.if-not-has_next_version.false)
@@ -102,6 +147,16 @@ returns-clause-does c = λ left.
 
 pub returns-clause-spent : goal.returns-clause-spent
 returns-clause-spent c = λ none.
+    let a = c.self.inside in
+    let h = c.in_ok-row.row in
+    let is = sym c.own_table.ensures ∙ c.in_ok-row.was in
+    let has = own_content a c.self.invariant c.recall_ties.ensures c.args.app c.args.handle h is in
+    let found = (reaches a c.recall_ties.ensures c.args.app c.args.handle h is).own.found in
+    absurd (none (next_left a c.args.self.now c.self.view_is c.recall_ties.ensures c.args.handle h found has
+    (is_next (content_at a.blocks.tables h.key).version (sym c.has_next_version.ensures ∙ c.if-not-has_next_version.false))))
+
+pub returns-clause-behind_last : goal.returns-clause-behind_last
+returns-clause-behind_last c = λ none.
     let a = c.self.inside in
     let h = c.in_ok-row.row in
     let is = sym c.own_table.ensures ∙ c.in_ok-row.was in
