@@ -4,13 +4,13 @@ ghost use Rattle.std.specs.Prelude.{◌≡◌, true};
 use crate::buffers::{form_in, put_bytes_in};
 use crate::calls::Calls;
 use crate::table_calls::make;
-use bucket_list::{Ledger, Steps};
 use buf_desc::Held;
 use bus_words::PipeText;
 use fsw_base::{
     AppNo, BusStats, EsStatus, EventKind, EvsStatus, FilterList, PoolStats, SbStatus, Scope,
 };
 use sb_calls::{BusCore, Pended, Sent};
+use step_count::{Ledger, Steps};
 use tbl_load::{HeldTables, TblCore};
 use tbl_words::{TblAnswer, TblCall};
 

@@ -5,8 +5,8 @@ ghost use Rattle.tbl_load.specs.Bags.{HasBag};
 ghost use Rattle.tbl_load.specs.Core.{MayCall, Does};
 ghost use Rattle.tbl_words.specs.Entries.{call_of};
 
-use bucket_list::{Ledger, Steps};
 use fsw_base::AppNo;
+use step_count::{Ledger, Steps};
 use tbl_load::{HeldTables, TblCore};
 use tbl_words::{Address, Registered, TblAnswer, TblCall, TblState, TblStatus};
 

@@ -6,11 +6,11 @@ ghost use Rattle.es_pool.specs.Pool.{class_at, is_out, given_back};
 ghost use Rattle.pool_words.specs.Grants.{new_pool, get_answer, after_get, put_answer, after_put, after_end, figures_of, held_by};
 ghost use Rattle.app_pools.specs.Inside.{grant_of, account_in, AreLent, AreRising, HasNumber, AreGivenBack};
 
-use bucket_list::{Ledger, Steps};
 use es_pool::{BlockNo, Pool};
 use fsw_base::{AppNo, BlockSizes, EsStatus, PoolStats};
 use std::alloc::{AllocError, Global};
 use std::marker::Model;
+use step_count::{Ledger, Steps};
 
 // A grant that is out, with its block.
 #[derive(Clone, Copy)]

@@ -6,11 +6,11 @@ ghost use Rattle.pool_words.specs.Grants.{new_pool, is_pool, pool_in, with_pool,
 ghost use Rattle.app_pools.specs.Inside.{IsPlace};
 
 use crate::pool::AppPool;
-use bucket_list::{Ledger, Steps};
 use es_pool::{OVERHEAD, Pool};
 use fsw_base::{AppNo, BlockSizes, Config, EsStatus, PoolStats};
 use std::alloc::{AllocError, Global};
 use std::marker::Model;
+use step_count::{Ledger, Steps};
 
 /// How many pools applications may create.
 pub const MAX_APP_POOLS: u32 = 8;

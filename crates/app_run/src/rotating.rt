@@ -17,13 +17,13 @@ use crate::regions::{Blocks, Regions};
 use crate::runner::Runner;
 use app_calls::CoreCalls;
 use app_script::Script;
-use bucket_list::{Blank, Ledger, Steps};
 use buf_desc::Held;
 use bus_words::ReceiptList;
 use fsw_base::{AppNo, Budget};
 use sb_calls::{BusCore, bags_stay};
 use std::alloc::{AllocError, Global};
 use std::marker::Brand;
+use step_count::{Blank, Ledger, Steps};
 use tbl_load::{HeldTables, TblCore, bags_stay as table_bags_stay};
 
 /// What a run leaves: both services after all applications have ended, and the receipts of each, in

@@ -1,4 +1,4 @@
-//! Lists of numbered nodes, linked by index, and a count of the steps that calls take over links.
+//! Lists of numbered nodes, linked by index.
 //!
 //! A memory pool keeps its free blocks in such lists: it takes one from the front of a list and
 //! puts it back there, with no search and, by the code, no memory taken. Each call acts on the
@@ -25,7 +25,7 @@
 //! - Each list is its node numbers. `push` and `pop` change the front of one list and leave the
 //!   others. No node is in two lists or twice in one, and each node in a list exists
 //!   (`recall_apart`).
-//! - At most 4 steps a call (`Steps`, which exists only in proofs).
+//! - At most 4 steps a call, by the count of `step_count`.
 //!
 //! By reading: no link is read uncounted, since `Links` alone reads links.
 //!
@@ -34,9 +34,6 @@
 
 mod links;
 mod lists;
-mod steps;
 
 pub use links::Links;
 pub use lists::Lists;
-pub use std::sync::ledger::{Blank, Ledger};
-pub use steps::Steps;

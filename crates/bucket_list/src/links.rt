@@ -2,10 +2,10 @@
 ghost use Rattle.std.specs.Prelude.{◌≡◌, ℕ, ◌+◌, ◌<◌, List, length, replicate, slice_index, slice_set, IfOk};
 ghost use Rattle.std.specs.List.{range_with_len};
 
-use crate::steps::Steps;
 use std::alloc::{AllocError, Global};
 use std::marker::Model;
 use std::sync::ledger::Ledger;
+use step_count::Steps;
 
 /// A row of links or of list heads: contracts see the numbers that stand there, in order of place.
 ///

@@ -3,10 +3,10 @@ ghost use Rattle.std.specs.Prelude.{◌≡◌, ℕ, ◌+◌, ◌<◌, ◌≤◌,
 ghost use Rattle.bucket_list.specs.Lists.{Listed, listed_at, IsLoose, AreApart};
 
 use crate::links::{Links, zeros};
-use crate::steps::Steps;
 use std::alloc::{AllocError, Global};
 use std::marker::Model;
 use std::sync::ledger::Ledger;
+use step_count::Steps;
 
 /// Lists over nodes 0, 1, 2 and so on, linked by index. Contracts see how many nodes there is room
 /// for, how many there are, and the node numbers of each list, front first.

@@ -10,12 +10,12 @@ use crate::slot::{
     Slot, Space, asked_at, count_use, count_uses, discount_use, number_at, put_free, put_sealed,
     reopen, return_view, take_free, uses_at, view_of,
 };
-use bucket_list::{Ledger, Steps};
 use es_pool::Pool;
 use fsw_base::{BlockSizes, EsStatus};
 use lend_block::View;
 use std::alloc::{AllocError, Global};
 use std::marker::Model;
+use step_count::{Ledger, Steps};
 
 /// The descriptors of a bus's message buffers. A descriptor is the number of a block of the pool.
 ///

@@ -4,13 +4,13 @@ ghost use Rattle.bus_words.specs.Acts.{opening_whole};
 ghost use Rattle.sb_plain.specs.Bags.{HasBag, KeepsBags};
 
 use crate::message::{ID, message};
-use bucket_list::{Blank, Ledger, Steps};
 use buf_desc::Held;
 use bus_words::BusCall;
 use fsw_base::{AppNo, Config, Scope};
 use sb_plain::PlainBus;
 use std::alloc::{AllocError, Global};
 use std::marker::Brand;
+use step_count::{Blank, Ledger, Steps};
 
 /// Has application 2 send a message to application 1. Answers how many bytes it received, None
 /// where a call was refused.

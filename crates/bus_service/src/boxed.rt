@@ -13,7 +13,6 @@ ghost use Rattle.bus_service.specs.Ports.{FindsRoom};
 
 use crate::calls::PortCall;
 use crate::permits::Permits;
-use bucket_list::{Blank, Ledger, Steps};
 use buf_desc::Held;
 use bus_words::{Allowance, BusAnswer, BusCall, Call};
 use fsw_base::{AppNo, Budget, Config};
@@ -22,6 +21,7 @@ use sb_calls::{BusCore, Pended};
 use std::alloc::{AllocError, Global};
 use std::collections::LinkedList;
 use std::marker::Model;
+use step_count::{Blank, Ledger, Steps};
 use turn_lock::Historied;
 
 /// What never changes while the bus is open: the limits of a configuration, and the budgets. No

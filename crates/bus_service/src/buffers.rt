@@ -11,11 +11,11 @@ ghost use Rattle.bus_service.specs.Ports.{Answers, Adds, Takes};
 use crate::bus::Bus;
 use crate::calls::PortCall;
 use crate::ports::BusPort;
-use bucket_list::{Ledger, Steps};
 use buf_desc::Held;
 use fsw_base::{AppNo, SbStatus};
 use sb_calls::{BusCore, Sent};
 use std::sync::Wait;
+use step_count::{Ledger, Steps};
 
 /// [`BusPort::allocate`].
 #[derive(Drop)]

@@ -8,10 +8,10 @@ ghost use Rattle.sb_calls.specs.Bags.{HasBag};
 ghost use Rattle.sb_calls.specs.Core.{MayCall, Does};
 ghost use Rattle.bus_service.specs.Ports.{FindsRoom};
 
-use bucket_list::{Ledger, Steps};
 use buf_desc::Held;
 use fsw_base::AppNo;
 use sb_calls::BusCore;
+use step_count::{Ledger, Steps};
 
 /// One of the core's calls with its parameters. Whichever it is, a port makes it in one way, so
 /// that one proof is enough. A call may be about bytes of the caller's bag.

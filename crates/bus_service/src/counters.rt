@@ -9,11 +9,11 @@ ghost use Rattle.bus_service.specs.Ports.{Answers};
 use crate::bus::Bus;
 use crate::calls::PortCall;
 use crate::ports::BusPort;
-use bucket_list::{Ledger, Steps};
 use buf_desc::Held;
 use fsw_base::{AppNo, BusStats, SbStatus};
 use sb_calls::{BusCore, Sent};
 use std::sync::Wait;
+use step_count::{Ledger, Steps};
 
 /// [`BusPort::send_housekeeping`].
 #[derive(Drop)]

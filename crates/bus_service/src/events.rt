@@ -9,11 +9,11 @@ ghost use Rattle.bus_service.specs.Ports.{Answers};
 use crate::bus::Bus;
 use crate::calls::PortCall;
 use crate::ports::BusPort;
-use bucket_list::{Ledger, Steps};
 use buf_desc::Held;
 use fsw_base::{AppNo, EventKind, EvsStatus, FilterList};
 use sb_calls::BusCore;
 use std::sync::Wait;
+use step_count::{Ledger, Steps};
 
 /// [`BusPort::evs_register`].
 #[derive(Drop)]

@@ -8,12 +8,12 @@ ghost use Rattle.bus_service.specs.Ports.{Answers};
 use crate::bus::Bus;
 use crate::calls::PortCall;
 use crate::ports::BusPort;
-use bucket_list::{Ledger, Steps};
 use buf_desc::Held;
 use bus_words::PipeText;
 use fsw_base::{AppNo, SbStatus};
 use sb_calls::BusCore;
 use std::sync::Wait;
+use step_count::{Ledger, Steps};
 
 /// [`BusPort::create_pipe`].
 #[derive(Drop)]

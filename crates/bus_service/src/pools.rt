@@ -8,11 +8,11 @@ ghost use Rattle.bus_service.specs.Ports.{Answers};
 use crate::bus::Bus;
 use crate::calls::PortCall;
 use crate::ports::BusPort;
-use bucket_list::{Ledger, Steps};
 use buf_desc::Held;
 use fsw_base::{AppNo, EsStatus, PoolStats};
 use sb_calls::BusCore;
 use std::sync::Wait;
+use step_count::{Ledger, Steps};
 
 /// [`BusPort::pool_create`].
 #[derive(Drop)]

@@ -17,7 +17,6 @@ use crate::calls::PortCall;
 use crate::permits::Permits;
 use crate::turns::{begin, finish, pause};
 use crate::unsent::MessageView;
-use bucket_list::Blank;
 use buf_desc::{Bag, Memory};
 use bus_words::Allowance;
 use fsw_base::AppNo;
@@ -25,6 +24,7 @@ use lend_block::View;
 use sb_calls::{Pended, bags_stay};
 use std::marker::{Brand, Model};
 use std::sync::Wait;
+use step_count::Blank;
 use turn_lock::Seat;
 
 /// One application's calls of the software bus, from a thread of its own. Each call waits for the

@@ -10,11 +10,11 @@ ghost use Rattle.bus_service.specs.Ports.{Answers};
 use crate::bus::Bus;
 use crate::calls::PortCall;
 use crate::ports::BusPort;
-use bucket_list::{Ledger, Steps};
 use buf_desc::Held;
 use fsw_base::{AppNo, SbStatus};
 use sb_calls::{BusCore, Pended};
 use std::sync::Wait;
+use step_count::{Ledger, Steps};
 
 /// [`BusPort::receive`].
 #[derive(Drop)]

@@ -9,11 +9,11 @@ ghost use Rattle.buf_desc.specs.Held.{view_at};
 ghost use Rattle.buf_desc.specs.Slots.{slot_at, sealed_at, is_sealed, HaveOwnNumbers};
 ghost use Rattle.bus_store.specs.Inside.{Adds, Seals, AreLoose, all_dropped, let_go, shown, view_in};
 
-use bucket_list::{Ledger, Steps};
 use buf_desc::{Block, Desk, Held};
 use bus_tables::ItemRow;
 use ccsds_msg::{set_count, size_of};
 use lend_block::View;
+use step_count::{Ledger, Steps};
 
 // The block with this sequence count in its message.
 fn with_count<'r>(block: Block<'r>, count: u16) -> Block<'r>

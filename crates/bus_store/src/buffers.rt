@@ -14,11 +14,11 @@ ghost use Rattle.bus_store.specs.Words.{desc_of, passing_of, counted_up, with_he
 use crate::blocks::{drawn_empty, drop_uses, seal_front, settle_message};
 use crate::sending::{Sent, next_count};
 use crate::store::BusStore;
-use bucket_list::{Ledger, Steps};
 use buf_desc::Held;
 use bus_tables::Message;
 use ccsds_msg::id_of;
 use fsw_base::AppNo;
+use step_count::{Ledger, Steps};
 
 /// What an application writes into its buffers changes neither what its bag is to have of buffers
 /// nor what of views. Does nothing.

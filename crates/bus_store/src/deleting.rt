@@ -8,9 +8,9 @@ ghost use Rattle.bus_words.specs.Pipes.{without_pipe, oldest_on, last_on};
 ghost use Rattle.bus_store.specs.Words.{loan_of, waiting_on, with_held};
 
 use crate::store::BusStore;
-use bucket_list::{Ledger, Steps};
 use buf_desc::Held;
 use fsw_base::AppNo;
+use step_count::{Ledger, Steps};
 
 // Receives from the application's pipe until nothing is left there: each of its messages is let go.
 fn empty_pipe<'r, L: Ledger>(

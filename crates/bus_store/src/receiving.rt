@@ -10,9 +10,9 @@ ghost use Rattle.bus_store.specs.Words.{loan_of, with_held};
 
 use crate::blocks::{show, show_next};
 use crate::store::BusStore;
-use bucket_list::{Ledger, Steps};
 use buf_desc::Held;
 use fsw_base::AppNo;
+use step_count::{Ledger, Steps};
 
 impl<'r> BusStore<'r> {
     /// Lets the last message of the application's pipe go, and takes the one that waits longest, if

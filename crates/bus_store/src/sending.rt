@@ -13,10 +13,10 @@ ghost use Rattle.bus_store.specs.Words.{next_of, sending_of, counted_up, with_he
 
 use crate::blocks::{drop_uses, put_message, settle_message};
 use crate::store::BusStore;
-use bucket_list::{Ledger, Steps};
 use bus_tables::{BusTables, Message, Miss};
 use ccsds_msg::id_of;
 use fsw_base::AppNo;
+use step_count::{Ledger, Steps};
 
 /// What a send was answered.
 #[derive(Clone, Copy, Debug, PartialEq, Eq)]

@@ -7,8 +7,8 @@ ghost use Rattle.bus_tables.specs.Rows.{has_way, with_route};
 ghost use Rattle.bus_store.specs.Bag.{HoldsViews};
 
 use crate::store::BusStore;
-use bucket_list::{Ledger, Steps};
 use fsw_base::Scope;
+use step_count::{Ledger, Steps};
 
 impl<'r> BusStore<'r> {
     /// Whether the pipe is subscribed to the id. At most 2 steps for each subscription of the id,

@@ -10,11 +10,11 @@ ghost use Rattle.bus_tables.specs.Inside.{AreQueued, ArePlaced, AreRouted, row_i
 use crate::making::{count_down, item_row};
 use crate::message::Message;
 use crate::misses::{MissCause, Misses};
-use bucket_list::{Ledger, Steps};
 use bus_words::Verdict;
 use pipe_queue::Item;
 use pipe_table::{PipeNo, PipeTable};
 use routing::Routes;
+use step_count::{Ledger, Steps};
 use subscriptions::{SubNo, Subs};
 
 /// Offers the message to the subscriptions of its id, in order, and tells how many

@@ -4,8 +4,8 @@ ghost use Rattle.std.specs.Option.{ForSome};
 ghost use Rattle.subscriptions.specs.Subs.{live_at, without};
 ghost use Rattle.bus_tables.specs.Inside.{AreRouted, of_id, ways_of};
 
-use bucket_list::{Ledger, Steps};
 use routing::Routes;
+use step_count::{Ledger, Steps};
 use subscriptions::{SubNo, Subs};
 
 /// Ends a live subscription: it leaves the route of its id.

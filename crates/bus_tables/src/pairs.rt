@@ -2,8 +2,8 @@
 ghost use Rattle.std.specs.Prelude.{◌≡◌, ◌+◌, ◌*◌, ◌≤◌, length};
 ghost use Rattle.bus_tables.specs.Inside.{AreRouted, first_of, of_id};
 
-use bucket_list::{Ledger, Steps};
 use routing::Routes;
+use step_count::{Ledger, Steps};
 use subscriptions::{SubNo, Subs};
 
 /// The first live subscription of an id to a pipe; None exactly where there is none. It goes along

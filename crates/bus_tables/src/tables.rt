@@ -16,13 +16,13 @@ use crate::making::{count_down, item_row, route_for};
 use crate::message::Message;
 use crate::misses::Misses;
 use crate::pairs::first_of;
-use bucket_list::{Ledger, Steps};
 use bus_words::PipeText;
 use fsw_base::{AppNo, Config, Scope};
 use pipe_table::PipeTable;
 use routing::Routes;
 use std::alloc::{AllocError, Global};
 use std::marker::Model;
+use step_count::{Ledger, Steps};
 use subscriptions::Subs;
 
 /// A message that waits on a pipe or was received last.

@@ -6,11 +6,11 @@
 
 mod turns;
 
-use bucket_list::Blank;
 use buf_desc::Desk;
 use fsw_base::{BlockSizes, MAX_BLOCK_SIZE};
 use std::marker::Brand;
 use std::{env, io};
+use step_count::Blank;
 
 // The bytes of the pool: enough for one block of any size.
 const BYTES: u32 = 100_000;

@@ -1,8 +1,8 @@
 //! The turns.
 ghost use Rattle.std.specs.Prelude.{◌≡◌, ◌<◌, ◌≤◌, length};
 
-use bucket_list::{Blank, Ledger, Steps};
 use buf_desc::Desk;
+use step_count::{Blank, Ledger, Steps};
 
 /// Carries the message so many times. Answers how many times its first byte was read and was 1.
 pub fn carry<L: Ledger>(desk: &mut Desk<'_>, message: &[u8], turns: u32, blank: Blank) -> u32

@@ -8,13 +8,13 @@ ghost use Rattle.cost_bus.specs.Calls.{MayMake, Made};
 ghost use Rattle.cost_bus.specs.Written.{IsWrittenOver};
 
 use crate::pipes::{IDS, id_of, open};
-use bucket_list::{Blank, Ledger, Steps};
 use buf_desc::{Held, recall_written};
 use ccsds_msg::write_header;
 use fsw_base::{AppNo, Config};
 use sb_plain::PlainBus;
 use std::alloc::{AllocError, Global};
 use std::marker::Brand;
+use step_count::{Blank, Ledger, Steps};
 
 // The bytes of a buffer.
 const BUFFER_SIZE: u32 = 64;

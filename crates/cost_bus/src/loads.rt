@@ -5,10 +5,10 @@ ghost use Rattle.tbl_words.specs.Tables.{opening};
 ghost use Rattle.tbl_plain.specs.Core.{Holds};
 ghost use Rattle.cost_bus.specs.TableCalls.{MayCallTables};
 
-use bucket_list::{Blank, Ledger, Steps};
 use fsw_base::{AppNo, Config};
 use std::alloc::{AllocError, Global};
 use std::marker::Brand;
+use step_count::{Blank, Ledger, Steps};
 use tbl_blocks::HeldTables;
 use tbl_plain::PlainTables;
 use tbl_words::RuleList;

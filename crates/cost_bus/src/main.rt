@@ -25,7 +25,6 @@ mod pipes;
 mod sends;
 mod turns;
 
-use bucket_list::{Blank, Ledger};
 use buf_desc::Held;
 use buffers::time_buffers;
 use fsw_base::Config;
@@ -35,6 +34,7 @@ use sends::{Sends, sends_of};
 use std::alloc::{AllocError, Global};
 use std::marker::Brand;
 use std::{env, io};
+use step_count::{Blank, Ledger};
 
 // The most rounds: there are numbers for all their calls.
 const MOST_ROUNDS: u32 = 100_000_000;

@@ -3,9 +3,9 @@ ghost use Rattle.std.specs.Prelude.{◌+◌, ◌*◌, ◌<◌, ◌≤◌};
 ghost use Rattle.sb_plain.specs.Bags.{KeepsBags};
 ghost use Rattle.cost_bus.specs.Calls.{MayMake, Made};
 
-use bucket_list::{Ledger, Steps};
 use fsw_base::{AppNo, Scope};
 use sb_plain::PlainBus;
+use step_count::{Ledger, Steps};
 
 /// The message ids.
 pub const IDS: u32 = 4;

@@ -4,11 +4,11 @@ ghost use Rattle.sb_plain.specs.Bags.{HasBag};
 ghost use Rattle.cost_bus.specs.Calls.{MayMake, Made};
 
 use crate::pipes::{IDS, id_of, open};
-use bucket_list::{Blank, Ledger, Steps};
 use buf_desc::Held;
 use ccsds_msg::write_header;
 use fsw_base::AppNo;
 use sb_plain::PlainBus;
+use step_count::{Blank, Ledger, Steps};
 
 /// Has application 1 make the pipes, so many for each message id, then send so many messages and
 /// receive each on so many of its pipes: the load says how many messages, pipes and receives.

@@ -5,11 +5,11 @@
 
 mod turns;
 
-use bucket_list::Blank;
 use es_pool::Pool;
 use fsw_base::BlockSizes;
 use std::marker::Brand;
 use std::{env, io};
+use step_count::Blank;
 
 // The bytes of the pool: enough for 64 blocks of any size.
 const BYTES: u32 = 8_000_000;

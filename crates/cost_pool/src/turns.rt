@@ -1,8 +1,8 @@
 //! The turns.
 ghost use Rattle.std.specs.Prelude.{◌≡◌, ◌<◌};
 
-use bucket_list::{Blank, Ledger, Steps};
 use es_pool::Pool;
+use step_count::{Blank, Ledger, Steps};
 
 // How many blocks are out at a time.
 const OUT: u32 = 64;

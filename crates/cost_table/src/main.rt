@@ -11,11 +11,11 @@ ghost use Rattle.fsw_base.specs.Limits.{limits_of};
 mod turns;
 
 use crate::turns::{address_all, load_all, register};
-use bucket_list::{Blank, Ledger, Steps};
 use fsw_base::{AppNo, Budget, Config};
 use std::alloc::{AllocError, Global};
 use std::marker::Brand;
 use std::{env, io};
+use step_count::{Blank, Ledger, Steps};
 use tbl_load::{HeldTables, TblCore};
 
 // What the application may add: the entries of all loads and addresses, and the bytes of all loads.

@@ -1,8 +1,8 @@
 //! The turns.
 ghost use Rattle.tbl_load.specs.Bags.{HasBag, KeepsBags};
 
-use bucket_list::{Ledger, Steps};
 use fsw_base::AppNo;
+use step_count::{Ledger, Steps};
 use tbl_load::{HeldTables, TblCore};
 use tbl_words::{RuleList, TblCall};
 

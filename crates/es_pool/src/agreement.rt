@@ -7,9 +7,9 @@ use crate::blocks::BlockNo;
 use crate::calls::PoolCall;
 use crate::plain::PlainPool;
 use crate::pool::Pool;
-use bucket_list::{Ledger, Steps};
 use fsw_base::BlockSizes;
 use std::alloc::{AllocError, Global};
+use step_count::{Ledger, Steps};
 
 /// A pool and a plain pool of `bytes` bytes with these block sizes, of which nothing is cut.
 ///

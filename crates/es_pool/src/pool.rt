@@ -4,10 +4,11 @@ ghost use Rattle.fsw_base.specs.PoolAccounts.{counted, overhead};
 ghost use Rattle.es_pool.specs.Pool.{PoolState, IsWhole, fits, fits_class, DrawsFor, Draws, made_in, free_in, in_use_by, out_among, rest_of, is_out, is_free, class_at, size_at, most_cut, given_back};
 
 use crate::blocks::{BlockNo, ClassStats, CutBlock, OVERHEAD, zeros};
-use bucket_list::{Ledger, Lists, Steps};
+use bucket_list::Lists;
 use fsw_base::{BlockSizes, EsStatus, MAX_BLOCK_SIZE, PoolStats};
 use std::alloc::{AllocError, Global};
 use std::marker::Model;
+use step_count::{Ledger, Steps};
 
 // What a block of the largest size that there may be costs.
 const MOST_COST: u32 = MAX_BLOCK_SIZE + OVERHEAD;

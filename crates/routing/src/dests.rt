@@ -9,9 +9,10 @@ ghost use Rattle.bucket_list.specs.Chains.{chain};
 ghost use Rattle.routing.specs.Dests.{Dest, DestTable, dests_in, has_sub, has_node, without, first_dest, last_node};
 ghost use Rattle.routing.specs.Inside.{Takes, dest_at, place_before};
 
-use bucket_list::{Ledger, Links, Lists, Steps};
+use bucket_list::{Links, Lists};
 use std::alloc::{AllocError, Global};
 use std::marker::Model;
+use step_count::{Ledger, Steps};
 use subscriptions::SubNo;
 
 /// Lists of destinations, numbered from 0. Contracts see how many destinations a list may have, and

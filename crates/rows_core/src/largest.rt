@@ -8,12 +8,12 @@ use crate::fail::Fail;
 use crate::opening::config_of;
 use crate::played::PlayedBus;
 use crate::printing::print_title;
-use bucket_list::{Blank, Ledger, Steps};
 use bus_words::BusCall;
 use ccsds_msg::write_header;
 use fsw_base::{AppNo, Scope, Sink, SinkGuard, WriteFault};
 use sb_calls::version_1_drops_nothing;
 use std::alloc::Global;
+use step_count::{Blank, Ledger, Steps};
 use text_page::{Page, finish, put, put_number};
 
 // As many ids, pipes and destinations as there can be.

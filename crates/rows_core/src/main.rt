@@ -28,10 +28,10 @@ use crate::examples::bus_examples;
 use crate::fail::Fail;
 use crate::largest::print_largest;
 use crate::printing::print_example;
-use bucket_list::Blank;
 use fsw_base::{Sink, SinkGuard, StdSink};
 use std::alloc::Global;
 use std::marker::Brand;
+use step_count::Blank;
 
 fn main(rt: HostRuntime) -> Result<(), Fail> {
     let mut output = StdSink::new(rt.stdout());

@@ -9,7 +9,6 @@ ghost use Rattle.rows_core.specs.Bags.{IsWrittenOver, empty_bag};
 
 use crate::opening::{BUFFERS, budgets};
 use crate::playing::make;
-use bucket_list::{Ledger, Steps};
 use buf_desc::{Held, recall_written};
 use bus_words::{BusAnswer, BusCall, BusJournal, Call, Receipt};
 use ccsds_msg::read_header;
@@ -18,6 +17,7 @@ use run_report::BusReadings;
 use sb_calls::BusCore;
 use std::alloc::{AllocError, Global};
 use std::marker::Model;
+use step_count::{Ledger, Steps};
 
 /// A bus with the bag of each of its applications.
 #[derive(Drop)]

@@ -7,12 +7,12 @@ ghost use Rattle.sb_calls.specs.Core.{MayCall};
 use crate::example::{Act, Step};
 use crate::played::PlayedBus;
 use crate::unused::UnusedTables;
-use bucket_list::{Ledger, Steps};
 use buf_desc::Held;
 use bus_words::{BusCall, Receipt};
 use ccsds_msg::write_header;
 use fsw_base::{AppNo, FilterList, MAX_MESSAGE_BYTES, Scope};
 use sb_calls::{BusCore, Pended};
+use step_count::{Ledger, Steps};
 
 /// The most bytes that a message can have.
 pub const MOST_BYTES: usize = MAX_MESSAGE_BYTES as usize;

@@ -7,11 +7,11 @@ use crate::opening::config_of;
 use crate::played::PlayedBus;
 use crate::playing::{MOST_BYTES, Outcome, play};
 use crate::unused::UnusedTables;
-use bucket_list::{Blank, Ledger, Steps};
 use bus_words::{Receipt, ReceiptList};
 use fsw_base::{AppNo, Config, Sink, SinkGuard, WriteFault};
 use run_report::write_report;
 use std::alloc::{AllocError, Global};
+use step_count::{Blank, Ledger, Steps};
 use text_page::write_text;
 
 /// Plays an example and prints its title and its report. The memory of the bus and of the

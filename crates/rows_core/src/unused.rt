@@ -3,11 +3,11 @@
 ghost use Rattle.std.specs.Prelude.{◌*◌, ◌≤◌, length};
 
 use crate::opening::budgets;
-use bucket_list::{Ledger, Steps};
 use fsw_base::{AppNo, Config};
 use run_report::TableReadings;
 use std::alloc::{AllocError, Global};
 use std::marker::Model;
+use step_count::{Ledger, Steps};
 use tbl_load::{HeldTables, TblCore};
 use tbl_words::TblCall;
 

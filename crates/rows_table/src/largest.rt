@@ -7,9 +7,9 @@ use crate::fail::Fail;
 use crate::opening::config_of;
 use crate::played::PlayedTables;
 use crate::printing::{put_named, put_use};
-use bucket_list::{Blank, Ledger, Steps};
 use fsw_base::{AppNo, Sink, SinkGuard};
 use std::alloc::Global;
+use step_count::{Blank, Ledger, Steps};
 use tbl_words::{RuleList, TblAnswer, TblCall};
 use text_page::{Page, finish, put};
 

@@ -21,9 +21,9 @@ use crate::examples::EXAMPLES;
 use crate::fail::Fail;
 use crate::largest::print_largest;
 use crate::printing::print_example;
-use bucket_list::Blank;
 use fsw_base::{SinkGuard, StdSink};
 use std::marker::Brand;
+use step_count::Blank;
 
 fn main(rt: HostRuntime) -> Result<(), Fail> {
     let mut output = StdSink::new(rt.stdout());

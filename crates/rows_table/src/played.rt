@@ -6,10 +6,10 @@ ghost use Rattle.rows_table.specs.Bags.{empty_bag};
 
 use crate::opening::budgets;
 use crate::playing::make;
-use bucket_list::{Ledger, Steps};
 use fsw_base::{AppNo, Config};
 use std::alloc::{AllocError, Global};
 use std::marker::Model;
+use step_count::{Ledger, Steps};
 use tbl_load::{HeldTables, TblCore, TblUse};
 use tbl_words::{TblCall, TblJournal};
 

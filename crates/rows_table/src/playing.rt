@@ -5,8 +5,8 @@ ghost use Rattle.tbl_load.specs.Core.{MayCall};
 
 use crate::example::Act;
 use crate::played::PlayedTables;
-use bucket_list::{Ledger, Steps};
 use fsw_base::AppNo;
+use step_count::{Ledger, Steps};
 use tbl_load::{HeldTables, TblCore};
 use tbl_words::{Rule, RuleList, TblCall};
 

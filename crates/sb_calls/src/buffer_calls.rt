@@ -17,11 +17,11 @@ use crate::bus_core::BusCore;
 use crate::noted::{bytes_of, note_of_buffer};
 use crate::results::Sent;
 use crate::short::{allocate, transmit_buffer};
-use bucket_list::{Ledger, Steps};
 use buf_desc::Held;
 use bus_words::{BusAnswer, BusCall, BusEntry, Call};
 use fsw_base::{AppNo, SbStatus};
 use lend_block::Note;
+use step_count::{Ledger, Steps};
 
 impl<'r> BusCore<'r> {
     /// Gives the caller a buffer of `size` bytes to write a message into, and answers its number,

@@ -14,11 +14,11 @@ use crate::bus_core::BusCore;
 use crate::noted::note_of;
 use crate::results::Sent;
 use crate::short::{receive, transmit};
-use bucket_list::{Ledger, Steps};
 use buf_desc::Held;
 use bus_words::{BusAnswer, BusCall, BusEntry, Call};
 use fsw_base::{AppNo, SbStatus, Scope};
 use lend_block::Note;
+use step_count::{Ledger, Steps};
 
 impl<'r> BusCore<'r> {
     /// Creates a pipe that holds up to `depth` messages, and answers its number. Pipes are numbered

@@ -15,11 +15,11 @@ use crate::answers::of_sent;
 use crate::bus_core::BusCore;
 use crate::results::Sent;
 use crate::short::send_housekeeping;
-use bucket_list::{Ledger, Steps};
 use bus_words::{BusAnswer, BusCall, BusEntry, Call, statistics_are_counted};
 use fsw_base::{AppNo, BusStats, SbStatus};
 use housekeeping::{Counters, InUse};
 use lend_block::Note;
+use step_count::{Ledger, Steps};
 
 impl<'r> BusCore<'r> {
     /// Sends the housekeeping packet as a message of the caller's, with its id's next sequence

@@ -15,10 +15,10 @@ use crate::bus_core::BusCore;
 use crate::noted::note_of;
 use crate::results::Pended;
 use crate::short::{look, pend};
-use bucket_list::{Ledger, Steps};
 use buf_desc::Held;
 use bus_words::{BusCall, BusEntry, Call};
 use fsw_base::{AppNo, SbStatus};
+use step_count::{Ledger, Steps};
 
 impl<'r> BusCore<'r> {
     /// Takes the oldest message that waits on the caller's pipe, and answers its number: its view

@@ -7,11 +7,11 @@ ghost use Rattle.sb_plain.specs.Answers.{done, found, bits_told, named};
 
 use crate::answers::{of_bits, of_done, of_found, of_named};
 use crate::bus_core::BusCore;
-use bucket_list::{Ledger, Steps};
 use buf_desc::Held;
 use bus_words::{BusCall, BusEntry, Call, PipeText};
 use fsw_base::{AppNo, SbStatus};
 use lend_block::Note;
+use step_count::{Ledger, Steps};
 
 impl<'r> BusCore<'r> {
     /// Ends the caller's pipe: it leaves with its subscriptions and messages. The view of its last

@@ -12,11 +12,11 @@ use crate::answers::{of_back, of_figures, of_pool};
 use crate::bus_core::BusCore;
 use crate::short::pool_get;
 use app_pools::AppPools;
-use bucket_list::{Ledger, Steps};
 use bus_words::{BusCall, BusEntry, Call};
 use es_pool::Pool;
 use fsw_base::{AppNo, EsStatus, PoolStats};
 use lend_block::Note;
+use step_count::{Ledger, Steps};
 
 impl<'r> BusCore<'r> {
     /// Creates a memory pool of `bytes` bytes with the configured block sizes, and answers its

@@ -13,11 +13,11 @@ ghost use Rattle.sb_plain.specs.Bags.{HasBag, KeepsBags, KeepsOtherBags, KeepsBu
 ghost use Rattle.sb_calls.specs.Answers.{sent, waited, pended};
 
 use crate::results::{Pended, Sent};
-use bucket_list::{Ledger, Steps};
 use buf_desc::Held;
 use fsw_base::{AppNo, EsStatus, SbStatus};
 use housekeeping::CounterName;
 use sb_plain::PlainBus;
+use step_count::{Ledger, Steps};
 
 // What a send was answered, with its number in 32 bits.
 fn short_sent(sent: sb_plain::Sent) -> Sent

@@ -15,12 +15,12 @@ ghost use Rattle.sb_plain.specs.Rows.{buffer_cause};
 use crate::calls::Sent;
 use crate::plain::PlainBus;
 use crate::uses::see;
-use bucket_list::{Ledger, Steps};
 use buf_desc::{Block, Held};
 use bus_events::ServiceEvent;
 use ccsds_msg::{Header, MsgFault, front};
 use fsw_base::{AppNo, SbStatus};
 use housekeeping::CounterName;
+use step_count::{Ledger, Steps};
 
 // What the header says of the message that the block's bytes begin with.
 fn header_in(block: &Block<'_>) -> Result<Header, MsgFault>

@@ -14,13 +14,13 @@ use crate::activities::Activity;
 use crate::pipe_ends::release;
 use crate::plain::PlainBus;
 use crate::uses::{see, tell_unless};
-use bucket_list::{Ledger, Steps};
 use buf_desc::Held;
 use bus_events::ServiceEvent;
 use bus_words::PipeText;
 use ccsds_msg::id_of;
 use fsw_base::{AppNo, SbStatus, Scope};
 use housekeeping::CounterName;
+use step_count::{Ledger, Steps};
 
 /// What an accepted send was answered.
 #[derive(Clone, Copy, Debug, PartialEq, Eq)]

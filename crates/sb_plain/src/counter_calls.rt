@@ -14,9 +14,9 @@ ghost use Rattle.sb_plain.specs.Bags.{KeepsBags, KeepsAllLoans, KeepsAllDescs};
 use crate::calls::Sent;
 use crate::plain::PlainBus;
 use crate::uses::in_use_at;
-use bucket_list::{Ledger, Steps};
 use fsw_base::{AppNo, BusStats, SbStatus};
 use housekeeping::{CounterName, Counters, InUse, PACKET_BYTES};
+use step_count::{Ledger, Steps};
 
 impl<'r> PlainBus<'r> {
     /// Sends the housekeeping packet, in which the counters and the numbers in use are those before

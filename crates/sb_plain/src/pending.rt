@@ -16,11 +16,11 @@ ghost use Rattle.sb_plain.specs.Bags.{HasBag, KeepsOtherBags, KeepsLoans, KeepsA
 use crate::activities::Activity;
 use crate::plain::PlainBus;
 use crate::uses::see;
-use bucket_list::{Ledger, Steps};
 use buf_desc::Held;
 use bus_store::BusStore;
 use fsw_base::{AppNo, SbStatus};
 use housekeeping::CounterName;
+use step_count::{Ledger, Steps};
 
 /// What a receive that may wait was answered.
 #[derive(Clone, Copy, Debug, PartialEq, Eq)]

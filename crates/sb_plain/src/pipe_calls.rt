@@ -8,11 +8,11 @@ ghost use Rattle.sb_plain.specs.Bags.{HasBag, KeepsBags, KeepsOtherBags, KeepsAl
 
 use crate::plain::PlainBus;
 use crate::uses::see;
-use bucket_list::{Ledger, Steps};
 use buf_desc::Held;
 use bus_words::PipeText;
 use fsw_base::{AppNo, SbStatus};
 use housekeeping::CounterName;
+use step_count::{Ledger, Steps};
 
 impl<'r> PlainBus<'r> {
     /// Ends the caller's pipe: it leaves with its subscriptions and messages. The view of its last

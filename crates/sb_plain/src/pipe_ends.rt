@@ -6,10 +6,10 @@ ghost use Rattle.buf_desc.specs.Held.{Holding};
 ghost use Rattle.bus_store.specs.Bag.{HoldsViews};
 ghost use Rattle.bus_store.specs.Words.{loan_of};
 
-use bucket_list::{Ledger, Steps};
 use buf_desc::Held;
 use bus_store::BusStore;
 use fsw_base::AppNo;
+use step_count::{Ledger, Steps};
 
 /// Ends the application's pipes, with their subscriptions and messages, whose views are taken out
 /// of its bag.

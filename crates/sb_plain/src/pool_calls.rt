@@ -10,9 +10,9 @@ ghost use Rattle.sb_plain.specs.Bags.{KeepsBags, KeepsAllLoans, KeepsAllDescs};
 
 use crate::plain::PlainBus;
 use app_pools::AppPools;
-use bucket_list::{Ledger, Steps};
 use es_pool::Pool;
 use fsw_base::{AppNo, EsStatus, PoolStats};
+use step_count::{Ledger, Steps};
 
 impl<'r> PlainBus<'r> {
     /// Creates a memory pool of `bytes` bytes with the configured block sizes, and answers its

@@ -13,12 +13,12 @@ use crate::rows::{
 };
 use crate::space::Space;
 use crate::table::Table;
-use bucket_list::{Ledger, Steps};
 use es_pool::Pool;
 use fsw_base::{BlockSizes, EsStatus};
 use lend_block::View;
 use std::alloc::{AllocError, Global};
 use std::marker::Model;
+use step_count::{Ledger, Steps};
 
 /// What all tables contain: each has its blocks of a pool, whose present version is lent, and at
 /// most one staged value, in its own inactive block or in one of four working buffers.

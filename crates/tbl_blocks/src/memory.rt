@@ -6,11 +6,11 @@ ghost use Rattle.tbl_blocks.specs.declared.slot.Slot.TheVariants.{Taken};
 
 use crate::slot::{Slot, put_free, take_free};
 use crate::space::Space;
-use bucket_list::{Ledger, Steps};
 use es_pool::Pool;
 use fsw_base::{BlockSizes, EsStatus};
 use std::alloc::{AllocError, Global};
 use std::marker::Model;
+use step_count::{Ledger, Steps};
 
 /// A pool and the memory of its blocks, which are cut from a region. Contracts see the pool's
 /// account, and whose each block is.

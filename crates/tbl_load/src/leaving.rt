@@ -9,9 +9,9 @@ ghost use Rattle.tbl_load.specs.Core.{MayCall, Does, state_of};
 
 use crate::answers::of_done;
 use crate::tables::TblCore;
-use bucket_list::{Ledger, Steps};
 use fsw_base::AppNo;
 use lend_block::Note;
+use step_count::{Ledger, Steps};
 use tbl_blocks::HeldTables;
 use tbl_words::{TblAnswer, TblCall, TblEntry, TblStatus};
 

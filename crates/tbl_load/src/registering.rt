@@ -9,9 +9,9 @@ ghost use Rattle.tbl_load.specs.Core.{MayCall, Does};
 use crate::answers::{of_figures, of_registered, of_shared};
 use crate::short::status;
 use crate::tables::TblCore;
-use bucket_list::{Ledger, Steps};
 use fsw_base::AppNo;
 use lend_block::Note;
+use step_count::{Ledger, Steps};
 use tbl_words::{Registered, RuleList, TblCall, TblEntry, TblState, TblStatus};
 
 impl<'r> TblCore<'r> {

@@ -12,8 +12,8 @@ ghost use Rattle.tbl_plain.specs.Answers.{done};
 ghost use Rattle.tbl_plain.specs.Views.{after_owner};
 
 use crate::plain::PlainTables;
-use bucket_list::{Ledger, Steps};
 use fsw_base::AppNo;
+use step_count::{Ledger, Steps};
 use tbl_blocks::{HeldTables, TableBlocks};
 use tbl_words::TblStatus;
 

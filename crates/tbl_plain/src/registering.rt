@@ -8,8 +8,8 @@ ghost use Rattle.tbl_plain.specs.Answers.{registered};
 ghost use Rattle.tbl_plain.specs.Refusals.{unfit_cause};
 
 use crate::plain::PlainTables;
-use bucket_list::{Ledger, Steps};
 use fsw_base::AppNo;
+use step_count::{Ledger, Steps};
 use tbl_words::{Registered, Rule, RuleList, TblStatus};
 
 impl<'r> PlainTables<'r> {

@@ -7,12 +7,12 @@ ghost use Rattle.tbl_load.specs.Bags.{HasBag, AreOneLoan};
 ghost use Rattle.tbl_load.specs.Core.{MayCall, Does, IsLegalCore, IsNoted, apps_of};
 
 use crate::calls::PortCall;
-use bucket_list::{Blank, Ledger, Steps};
 use fsw_base::{AppNo, Budget, Config};
 use lend_block::Note;
 use std::alloc::{AllocError, Global};
 use std::collections::LinkedList;
 use std::marker::Model;
+use step_count::{Blank, Ledger, Steps};
 use tbl_load::{HeldTables, TblCore};
 use tbl_words::{Allowance, Call, TblAnswer, TblCall};
 use turn_lock::Historied;

@@ -6,8 +6,8 @@ ghost use Rattle.tbl_blocks.specs.Held.{HeldViews};
 ghost use Rattle.tbl_load.specs.Bags.{HasBag};
 ghost use Rattle.tbl_load.specs.Core.{MayCall, Does};
 
-use bucket_list::{Ledger, Steps};
 use fsw_base::AppNo;
+use step_count::{Ledger, Steps};
 use tbl_load::{HeldTables, TblCore};
 
 /// One of the core's calls with its parameters. Whichever it is, a port makes it in one way, so

@@ -8,9 +8,9 @@ ghost use Rattle.tbl_service.specs.Ports.{Answers};
 use crate::calls::PortCall;
 use crate::ports::TblPort;
 use crate::tables::Tables;
-use bucket_list::{Ledger, Steps};
 use fsw_base::AppNo;
 use std::sync::Wait;
+use step_count::{Ledger, Steps};
 use tbl_load::{HeldTables, Registered, TblCore, TblState, TblStatus};
 use tbl_words::RuleList;
 

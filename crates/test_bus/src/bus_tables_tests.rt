@@ -3,13 +3,13 @@ ghost use Rattle.std.specs.Prelude.{◌≡◌, ◌<◌, ◌≤◌, Some};
 ghost use Rattle.fsw_base.specs.Limits.{usual_limits};
 ghost use Rattle.bus_tables.specs.Tables.{opened};
 
-use bucket_list::{Blank, Ledger, Steps};
 use bus_tables::{BusTables, ItemRow, Message, Miss, MissCause, Misses};
 use bus_words::PipeText;
 use fsw_base::{AppNo, Config, Scope};
 use std::marker::Brand;
 use std::process::Abort;
 use std::test::Fail;
+use step_count::{Blank, Ledger, Steps};
 
 /// A message for the one subscription of an id reaches its pipe, and waits there.
 fn first_waiting<L: Ledger>(

@@ -1,12 +1,12 @@
 //! The caller that the crate's head shows, a run of it, and a walk in the largest configuration.
 ghost use Rattle.std.specs.Prelude.{◌≡◌, ◌+◌, ◌*◌, ◌<◌, ◌≤◌, [], ◌∷◌, length, Ok};
 
-use bucket_list::{Blank, Ledger, Steps};
 use fsw_base::{CountStarts, SbStatus};
 use routing::Routes;
 use std::marker::Brand;
 use std::process::Abort;
 use std::test::Fail;
+use step_count::{Blank, Ledger, Steps};
 use subscriptions::SubNo;
 
 /// An id gets a route with one destination, and its first sequence count, which is 0 behind 16383.

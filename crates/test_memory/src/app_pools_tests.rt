@@ -3,12 +3,12 @@ ghost use Rattle.std.specs.Prelude.{◌≡◌, ◌+◌, ◌<◌, ◌≤◌, IsTr
 ghost use Rattle.pool_words.specs.Grants.{has_numbers};
 
 use app_pools::AppPools;
-use bucket_list::{Blank, Ledger, Steps};
 use es_pool::ClassStats;
 use fsw_base::{AppNo, BlockSizes, Config, EsStatus, PoolStats};
 use std::marker::Brand;
 use std::process::Abort;
 use std::test::Fail;
+use step_count::{Blank, Ledger, Steps};
 
 /// Takes a grant of the first pool and gives it back.
 fn taken_and_returned<L: Ledger>(

@@ -1,10 +1,11 @@
 //! The caller that the crate's head shows, and a run of it.
 ghost use Rattle.std.specs.Prelude.{◌≡◌, ◌+◌, ◌<◌, ◌≤◌, [], ◌∷◌};
 
-use bucket_list::{Lists, Steps};
+use bucket_list::Lists;
 use std::marker::Brand;
 use std::sync::ledger::{Blank, Ledger};
 use std::test::Fail;
+use step_count::Steps;
 
 /// Two nodes go onto a list, and the newer one comes back, in at most 12 steps.
 fn newest<L: Ledger>(lists: &mut Lists, steps: &mut Steps<L>) -> Option<u32>

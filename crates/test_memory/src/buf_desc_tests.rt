@@ -5,7 +5,6 @@ ghost use Rattle.buf_desc.specs.Desk.{IsOf};
 ghost use Rattle.buf_desc.specs.Slots.{sealed_at};
 ghost use Rattle.test_memory.specs.Shared.{IsShared};
 
-use bucket_list::{Blank, Ledger, Steps};
 use buf_desc::{Block, Desk, Held};
 use fsw_base::{BlockSizes, EsStatus};
 use lend_block::View;
@@ -13,6 +12,7 @@ use std::marker::Brand;
 use std::process::Abort;
 use std::test::Fail;
 use std::thread::{self, Threads};
+use step_count::{Blank, Ledger, Steps};
 
 /// Sends bytes to one receiver, and answers the first that it reads.
 fn sent_and_read<L: Ledger>(

@@ -3,12 +3,12 @@ ghost use Rattle.std.specs.Prelude.{◌≡◌, ◌+◌, ◌<◌, ◌≤◌, true
 ghost use Rattle.es_pool.specs.Pool.{is_out};
 ghost use Rattle.es_pool.specs.Account.{IsAccountOf};
 
-use bucket_list::{Blank, Ledger, Steps};
 use es_pool::{BlockNo, PlainPool, Pool, PoolCall, agree, pool_and_plain};
 use fsw_base::{BlockSizes, EsStatus, PoolStats};
 use std::marker::Brand;
 use std::process::Abort;
 use std::test::Fail;
+use step_count::{Blank, Ledger, Steps};
 
 /// Draws a block, gives it back and draws once more.
 fn drawn_twice<L: Ledger>(pool: &mut Pool, steps: &mut Steps<L>) -> Result<BlockNo, EsStatus>

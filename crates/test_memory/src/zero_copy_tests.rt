@@ -1,10 +1,10 @@
 //! The caller that the crate's head shows, and a run of it.
 ghost use Rattle.std.specs.Prelude.{◌≡◌, ◌+◌, ◌<◌, ◌≤◌, [], ◌∷◌, Some};
 
-use bucket_list::{Blank, Ledger, Steps};
 use fsw_base::AppNo;
 use std::marker::Brand;
 use std::test::Fail;
+use step_count::{Blank, Ledger, Steps};
 use zero_copy::HeldLists;
 
 /// Two buffers are held, the older one is let go of, and the newer one comes first, in at most 28

@@ -2,10 +2,10 @@
 ghost use Rattle.std.specs.Prelude.{◌≡◌, ◌<◌, ◌≤◌, false, length, IfOk};
 ghost use Rattle.tbl_blocks.specs.Contents.{is_open};
 
-use bucket_list::{Blank, Ledger, Steps};
 use fsw_base::{BlockSizes, EsStatus};
 use std::marker::Brand;
 use std::test::Fail;
+use step_count::{Blank, Ledger, Steps};
 use tbl_blocks::{HeldTables, TableBlocks};
 
 /// The caller that the crate's front page shows.

@@ -10,10 +10,11 @@
 ghost use Rattle.std.specs.Prelude.{◌≡◌, ℕ, ◌+◌, ◌-◌, ◌^◌, ◌<◌, ◌≤◌, ◌↔◌, [], ◌∷◌, length, replicate, slice_set, drop, IsTrue, IsNone, IfOk, IfSome};
 ghost use Rattle.zero_copy.specs.Held.{Held, held_by, IsHeldBy, IsLetGo, AreApart, without};
 
-use bucket_list::{Ledger, Links, Steps};
+use bucket_list::Links;
 use fsw_base::AppNo;
 use std::alloc::{AllocError, Global};
 use std::marker::Model;
+use step_count::{Ledger, Steps};
 
 /// The descriptors that each application holds. Contracts see how many descriptors there are, and
 /// each application's list, the one held last first; no descriptor is in two lists.
