@@ -7,7 +7,7 @@ use Rattle.std.proofs.lemmas.Bool.Decides.{nat_tests}
 use Rattle.std.proofs.lemmas.List.{length-replicate}
 use Rattle.std.proofs.lemmas.List.Elements.{All-push, All-weaker, All-map, All-filter}
 use Rattle.fsw_base.specs.Limits.{Limits}
-use Rattle.tbl_words.specs.declared.rules.Rule.{Rule}
+use Rattle.tbl_rules.specs.declared.rules.Rule.{Rule}
 use Rattle.tbl_words.specs.declared.statuses.TblStatus.{TblStatus}
 use Rattle.tbl_words.specs.declared.statuses.TblStatus.TheVariants.{ErrInvalidHandle, ErrInvalidName, ErrInvalidSize, ErrNoAccess, ErrUnregistered, ErrDumpOnly, ErrFileTooLarge}
 use Rattle.tbl_words.specs.declared.calls.TblAnswer.{TblAnswer}

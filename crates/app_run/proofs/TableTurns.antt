@@ -26,7 +26,7 @@ use Rattle.tbl_words.specs.declared.calls.TblAnswer.TheVariants as answers
 use Rattle.tbl_words.specs.declared.history.Call.{Call as TableCall}
 use Rattle.tbl_words.specs.declared.history.Call.TheVariants as table_calls
 use Rattle.tbl_words.specs.declared.history.Entry.{Entry as TableEntry}
-use Rattle.tbl_words.specs.declared.rules.Rule.{Rule}
+use Rattle.tbl_rules.specs.declared.rules.Rule.{Rule}
 use Rattle.tbl_words.specs.declared.statuses.TblStatus.{TblStatus}
 use Rattle.tbl_words.specs.Entries.{call_bytes as table_call_bytes}
 use Rattle.tbl_words.specs.Log.{left_of as tables_left_of}

@@ -10,7 +10,8 @@ ghost use Rattle.app_run.specs.TableLines.{MayRunAtTables, IsRunAtTables};
 use crate::handles::Handles;
 use app_calls::{Calls, fill_payload};
 use script_lines::{Content, Line};
-use tbl_words::{Call as TableCall, RuleList, TblAnswer, TblCall};
+use tbl_rules::RuleList;
+use tbl_words::{Call as TableCall, TblAnswer, TblCall};
 
 /// Makes the call of the tables of a line, its register filled in, and tells what it was answered;
 /// None for a line that makes no such call.

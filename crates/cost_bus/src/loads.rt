@@ -11,7 +11,7 @@ use std::marker::Brand;
 use step_count::{Blank, Ledger, Steps};
 use tbl_blocks::HeldTables;
 use tbl_plain::PlainTables;
-use tbl_words::RuleList;
+use tbl_rules::RuleList;
 
 // The handle of the table, which is the first one given.
 const HANDLE: u32 = 1;

@@ -4,7 +4,8 @@ ghost use Rattle.tbl_load.specs.Bags.{HasBag, KeepsBags};
 use fsw_base::AppNo;
 use step_count::{Ledger, Steps};
 use tbl_load::{HeldTables, TblCore};
-use tbl_words::{RuleList, TblCall};
+use tbl_rules::RuleList;
+use tbl_words::TblCall;
 
 /// Registers a double-buffered table of so many bytes, where the application may: its handle is 1.
 pub fn register<L: Ledger>(core: &mut TblCore<'_>, app: AppNo, size: u32, steps: &mut Steps<L>)

@@ -12,7 +12,7 @@ use Rattle.script_words.specs.Lists.{each}
 use Rattle.script_words.specs.Text.{is_same, words_of, behind_word, without_blanks_behind, trimmed}
 use Rattle.script_words.specs.Counts.{Word, next, none, one, two, three, optional, one_or_two, two_optional, next_two, two_to_four, three_or_four, few}
 use Rattle.script_words.specs.declared.content.Content.{Content}
-use Rattle.tbl_words.specs.declared.rules.Rule.{Rule}
+use Rattle.tbl_rules.specs.declared.rules.Rule.{Rule}
 use Rattle.script_lines.specs.declared.line.Line.TheVariants as lines
 use Rattle.script_lines.specs.BusLines.{pipe_alone, create_of, opts_of, find_of, limit_of, subscribed, sub_of, unsub_of, sent, send_of, sendraw_of}
 use Rattle.script_lines.specs.MemoryLines.{alloc_of, xmit_of, release_of, form_of, put_of, pool_line_of, pget_of, pput_of, pstats_of}

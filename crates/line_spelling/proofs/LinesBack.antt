@@ -12,7 +12,7 @@ use Rattle.script_words.specs.Readings.{◌>>=◌}
 use Rattle.script_words.specs.Text.{has_bytes, is_text, words_of, trimmed, is_same}
 use Rattle.script_words.specs.Counts.{Word, none}
 use Rattle.script_words.specs.declared.content.Content.TheVariants.{Hex, Fill}
-use Rattle.tbl_words.specs.declared.rules.Rule.{Rule}
+use Rattle.tbl_rules.specs.declared.rules.Rule.{Rule}
 use Rattle.script_lines.specs.declared.line.Line.{Line}
 use Rattle.script_lines.specs.declared.line.Line.TheVariants as lines
 use Rattle.script_lines.specs.declared.bus_lines.BusWord.{BusWord}

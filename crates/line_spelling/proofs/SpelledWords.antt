@@ -18,7 +18,7 @@ use Rattle.script_words.specs.Numbers.{is_digit, is_colon, number_of, parts_of, 
 use Rattle.script_words.specs.Content.{name_of, mode_word, mode_of, scope_word, scope_of, filling_of, content_of}
 use Rattle.script_words.specs.declared.content.Content.{Content}
 use Rattle.script_words.specs.declared.content.Content.TheVariants.{Hex, Fill}
-use Rattle.tbl_words.specs.declared.rules.Rule.{Rule}
+use Rattle.tbl_rules.specs.declared.rules.Rule.{Rule}
 use Rattle.script_lines.specs.BusLines.{hex_word}
 use Rattle.script_lines.specs.EventLines.{pair_word, filter_of, kind_of}
 use Rattle.script_lines.specs.TableLines.{triple_word, rule_of}

@@ -8,7 +8,7 @@ use Rattle.text_page.specs.Texts.{hex_id, hex_bytes, name_text}
 use Rattle.script_words.specs.Counts.{Word}
 use Rattle.script_words.specs.declared.content.Content.{Content}
 use Rattle.script_words.specs.declared.content.Content.TheVariants.{Hex, Fill}
-use Rattle.tbl_words.specs.declared.rules.Rule.{Rule}
+use Rattle.tbl_rules.specs.declared.rules.Rule.{Rule}
 use Rattle.script_lines.specs.declared.line.Line.{Line}
 use Rattle.script_lines.specs.declared.line.Line.TheVariants.{Create, Delete, SetOpts, GetOpts, Find, PipeName, Subscribe, Unsubscribe, Send, SendRaw, Receive, Pend, Allocate, TransmitBuffer, Release, PoolCreate, PoolGet, PoolPut, PoolFigures, Register, SendEvent, ResetFilter, LogMode, ClearLog, Housekeeping, Figures, TableRegister, TableShare, TableUnregister, Stage, Validate, Update, Abort, Load, GetAddress, ReleaseAddress, Status, Form, Put, ShowPipe, ShowTable}
 

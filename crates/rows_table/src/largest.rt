@@ -10,7 +10,8 @@ use crate::printing::{put_named, put_use};
 use fsw_base::{AppNo, Sink, SinkGuard};
 use std::alloc::Global;
 use step_count::{Blank, Ledger, Steps};
-use tbl_words::{RuleList, TblAnswer, TblCall};
+use tbl_rules::RuleList;
+use tbl_words::{TblAnswer, TblCall};
 use text_page::{Page, finish, put};
 
 // The pool has just the blocks of all tables: two of 8 bytes for each, with 16 bytes beside.

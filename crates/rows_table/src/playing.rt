@@ -8,7 +8,8 @@ use crate::played::PlayedTables;
 use fsw_base::AppNo;
 use step_count::{Ledger, Steps};
 use tbl_load::{HeldTables, TblCore};
-use tbl_words::{Rule, RuleList, TblCall};
+use tbl_rules::{Rule, RuleList};
+use tbl_words::TblCall;
 
 /// Plays one step; whether its application might make the call.
 pub fn play<L: Ledger>(

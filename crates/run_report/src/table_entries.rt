@@ -8,7 +8,8 @@ ghost use Rattle.run_report.specs.TableText.{load_text, table_call_text, told_te
 
 use crate::sums::sum_of;
 use fsw_base::{Sink, SinkGuard, WriteFault};
-use tbl_words::{RuleList, TblAnswer, TblCall, TblEntry, TblJournal, TblState, TblStatus, Told};
+use tbl_rules::RuleList;
+use tbl_words::{TblAnswer, TblCall, TblEntry, TblJournal, TblState, TblStatus, Told};
 use text_page::{Page, finish, put, put_name, put_number};
 
 /// Puts the lines of a journal of the tables, whose entries are numbered from 1.

@@ -6,7 +6,7 @@ use Rattle.fsw_base.specs.Events.{are_filters}
 use Rattle.script_words.specs.Text.{is_text, is_same, trimmed}
 use Rattle.script_words.specs.declared.content.Content.{Content}
 use Rattle.script_words.specs.declared.content.Content.TheVariants.{Hex, Fill}
-use Rattle.tbl_words.specs.declared.rules.Rule.{Rule}
+use Rattle.tbl_rules.specs.declared.rules.Rule.{Rule}
 use Rattle.script_lines.specs.declared.line.Line.{Line}
 use Rattle.script_lines.specs.declared.line.Line.TheVariants.{Create, Delete, SetOpts, GetOpts, Find, PipeName, Subscribe, Unsubscribe, Send, SendRaw, Receive, Pend, Allocate, TransmitBuffer, Release, PoolCreate, PoolGet, PoolPut, PoolFigures, Register, SendEvent, ResetFilter, LogMode, ClearLog, Housekeeping, Figures, TableRegister, TableShare, TableUnregister, Stage, Validate, Update, Abort, Load, GetAddress, ReleaseAddress, Status, Form, Put, ShowPipe, ShowTable}
 

@@ -43,4 +43,4 @@ pub use memory_lines::MemoryWord;
 pub use script_words::numbers::REGISTERS;
 pub use script_words::{ByteText, Content};
 pub use table_lines::TableWord;
-pub use tbl_words::{MAX_RULES, Rule, RuleList};
+pub use tbl_rules::{MAX_RULES, Rule, RuleList};

@@ -5,7 +5,7 @@ use fsw_base::{EventKind, FilterList, Scope};
 use script_words::{ByteText, Content};
 use std::alloc::{AllocError, Global};
 use std::marker::Model;
-use tbl_words::RuleList;
+use tbl_rules::RuleList;
 
 /// The rules that a line gives a table, with a place of their own in memory, so that a line is
 /// small.
@@ -16,7 +16,7 @@ pub struct BoxedRules {
 
 impl Model for BoxedRules {
     ghost use Rattle.std.specs.Prelude.{List};
-    ghost use Rattle.tbl_words.specs.declared.rules.Rule.{Rule};
+    ghost use Rattle.tbl_rules.specs.declared.rules.Rule.{Rule};
 
     ghost Value = { List Rule };
 

@@ -16,7 +16,7 @@ use script_words::text::{first_word, is_same};
 use script_words::words::{content, filling, name};
 use script_words::{Content, LineFail};
 use std::alloc::Global;
-use tbl_words::{MAX_RULES, Rule, RuleList};
+use tbl_rules::{MAX_RULES, Rule, RuleList};
 
 /// The first word of a line of tables.
 #[derive(Clone, Copy)]

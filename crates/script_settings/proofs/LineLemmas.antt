@@ -1,7 +1,7 @@
 -- What holds of the lines that a match leaves over.
 use Rattle.std.proofs.Common.{◌≡◌, ℕ, Bool, List, refl}
 use Rattle.fsw_base.specs.declared.events.EventKind.{EventKind}
-use Rattle.tbl_words.specs.declared.rules.Rule.{Rule}
+use Rattle.tbl_rules.specs.declared.rules.Rule.{Rule}
 use Rattle.script_words.specs.declared.content.Content.{Content}
 use Rattle.script_settings.specs.declared.account.Account.{Account}
 use Rattle.script_lines.specs.declared.line.Line.{Line}

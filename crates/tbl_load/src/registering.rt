@@ -12,7 +12,8 @@ use crate::tables::TblCore;
 use fsw_base::AppNo;
 use lend_block::Note;
 use step_count::{Ledger, Steps};
-use tbl_words::{Registered, RuleList, TblCall, TblEntry, TblState, TblStatus};
+use tbl_rules::RuleList;
+use tbl_words::{Registered, TblCall, TblEntry, TblState, TblStatus};
 
 impl<'r> TblCore<'r> {
     /// Registers a table of `size` bytes for the caller, and answers its owner's handle: 1 to 15

@@ -9,7 +9,7 @@ use Rattle.fsw_base.specs.Limits.{limits_of}
 use Rattle.lend_block.specs.Loan.{LentBytes}
 use Rattle.es_pool.specs.Account.{IsAccountOf}
 use Rattle.es_pool.specs.Pool.{made_in}
-use Rattle.tbl_words.specs.Rules.{has_misfit}
+use Rattle.tbl_rules.specs.Rules.{has_misfit}
 use Rattle.tbl_words.specs.Tables as state
 use Rattle.tbl_words.specs.Machine as machine
 use Rattle.tbl_registry.specs.declared.rows.Handle.{Handle}

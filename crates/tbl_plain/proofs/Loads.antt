@@ -2,9 +2,9 @@
 use Rattle.std.proofs.Common.{◌≡◌, ℕ, ◌+◌, ◌^◌, ◌<◌, not, Bool, true, false, ltb, Option, Some, None, IfSome, List, ap, sym, ◌∙◌, subst, arith}
 use Rattle.std.specs.Option.{option_map_or}
 use Rattle.std.proofs.lemmas.Bool.Decides.{nat_tests}
-use Rattle.tbl_words.specs.declared.rules.Rule.{Rule}
+use Rattle.tbl_rules.specs.declared.rules.Rule.{Rule}
 use Rattle.tbl_words.specs.declared.statuses.TblStatus.TheVariants.{InfoNoUpdatePending, NotValidated, Validation, InfoTableLocked}
-use Rattle.tbl_words.specs.Rules.{failed_rule}
+use Rattle.tbl_rules.specs.Rules.{failed_rule}
 use Rattle.tbl_words.specs.Tables as state
 use Rattle.tbl_words.specs.Machine.{refused_if, with_range, rules_cause, update_cause, is_locked, with_update, after_update, after_load}
 use Rattle.tbl_registry.specs.declared.rows.Handle.{Handle}

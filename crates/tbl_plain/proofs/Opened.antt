@@ -6,7 +6,7 @@ use Rattle.fsw_base.specs.Limits.{Limits, limits_of}
 use Rattle.es_pool.specs.Pool.{made_in}
 use Rattle.es_pool.specs.Account.{IsAccountOf}
 use Rattle.es_pool.proofs.Law.{account_new}
-use Rattle.tbl_words.specs.Rules.{has_misfit}
+use Rattle.tbl_rules.specs.Rules.{has_misfit}
 use Rattle.tbl_words.specs.Tables.{opening, account_of, blocks_out}
 use Rattle.tbl_registry.specs.declared.rows.Handle.{Handle}
 use Rattle.tbl_registry.specs.Listing.{Table, Listing, has_handle}

@@ -5,12 +5,12 @@ use Rattle.std.specs.Str.{bytes_eq}
 use Rattle.std.proofs.lemmas.Bool.Decides.{nat_tests}
 use Rattle.fsw_base.specs.Limits.{Limits, limits_of}
 use Rattle.es_pool.specs.Pool as pool
-use Rattle.tbl_words.specs.declared.rules.Rule.{Rule}
+use Rattle.tbl_rules.specs.declared.rules.Rule.{Rule}
 use Rattle.tbl_words.specs.declared.statuses.TblStatus.{TblStatus}
 use Rattle.tbl_words.specs.declared.statuses.TblStatus.TheVariants.{ErrInvalidName, ErrInvalidSize, ErrInvalidOptions, ErrDuplicateNotOwned, ErrDuplicateDiffSize, ErrRegistryFull, ErrHandlesFull, ErrMemBlockSize}
 use Rattle.tbl_words.specs.declared.calls.TblAnswer.TheVariants as answers
 use Rattle.tbl_words.specs.declared.history.Call.TheVariants.{Register}
-use Rattle.tbl_words.specs.Rules.{has_misfit}
+use Rattle.tbl_rules.specs.Rules.{has_misfit}
 use Rattle.tbl_words.specs.Tables as state
 use Rattle.tbl_words.specs.Machine.{register_cause, new_table_cause, duplicate_cause, refused_if, with_new_table}
 use Rattle.tbl_registry.specs.declared.rows.TableRow.{TableRow}

@@ -3,7 +3,7 @@ use Rattle.std.proofs.Common.{◌≡◌, ℕ, ◌+◌, true, None, Result, Ok, E
 use Rattle.fsw_base.specs.Blocks.{are_block_sizes}
 use Rattle.fsw_base.specs.Limits.{limits_of}
 use Rattle.es_pool.specs.Pool as pool
-use Rattle.tbl_words.specs.declared.rules.Rule.{Rule}
+use Rattle.tbl_rules.specs.declared.rules.Rule.{Rule}
 use Rattle.tbl_words.specs.declared.calls.TblAnswer.TheVariants as answers
 use Rattle.tbl_words.specs.declared.history.Call.TheVariants.{Register}
 use Rattle.tbl_words.specs.Tables as state

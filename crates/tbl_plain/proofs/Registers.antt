@@ -11,8 +11,8 @@ use Rattle.fsw_base.specs.Limits.{limits_of}
 use Rattle.fsw_base.specs.PoolAccounts.{Account, counted_by, after_draws}
 use Rattle.es_pool.specs.Account.{IsAccountOf}
 use Rattle.es_pool.specs.Pool.{made_in}
-use Rattle.tbl_words.specs.declared.rules.Rule.{Rule}
-use Rattle.tbl_words.specs.Rules.{has_misfit}
+use Rattle.tbl_rules.specs.declared.rules.Rule.{Rule}
+use Rattle.tbl_rules.specs.Rules.{has_misfit}
 use Rattle.tbl_words.specs.Tables as state
 use Rattle.tbl_words.specs.Machine as machine
 use Rattle.tbl_words.proofs.Accounts.{registrations_draw}

@@ -6,9 +6,9 @@ use Rattle.std.specs.List.{position_from}
 use Rattle.std.specs.Option.{option_map, option_map_or}
 use Rattle.std.proofs.lemmas.Bool.Decides.{nat_tests}
 use Rattle.std.proofs.lemmas.List.Elements.{All-nil, All-cons}
-use Rattle.tbl_words.specs.declared.rules.Rule.{Rule}
+use Rattle.tbl_rules.specs.declared.rules.Rule.{Rule}
 use Rattle.tbl_words.specs.declared.statuses.TblStatus.TheVariants.{NoLoad, Validation}
-use Rattle.tbl_words.specs.Rules.{is_met, is_misfit, has_misfit, failed_rule}
+use Rattle.tbl_rules.specs.Rules.{is_met, is_misfit, has_misfit, failed_rule}
 use Rattle.tbl_words.specs.Tables as state
 use Rattle.tbl_words.specs.Machine.{rules_cause, validate_cause, with_validated}
 use Rattle.tbl_blocks.specs.declared.next.Next.{Next}

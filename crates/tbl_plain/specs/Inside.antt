@@ -6,7 +6,7 @@ use Rattle.es_pool.specs.Pool.{made_in}
 use Rattle.es_pool.specs.Account.{IsAccountOf}
 use Rattle.tbl_words.specs.declared.calls.TblState.{TblState}
 use Rattle.tbl_words.specs.Tables as state
-use Rattle.tbl_words.specs.Rules.{has_misfit}
+use Rattle.tbl_rules.specs.Rules.{has_misfit}
 use Rattle.tbl_words.specs.Machine.{staged_number}
 use Rattle.tbl_registry.specs.declared.rows.Handle.{Handle}
 use Rattle.tbl_registry.specs.Listing.{Table, is_live, is_registered, table_at}

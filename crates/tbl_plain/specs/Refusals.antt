@@ -2,8 +2,8 @@
 use Rattle.std.specs.Prelude.{ℕ, ◌+◌, ◌==◌, ◌&&◌, ◌||◌, not, nat_lt, Bool, List, length, Result, Ok, Err, Option, Some, None, is_some, if◌then◌else◌}
 use Rattle.tbl_words.specs.declared.statuses.TblStatus.{TblStatus}
 use Rattle.tbl_words.specs.declared.statuses.TblStatus.TheVariants.{ErrInvalidHandle, ErrInvalidName, ErrInvalidSize, ErrInvalidOptions, ErrNoAccess, ErrUnregistered, ErrDumpOnly, ErrFileTooLarge, ErrPartialLoad, ErrLoadInProgress, ErrNoBufferAvail, InfoTableLocked}
-use Rattle.tbl_words.specs.declared.rules.Rule.{Rule}
-use Rattle.tbl_words.specs.Rules.{has_misfit}
+use Rattle.tbl_rules.specs.declared.rules.Rule.{Rule}
+use Rattle.tbl_rules.specs.Rules.{has_misfit}
 use Rattle.tbl_words.specs.Machine.{refused_if}
 use Rattle.tbl_registry.specs.declared.rows.Handle.{Handle}
 use Rattle.tbl_registry.specs.Listing.{handle_at}

@@ -1,7 +1,7 @@
 //! Registrations.
 ghost use Rattle.std.specs.Prelude.{◌≡◌, ◌==◌, ◌||◌, ◌+◌, ◌≤◌, None, nat_lt, length, IsTrue};
 ghost use Rattle.tbl_words.specs.declared.history.Call.TheVariants.{Register};
-ghost use Rattle.tbl_words.specs.Rules.{is_misfit, has_misfit};
+ghost use Rattle.tbl_rules.specs.Rules.{is_misfit, has_misfit};
 ghost use Rattle.tbl_words.specs.Machine.{new_table_cause};
 ghost use Rattle.tbl_plain.specs.Core.{MayAct, Acts, has_handle_number};
 ghost use Rattle.tbl_plain.specs.Answers.{registered};
@@ -10,7 +10,8 @@ ghost use Rattle.tbl_plain.specs.Refusals.{unfit_cause};
 use crate::plain::PlainTables;
 use fsw_base::AppNo;
 use step_count::{Ledger, Steps};
-use tbl_words::{Registered, Rule, RuleList, TblStatus};
+use tbl_rules::{Rule, RuleList};
+use tbl_words::{Registered, TblStatus};
 
 impl<'r> PlainTables<'r> {
     /// Registers a table of `size` bytes for the caller, and answers its owner's handle. A table

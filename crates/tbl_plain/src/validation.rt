@@ -1,10 +1,10 @@
 //! Whether a value meets the rules of a table.
 ghost use Rattle.std.specs.Prelude.{◌≡◌, ◌+◌, ◌<◌, ◌≤◌, length, slice_index, All};
-ghost use Rattle.tbl_words.specs.Rules.{is_met, failed_rule};
+ghost use Rattle.tbl_rules.specs.Rules.{is_met, failed_rule};
 ghost use Rattle.tbl_words.specs.Machine.{with_range};
-ghost use Rattle.tbl_words.specs.declared.rules.TheConstants.{MAX_RULES};
+ghost use Rattle.tbl_rules.specs.declared.rules.TheConstants.{MAX_RULES};
 
-use tbl_words::Rule;
+use tbl_rules::Rule;
 
 /// The number, from 1, of the first rule that a value fails, with the bytes from an offset on
 /// replaced by these.

@@ -9,7 +9,7 @@ use Rattle.std.proofs.lemmas.List.Elements.{All-head, All-tail}
 use Rattle.std.proofs.lemmas.List.Folds.{list_any_none, list_any-append}
 use Rattle.fsw_base.specs.Limits.{Limits}
 use Rattle.fsw_base.proofs.Lists.{list_any-map, find-map, filter-map, map_same}
-use Rattle.tbl_words.specs.declared.rules.Rule.{Rule}
+use Rattle.tbl_rules.specs.declared.rules.Rule.{Rule}
 use Rattle.tbl_words.specs.Tables as state
 use Rattle.tbl_words.specs.Machine as machine
 use Rattle.tbl_registry.specs.declared.rows.Handle.{Handle}

@@ -2,7 +2,7 @@
 use Rattle.std.specs.Prelude.{◌≡◌, ℕ, ◌==◌, Bool, true, false, List, length, map, filter, All, if◌then◌else◌}
 use Rattle.std.specs.Option.{option_map, option_map_or, option_and_then}
 use Rattle.fsw_base.specs.Limits.{Limits}
-use Rattle.tbl_words.specs.declared.rules.Rule.{Rule}
+use Rattle.tbl_rules.specs.declared.rules.Rule.{Rule}
 use Rattle.tbl_words.specs.Tables as state
 use Rattle.tbl_words.specs.Machine as machine
 use Rattle.tbl_registry.specs.declared.rows.Handle.{Handle}

@@ -12,7 +12,7 @@ use crate::shelf::{Shelf, TableEntry};
 use fsw_base::AppNo;
 use std::alloc::{AllocError, Global};
 use std::marker::Model;
-use tbl_words::RuleList;
+use tbl_rules::RuleList;
 
 /// The tables that there are, and the live handles. Contracts see both in order of number.
 #[derive(Drop)]

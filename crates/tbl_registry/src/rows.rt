@@ -1,7 +1,7 @@
 //! What the registry tells of handles and tables.
 
 use fsw_base::AppNo;
-use tbl_words::RuleList;
+use tbl_rules::RuleList;
 
 /// A live handle.
 #[derive(Clone, Copy, Debug, PartialEq, Eq)]

@@ -7,7 +7,7 @@ use fsw_base::AppNo;
 use slab::Slab;
 use std::alloc::{AllocError, Global};
 use std::marker::Model;
-use tbl_words::RuleList;
+use tbl_rules::RuleList;
 
 /// A table, as it was registered.
 #[derive(Drop)]

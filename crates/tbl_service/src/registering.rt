@@ -12,7 +12,7 @@ use fsw_base::AppNo;
 use std::sync::Wait;
 use step_count::{Ledger, Steps};
 use tbl_load::{HeldTables, Registered, TblCore, TblState, TblStatus};
-use tbl_words::RuleList;
+use tbl_rules::RuleList;
 
 /// [`TblPort::register`].
 #[derive(Drop)]

@@ -3,7 +3,7 @@ use Rattle.std.specs.Prelude.{◌≡◌, ℕ, zero, suc, List, ◌∷◌, ◌++�
 use Rattle.fsw_base.specs.Blocks.{are_block_sizes, class_of}
 use Rattle.fsw_base.specs.Limits.{Limits}
 use Rattle.fsw_base.specs.PoolAccounts.{Account, after_draws, after_return}
-use Rattle.tbl_words.specs.declared.rules.Rule.{Rule}
+use Rattle.tbl_rules.specs.declared.rules.Rule.{Rule}
 use Rattle.tbl_words.specs.Tables.{Table, State, blocks_for, account_of}
 use Rattle.tbl_words.specs.Machine.{with_new_table}
 

@@ -8,7 +8,6 @@ pub mod Leaves
 pub mod Log
 pub mod Machine
 pub mod Receipts
-pub mod Rules
 pub mod Runs
 pub mod Statuses
 pub mod Tables

@@ -7,7 +7,7 @@ use Rattle.fsw_base.specs.Limits.{Limits}
 use Rattle.fsw_base.specs.PoolAccounts.{counted_by, after_draws}
 use Rattle.tbl_words.specs.declared.statuses.TblStatus.{TblStatus}
 use Rattle.tbl_words.specs.declared.statuses.TblStatus.TheVariants.{ErrInvalidHandle, ErrInvalidName, ErrInvalidSize, ErrInvalidOptions, ErrDuplicateNotOwned, ErrDuplicateDiffSize, ErrRegistryFull, ErrHandlesFull, ErrNoAccess, ErrUnregistered, ErrDumpOnly, ErrFileTooLarge, ErrPartialLoad, ErrLoadInProgress, ErrNoBufferAvail, InfoTableLocked, InfoNoUpdatePending, ErrMemBlockSize, NoLoad, NotValidated, Validation}
-use Rattle.tbl_words.specs.declared.rules.Rule.{Rule}
+use Rattle.tbl_rules.specs.declared.rules.Rule.{Rule}
 use Rattle.tbl_words.specs.declared.calls.Told.{Told}
 use Rattle.tbl_words.specs.declared.calls.Told.TheVariants.{Same, Updated, NeverLoaded}
 use Rattle.tbl_words.specs.declared.calls.TblState.{TblState}
@@ -16,7 +16,7 @@ use Rattle.tbl_words.specs.declared.calls.TblAnswer.TheVariants as answers
 use Rattle.tbl_words.specs.declared.history.Call.{Call}
 use Rattle.tbl_words.specs.declared.history.Call.TheVariants.{Register, Share, Unregister, Stage, Validate, Update, Abort, Load, GetAddress, ReleaseAddress, Status, End}
 use Rattle.tbl_words.specs.declared.history.Entry.{Entry}
-use Rattle.tbl_words.specs.Rules.{has_misfit, failed_rule}
+use Rattle.tbl_rules.specs.Rules.{has_misfit, failed_rule}
 use Rattle.tbl_words.specs.Tables.{Table, Staged, Handle, State, opening, has_ended, handle_at, is_live, owns, has_handle, holds_of, is_held, is_held_apart, with_handle, all_marked, table_of, table_named, with_table, is_double, buffers_taken, blocks_for, account_of, fits}
 
 -- Values. --

@@ -1,8 +1,8 @@
 //! The calls of Table Services, their answers, and both together as an entry of the journal.
 
-use crate::rules::RuleList;
 use crate::statuses::TblStatus;
 use fsw_base::AppNo;
+use tbl_rules::RuleList;
 
 /// A call of Table Services by one application, with its bytes borrowed (cFE Table Services).
 #[derive(Debug, Drop)]

@@ -3,9 +3,9 @@
 //! made.
 
 use crate::calls::TblAnswer;
-use crate::rules::RuleList;
 use fsw_base::AppNo;
 use std::collections::LinkedList;
+use tbl_rules::RuleList;
 
 /// A call of Table Services with its bytes.
 pub enum Call {

@@ -6,11 +6,11 @@ ghost use Rattle.tbl_words.specs.Entries.{call_of, entry_of, call_text, call_byt
 ghost use Rattle.tbl_words.specs.Inside.{call_in};
 
 use crate::calls::{TblAnswer, TblCall, TblEntry};
-use crate::rules::RuleList;
 use fsw_base::{AppNo, Budget};
 use journal_store::{Allowance, JournalStore};
 use std::alloc::{AllocError, Global};
 use std::marker::Model;
+use tbl_rules::RuleList;
 
 // A call but for its bytes.
 #[derive(Debug, Drop)]

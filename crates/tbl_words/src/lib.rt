@@ -18,8 +18,7 @@
 //! # Proved
 //!
 //! - What an application may still add to a journal (`left`) is its budget less its entries
-//!   (`left_of`). `RuleList` has at most eight rules, in order. `TableReceipt::new` has the size,
-//!   the sum and the first bytes of what is held.
+//!   (`left_of`). `TableReceipt::new` has the size, the sum and the first bytes of what is held.
 //! - `histories_are_runs`: a legal history is the run of its calls, each answered by the machine's
 //!   step, and goes on by any further step.
 //! - `held_tables_stay`: no call changes what a handle holds but those by which its own application
@@ -45,7 +44,6 @@ mod history;
 mod journal;
 mod laws;
 mod receipts;
-mod rules;
 mod statuses;
 mod uses;
 
@@ -59,6 +57,5 @@ pub use laws::{
     worked_examples,
 };
 pub use receipts::{HEAD_BYTES, TableReceipt};
-pub use rules::{MAX_RULES, Rule, RuleList};
 pub use statuses::TblStatus;
 pub use uses::TblUse;

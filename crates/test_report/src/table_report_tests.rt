@@ -14,10 +14,8 @@ use housekeeping::{Counters, InUse};
 use run_report::{BusReadings, TableReadings, write_report};
 use std::alloc::{AllocError, Global};
 use std::test::Fail;
-use tbl_words::{
-    Allowance, Rule, RuleList, TblAnswer, TblCall, TblEntry, TblJournal, TblState, TblStatus,
-    TblUse, Told,
-};
+use tbl_rules::{Rule, RuleList};
+use tbl_words::{Allowance, TblAnswer, TblCall, TblEntry, TblJournal, TblState, TblStatus, TblUse, Told};
 
 // Room for each call below.
 const BUDGET: Budget = Budget {

@@ -11,8 +11,9 @@ use std::sync::atomic::Ordering::SeqCst;
 use std::thread;
 use std::thread::{Threads, join};
 use tbl_load::Registered;
+use tbl_rules::RuleList;
 use tbl_service::{Tables, TblDone, TblMain, TblPort};
-use tbl_words::{RuleList, TblCall};
+use tbl_words::TblCall;
 use turn_lock::LockName;
 
 // The table's first value.

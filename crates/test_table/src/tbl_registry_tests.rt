@@ -5,7 +5,7 @@ ghost use Rattle.tbl_registry.specs.Listing.{is_live};
 use fsw_base::AppNo;
 use std::test::Fail;
 use tbl_registry::{HandleRow, Registry};
-use tbl_words::RuleList;
+use tbl_rules::RuleList;
 
 /// A handle that was dropped tells nothing any more.
 #[tactic(auto, using(tbl_registry::proofs::Numbered::gone))]

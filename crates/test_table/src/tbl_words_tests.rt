@@ -7,10 +7,8 @@ ghost use Rattle.tbl_words.specs.Log.{left_of};
 use fsw_base::{AppNo, Budget};
 use std::alloc::{AllocError, Global};
 use std::test::Fail;
-use tbl_words::{
-    Allowance, Rule, RuleList, TableReceipt, TblAnswer, TblCall, TblEntry, TblJournal, TblState,
-    TblStatus, Told,
-};
+use tbl_rules::{Rule, RuleList};
+use tbl_words::{Allowance, TableReceipt, TblAnswer, TblCall, TblEntry, TblJournal, TblState, TblStatus, Told};
 
 #[test]
 fn journal_gives_back_each_kind_of_call(rt: HostRuntime) -> Result<(), Fail> {

@@ -1,8 +1,8 @@
 use Rattle.std.proofs.Common.{ℕ, ◌+◌, Some, None, not, List, ap, sym, ◌∙◌}
 use Rattle.std.proofs.lemmas.List.{drop_all}
 use Rattle.std.specs.List.{position_from}
-use Rattle.tbl_words.specs.declared.rules.Rule.{Rule}
-use Rattle.tbl_words.specs.Rules.{is_met}
+use Rattle.tbl_rules.specs.declared.rules.Rule.{Rule}
+use Rattle.tbl_rules.specs.Rules.{is_met}
 use Rattle.tbl_words.specs.Machine.{with_range}
 use Rattle.tbl_plain.proofs.Validations.{fails_here, from_start}
 use Rattle.tbl_plain.proofs.validation.failed_rule.Goals as goal

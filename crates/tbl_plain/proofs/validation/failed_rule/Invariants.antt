@@ -1,6 +1,6 @@
 use Rattle.std.proofs.Common.{◌≡◌, not, drop}
 use Rattle.std.specs.List.{position_from}
-use Rattle.tbl_words.specs.Rules.{is_met}
+use Rattle.tbl_rules.specs.Rules.{is_met}
 use Rattle.tbl_words.specs.Machine.{with_range}
 use Rattle.tbl_plain.proofs.validation.failed_rule.Given as goal
 

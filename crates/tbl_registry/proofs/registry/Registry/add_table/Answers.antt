@@ -1,6 +1,6 @@
 use Rattle.std.proofs.Common.{◌+◌, ◌<◌, ℕ, Some, List, [], ◌∷◌, ◌++◌, count_by, is_some, length, set, refl, sym, ap, ◌∙◌, subst, arith}
 use Rattle.std.proofs.lemmas.List.{length-set}
-use Rattle.tbl_words.specs.declared.rules.Rule.{Rule}
+use Rattle.tbl_rules.specs.declared.rules.Rule.{Rule}
 use Rattle.tbl_registry.specs.declared.rows.Handle.{Handle}
 use Rattle.tbl_registry.specs.Listing.{Table, Listing, table_at, made_handle, with_new_handle}
 use Rattle.tbl_registry.specs.Inside.{tables_in, IsKept}

@@ -2,7 +2,7 @@
 use Rattle.std.specs.Prelude.{ℕ, ◌+◌, ◌&&◌, ◌||◌, not, nat_le, nat_lt, Bool, List, slice_index, position, Option}
 use Rattle.std.specs.List.{list_any}
 use Rattle.std.specs.Option.{option_map}
-use Rattle.tbl_words.specs.declared.rules.Rule.{Rule}
+use Rattle.tbl_rules.specs.declared.rules.Rule.{Rule}
 
 -- no table of so many bytes can have this rule: its byte isn't there, or its least value is above its greatest
 abbrev pub is_misfit : ℕ → Rule → Bool

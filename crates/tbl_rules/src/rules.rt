@@ -1,6 +1,6 @@
 //! Validation rules of a table, and lists of them.
 ghost use Rattle.std.specs.Prelude.{◌≡◌, ◌<◌, ◌≤◌, ◌↔◌, List, [], ◌∷◌, ◌++◌, length, slice_get, IsSome, IfSome, Some};
-ghost use Rattle.tbl_words.specs.declared.rules.TheConstants.{MAX_RULES};
+ghost use Rattle.tbl_rules.specs.declared.rules.TheConstants.{MAX_RULES};
 
 use arrayvec::ArrayVec;
 use std::marker::Model;
@@ -27,8 +27,8 @@ pub struct RuleList {
 
 impl Model for RuleList {
     ghost use Rattle.std.specs.Prelude.{List, length, ◌≤◌};
-    ghost use Rattle.tbl_words.specs.declared.rules.Rule.{Rule};
-    ghost use Rattle.tbl_words.specs.declared.rules.TheConstants.{MAX_RULES};
+    ghost use Rattle.tbl_rules.specs.declared.rules.Rule.{Rule};
+    ghost use Rattle.tbl_rules.specs.declared.rules.TheConstants.{MAX_RULES};
 
     ghost Value = { List Rule };
 
