@@ -60,7 +60,7 @@ fn is_permitted(permits: Permits, left: Allowance, call: &BusCall<'_>) -> bool
         is_within (call_of call.now)) }
 {
     let open = is_open(permits, call);
-    let bytes = bytes_of(call);
+    let bytes = call.byte_count();
     let short = is_within(call);
     open && bytes <= left.bytes as usize && short
 }
@@ -73,20 +73,6 @@ fn is_open(permits: Permits, call: &BusCall<'_>) -> bool
         BusCall::Look { .. } => false,
         BusCall::End => permits.last,
         _ => permits.any,
-    }
-}
-
-// The bytes of the call's name, message, buffer or event's text.
-fn bytes_of(call: &BusCall<'_>) -> usize
-    ensures { result ≡ call_bytes (call_of call.now) }
-{
-    match call {
-        BusCall::Create { name, .. } => name.len(),
-        BusCall::Find { name } => name.len(),
-        BusCall::Transmit { bytes, .. } => bytes.len(),
-        BusCall::TransmitBuffer { bytes, .. } => bytes.len(),
-        BusCall::SendEvent { text, .. } => text.len(),
-        _ => 0,
     }
 }
 

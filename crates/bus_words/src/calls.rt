@@ -1,5 +1,6 @@
 //! The calls of the software bus, their answers, and both together as an entry of the journal.
 ghost use Rattle.std.specs.Prelude.{◌≡◌};
+ghost use Rattle.bus_words.specs.Entries.{call_of, call_text, call_bytes};
 
 use crate::pipe_text::PipeText;
 use fsw_base::{
@@ -159,6 +160,28 @@ pub enum BusCall<'a> {
     Figures,
     /// The application's last call.
     End,
+}
+
+impl<'a> BusCall<'a> {
+    /// The bytes that the call brings: its name, message, buffer or event's text; none where it
+    /// has none of these.
+    pub fn text(&self) -> &'a [u8]
+        ensures { result.now ≡ call_text (call_of self.now) }
+    {
+        match self {
+            BusCall::Create { name, .. } | BusCall::Find { name } => name,
+            BusCall::Transmit { bytes, .. } | BusCall::TransmitBuffer { bytes, .. } => bytes,
+            BusCall::SendEvent { text, .. } => text,
+            _ => &[],
+        }
+    }
+
+    /// How many bytes the call brings.
+    pub fn byte_count(&self) -> usize
+        ensures { result ≡ call_bytes (call_of self.now) }
+    {
+        self.text().len()
+    }
 }
 
 /// What a call of the software bus was answered.

@@ -288,7 +288,7 @@ impl BusJournal {
             call: row_of(&entry.call),
             answer: entry.answer.again(),
         };
-        self.store.push(entry.app, row, text_of(&entry.call));
+        self.store.push(entry.app, row, entry.call.text());
     }
 
     /// Gives the last entry another answer. Its application and its call stay, and so do all other
@@ -440,17 +440,5 @@ fn row_of(call: &BusCall<'_>) -> RowCall
         BusCall::Housekeeping => RowCall::Housekeeping,
         BusCall::Figures => RowCall::Figures,
         BusCall::End => RowCall::End,
-    }
-}
-
-// The bytes of a call; none where it has none.
-fn text_of<'a>(call: &BusCall<'a>) -> &'a [u8]
-    ensures { result.now ≡ call_text (call_of call.now) }
-{
-    match call {
-        BusCall::Create { name, .. } | BusCall::Find { name } => name,
-        BusCall::Transmit { bytes, .. } | BusCall::TransmitBuffer { bytes, .. } => bytes,
-        BusCall::SendEvent { text, .. } => text,
-        _ => &[],
     }
 }

@@ -224,38 +224,5 @@ fn has_room(journal: &BusJournal, app: AppNo, call: &BusCall<'_>) -> bool
         return false;
     }
     let left = journal.left(app);
-    1 <= left.entries && byte_count(call) <= left.bytes as usize
-}
-
-// The bytes of the call's name, message or text.
-fn byte_count(call: &BusCall<'_>) -> usize
-    ensures { result ≡ call_bytes (call_of call.now) }
-{
-    match call {
-        BusCall::Create { name, .. } | BusCall::Find { name } => name.len(),
-        BusCall::Transmit { bytes, .. } | BusCall::TransmitBuffer { bytes, .. } => bytes.len(),
-        BusCall::SendEvent { text, .. } => text.len(),
-        BusCall::Delete { .. }
-        | BusCall::SetOpts { .. }
-        | BusCall::GetOpts { .. }
-        | BusCall::PipeName { .. }
-        | BusCall::Subscribe { .. }
-        | BusCall::Unsubscribe { .. }
-        | BusCall::Receive { .. }
-        | BusCall::Pend { .. }
-        | BusCall::Look { .. }
-        | BusCall::Allocate { .. }
-        | BusCall::Release { .. }
-        | BusCall::PoolCreate { .. }
-        | BusCall::PoolGet { .. }
-        | BusCall::PoolPut { .. }
-        | BusCall::PoolFigures { .. }
-        | BusCall::Register { .. }
-        | BusCall::ResetFilter { .. }
-        | BusCall::LogMode { .. }
-        | BusCall::ClearLog
-        | BusCall::Housekeeping
-        | BusCall::Figures
-        | BusCall::End => 0,
-    }
+    1 <= left.entries && call.byte_count() <= left.bytes as usize
 }

@@ -43,23 +43,5 @@ fn table_has_room(journal: &TblJournal, app: AppNo, call: &TblCall<'_>) -> bool
         return false;
     }
     let left = journal.left(app);
-    1 <= left.entries && table_byte_count(call) <= left.bytes as usize
-}
-
-// The bytes of the call's name or load.
-fn table_byte_count(call: &TblCall<'_>) -> usize
-    ensures { result ≡ call_bytes (call_of call.now) }
-{
-    match call {
-        TblCall::Register { name, .. } | TblCall::Share { name } => name.len(),
-        TblCall::Stage { bytes, .. } | TblCall::Load { bytes, .. } => bytes.len(),
-        TblCall::Unregister { .. }
-        | TblCall::Validate { .. }
-        | TblCall::Update { .. }
-        | TblCall::Abort { .. }
-        | TblCall::GetAddress { .. }
-        | TblCall::ReleaseAddress { .. }
-        | TblCall::Status { .. }
-        | TblCall::End => 0,
-    }
+    1 <= left.entries && call.byte_count() <= left.bytes as usize
 }

@@ -35,23 +35,9 @@ fn is_permitted(lets: bool, left: Allowance, call: &BusCall<'_>) -> bool
         (lets && nat_le 1 left.entries && nat_le (call_bytes (call_of call.now)) left.bytes &&
         is_within (call_of call.now)) }
 {
-    let bytes = bytes_of(call);
+    let bytes = call.byte_count();
     let short = is_within(call);
     lets && 1 <= left.entries && bytes <= left.bytes as usize && short
-}
-
-// The bytes of the call's name, message, buffer or event's text.
-fn bytes_of(call: &BusCall<'_>) -> usize
-    ensures { result ≡ call_bytes (call_of call.now) }
-{
-    match call {
-        BusCall::Create { name, .. } => name.len(),
-        BusCall::Find { name } => name.len(),
-        BusCall::Transmit { bytes, .. } => bytes.len(),
-        BusCall::TransmitBuffer { bytes, .. } => bytes.len(),
-        BusCall::SendEvent { text, .. } => text.len(),
-        _ => 0,
-    }
 }
 
 // Whether the call's name, message or event's text is short enough, and its log mode is one.

@@ -31,22 +31,9 @@ fn is_permitted(lets: bool, left: Allowance, call: &TblCall<'_>) -> bool
         (lets && nat_le 1 left.entries && nat_le (call_bytes (call_of call.now)) left.bytes &&
         is_within (call_of call.now)) }
 {
-    let bytes = bytes_of(call);
+    let bytes = call.byte_count();
     let within = is_within(call);
     lets && 1 <= left.entries && bytes <= left.bytes as usize && within
-}
-
-// The bytes of the call's name or load.
-fn bytes_of(call: &TblCall<'_>) -> usize
-    ensures { result ≡ call_bytes (call_of call.now) }
-{
-    match call {
-        TblCall::Register { name, .. } => name.len(),
-        TblCall::Share { name } => name.len(),
-        TblCall::Stage { bytes, .. } => bytes.len(),
-        TblCall::Load { bytes, .. } => bytes.len(),
-        _ => 0,
-    }
 }
 
 // Whether the range of a load is one; calls of other kinds have none.

@@ -1,4 +1,6 @@
 //! The calls of Table Services, their answers, and both together as an entry of the journal.
+ghost use Rattle.std.specs.Prelude.{◌≡◌};
+ghost use Rattle.tbl_words.specs.Entries.{call_of, call_text, call_bytes};
 
 use crate::statuses::TblStatus;
 use fsw_base::AppNo;
@@ -79,6 +81,26 @@ pub enum TblCall<'a> {
     },
     /// The application's last call: all its handles are given back.
     End,
+}
+
+impl<'a> TblCall<'a> {
+    /// The bytes that the call brings: its name, or what it loads; none where it has neither.
+    pub fn text(&self) -> &'a [u8]
+        ensures { result.now ≡ call_text (call_of self.now) }
+    {
+        match self {
+            TblCall::Register { name, .. } | TblCall::Share { name } => name,
+            TblCall::Stage { bytes, .. } | TblCall::Load { bytes, .. } => bytes,
+            _ => &[],
+        }
+    }
+
+    /// How many bytes the call brings.
+    pub fn byte_count(&self) -> usize
+        ensures { result ≡ call_bytes (call_of self.now) }
+    {
+        self.text().len()
+    }
 }
 
 /// What an application is told with the address of a table.

@@ -142,7 +142,7 @@ impl TblJournal {
             call: row_of(&entry.call),
             answer: entry.answer,
         };
-        self.store.push(entry.app, row, text_of(&entry.call));
+        self.store.push(entry.app, row, entry.call.text());
     }
 }
 
@@ -215,16 +215,5 @@ fn row_of(call: &TblCall<'_>) -> RowCall
         TblCall::ReleaseAddress { handle } => RowCall::ReleaseAddress { handle: *handle },
         TblCall::Status { handle } => RowCall::Status { handle: *handle },
         TblCall::End => RowCall::End,
-    }
-}
-
-// The bytes of a call; none where it has none.
-fn text_of<'a>(call: &TblCall<'a>) -> &'a [u8]
-    ensures { result.now ≡ call_text (call_of call.now) }
-{
-    match call {
-        TblCall::Register { name, .. } | TblCall::Share { name } => name,
-        TblCall::Stage { bytes, .. } | TblCall::Load { bytes, .. } => bytes,
-        _ => &[],
     }
 }

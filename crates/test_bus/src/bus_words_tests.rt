@@ -159,40 +159,7 @@ fn has_room(journal: &BusJournal, entry: &BusEntry<'_>) -> bool
         return false;
     }
     let Allowance { entries, bytes } = journal.left(entry.app);
-    1 <= entries && call_len(&entry.call) <= bytes as usize
-}
-
-// How many bytes a call brings.
-fn call_len(call: &BusCall<'_>) -> usize
-    ensures { result ≡ call_bytes (call_of call.now) }
-{
-    match call {
-        BusCall::Create { name, .. } | BusCall::Find { name } => name.len(),
-        BusCall::Transmit { bytes, .. } | BusCall::TransmitBuffer { bytes, .. } => bytes.len(),
-        BusCall::SendEvent { text, .. } => text.len(),
-        BusCall::Delete { .. }
-        | BusCall::SetOpts { .. }
-        | BusCall::GetOpts { .. }
-        | BusCall::PipeName { .. }
-        | BusCall::Subscribe { .. }
-        | BusCall::Unsubscribe { .. }
-        | BusCall::Receive { .. }
-        | BusCall::Pend { .. }
-        | BusCall::Look { .. }
-        | BusCall::Allocate { .. }
-        | BusCall::Release { .. }
-        | BusCall::PoolCreate { .. }
-        | BusCall::PoolGet { .. }
-        | BusCall::PoolPut { .. }
-        | BusCall::PoolFigures { .. }
-        | BusCall::Register { .. }
-        | BusCall::ResetFilter { .. }
-        | BusCall::LogMode { .. }
-        | BusCall::ClearLog
-        | BusCall::Housekeeping
-        | BusCall::Figures
-        | BusCall::End => 0,
-    }
+    1 <= entries && entry.call.byte_count() <= bytes as usize
 }
 
 #[test]

@@ -15,7 +15,9 @@ use run_report::{BusReadings, TableReadings, write_report};
 use std::alloc::{AllocError, Global};
 use std::test::Fail;
 use tbl_rules::{Rule, RuleList};
-use tbl_words::{Allowance, TblAnswer, TblCall, TblEntry, TblJournal, TblState, TblStatus, TblUse, Told};
+use tbl_words::{
+    Allowance, TblAnswer, TblCall, TblEntry, TblJournal, TblState, TblStatus, TblUse, Told,
+};
 
 // Room for each call below.
 const BUDGET: Budget = Budget {
@@ -257,23 +259,5 @@ fn has_room(journal: &TblJournal, entry: &TblEntry<'_>) -> bool
         return false;
     }
     let Allowance { entries, bytes } = journal.left(entry.app);
-    1 <= entries && call_len(&entry.call) <= bytes as usize
-}
-
-// How many bytes a call brings.
-fn call_len(call: &TblCall<'_>) -> usize
-    ensures { result ≡ call_bytes (call_of call.now) }
-{
-    match call {
-        TblCall::Register { name, .. } | TblCall::Share { name } => name.len(),
-        TblCall::Stage { bytes, .. } | TblCall::Load { bytes, .. } => bytes.len(),
-        TblCall::Unregister { .. }
-        | TblCall::Validate { .. }
-        | TblCall::Update { .. }
-        | TblCall::Abort { .. }
-        | TblCall::GetAddress { .. }
-        | TblCall::ReleaseAddress { .. }
-        | TblCall::Status { .. }
-        | TblCall::End => 0,
-    }
+    1 <= entries && entry.call.byte_count() <= bytes as usize
 }

@@ -8,7 +8,9 @@ use fsw_base::{AppNo, Budget};
 use std::alloc::{AllocError, Global};
 use std::test::Fail;
 use tbl_rules::{Rule, RuleList};
-use tbl_words::{Allowance, TableReceipt, TblAnswer, TblCall, TblEntry, TblJournal, TblState, TblStatus, Told};
+use tbl_words::{
+    Allowance, TableReceipt, TblAnswer, TblCall, TblEntry, TblJournal, TblState, TblStatus, Told,
+};
 
 #[test]
 fn journal_gives_back_each_kind_of_call(rt: HostRuntime) -> Result<(), Fail> {
@@ -110,25 +112,7 @@ fn has_room(journal: &TblJournal, entry: &TblEntry<'_>) -> bool
         return false;
     }
     let Allowance { entries, bytes } = journal.left(entry.app);
-    1 <= entries && call_len(&entry.call) <= bytes as usize
-}
-
-// How many bytes a call brings.
-fn call_len(call: &TblCall<'_>) -> usize
-    ensures { result ≡ call_bytes (call_of call.now) }
-{
-    match call {
-        TblCall::Register { name, .. } | TblCall::Share { name } => name.len(),
-        TblCall::Stage { bytes, .. } | TblCall::Load { bytes, .. } => bytes.len(),
-        TblCall::Unregister { .. }
-        | TblCall::Validate { .. }
-        | TblCall::Update { .. }
-        | TblCall::Abort { .. }
-        | TblCall::GetAddress { .. }
-        | TblCall::ReleaseAddress { .. }
-        | TblCall::Status { .. }
-        | TblCall::End => 0,
-    }
+    1 <= entries && entry.call.byte_count() <= bytes as usize
 }
 
 #[test]
