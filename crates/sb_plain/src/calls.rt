@@ -11,7 +11,7 @@ ghost use Rattle.sb_plain.specs.Answers.{created, done, sent, got};
 ghost use Rattle.sb_plain.specs.Bags.{HasBag, KeepsBags, KeepsOtherBags, KeepsAllLoans, KeepsAllDescs, KeepsLoans, KeepsOtherLoans, KeepsOtherDescs};
 
 use crate::activities::Activity;
-use crate::pipe_ends::release;
+use crate::pipe_ends::end_pipes;
 use crate::plain::PlainBus;
 use crate::uses::{see, tell_unless};
 use buf_desc::Held;
@@ -263,7 +263,7 @@ impl<'r> PlainBus<'r> {
         // Does nothing; the proof learns of it that no two applications have one pipe.
         self.store.recall_order();
         self.activities[(app.get() - 1) as usize] = Activity::Ended;
-        release(&mut self.store, app, held, steps);
+        end_pipes(&mut self.store, app, held, steps);
         self.store.release_all(app, held, steps);
         self.pools.end(app, steps);
         self.records.unregister(app);

@@ -13,7 +13,7 @@ use step_count::{Ledger, Steps};
 
 /// Ends the application's pipes, with their subscriptions and messages, whose views are taken out
 /// of its bag.
-pub(crate) fn release<'r, L: Ledger>(
+pub(crate) fn end_pipes<'r, L: Ledger>(
     store: &mut BusStore<'r>,
     app: AppNo,
     held: &mut Held<'r>,

@@ -6,7 +6,7 @@ use Rattle.bus_words.specs.Bus.{Pipe, Subscription, owns}
 use Rattle.bus_words.specs.Held.{blocks_held}
 use Rattle.bus_store.specs.Store.{Store}
 use Rattle.sb_plain.proofs.Releases.{AreOwned, AreFewer, first_pipe, no_first, pipes_stay, pipes_fewer, first_owned, owned_after, subs_stay, pipes_left, subs_left, still_alone, still_out, still_fewer}
-use Rattle.sb_plain.proofs.pipe_ends.release.Goals as goal
+use Rattle.sb_plain.proofs.pipe_ends.end_pipes.Goals as goal
 
 pub loop-pipe-smaller : goal.loop-pipe-smaller
 loop-pipe-smaller g c =

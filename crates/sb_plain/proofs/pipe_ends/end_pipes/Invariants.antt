@@ -6,7 +6,7 @@ use Rattle.bus_words.specs.Bus.{owns}
 use Rattle.bus_store.specs.Words.{loan_of}
 use Rattle.sb_plain.proofs.Bags.{HasViews}
 use Rattle.sb_plain.proofs.Releases.{AreOwned, AreFewer, Alone, OutAlone}
-use Rattle.sb_plain.proofs.pipe_ends.release.Given as goal
+use Rattle.sb_plain.proofs.pipe_ends.end_pipes.Given as goal
 
 abbrev pub invariant-loop-pipe : goal.invariant-loop-pipe
 invariant-loop-pipe g l = record {
