@@ -35,6 +35,7 @@ use std::alloc::{AllocError, Global};
 use std::marker::Brand;
 use std::{env, io};
 use step_count::{Blank, Ledger};
+use turns::{Load, carry};
 
 // The most rounds: there are numbers for all their calls.
 const MOST_ROUNDS: u32 = 100_000_000;
@@ -73,7 +74,11 @@ fn time_sends(alloc: Global, sends: Sends, rounds: u32) -> Result<(u32, u32), Al
     let cfg = Config::usual();
     let mut region = vec![in alloc; 0; cfg.pool as usize]?;
     let mut message = vec![in alloc; 0; sends.size as usize]?;
-    let load = (rounds, sends.dests, sends.reads);
+    let load = Load {
+        turns: rounds,
+        dests: sends.dests,
+        reads: sends.reads,
+    };
     let blank = Blank::new(1);
     run_load::<Brand>(alloc, &cfg, &mut region, &mut message, load, blank)
 }
@@ -85,7 +90,7 @@ fn run_load<L: Ledger>(
     cfg: &Config,
     region: &mut [u8],
     message: &mut [u8],
-    load: (u32, u32, u32),
+    load: Load,
     blank: Blank,
 ) -> Result<(u32, u32), AllocError>
     requires name { blank.name ≡ L.name }
@@ -93,7 +98,7 @@ fn run_load<L: Ledger>(
     requires some_part { 0 < blank.parts }
     requires region { cfg.now.pool ≤ length region.old }
     requires message { (7 ≤ length message.old) × (length message.old ≤ 65542) }
-    requires load { (load.0 ≤ 100000000) × (load.1 ≤ 16) × (load.2 ≤ 16) }
+    requires load { (load.turns ≤ 100000000) × (load.dests ≤ 16) × (load.reads ≤ 16) }
 {
     let mut core = PlainBus::new(alloc, cfg, 1, region)?;
     carry_load::<L>(alloc, cfg, &mut core, message, load, blank)
@@ -106,7 +111,7 @@ fn carry_load<'r, L: Ledger>(
     cfg: &Config,
     core: &mut PlainBus<'r>,
     message: &mut [u8],
-    load: (u32, u32, u32),
+    load: Load,
     blank: Blank,
 ) -> Result<(u32, u32), AllocError>
     requires name { blank.name ≡ L.name }
@@ -120,9 +125,9 @@ fn carry_load<'r, L: Ledger>(
           descs = [];
         } }
     requires message { (7 ≤ length message.old) × (length message.old ≤ 65542) }
-    requires load { (load.0 ≤ 100000000) × (load.1 ≤ 16) × (load.2 ≤ 16) }
+    requires load { (load.turns ≤ 100000000) × (load.dests ≤ 16) × (load.reads ≤ 16) }
 {
     let mut held = Held::new(alloc, cfg.pipes, 0)?;
-    let received = turns::carry::<L>(core, &mut held, message, load, blank);
+    let received = carry::<L>(core, &mut held, message, load, blank);
     Ok((received, core.pool().blocks_in_use()))
 }

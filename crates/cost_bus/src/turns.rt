@@ -10,30 +10,39 @@ use fsw_base::AppNo;
 use sb_plain::PlainBus;
 use step_count::{Blank, Ledger, Steps};
 
-/// Has application 1 make the pipes, so many for each message id, then send so many messages and
-/// receive each on so many of its pipes: the load says how many messages, pipes and receives.
-/// Answers how many were received.
+/// What the bus carries.
+#[derive(Clone, Copy)]
+pub struct Load {
+    /// How many messages are sent.
+    pub turns: u32,
+    /// The pipes that are subscribed to each message id.
+    pub dests: u32,
+    /// On how many of them each message is received.
+    pub reads: u32,
+}
+
+/// Has application 1 make the pipes of the load, send its messages and receive them. Answers how
+/// many were received.
 pub fn carry<'r, L: Ledger>(
     core: &mut PlainBus<'r>,
     held: &mut Held<'r>,
     message: &mut [u8],
-    load: (u32, u32, u32),
+    load: Load,
     blank: Blank,
 ) -> u32
     requires name { blank.name ≡ L.name }
     requires parts { blank.parts ≡ L.parts }
     requires some_part { 0 < blank.parts }
     requires message { (7 ≤ length message.old) × (length message.old ≤ 65542) }
-    requires dests { load.1 ≤ 16 }
-    requires reads { load.2 ≤ 16 }
-    requires may { MayMake core.old 1 (128 + 17 * load.0) }
+    requires dests { load.dests ≤ 16 }
+    requires reads { load.reads ≤ 16 }
+    requires may { MayMake core.old 1 (128 + 17 * load.turns) }
     requires bag { HasBag core.old 1 held.old }
 {
-    let (turns, dests, reads) = load;
     let mut steps = Steps::<L>::new(blank);
     let app = AppNo::try_new(1).unwrap();
-    open(core, app, IDS * dests, &mut steps);
-    carry_all(core, app, held, message, turns, reads, &mut steps)
+    open(core, app, IDS * load.dests, &mut steps);
+    carry_all(core, app, held, message, load.turns, load.reads, &mut steps)
 }
 
 // Sends so many messages and receives each on so many pipes. Answers how many were received.
