@@ -1,4 +1,5 @@
--- Who calls: an application with its bags, and the services that it calls; and what its calls of the bus need and leave.
+-- Who calls: an application with its bags, and the services that it calls; and what its calls of
+-- the bus need and leave.
 use base.Fml.{GName}
 use Rattle.std.specs.Prelude.{◌≡◌, ℕ, ◌+◌, ◌<◌, ◌≤◌, ◌⊎◌, Bool, false, length}
 use Rattle.std.specs.Option.{option_map}
@@ -23,8 +24,9 @@ pub record Names : Type 0 where
   pub tables : GName
   pub held : GName
 
--- An application's calls: the application; the bus as they saw it last, and the application's bag there; the tables as they saw them
--- last, and its bag there; which services and bags these are; and whether nobody else calls them in between.
+-- An application's calls: the application; the bus as they saw it last, and the application's bag
+-- there; the tables as they saw them last, and its bag there; which services and bags these are;
+-- and whether nobody else calls them in between.
 pub record Caller : Type 0 where
   pub app : ℕ
   pub core : Core
@@ -38,10 +40,11 @@ pub record Caller : Type 0 where
 abbrev pub HasOwnBag : Caller → Type 0
 HasOwnBag caller = HasBag caller.core caller.app caller.bag
 
--- This is the bus that the application's next call meets: the one last seen; or, where the calls aren't alone, that one
--- with entries of others.
+-- This is the bus that the application's next call meets: the one last seen; or, where the calls
+-- aren't alone, that one with entries of others.
 abbrev pub Meets : Caller → Core → Type 0
-Meets caller now = (now ≡ caller.core) ⊎ ((caller.alone ≡ false) × CalledByOthers caller.core now caller.app)
+Meets caller now =
+    (now ≡ caller.core) ⊎ ((caller.alone ≡ false) × CalledByOthers caller.core now caller.app)
 
 -- the bytes of the bag's unsent buffers, by their numbers
 abbrev pub written_in : Holding LentBytes → Written
@@ -63,7 +66,8 @@ pub record MayCallBus (caller : Caller) (call : Call) : Type 0 where
   pub bag : HasOwnBag caller
   pub room : FindsRoom caller.bag call
 
--- the application may write into the buffers of its own bag, none of which is longer than a packet can be
+-- the application may write into the buffers of its own bag, none of which is longer than a packet
+-- can be
 pub record MayWrite (caller : Caller) : Type 0 where
   pub bag : HasOwnBag caller
   pub small : caller.core.limits.msgmax ≤ 65542
@@ -79,15 +83,17 @@ pub record KeepsTables (old new : Caller) : Type 0 where
   pub tables : new.tables ≡ old.tables
   pub held : new.held ≡ old.held
 
--- A call so answered left the bag with these buffers: a new one is zeros, one that was sent or given back is gone, and all
--- others have the bytes that they had.
-pub record LeavesBuffers (old new : Holding LentBytes) (call : Call) (answer : BusAnswer) : Type 0 where
-  pub written : (number : ℕ) → written_in new number ≡ written_after (written_in old) call answer number
+-- A call so answered left the bag with these buffers: a new one is zeros, one that was sent or
+-- given back is gone, and all others have the bytes that they had.
+pub record LeavesBuffers (old new : Holding LentBytes) (call : Call)
+    (answer : BusAnswer) : Type 0 where
+  pub written : (number : ℕ) →
+      written_in new number ≡ written_after (written_in old) call answer number
   pub count : length new.buffers ≤ length old.buffers + buffers_asked call
   pub room : new.buffer_room ≡ old.buffer_room
 
--- The call was answered as the bus that it met answers it. Its entry is the last of the history, the
--- bag is still the application's, and the tables are unchanged.
+-- The call was answered as the bus that it met answers it. Its entry is the last of the history,
+-- the bag is still the application's, and the tables are unchanged.
 pub record Answers (old new : Caller) (call : Call) (answer : BusAnswer) : Type 0 where
   pub now : Core
   pub meets : Meets old now

@@ -11,10 +11,11 @@ use Rattle.app_calls.specs.Callers.{Caller, SameServices}
 abbrev pub HasOwnTables : Caller → Type 0
 HasOwnTables caller = HasBag caller.tables caller.app caller.held
 
--- These are the tables that the application's next call meets: those last seen; or, where the calls aren't alone, those with
--- entries of others.
+-- These are the tables that the application's next call meets: those last seen; or, where the calls
+-- aren't alone, those with entries of others.
 abbrev pub MeetsTables : Caller → Core → Type 0
-MeetsTables caller now = (now ≡ caller.tables) ⊎ ((caller.alone ≡ false) × CalledByOthers caller.tables now caller.app)
+MeetsTables caller now =
+    (now ≡ caller.tables) ⊎ ((caller.alone ≡ false) × CalledByOthers caller.tables now caller.app)
 
 -- the application may make this call now, with its own bag
 pub record MayCallTables (caller : Caller) (call : Call) : Type 0 where

@@ -24,7 +24,8 @@ grant_of lent = record { number = lent.number; app = lent.app; class = lent.clas
 
 -- what a pool is
 abbrev pub grants_of : PoolState → ℕ → List Lent → PoolGrants
-grants_of pool given lent = record { account = account_in pool; given = given; out = map grant_of lent }
+grants_of pool given lent =
+    record { account = account_in pool; given = given; out = map grant_of lent }
 
 -- a grant's block is out and of the grant's class
 abbrev pub IsLent : PoolState → Lent → Type 0
@@ -41,24 +42,30 @@ AreRising lent = AllPairs (λ earlier later. earlier.number < later.number) lent
 
 -- the grant at a place has the number
 abbrev pub HasNumber : List Lent → ℕ → ℕ → Type 0
-HasNumber lent number i = (i < length lent) × ((d : Lent) → (slice_index_or lent i d).number ≡ number)
+HasNumber lent number i =
+    (i < length lent) × ((d : Lent) → (slice_index_or lent i d).number ≡ number)
 
 -- the numbers rise, and all of them were given
 pub record AreNumbered (lent : List Lent) (given : ℕ) : Type 0 where
   pub rising : AreRising lent
   pub given_all : All (λ grant. (1 ≤ grant.number) × (grant.number ≤ given)) lent
 
--- the blocks of the first grants of an application are given back: those of its later grants and of all others' are out
+-- the blocks of the first grants of an application are given back: those of its later grants and of
+-- all others' are out
 pub record AreGivenBack (old new : PoolState) (lent : List Lent) (app count : ℕ) : Type 0 where
-  pub account : account_without app (account_in new) (map grant_of (drop count lent)) ≡ account_without app (account_in old) (map grant_of lent)
+  pub account : account_without app (account_in new) (map grant_of (drop count lent)) ≡
+      account_without app (account_in old) (map grant_of lent)
   pub kept : IsAccountOf new (account_in new)
-  pub held : (i : ℕ) (d : Lent) → i < length lent → count ≤ i ⊎ (slice_index_or lent i d).app ≢ app → IsLent new (slice_index_or lent i d)
+  pub held : (i : ℕ) (d : Lent) → i < length lent → count ≤ i ⊎
+      (slice_index_or lent i d).app ≢ app → IsLent new (slice_index_or lent i d)
   pub cut : length new.blocks ≡ length old.blocks
   pub sizes : new.sizes ≡ old.sizes
   pub most : new.most ≡ old.most
-  pub fewer : out_among new.blocks + held_by app (map grant_of lent) ≡ out_among old.blocks + held_by app (map grant_of (drop count lent))
+  pub fewer : out_among new.blocks + held_by app (map grant_of lent) ≡ out_among old.blocks +
+      held_by app (map grant_of (drop count lent))
 
--- the blocks that are out are those of the grants, and there is room for as many grants as blocks can ever be cut
+-- the blocks that are out are those of the grants, and there is room for as many grants as blocks
+-- can ever be cut
 pub record AreKept (pool : PoolState) (given : ℕ) (lent : List Lent) (room : ℕ) : Type 0 where
   pub account : IsAccountOf pool (account_in pool)
   pub blocks : AreLent pool lent
@@ -71,11 +78,14 @@ pub record AreKept (pool : PoolState) (given : ℕ) (lent : List Lent) (room : �
 abbrev pub pools_in : ℕ → List ℕ → ℕ → List PoolGrants → Pools
 pools_in most sizes made places = record { most = most; sizes = sizes; pools = take made places }
 
--- there is room for eight pools, all that weren't created are as at opening, and of each the grants that are out are counted
-pub record AreOpened (most : ℕ) (sizes : List ℕ) (made : ℕ) (places : List PoolGrants) : Type 0 where
+-- there is room for eight pools, all that weren't created are as at opening, and of each the grants
+-- that are out are counted
+pub record AreOpened (most : ℕ) (sizes : List ℕ) (made : ℕ)
+    (places : List PoolGrants) : Type 0 where
   pub eight : length places ≡ 8
   pub within : made ≤ 8
-  pub unused : (i : ℕ) → made ≤ i → i < 8 → slice_index_or places i (new_pool [] 0) ≡ new_pool sizes most
+  pub unused : (i : ℕ) → made ≤ i → i < 8 →
+      slice_index_or places i (new_pool [] 0) ≡ new_pool sizes most
   pub counted : All IsCounted places
 
 -- where the pool of a number stands

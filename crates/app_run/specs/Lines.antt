@@ -29,7 +29,8 @@ abbrev pub filling_size : Content → ℕ
 filling_size (Hex bytes) = 0
 filling_size (Fill len byte) = len
 
--- how many bytes a line has made: those of the message of a `send` line, and those of a load that is told by its first byte
+-- how many bytes a line has made: those of the message of a `send` line, and those of a load that
+-- is told by its first byte
 unfoldable pub made_size : Line → ℕ
 made_size (Send id size fill inc) = size
 made_size (Stage handle offset content) = filling_size content
@@ -41,7 +42,8 @@ unfoldable pub pipe_waited_for : Registers → Line → BusAnswer → Option ℕ
 pipe_waited_for registers (Pend pipe) Pending = Some (slice_index registers.pipes pipe)
 pipe_waited_for registers line answer = None
 
--- the most bytes that the call of a line brings, where the latest `alloc` of each register of buffers asked for these sizes
+-- the most bytes that the call of a line brings, where the latest `alloc` of each register of
+-- buffers asked for these sizes
 unfoldable pub line_bytes : List ℕ → Line → ℕ
 line_bytes asked (Create pipe depth name) = length name
 line_bytes asked (Find pipe name) = length name
@@ -60,10 +62,13 @@ abbrev pub bytes_due : List ℕ → List Line → ℕ
 bytes_due asked [] = 0
 bytes_due asked (line ∷ lines) = line_bytes asked line + bytes_due (sizes_after asked line) lines
 
--- The registers of buffers name buffers of at most these sizes, under numbers that were given; none has the number 0.
-pub record AreAsked (registers : List ℕ) (written : Written) (given : ℕ) (asked : List ℕ) : Type 0 where
+-- The registers of buffers name buffers of at most these sizes, under numbers that were given; none
+-- has the number 0.
+pub record AreAsked (registers : List ℕ) (written : Written) (given : ℕ)
+    (asked : List ℕ) : Type 0 where
   pub alike : length asked ≡ length registers
-  pub sizes : (register : ℕ) → length (bytes_in written (slice_index registers register)) ≤ slice_index asked register
+  pub sizes : (register : ℕ) →
+      length (bytes_in written (slice_index registers register)) ≤ slice_index asked register
   pub numbers : (register : ℕ) → slice_index registers register ≤ given
   pub none : written 0 ≡ None
 

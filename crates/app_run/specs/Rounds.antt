@@ -28,7 +28,8 @@ abbrev pub equipped : List Progress → List (Holding LentBytes) → List HeldVi
 equipped [] bags helds = []
 equipped (progress ∷ others) [] helds = []
 equipped (progress ∷ others) (bag ∷ bags) [] = []
-equipped (progress ∷ others) (bag ∷ bags) (held ∷ helds) = record { progress = progress; bag = bag; held = held } ∷ equipped others bags helds
+equipped (progress ∷ others) (bag ∷ bags) (held ∷ helds) =
+    record { progress = progress; bag = bag; held = held } ∷ equipped others bags helds
 
 -- those that go on
 abbrev pub all_going : List Equipped → List Running
@@ -38,7 +39,8 @@ all_going (one ∷ others) = going one ++ all_going others
 -- applications count up, from this number
 abbrev pub AreNumbered : ℕ → List Equipped → Type 0
 AreNumbered number [] = Unit {0}
-AreNumbered number (one ∷ others) = (one.progress.running.app ≡ number) × AreNumbered (number + 1) others
+AreNumbered number (one ∷ others) =
+    (one.progress.running.app ≡ number) × AreNumbered (number + 1) others
 
 -- both services know each application as it is
 pub record AllStand (services : Services) (all : List Equipped) : Type 0 where
@@ -53,10 +55,12 @@ AllHold core number (bag ∷ bags) = HasBag core number bag × AllHold core (num
 -- and so are those of the tables
 abbrev pub AllHoldTables : TableCore → ℕ → List HeldViews → Type 0
 AllHoldTables core number [] = Unit {0}
-AllHoldTables core number (held ∷ helds) = HasTableBag core number held × AllHoldTables core (number + 1) helds
+AllHoldTables core number (held ∷ helds) =
+    HasTableBag core number held × AllHoldTables core (number + 1) helds
 
 -- each application has its bags
-pub record AllEquipped (services : Services) (bags : List (Holding LentBytes)) (helds : List HeldViews) : Type 0 where
+pub record AllEquipped (services : Services) (bags : List (Holding LentBytes))
+    (helds : List HeldViews) : Type 0 where
   pub at_bus : AllHold services.bus 1 bags
   pub at_tables : AllHoldTables services.tables 1 helds
 
@@ -77,7 +81,8 @@ telling_now limits sofar running entries = record {
 -- of an application that waits: its look's receipts first
 abbrev pub told_waiting : ℕ → List Line → List Seen → Telling → List Receipt
 told_waiting app lines [] at = []
-told_waiting app lines (look ∷ others) at = receipts_of app look ++ told app lines (record at { state = look.after; seen = others })
+told_waiting app lines (look ∷ others) at =
+    receipts_of app look ++ told app lines (record at { state = look.after; seen = others })
 
 -- of an application in this standing: nothing more once it has ended
 abbrev pub told_on : Standing → ℕ → List Line → Telling → List Receipt
@@ -88,7 +93,8 @@ told_on Ended app lines at = []
 -- of an application, with the entries to come
 abbrev pub to_come : Limits → SoFar → Running → Histories → List Receipt
 to_come limits sofar running entries =
-    told_on (standing_of sofar.state running.app) running.app running.lines (telling_now limits sofar running entries)
+    told_on (standing_of sofar.state running.app) running.app running.lines
+        (telling_now limits sofar running entries)
 
 -- the histories of both services, and these entries behind them
 abbrev pub histories_with : Services → Histories → Histories
@@ -97,13 +103,14 @@ histories_with services entries = record {
   tables = services.tables.log.entries ++ entries.tables;
 }
 
--- The application's receipts so far are what it has told: whatever entries follow, its receipts in all are these and those
--- to come.
+-- The application's receipts so far are what it has told: whatever entries follow, its receipts in
+-- all are these and those to come.
 abbrev pub HasTold : ScriptText → Services → Equipped → Type 0
 HasTold script services one =
     (entries : Histories) →
     receipts_told script (histories_with services entries) one.progress.running.app
-    ≡ one.progress.receipts ++ to_come services.bus.limits (so_far services) (running_of one) entries
+    ≡ one.progress.receipts ++
+        to_come services.bus.limits (so_far services) (running_of one) entries
 
 -- the same of each application, on services for the script
 pub record AllTold (script : ScriptText) (services : Services) (all : List Equipped) : Type 0 where
@@ -128,27 +135,33 @@ pub record AreSame (before after : Services) : Type 0 where
   pub table_apps : table_apps_of after.tables ≡ table_apps_of before.tables
 
 -- The first so many applications took their turns of one rotation.
-pub record AreTurned (i : ℕ) (before : Services) (first : List Equipped) (after : Services) (all : List Equipped) : Type 0 where
+pub record AreTurned (i : ℕ) (before : Services) (first : List Equipped) (after : Services)
+    (all : List Equipped) : Type 0 where
   pub stand : AllStand after all
   pub turns :
-      (let rest = rotated before.bus.limits (so_far after) (all_going (drop i all)) in (rest.0, all_going (take i all) ++ rest.1))
+      (let rest = rotated before.bus.limits (so_far after) (all_going (drop i all)) in
+          (rest.0, all_going (take i all) ++ rest.1))
       ≡ rotated before.bus.limits (so_far before) (all_going first)
   pub told : (script : ScriptText) → AllTold script before first → AllTold script after all
   pub count : length all ≡ length first
   pub same : AreSame before after
 
 -- All applications took their turns of one rotation.
-pub record Rotates (before : Services) (first : List Equipped) (after : Services) (all : List Equipped) : Type 0 where
+pub record Rotates (before : Services) (first : List Equipped) (after : Services)
+    (all : List Equipped) : Type 0 where
   pub stand : AllStand after all
-  pub turns : (so_far after, all_going all) ≡ rotated before.bus.limits (so_far before) (all_going first)
+  pub turns : (so_far after, all_going all) ≡
+      rotated before.bus.limits (so_far before) (all_going first)
   pub told : (script : ScriptText) → AllTold script before first → AllTold script after all
   pub count : length all ≡ length first
   pub same : AreSame before after
 
 -- All applications took their turns of so many rotations.
-pub record RotatesTimes (times : ℕ) (before : Services) (first : List Equipped) (after : Services) (all : List Equipped) : Type 0 where
+pub record RotatesTimes (times : ℕ) (before : Services) (first : List Equipped) (after : Services)
+    (all : List Equipped) : Type 0 where
   pub stand : AllStand after all
-  pub turns : (so_far after, all_going all) ≡ rotations times before.bus.limits (so_far before, all_going first)
+  pub turns : (so_far after, all_going all) ≡
+      rotations times before.bus.limits (so_far before, all_going first)
   pub told : (script : ScriptText) → AllTold script before first → AllTold script after all
   pub count : length all ≡ length first
   pub same : AreSame before after

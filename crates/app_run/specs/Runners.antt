@@ -25,8 +25,8 @@ pub record Services : Type 0 where
 abbrev pub histories_of : Core → TableCore → Histories
 histories_of bus tables = record { bus = bus.log.entries; tables = tables.log.entries }
 
--- Where an application is in its script: its number, how many lines it has begun, the lines left and its registers, those of table
--- handles by themselves.
+-- Where an application is in its script: its number, how many lines it has begun, the lines left
+-- and its registers, those of table handles by themselves.
 pub record Place : Type 0 where
   pub app : ℕ
   pub begun : ℕ
@@ -34,8 +34,8 @@ pub record Place : Type 0 where
   pub registers : Registers
   pub handles : List ℕ
 
--- An application of a run: where it is in its script; the pipe that it waits on; whether it has ended; and its receipts so
--- far.
+-- An application of a run: where it is in its script; the pipe that it waits on; whether it has
+-- ended; and its receipts so far.
 pub record Progress : Type 0 where
   pub running : Place
   pub waits_on : Option ℕ
@@ -45,7 +45,9 @@ pub record Progress : Type 0 where
 -- before the first line
 abbrev pub beginning : ScriptText → ℕ → Progress
 beginning script app = record {
-  running = record { app = app; begun = 0; lines = (app_at script app).lines; registers = first_registers; handles = first_handles };
+  running =
+      record { app = app; begun = 0; lines = (app_at script app).lines; registers = first_registers;
+      handles = first_handles };
   waits_on = None;
   ended = false;
   receipts = [];
@@ -64,7 +66,8 @@ standing_for (Some pipe) = Waiting pipe
 abbrev pub standing_in : Progress → Standing
 standing_in progress = if progress.ended then Ended else standing_for progress.waits_on
 
--- An application of a run with its bags: one of messages, and of buffers with what it wrote, and one of tables.
+-- An application of a run with its bags: one of messages, and of buffers with what it wrote, and
+-- one of tables.
 pub record Equipped : Type 0 where
   pub progress : Progress
   pub bag : Holding LentBytes

@@ -42,20 +42,25 @@ so_far services = record {
 
 -- a line that the bus doesn't see: what its call of the tables gave, or what it shows
 abbrev pub other_tells : Limits → SoFar → Running → Line → Option TableCall → List Receipt
-other_tells limits sofar running line None = shown running.app sofar.state sofar.tables running.registers running.handles line
+other_tells limits sofar running line None =
+    shown running.app sofar.state sofar.tables running.registers running.handles line
 other_tells limits sofar running line (Some call) =
-    addressed_in running.app (after_table_call limits sofar running.app call).tables call (table_answer_to limits sofar running.app call)
+    addressed_in running.app (after_table_call limits sofar running.app call).tables call
+        (table_answer_to limits sofar running.app call)
 
 -- a line: what its call of the bus got, or what it tells otherwise
 abbrev pub line_tells : Limits → SoFar → Running → Line → Option Call → List Receipt
-line_tells limits sofar running line None = other_tells limits sofar running line (table_call_of running.handles line)
+line_tells limits sofar running line None =
+    other_tells limits sofar running line (table_call_of running.handles line)
 line_tells limits sofar running line (Some call) =
-    got_in running.app (after_call limits sofar running.app call).state call (answer_to limits sofar running.app call)
+    got_in running.app (after_call limits sofar running.app call).state call
+        (answer_to limits sofar running.app call)
 
 -- the next line; the end tells nothing
 abbrev pub active_tells : Limits → SoFar → Running → List Line → List Receipt
 active_tells limits sofar running [] = []
-active_tells limits sofar running (line ∷ lines) = line_tells limits sofar running line (call_of running.registers running.written line)
+active_tells limits sofar running (line ∷ lines) =
+    line_tells limits sofar running line (call_of running.registers running.written line)
 
 -- a turn of an application in this standing
 abbrev pub tells_in : Limits → SoFar → Running → Standing → List Receipt
@@ -74,28 +79,36 @@ tells limits sofar running = tells_in limits sofar running (standing_of sofar.st
 -- how many entries an application may still make
 abbrev pub entries_to_come : Progress → ℕ
 entries_to_come progress =
-    if progress.ended then 0 else entries_due progress.running.lines + (if is_some progress.waits_on then 1 else 0)
+    if progress.ended then 0
+        else entries_due progress.running.lines + (if is_some progress.waits_on then 1 else 0)
 
--- The bus knows the application as it is, and has room for all that it may still do, as its bag has for the buffers; the
--- application's receipts tell which messages it received last; and no message is longer than a packet can be.
+-- The bus knows the application as it is, and has room for all that it may still do, as its bag has
+-- for the buffers; the application's receipts tell which messages it received last; and no message
+-- is longer than a packet can be.
 pub record StandsAtBus (one : Equipped) (core : Core) : Type 0 where
   pub known : one.progress.running.app ≤ apps_of core
   pub standing : standing_of (state_of core) one.progress.running.app ≡ standing_in one.progress
-  pub entries : entries_to_come one.progress ≤ (allowance_of (left_of core.log) one.progress.running.app).entries
+  pub entries : entries_to_come one.progress ≤
+      (allowance_of (left_of core.log) one.progress.running.app).entries
   pub asked : List ℕ
-  pub buffers : AreAsked one.progress.running.registers.buffers (written_in one.bag) (state_of core).numbers_given asked
-  pub bytes : bytes_due asked one.progress.running.lines ≤ (allowance_of (left_of core.log) one.progress.running.app).bytes
-  pub room : length one.bag.buffers + sum_by buffers_of one.progress.running.lines ≤ one.bag.buffer_room
+  pub buffers : AreAsked one.progress.running.registers.buffers (written_in one.bag)
+      (state_of core).numbers_given asked
+  pub bytes : bytes_due asked one.progress.running.lines ≤
+      (allowance_of (left_of core.log) one.progress.running.app).bytes
+  pub room : length one.bag.buffers + sum_by buffers_of one.progress.running.lines ≤
+      one.bag.buffer_room
   pub remember : Remember one.progress.receipts (state_of core) one.progress.running.app
   pub small : core.limits.msgmax ≤ 65542
 
--- The tables know the application as it is, and have room for all that it may still do; its receipts tell which versions it holds;
--- and no table has more than 65536 bytes.
+-- The tables know the application as it is, and have room for all that it may still do; its
+-- receipts tell which versions it holds; and no table has more than 65536 bytes.
 pub record StandsAtTables (one : Equipped) (core : TableCore) : Type 0 where
   pub known : one.progress.running.app ≤ table_apps_of core
   pub ended : has_ended_at_tables (tables_of core) one.progress.running.app ≡ one.progress.ended
-  pub entries : entries_to_come one.progress ≤ (allowance_of (tables_left_of core.log) one.progress.running.app).entries
-  pub bytes : table_bytes_due one.progress.running.lines ≤ (allowance_of (tables_left_of core.log) one.progress.running.app).bytes
+  pub entries : entries_to_come one.progress ≤
+      (allowance_of (tables_left_of core.log) one.progress.running.app).entries
+  pub bytes : table_bytes_due one.progress.running.lines ≤
+      (allowance_of (tables_left_of core.log) one.progress.running.app).bytes
   pub remember : RememberHeld one.progress.receipts (tables_of core) one.progress.running.app
   pub small : core.limits.tablemax ≤ 65536
 
@@ -113,7 +126,8 @@ services_of caller = record { bus = caller.core; tables = caller.tables }
 abbrev pub with_bags : Progress → Caller → Equipped
 with_bags progress caller = record { progress = progress; bag = caller.bag; held = caller.held }
 
--- the application may take a turn by these calls: they are its own, with its own bags, and it has not ended
+-- the application may take a turn by these calls: they are its own, with its own bags, and it has
+-- not ended
 pub record MayTurn (progress : Progress) (caller : Caller) : Type 0 where
   pub own : caller.app ≡ progress.running.app
   pub goes_on : progress.ended ≡ false
@@ -123,28 +137,35 @@ pub record MayTurn (progress : Progress) (caller : Caller) : Type 0 where
 
 -- the bus made one entry of the application, or none
 abbrev pub Moved : Core → Core → ℕ → Type 0
-Moved old new app = (new ≡ old) ⊎ ((call : Call) × (answer : BusAnswer) × Does old new app call answer)
+Moved old new app =
+    (new ≡ old) ⊎ ((call : Call) × (answer : BusAnswer) × Does old new app call answer)
 
 -- the tables made one entry of the application, or none
 abbrev pub TablesMoved : TableCore → TableCore → ℕ → Type 0
-TablesMoved old new app = (new ≡ old) ⊎ ((call : TableCall) × (answer : TblAnswer) × TablesDo old new app call answer)
+TablesMoved old new app =
+    (new ≡ old) ⊎ ((call : TableCall) × (answer : TblAnswer) × TablesDo old new app call answer)
 
 -- The application took one turn.
 pub record TakesTurn (old new : Equipped) (before after : Services) : Type 0 where
   pub services : so_far after ≡ (turn before.bus.limits (so_far before) (running_of old)).0
   pub goes_on : going new ≡ (turn before.bus.limits (so_far before) (running_of old)).1
-  pub receipts : new.progress.receipts ≡ old.progress.receipts ++ tells before.bus.limits (so_far before) (running_of old)
+  pub receipts : new.progress.receipts ≡ old.progress.receipts ++
+      tells before.bus.limits (so_far before) (running_of old)
   pub same_app : new.progress.running.app ≡ old.progress.running.app
-  pub begun : new.progress.running.begun + length new.progress.running.lines ≡ old.progress.running.begun + length old.progress.running.lines
+  pub begun : new.progress.running.begun + length new.progress.running.lines ≡
+      old.progress.running.begun + length old.progress.running.lines
   pub stands : Stands new after
   pub moved : Moved before.bus after.bus old.progress.running.app
   pub tables_moved : TablesMoved before.tables after.tables old.progress.running.app
 
 -- how an application stands after its turn
 abbrev pub turned_of : Progress → Turned
-turned_of progress = if progress.ended then turned.Ended else if is_some progress.waits_on then turned.Waits else turned.Went
+turned_of progress =
+    if progress.ended then turned.Ended else if is_some progress.waits_on then turned.Waits
+    else turned.Went
 
--- The application took one turn by these calls, at the services that they met. The bags are still its own.
+-- The application took one turn by these calls, at the services that they met. The bags are still
+-- its own.
 pub record TakesTurnBy (old new : Progress) (before after : Caller) : Type 0 where
   pub now : Services
   pub meets : Meets before now.bus

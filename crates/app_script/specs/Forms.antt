@@ -19,7 +19,8 @@ form_of word =
     else (if is_same word (codes "app") then Some App
     else call_form word))))
 
--- `script` stands first of all, configuration before the first application, call lines in an application
+-- `script` stands first of all, configuration before the first application, call lines in an
+-- application
 abbrev pub is_misplaced : Form → Bool → Bool → Bool
 is_misplaced Script begun started = begun
 is_misplaced Set begun started = started

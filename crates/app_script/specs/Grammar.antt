@@ -1,4 +1,5 @@
--- What a script is, and what is wrong with one: its lines in order, each with the first fault of a line.
+-- What a script is, and what is wrong with one: its lines in order, each with the first fault of a
+-- line.
 use Rattle.std.specs.Prelude.{ℕ, ◌+◌, ◌==◌, nat_le, nat_lt, Bool, true, false, List, [], ◌∷◌, ◌++◌, length, Option, Some, None, Result, Ok, Err, codes, if◌then◌else◌}
 use Rattle.std.specs.List.{list_any, list_all, starts_with}
 use Rattle.fsw_base.specs.declared.script_faults.FaultKind.{FaultKind}
@@ -51,7 +52,8 @@ opening = record {
 -- ---- version and configuration
 
 unfoldable pub after_version : Progress → List Word → Result Progress FaultKind
-after_version s words = script_of words >>= λ version. Ok (record s { limits = record s.limits { version = version } })
+after_version s words =
+    script_of words >>= λ version. Ok (record s { limits = record s.limits { version = version } })
 
 unfoldable pub after_set : Progress → List Word → Result Progress FaultKind
 after_set s words = set_of words >>= λ set.
@@ -82,7 +84,8 @@ unfoldable pub after_app : Progress → List Word → Result Progress FaultKind
 after_app s words = app_of words >>= λ name.
     if list_any (λ app. is_same app.name name) (apps_of s) then Err Repeated
     else (if nat_le 16 (length (apps_of s)) then Err TooManyApps
-    else Ok (record s { started = true; done = apps_of s; present = record { name = name; lines = [] } }))
+    else Ok (record s
+        { started = true; done = apps_of s; present = record { name = name; lines = [] } }))
 
 -- ---- call lines
 
@@ -119,13 +122,15 @@ after_known s (Some form) rest =
 unfoldable pub after_words : Progress → List Word → List ℕ → Result Progress FaultKind
 after_words s [] rest = Ok s
 after_words s (first ∷ words) rest =
-    if starts_with (λ a b. a == b) first (codes "#") then Ok s else after_known s (form_of first) rest
+    if starts_with (λ a b. a == b) first (codes "#") then Ok s
+        else after_known s (form_of first) rest
 
 -- a line: skipped where it has no word or begins with a hash sign
 unfoldable pub after_line : Progress → List ℕ → Result Progress FaultKind
 after_line s line =
     if nat_lt 1024 (length line) then Err LineTooLong
-    else (if list_all is_text line then after_words s (words_of line) (behind_word line) else Err BadByte)
+    else (if list_all is_text line then after_words s (words_of line) (behind_word line)
+        else Err BadByte)
 
 -- a fault of the line with this number
 abbrev pub at_line : {A : Type 0} → ℕ → Result A FaultKind → Result A ScriptFault
@@ -133,14 +138,16 @@ at_line number (Ok x) = Ok x
 at_line number (Err kind) = Err (record { line = number; kind = kind })
 
 infixl 10 ◌>=>◌
-abbrev pub ◌>=>◌ : {A B : Type 0} → Result A ScriptFault → (A → Result B ScriptFault) → Result B ScriptFault
+abbrev pub ◌>=>◌ : {A B : Type 0} → Result A ScriptFault → (A → Result B ScriptFault) →
+    Result B ScriptFault
 (Ok x) >=> next = next x
 (Err fault) >=> next = Err fault
 
 -- the lines from one number on
 unfoldable pub after_lines : ℕ → Progress → List (List ℕ) → Result Progress ScriptFault
 after_lines number s [] = Ok s
-after_lines number s (line ∷ lines) = at_line number (after_line s line) >=> λ t. after_lines (number + 1) t lines
+after_lines number s (line ∷ lines) =
+    at_line number (after_line s line) >=> λ t. after_lines (number + 1) t lines
 
 -- a fault of the whole script
 abbrev pub whole_fault : FaultKind → ScriptFault
@@ -150,7 +157,8 @@ whole_fault kind = record { line = 0; kind = kind }
 unfoldable pub progress_of : List ℕ → Result Progress ScriptFault
 progress_of bytes =
     if nat_lt 1048576 (length bytes) then Err (whole_fault TooLarge)
-    else (after_lines 1 opening (lines_of bytes) >=> λ s. if s.started then Ok s else Err (whole_fault NoApp))
+    else (after_lines 1 opening (lines_of bytes) >=>
+        λ s. if s.started then Ok s else Err (whole_fault NoApp))
 
 -- The script that the bytes are, or the first fault.
 unfoldable pub grammar : List ℕ → Result ScriptText ScriptFault

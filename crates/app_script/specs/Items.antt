@@ -32,7 +32,8 @@ unfoldable pub is_skipped : List Word → Bool
 is_skipped [] = true
 is_skipped (first ∷ words) = starts_with (λ a b. a == b) first (codes "#")
 
--- what a line of this form tells, from the line behind its first word; each number, register and text is in its range
+-- what a line of this form tells, from the line behind its first word; each number, register and
+-- text is in its range
 unfoldable pub item_of : Form → List ℕ → Result Item FaultKind
 item_of form.Script rest = script_of (words_of rest) >>= λ version. Ok (Version version)
 item_of form.Set rest = set_of (words_of rest) >>= λ set. Ok (Configures (Limit set.0 set.1))

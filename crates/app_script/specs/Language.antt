@@ -1,4 +1,5 @@
--- The language of scripts, as it is told to those who write them: which lines a script has, and in which order.
+-- The language of scripts, as it is told to those who write them: which lines a script has, and in
+-- which order.
 use Rattle.std.specs.Prelude.{◌≡◌, ℕ, ◌≤◌, ◌==◌, ◌&&◌, not, nat_le, Bool, true, false, List, [], ◌∷◌, ◌++◌, length, map, filter, fold, Option, Some, None, Result, Ok, IsTrue}
 use Rattle.std.specs.List.{list_all, list_any, flat_map}
 use Rattle.fsw_base.specs.declared.script_faults.FaultKind.{FaultKind}
@@ -51,7 +52,8 @@ is_same_setting one other = false
 abbrev pub are_new_settings : List Setting → List Setting → Bool
 are_new_settings before [] = true
 are_new_settings before (setting ∷ settings) =
-    not (list_any (λ other. is_same_setting other setting) before) && are_new_settings (before ++ setting ∷ []) settings
+    not (list_any (λ other. is_same_setting other setting) before) &&
+        are_new_settings (before ++ setting ∷ []) settings
 
 -- ---- a whole script
 
@@ -64,9 +66,11 @@ abbrev pub version_items : Option ℕ → List Item
 version_items None = []
 version_items (Some version) = Version version ∷ []
 
--- a script: the version of the language, where it is told; the configuration; then one application after another
+-- a script: the version of the language, where it is told; the configuration; then one application
+-- after another
 abbrev pub script_items : Option ℕ → List Setting → List Application → List Item
-script_items version settings apps = version_items version ++ map Configures settings ++ flat_map app_items apps
+script_items version settings apps =
+    version_items version ++ map Configures settings ++ flat_map app_items apps
 
 -- The text is this script.
 pub record IsText (text : List ℕ) (script : ScriptText) : Type 0 where
@@ -76,8 +80,10 @@ pub record IsText (text : List ℕ) (script : ScriptText) : Type 0 where
   -- its lines, without those that are skipped, tell a script in this order
   pub version : Option ℕ
   pub settings : List Setting
-  pub order : map item_on (told_among (lines_of text)) ≡ map Ok (script_items version settings script.apps)
-  -- it has the version that is told and these settings, of which each is given once, and at most 16 counts
+  pub order : map item_on (told_among (lines_of text)) ≡
+      map Ok (script_items version settings script.apps)
+  -- it has the version that is told and these settings, of which each is given once, and at most 16
+  -- counts
   pub limits : script.limits ≡ configured (version_in version) settings
   pub once : IsTrue (are_new_settings [] settings)
   pub starts : length script.limits.starts ≤ 16

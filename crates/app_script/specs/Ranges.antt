@@ -1,5 +1,5 @@
--- What is true of every script that the grammar gives: its words are within their ranges, and all of it within the bounds
--- of a whole script.
+-- What is true of every script that the grammar gives: its words are within their ranges, and all
+-- of it within the bounds of a whole script.
 use Rattle.std.specs.Prelude.{ℕ, ◌≤◌, length, sum_by, All}
 use Rattle.script_lines.specs.declared.line.Line.{Line}
 use Rattle.script_lines.specs.declared.line.Line.TheVariants.{Create, Find, Send, SendRaw, SendEvent, LogMode, TableRegister, TableShare, Stage, Load}
@@ -10,9 +10,11 @@ use Rattle.app_script.specs.Script.{ScriptText}
 
 -- a load of 1 to 65536 bytes, from an offset of at most 65536 on
 abbrev pub IsLoadInRange : ℕ → Content → Type 0
-IsLoadInRange offset content = (offset ≤ 65536) × (1 ≤ content_len content) × (content_len content ≤ 65536)
+IsLoadInRange offset content =
+    (offset ≤ 65536) × (1 ≤ content_len content) × (content_len content ≤ 65536)
 
--- a name of at most 64 bytes, a message of 7 to 65542, an event's text of at most 200, a mode of 0 or 1, and loads as above
+-- a name of at most 64 bytes, a message of 7 to 65542, an event's text of at most 200, a mode of 0
+-- or 1, and loads as above
 unfoldable pub IsLineInRange : Line → Type 0
 IsLineInRange (Create pipe depth name) = length name ≤ 64
 IsLineInRange (Find pipe name) = length name ≤ 64

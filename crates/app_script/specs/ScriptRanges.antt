@@ -1,4 +1,5 @@
--- The scripts that a text can be: limits, names and call lines in their ranges, and not too many of them.
+-- The scripts that a text can be: limits, names and call lines in their ranges, and not too many of
+-- them.
 use Rattle.std.specs.Prelude.{ℕ, ◌≤◌, ◌+◌, ◌&&◌, nat_le, not, Bool, true, List, [], ◌∷◌, ◌++◌, length, IsTrue}
 use Rattle.std.specs.List.{list_all, list_any}
 use Rattle.fsw_base.specs.Limits.{Limits}
@@ -28,16 +29,22 @@ limit_of limits TablePool = limits.tablepool
 
 -- the limits, in the order in which they are printed
 abbrev pub all_limits : List LimitName
-all_limits = MsgIds ∷ Pipes ∷ Dests ∷ Depth ∷ MsgMax ∷ Pool ∷ AppPool ∷ Tables ∷ Handles ∷ TableMax ∷ TablePool ∷ []
+all_limits =
+    MsgIds ∷ Pipes ∷ Dests ∷ Depth ∷ MsgMax ∷ Pool ∷ AppPool ∷ Tables ∷ Handles ∷ TableMax ∷
+    TablePool ∷ []
 
 -- each limit in its range
 abbrev pub are_limits : Limits → Bool
-are_limits limits = list_all (λ name. nat_le (least name) (limit_of limits name) && nat_le (limit_of limits name) (greatest name)) all_limits
+are_limits limits =
+    list_all (λ name. nat_le (least name) (limit_of limits name) &&
+    nat_le (limit_of limits name) (greatest name)) all_limits
 
 -- each name is none of those before it
 abbrev pub have_new_names : List Application → List Application → Bool
 have_new_names before [] = true
-have_new_names before (app ∷ apps) = not (list_any (λ other. is_same other.name app.name) before) && have_new_names (before ++ app ∷ []) apps
+have_new_names before (app ∷ apps) =
+    not (list_any (λ other. is_same other.name app.name) before) &&
+    have_new_names (before ++ app ∷ []) apps
 
 -- an application that a text can have
 abbrev pub is_application : Application → Bool

@@ -9,7 +9,8 @@ chains links [] counts = []
 chains links (first ∷ heads) [] = []
 chains links (first ∷ heads) (count ∷ counts) = chain links first count ∷ chains links heads counts
 
--- each list has a head, each node a link and a number of 32 bits, no node is in two lists or twice in one, and every listed node exists
+-- each list has a head, each node a link and a number of 32 bits, no node is in two lists or twice
+-- in one, and every listed node exists
 pub record AreLinked (links heads counts : List ℕ) (nodes : ℕ) : Type 0 where
   pub heads_all : length heads ≡ length counts
   pub links_all : nodes ≤ length links

@@ -1,7 +1,8 @@
 -- Lists of numbered nodes, as their user sees them.
 use Rattle.std.specs.Prelude.{◌≡◌, ◌==◌, ◌≤◌, ℕ, List, [], slice_index_or, sum_by, count_by}
 
--- how many nodes there is room for, how many there are, and the node numbers of each list, front first
+-- how many nodes there is room for, how many there are, and the node numbers of each list, front
+-- first
 pub record Listed : Type 0 where
   pub room : ℕ
   pub nodes : ℕ

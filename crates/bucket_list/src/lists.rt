@@ -12,14 +12,14 @@ use step_count::Steps;
 /// for, how many there are, and the node numbers of each list, front first.
 #[derive(Drop)]
 pub struct Lists {
-    /// At each node, the node behind it in its list. What stands at a list's last node, or at a
-    /// node in no list, says nothing.
+    // At each node, the node behind it in its list. What stands at a list's last node, or at a
+    // node in no list, says nothing.
     links: Links,
-    /// At each list, its first node. What stands at an empty list says nothing.
+    // At each list, its first node. What stands at an empty list says nothing.
     heads: Links,
-    /// How many nodes each list has.
+    // How many nodes each list has.
     counts: Vec<u32>,
-    /// How many nodes there are.
+    // How many nodes there are.
     nodes: u32,
 }
 

@@ -8,7 +8,8 @@ use Rattle.buf_desc.specs.declared.slot.Slot.TheVariants.{Free, Unsent, Sealed}
 
 -- the reference, with these bytes behind it
 abbrev pub ended : MutBor (List ℕ) → List ℕ → MutBor (List ℕ)
-ended reference bytes = record { ref_ptr = reference.ref_ptr; ghost_name = reference.ghost_name; now = bytes }
+ended reference bytes =
+    record { ref_ptr = reference.ref_ptr; ghost_name = reference.ghost_name; now = bytes }
 
 -- The desk. --
 
@@ -18,7 +19,8 @@ Fits pool desc (Free size) = (is_out pool desc ≡ false) × (size ≡ size_at p
 Fits pool desc (Unsent number asked) = is_out pool desc ≡ true
 Fits pool desc (Sealed sent) = (is_out pool desc ≡ true) × (sent.size ≡ size_at pool desc)
 
--- every block of the pool has a slot that fits it, there is room for the others, and the region has the bytes for them
+-- every block of the pool has a slot that fits it, there is room for the others, and the region has
+-- the bytes for them
 pub record IsKept (pool : PoolState) (slots : List Slot) (rest capacity : ℕ) : Type 0 where
   pub all : length slots ≡ length pool.blocks
   pub room : most_cut pool ≤ capacity
@@ -29,14 +31,16 @@ pub record IsKept (pool : PoolState) (slots : List Slot) (rest capacity : ℕ) :
 
 -- the keys rise, so that no key comes twice
 abbrev pub IsRisingBy : {X : Type 0} → (X → ℕ) → List X → Type 0
-IsRisingBy {X} key xs = (i j : ℕ) (d : X) → i < j → j < length xs → key (slice_index_or xs i d) < key (slice_index_or xs j d)
+IsRisingBy {X} key xs = (i j : ℕ) (d : X) → i < j → j < length xs →
+    key (slice_index_or xs i d) < key (slice_index_or xs j d)
 
 -- the element at a place has the key
 pub record IsAt {X : Type 0} (key : X → ℕ) (xs : List X) (k i : ℕ) : Type 0 where
   pub within : i < length xs
   pub has_key : (d : X) → key (slice_index_or xs i d) ≡ k
 
--- an element of the key would go to this place: smaller keys stand before it, and greater ones from it on
+-- an element of the key would go to this place: smaller keys stand before it, and greater ones from
+-- it on
 pub record IsGapFor {X : Type 0} (key : X → ℕ) (xs : List X) (k i : ℕ) : Type 0 where
   pub within : i ≤ length xs
   pub smaller_before : (j : ℕ) (d : X) → j < i → key (slice_index_or xs j d) < k

@@ -25,11 +25,11 @@ use step_count::{Ledger, Steps};
 /// call takes a bounded number of counted steps, however many blocks are out.
 #[derive(Drop)]
 pub struct Desk<'r> {
-    /// Which blocks are out.
+    // Which blocks are out.
     pool: Pool,
-    /// What became of each block that was cut.
+    // What became of each block that was cut.
     slots: Vec<Slot<'r>>,
-    /// The part of the region that was never cut.
+    // The part of the region that was never cut.
     rest: Space<'r>,
 }
 

@@ -1,4 +1,5 @@
--- The events that the software bus itself tells (cFE Software Bus, event messages): their numbers, kinds and texts.
+-- The events that the software bus itself tells (cFE Software Bus, event messages): their numbers,
+-- kinds and texts.
 use Rattle.std.specs.Prelude.{ℕ, List, ◌++◌, fold, codes, decimal}
 use Rattle.fsw_base.specs.declared.events.EventKind.{EventKind}
 use Rattle.fsw_base.specs.declared.events.EventKind.TheVariants.{Information, Error}

@@ -1,5 +1,5 @@
--- What a software bus tells of its calls, and counts: its event desk and its statistics, and what one event, count or look does
--- to them.
+-- What a software bus tells of its calls, and counts: its event desk and its statistics, and what
+-- one event, count or look does to them.
 use Rattle.std.specs.Prelude.{ℕ, List, map, fold}
 use Rattle.fsw_base.specs.EventDesk.{Desk, new_desk}
 use Rattle.housekeeping.specs.declared.in_use.InUse.{InUse}
@@ -27,25 +27,32 @@ no_recordings = record { events = new_desk; statistics = no_statistics }
 -- one more on the counter of a name
 abbrev pub counter_ticked : Recordings → CounterName → Recordings
 counter_ticked records name =
-    record records { statistics = record records.statistics { counts = ticked records.statistics.counts name } }
+    record records
+        { statistics = record records.statistics
+        { counts = ticked records.statistics.counts name } }
 
 -- each peak rises to what is in use, where that is more
 abbrev pub peaks_raised : Recordings → InUse → Recordings
-peaks_raised records now = record records { statistics = record records.statistics { peak = greater records.statistics.peak now } }
+peaks_raised records now =
+    record records
+    { statistics = record records.statistics { peak = greater records.statistics.peak now } }
 
 -- an event of the bus: the desk is served it, and the counter that it raises goes up, if it raises
 -- one
 abbrev pub told_event : Recordings → ServiceEvent → Recordings
 told_event records event = record {
   events = served_event records.events event;
-  statistics = record records.statistics { counts = fold ticked records.statistics.counts (event_counter event) };
+  statistics =
+      record records.statistics
+      { counts = fold ticked records.statistics.counts (event_counter event) };
 }
 
 -- these events, in order
 abbrev pub told_all : Recordings → List ServiceEvent → Recordings
 told_all records events = fold told_event records events
 
--- what is told of a pipe that misses a message of this id and sender, or its oldest one, for this cause
+-- what is told of a pipe that misses a message of this id and sender, or its oldest one, for this
+-- cause
 abbrev pub missed_by_cause : MissCause → ℕ → ℕ → ℕ → ServiceEvent
 missed_by_cause OverLimit id pipe sender = MessageLimit id pipe sender
 missed_by_cause Full id pipe sender = PipeOverflow id pipe sender

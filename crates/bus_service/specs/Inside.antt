@@ -1,4 +1,5 @@
--- What the fields of a port, a finished port and the main part stand for, and what is always true of them.
+-- What the fields of a port, a finished port and the main part stand for, and what is always true
+-- of them.
 use Rattle.std.specs.Prelude.{◌≡◌, ◌↔◌, ℕ, ◌≤◌, nat_eq, Bool, false, IsTrue, List, [], ◌∷◌, length, map, All, Contains}
 use Rattle.std.specs.List.{IsDistinct}
 use Rattle.fsw_base.specs.declared.config.Budget.{Budget}
@@ -27,7 +28,8 @@ abbrev pub mine_in : SeatView Fixed NotedCall → List Entry
 mine_in s = entries_in (view_of s).mine
 
 abbrev pub port_in : SeatView Fixed NotedCall → ℕ → Holding LentBytes → PortView
-port_in s app bag = record { lock = s.lock; app = app; seen = seen_in s; mine = mine_in s; bag = bag }
+port_in s app bag =
+    record { lock = s.lock; app = app; seen = seen_in s; mine = mine_in s; bag = bag }
 
 abbrev pub done_in : SeatView Fixed NotedCall → DoneView
 done_in s = record { lock = s.lock; app = (view_of s).app; seen = seen_in s; mine = mine_in s }
@@ -36,9 +38,10 @@ done_in s = record { lock = s.lock; app = (view_of s).app; seen = seen_in s; min
 abbrev pub AreCalled : SeatView Fixed NotedCall → Type 0
 AreCalled s = All (λ e. 1 ≤ e.app) (seen_in s).log.entries
 
--- the seat is the application's, with no turn out, so much is left, the entries made are all that were seen of the application, and the bag
--- is its bag
-pub record IsPort (s : SeatView Fixed NotedCall) (app : ℕ) (left : Allowance) (bag : Holding LentBytes) : Type 0 where
+-- the seat is the application's, with no turn out, so much is left, the entries made are all that
+-- were seen of the application, and the bag is its bag
+pub record IsPort (s : SeatView Fixed NotedCall) (app : ℕ) (left : Allowance)
+    (bag : Holding LentBytes) : Type 0 where
   pub seat : IsIn s s.lock
   pub own : (view_of s).app ≡ app
   pub first : 1 ≤ app
@@ -48,13 +51,14 @@ pub record IsPort (s : SeatView Fixed NotedCall) (app : ℕ) (left : Allowance) 
   pub mine : own_entries app (seen_in s).log.entries ≡ mine_in s
   pub holds : HasBag (seen_in s) app bag
 
--- these permits tell whether the application may ask for the figures of the bus, and so make any call that brings no bytes, but for a
--- look; and whether it may make its last one
+-- these permits tell whether the application may ask for the figures of the bus, and so make any
+-- call that brings no bytes, but for a look; and whether it may make its last one
 pub record Tells (core : Core) (app : ℕ) (permits : Permits) : Type 0 where
   pub any : IsTrue permits.any ↔ MayCall core app Figures
   pub last : IsTrue permits.last ↔ MayCall core app End
 
--- whether they let the application make this call, so far as it brings no bytes; they tell of no look
+-- whether they let the application make this call, so far as it brings no bytes; they tell of no
+-- look
 abbrev pub lets : Permits → Call → Bool
 lets permits (Look pipe) = false
 lets permits End = permits.last
@@ -70,15 +74,19 @@ abbrev pub ended_in : ℕ × List (ℕ × NotedCall) → ℕ × List Entry
 ended_in e = (e.0, entries_in e.1)
 
 abbrev pub main_in : SeatView Fixed NotedCall → MainView
-main_in s = record { lock = s.lock; seen = seen_in s; apps = (view_of s).apps; ended = map ended_in (view_of s).ended }
+main_in s =
+    record { lock = s.lock; seen = seen_in s; apps = (view_of s).apps;
+    ended = map ended_in (view_of s).ended }
 
--- it is the main seat, knows the budgets and how many pipes there may be, has made a port of no application twice, and has seen
--- entries of none but these
-pub record IsMainPart (s : SeatView Fixed NotedCall) (budgets : List Budget) (pipes : ℕ) : Type 0 where
+-- it is the main seat, knows the budgets and how many pipes there may be, has made a port of no
+-- application twice, and has seen entries of none but these
+pub record IsMainPart (s : SeatView Fixed NotedCall) (budgets : List Budget)
+    (pipes : ℕ) : Type 0 where
   pub main : IsMain s s.lock
   pub given : (seen_in s).log.budgets ≡ budgets
   pub room : (seen_in s).limits.pipes ≡ pipes
   pub distinct : IsDistinct nat_eq (0 ∷ (view_of s).apps)
   pub each : All (λ app. app ≤ 16) (view_of s).apps
   pub called : AreCalled s
-  pub others : (app : ℕ) → ¬ (Contains (view_of s).apps app) → own_entries app (seen_in s).log.entries ≡ []
+  pub others : (app : ℕ) → ¬ (Contains (view_of s).apps app) →
+      own_entries app (seen_in s).log.entries ≡ []

@@ -1,4 +1,5 @@
--- What is seen of a port, of one that is finished and of the main part, and what a port's calls answer.
+-- What is seen of a port, of one that is finished and of the main part, and what a port's calls
+-- answer.
 use Rattle.std.specs.Prelude.{◌≡◌, ℕ, ◌+◌, ◌-◌, ◌<◌, ◌≤◌, ◌⊎◌, Bool, true, false, List, [], ◌∷◌, ◌++◌, length, replicate, slice_index_or, Result, IfOk, OnErr}
 use Rattle.atomic_table.specs.Seated.{TableId}
 use Rattle.fsw_base.specs.declared.config.Budget.{Budget}
@@ -19,8 +20,8 @@ use Rattle.sb_calls.specs.Core.{Core, Does, Looks, StandAlone}
 use Rattle.sb_calls.specs.Bags.{HasBag, CalledByOthers, AreOneLoan}
 use mathlib.Core.List.{IsPrefix}
 
--- A port: the lock that it is of, its application, the core with the history that it has seen, the entries that it made, and what
--- its application holds.
+-- A port: the lock that it is of, its application, the core with the history that it has seen, the
+-- entries that it made, and what its application holds.
 pub record PortView : Type 0 where
   pub lock : TableId
   pub app : ℕ
@@ -35,8 +36,8 @@ pub record DoneView : Type 0 where
   pub seen : Core
   pub mine : List Entry
 
--- The main part: the lock that it is of, the core with the history that it has seen, the applications whose ports were made, and
--- those whose ports were joined, each with its entries.
+-- The main part: the lock that it is of, the core with the history that it has seen, the
+-- applications whose ports were made, and those whose ports were joined, each with its entries.
 pub record MainView : Type 0 where
   pub lock : TableId
   pub seen : Core
@@ -51,7 +52,8 @@ left_by core mine = left_of (record { budgets = core.log.budgets; entries = mine
 
 -- how many buffers the application's budget allows
 abbrev pub buffers_for : List Budget → ℕ → ℕ
-buffers_for budgets app = (slice_index_or budgets (app - 1) (record { entries = 0; bytes = 0; buffers = 0 })).buffers
+buffers_for budgets app =
+    (slice_index_or budgets (app - 1) (record { entries = 0; bytes = 0; buffers = 0 })).buffers
 
 -- a call that asks for a buffer finds room for it in the bag
 abbrev pub FindsRoom : Holding LentBytes → Call → Type 0
@@ -65,15 +67,20 @@ is_look call = false
 
 -- Buffers. --
 
--- a request for a buffer leaves one of so many zeros in the bag, or the bag as it was; the others have their bytes
+-- a request for a buffer leaves one of so many zeros in the bag, or the bag as it was; the others
+-- have their bytes
 abbrev pub Adds : ℕ → Holding LentBytes → Holding LentBytes → Result ℕ SbStatus → Type 0
 Adds size old new told =
-    IfOk told (λ number. bytes_at new number ≡ replicate size 0) × IfOk told (KeepsBuffers old new) × (length new.buffers ≤ length old.buffers + 1)
+    IfOk told (λ number. bytes_at new number ≡ replicate size 0) ×
+        IfOk told (KeepsBuffers old new) × (length new.buffers ≤ length old.buffers + 1)
     × (new ≡ record old { buffers = new.buffers }) × OnErr told (new ≡ old)
 
 -- a buffer leaves the bag, or the bag is as it was; the others have their bytes
-abbrev pub Takes : {T : Type 0} → ℕ → Holding LentBytes → Holding LentBytes → Result T SbStatus → Type 0
-Takes buf old new told = KeepsBuffers old new buf × (length new.buffers ≤ length old.buffers) × (new ≡ record old { buffers = new.buffers }) × OnErr told (new ≡ old)
+abbrev pub Takes : {T : Type 0} → ℕ → Holding LentBytes → Holding LentBytes → Result T SbStatus →
+    Type 0
+Takes buf old new told =
+    KeepsBuffers old new buf × (length new.buffers ≤ length old.buffers) ×
+    (new ≡ record old { buffers = new.buffers }) × OnErr told (new ≡ old)
 
 -- Answers. --
 
@@ -96,7 +103,8 @@ abbrev pub look_entries : ℕ → ℕ → Pended → List Entry
 look_entries app pipe Pending = []
 look_entries app pipe told = record { app = app; call = Look pipe; answer = waited told } ∷ []
 
--- The same for a look. One in vain came behind entries of others alone, and what it found is what the port has seen now.
+-- The same for a look. One in vain came behind entries of others alone, and what it found is what
+-- the port has seen now.
 pub record AnswersLook (old new : PortView) (pipe : ℕ) (told : Pended) : Type 0 where
   pub between : Core
   pub others : CalledByOthers old.seen between old.app
@@ -117,8 +125,11 @@ pub record Begins (one other : Core) : Type 0 where
 
 -- this core, with the history of that one
 abbrev pub with_history : Core → Core → Core
-with_history core other = record { limits = core.limits; log = record { budgets = core.log.budgets; entries = other.log.entries }; notes = other.notes }
+with_history core other =
+    record { limits = core.limits;
+    log = record { budgets = core.log.budgets; entries = other.log.entries }; notes = other.notes }
 
 -- one of the two histories begins the other, and the longer one is kept
 abbrev pub KeepsLongerOf : Core → Core → Core → Type 0
-KeepsLongerOf one other kept = (Begins one other × (kept ≡ with_history one other)) ⊎ (Begins other one × (kept ≡ one))
+KeepsLongerOf one other kept =
+    (Begins one other × (kept ≡ with_history one other)) ⊎ (Begins other one × (kept ≡ one))

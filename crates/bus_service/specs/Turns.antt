@@ -7,8 +7,8 @@ use Rattle.bus_service.specs.Histories.{Fixed, fixed_of, history_of}
 use Rattle.bus_service.specs.declared.boxed.NotedCall.{NotedCall}
 use mathlib.Core.List.{IsPrefix}
 
--- the core found has the fixed part of the opening, a history that extends the one seen and has just the seat's own entries of its
--- application, and its history is legal and noted
+-- the core found has the fixed part of the opening, a history that extends the one seen and has
+-- just the seat's own entries of its application, and its history is legal and noted
 pub record Entered (v : Known Fixed NotedCall) (core : Core) : Type 0 where
   pub opening : Some (fixed_of core) ≡ v.fixed
   pub extends : IsPrefix v.seen (history_of core)

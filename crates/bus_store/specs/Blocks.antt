@@ -1,5 +1,5 @@
--- The blocks of the pool, told by what the pipes hold and which buffers are unsent: one for each number that is held, and no
--- others; and how sends are numbered.
+-- The blocks of the pool, told by what the pipes hold and which buffers are unsent: one for each
+-- number that is held, and no others; and how sends are numbered.
 use Rattle.std.specs.Prelude.{◌≡◌, ℕ, ◌≤◌, true, List, sum_by, Some}
 use Rattle.std.specs.List.{All}
 use Rattle.es_pool.specs.Pool.{size_at}
@@ -20,9 +20,11 @@ pub record IsGiven (given number : ℕ) : Type 0 where
   pub first : 1 ≤ number
   pub last : number ≤ given
 
--- where two items have one number they are of one send: they have one message, and one size was asked for
+-- where two items have one number they are of one send: they have one message, and one size was
+-- asked for
 abbrev pub AreOfOneSend : Item → Item → Type 0
-AreOfOneSend item other = item.number ≡ other.number → (item.message ≡ other.message) × (item.asked ≡ other.asked)
+AreOfOneSend item other =
+    item.number ≡ other.number → (item.message ≡ other.message) × (item.asked ≡ other.asked)
 
 -- Blocks. --
 
@@ -30,25 +32,30 @@ AreOfOneSend item other = item.number ≡ other.number → (item.message ≡ oth
 abbrev pub last_by : ℕ → Pipe → ℕ
 last_by number pipe = names number pipe.last
 
--- A sealed block is that of a send which the pipes hold: it has the smallest size for what was asked, and is written with the
--- message of the items that name the send; each such item is one use of it, and each last one has a view of it out, by the
--- block's loan.
-pub record IsBlockOf (sizes : List ℕ) (pipes : List Pipe) (loans : List LastLoan) (block : Sealed) : Type 0 where
+-- A sealed block is that of a send which the pipes hold: it has the smallest size for what was
+-- asked, and is written with the message of the items that name the send; each such item is one use
+-- of it, and each last one has a view of it out, by the block's loan.
+pub record IsBlockOf (sizes : List ℕ) (pipes : List Pipe) (loans : List LastLoan)
+    (block : Sealed) : Type 0 where
   pub named : is_on_pipes pipes block.number ≡ true
   pub size : block.size ≡ size_for sizes block.asked
   pub asked : All (λ item. item.number ≡ block.number → item.asked ≡ block.asked) (items_of pipes)
   pub bytes : All (λ item. item.number ≡ block.number → item.message ≡ block.bytes) (items_of pipes)
   pub uses : block.uses ≡ sum_by (named_by block.number) pipes
   pub views : block.views ≡ sum_by (last_by block.number) pipes
-  pub loan : (pipe : ℕ) (item : Item) → last_on pipes pipe ≡ Some item → item.number ≡ block.number → loan_of loans pipe ≡ block.loan
+  pub loan : (pipe : ℕ) (item : Item) → last_on pipes pipe ≡ Some item →
+      item.number ≡ block.number → loan_of loans pipe ≡ block.loan
 
--- An unsent block is that of an unsent buffer: it has the buffer's descriptor, what was asked for is the buffer's size, and it has
--- the smallest size for that.
-pub record IsBufferBlock (buffers : Buffers) (unsent : List (List Buffer)) (descs : List BufferDesc) (desc : ℕ) : Type 0 where
+-- An unsent block is that of an unsent buffer: it has the buffer's descriptor, what was asked for
+-- is the buffer's size, and it has the smallest size for that.
+pub record IsBufferBlock (buffers : Buffers) (unsent : List (List Buffer)) (descs : List BufferDesc)
+    (desc : ℕ) : Type 0 where
   pub of_buffer : is_unsent unsent (number_in (slot_at buffers.slots desc)) ≡ true
   pub desc_told : desc_of descs (number_in (slot_at buffers.slots desc)) ≡ desc
-  pub asked : asked_in (slot_at buffers.slots desc) ≡ size_in unsent (number_in (slot_at buffers.slots desc))
-  pub size : size_at buffers.pool desc ≡ size_for buffers.pool.sizes (asked_in (slot_at buffers.slots desc))
+  pub asked : asked_in (slot_at buffers.slots desc) ≡
+      size_in unsent (number_in (slot_at buffers.slots desc))
+  pub size : size_at buffers.pool desc ≡
+      size_for buffers.pool.sizes (asked_in (slot_at buffers.slots desc))
 
 -- a block is sealed for this send
 pub record HasBlock (slots : List Slot) (send : ℕ) : Type 0 where
@@ -62,11 +69,15 @@ pub record HasBuffer (slots : List Slot) (number : ℕ) : Type 0 where
   pub open_block : is_open (slot_at slots desc) ≡ true
   pub has_number : number_in (slot_at slots desc) ≡ number
 
--- Every block that is sealed is that of a send which the pipes hold, and each such send has one; every block that is unsent is
--- that of an unsent buffer, and each of these has one; and no two blocks have one number.
-pub record AreBlocks (buffers : Buffers) (pipes : List Pipe) (loans : List LastLoan) (unsent : List (List Buffer)) (descs : List BufferDesc) : Type 0 where
-  pub each_sealed : (desc : ℕ) → is_sealed (slot_at buffers.slots desc) ≡ true → IsBlockOf buffers.pool.sizes pipes loans (sealed_at buffers.slots desc)
-  pub each_unsent : (desc : ℕ) → is_open (slot_at buffers.slots desc) ≡ true → IsBufferBlock buffers unsent descs desc
+-- Every block that is sealed is that of a send which the pipes hold, and each such send has one;
+-- every block that is unsent is that of an unsent buffer, and each of these has one; and no two
+-- blocks have one number.
+pub record AreBlocks (buffers : Buffers) (pipes : List Pipe) (loans : List LastLoan)
+    (unsent : List (List Buffer)) (descs : List BufferDesc) : Type 0 where
+  pub each_sealed : (desc : ℕ) → is_sealed (slot_at buffers.slots desc) ≡ true →
+      IsBlockOf buffers.pool.sizes pipes loans (sealed_at buffers.slots desc)
+  pub each_unsent : (desc : ℕ) → is_open (slot_at buffers.slots desc) ≡ true →
+      IsBufferBlock buffers unsent descs desc
   pub all_sends : (number : ℕ) → is_on_pipes pipes number ≡ true → HasBlock buffers.slots number
   pub all_buffers : (number : ℕ) → is_unsent unsent number ≡ true → HasBuffer buffers.slots number
   pub one : HaveOwnNumbers buffers.slots

@@ -45,13 +45,15 @@ loan_in slots row = record { pipe = row.number; loan = loan_at slots row.last }
 
 -- the view that an item's block gives
 abbrev pub view_in : List Slot → ItemRow → LentBytes
-view_in slots item = record { loan = (sealed_at slots item.desc).loan; bytes = (sealed_at slots item.desc).bytes }
+view_in slots item =
+    record { loan = (sealed_at slots item.desc).loan; bytes = (sealed_at slots item.desc).bytes }
 
 -- What lists of descriptors stand for. --
 
 -- the unsent buffer that a block is
 abbrev pub buffer_in : List Slot → ℕ → Buffer
-buffer_in slots desc = record { number = number_in (slot_at slots desc); size = asked_in (slot_at slots desc) }
+buffer_in slots desc =
+    record { number = number_in (slot_at slots desc); size = asked_in (slot_at slots desc) }
 
 -- of each application, its unsent buffers
 abbrev pub unsent_in : List Slot → List (List ℕ) → List (List Buffer)
@@ -88,7 +90,8 @@ after_send account size reached = if nat_le 1 reached then account else returned
 -- an item of a pipe was let go: where that was the last use of its send, the block came back
 abbrev pub after_release : Account → Option Item → List Pipe → Account
 after_release account None pipes = account
-after_release account (Some item) pipes = if is_on_pipes pipes item.number then account else returned account item.asked
+after_release account (Some item) pipes =
+    if is_on_pipes pipes item.number then account else returned account item.asked
 
 -- Blocks and items. --
 
@@ -110,25 +113,35 @@ pub record IsNamed (slots : List Slot) (item : ItemRow) : Type 0 where
 abbrev pub lasts_of : ℕ → List Row → ℕ
 lasts_of number rows = sum_by (λ row. item_use number row.last) rows
 
--- The items name blocks that were sealed for them; each sealed block has so many uses and so many views out as its send counts;
--- each live one has a number of its own, one of those given, and the size for what was asked.
-pub record AreTied (buffers : Buffers) (rows : List Row) (uses_due views_due : ℕ → ℕ) (last : ℕ) : Type 0 where
+-- The items name blocks that were sealed for them; each sealed block has so many uses and so many
+-- views out as its send counts; each live one has a number of its own, one of those given, and the
+-- size for what was asked.
+pub record AreTied (buffers : Buffers) (rows : List Row) (uses_due views_due : ℕ → ℕ)
+    (last : ℕ) : Type 0 where
   pub items : AllItems (IsNamed buffers.slots) rows
-  pub uses : (desc : ℕ) → is_sealed (slot_at buffers.slots desc) ≡ true → (sealed_at buffers.slots desc).uses ≡ uses_due (sealed_at buffers.slots desc).number
-  pub views : (desc : ℕ) → is_sealed (slot_at buffers.slots desc) ≡ true → (sealed_at buffers.slots desc).views ≡ views_due (sealed_at buffers.slots desc).number
+  pub uses : (desc : ℕ) → is_sealed (slot_at buffers.slots desc) ≡ true →
+      (sealed_at buffers.slots desc).uses ≡ uses_due (sealed_at buffers.slots desc).number
+  pub views : (desc : ℕ) → is_sealed (slot_at buffers.slots desc) ≡ true →
+      (sealed_at buffers.slots desc).views ≡ views_due (sealed_at buffers.slots desc).number
   pub numbers : HaveOwnNumbers buffers.slots
-  pub given : (desc : ℕ) → is_live (slot_at buffers.slots desc) ≡ true → IsGiven last (number_in (slot_at buffers.slots desc))
-  pub sizes : (desc : ℕ) → is_live (slot_at buffers.slots desc) ≡ true → class_of (asked_in (slot_at buffers.slots desc)) buffers.pool.sizes ≡ Some (class_at buffers.pool desc)
+  pub given : (desc : ℕ) → is_live (slot_at buffers.slots desc) ≡ true →
+      IsGiven last (number_in (slot_at buffers.slots desc))
+  pub sizes : (desc : ℕ) → is_live (slot_at buffers.slots desc) ≡ true →
+      class_of (asked_in (slot_at buffers.slots desc)) buffers.pool.sizes ≡
+      Some (class_at buffers.pool desc)
   pub account : IsAccountOf buffers.pool (account_in buffers.pool)
 
--- Each sealed block has a use: so many as the pipes name its send; and so many views are out as pipes received it last.
+-- Each sealed block has a use: so many as the pipes name its send; and so many views are out as
+-- pipes received it last.
 pub record Backed (buffers : Buffers) (rows : List Row) (given : ℕ) : Type 0 where
   pub tied : AreTied buffers rows (λ n. uses_of n rows) (λ n. lasts_of n rows) given
-  pub used : (desc : ℕ) → is_sealed (slot_at buffers.slots desc) ≡ true → 1 ≤ (sealed_at buffers.slots desc).uses
+  pub used : (desc : ℕ) → is_sealed (slot_at buffers.slots desc) ≡ true →
+      1 ≤ (sealed_at buffers.slots desc).uses
 
 -- the unsent blocks are those in the lists, each once
 abbrev pub AreListed : List Slot → List (List ℕ) → Type 0
-AreListed slots lists = (desc : ℕ) → times lists desc ≡ (if is_open (slot_at slots desc) then 1 else 0)
+AreListed slots lists =
+    (desc : ℕ) → times lists desc ≡ (if is_open (slot_at slots desc) then 1 else 0)
 
 -- The store. --
 
@@ -175,14 +188,18 @@ all_dropped buffers (item ∷ items) = all_dropped (after_drop buffers item.desc
 -- each of these items has a use of its block, beside those of the views that are out
 pub record AreLoose (buffers : Buffers) (items : List ItemRow) : Type 0 where
   pub sealed : All (λ item. is_sealed (slot_at buffers.slots item.desc) ≡ true) items
-  pub used : (desc : ℕ) → is_sealed (slot_at buffers.slots desc) ≡ true → (sealed_at buffers.slots desc).views + blocks_among desc items ≤ (sealed_at buffers.slots desc).uses
+  pub used : (desc : ℕ) → is_sealed (slot_at buffers.slots desc) ≡ true →
+      (sealed_at buffers.slots desc).views + blocks_among desc items ≤
+      (sealed_at buffers.slots desc).uses
 
 -- Steps. --
 
 -- a block was sealed for a send, with this message, no use and no view yet; the others stay
 pub record Seals (old new : Buffers) (number asked : ℕ) (message : List ℕ) (desc : ℕ) : Type 0 where
   pub sealed : is_sealed (slot_at new.slots desc) ≡ true
-  pub sent : sealed_at new.slots desc ≡ record (sealed_at new.slots desc) { number = number; asked = asked; bytes = message; uses = 0; views = 0 }
+  pub sent : sealed_at new.slots desc ≡
+      record (sealed_at new.slots desc)
+      { number = number; asked = asked; bytes = message; uses = 0; views = 0 }
   pub others : (other : ℕ) → (desc ≡ other → ⊥) → slot_at new.slots other ≡ slot_at old.slots other
 
 -- a message's block was drawn, written and sealed, and is one more than before
@@ -190,16 +207,23 @@ pub record Adds (old new : Buffers) (number : ℕ) (message : List ℕ) (desc : 
   pub fresh : is_live (slot_at old.slots desc) ≡ false
   pub drawn : DrawsFor old.pool new.pool (length message) desc
   pub seals : Seals old new number (length message) message desc
-  pub numbers : HaveOwnNumbers old.slots → ((other : ℕ) → is_live (slot_at old.slots other) ≡ true → number_in (slot_at old.slots other) ≡ number → ⊥) → HaveOwnNumbers new.slots
+  pub numbers : HaveOwnNumbers old.slots →
+      ((other : ℕ) → is_live (slot_at old.slots other) ≡ true →
+      number_in (slot_at old.slots other) ≡ number → ⊥) → HaveOwnNumbers new.slots
 
 -- a view of an item came back, and the use of its block that the item was
 abbrev pub let_go : Buffers → Option ItemRow → Buffers
 let_go buffers None = buffers
 let_go buffers (Some item) =
-    after_drop (resealed buffers item.desc (record (sealed_at buffers.slots item.desc) { views = (sealed_at buffers.slots item.desc).views - 1 })) item.desc
+    after_drop
+        (resealed buffers item.desc
+        (record (sealed_at buffers.slots item.desc)
+        { views = (sealed_at buffers.slots item.desc).views - 1 })) item.desc
 
 -- one more view of an item is out
 abbrev pub shown : Buffers → Option ItemRow → Buffers
 shown buffers None = buffers
 shown buffers (Some item) =
-    resealed buffers item.desc (record (sealed_at buffers.slots item.desc) { views = (sealed_at buffers.slots item.desc).views + 1 })
+    resealed buffers item.desc
+        (record (sealed_at buffers.slots item.desc)
+        { views = (sealed_at buffers.slots item.desc).views + 1 })

@@ -1,4 +1,5 @@
--- The pipes of a bus with their messages, as the layer above sees them: each pipe has copies, and nothing is shared.
+-- The pipes of a bus with their messages, as the layer above sees them: each pipe has copies, and
+-- nothing is shared.
 use Rattle.std.specs.Prelude.{ℕ, List, [], replicate, length}
 use Rattle.fsw_base.specs.Limits.{Limits}
 use Rattle.fsw_base.specs.PoolAccounts.{Account}
@@ -17,10 +18,11 @@ pub record BufferDesc : Type 0 where
   pub number : ℕ
   pub desc : ℕ
 
--- The live pipes with their messages and how many were created, the live subscriptions and how many were made, each in order
--- of number; the routes in order of making; the room for them; the pipes that missed the message sent last; of each application,
--- from 1, the buffers that it hasn't sent, the newest first; how many send numbers were given; the account of the pool; the loan
--- of each pipe's last message, in order of pipes; and the descriptor of each unsent buffer.
+-- The live pipes with their messages and how many were created, the live subscriptions and how many
+-- were made, each in order of number; the routes in order of making; the room for them; the pipes
+-- that missed the message sent last; of each application, from 1, the buffers that it hasn't sent,
+-- the newest first; how many send numbers were given; the account of the pool; the loan of each
+-- pipe's last message, in order of pipes; and the descriptor of each unsent buffer.
 pub record Store : Type 0 where
   pub pipes : List Pipe
   pub pipes_created : ℕ

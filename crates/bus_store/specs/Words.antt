@@ -1,4 +1,5 @@
--- What is sent, who misses it, which buffer has which block, and what the numbers that are held do to the pool.
+-- What is sent, who misses it, which buffer has which block, and what the numbers that are held do
+-- to the pool.
 use Rattle.std.specs.Prelude.{ℕ, ◌+◌, ◌%◌, ◌==◌, Bool, List, length, map, find, slice_index, if◌then◌else◌}
 use Rattle.std.specs.Option.{option_map_or}
 use Rattle.fsw_base.specs.Blocks.{class_of}
@@ -36,7 +37,8 @@ size_for sizes asked = option_map_or (slice_index sizes) (class_of asked sizes) 
 
 -- the next count that a route stands for (CCSDS 133.0-B, 4.1.3.4.3)
 abbrev pub next_of : List (ℕ × ℕ) → RouteRow → NextCount
-next_of starts route = record { id = route.id; next = (start_of starts route.id + route.counted + 1) % 16384 }
+next_of starts route =
+    record { id = route.id; next = (start_of starts route.id + route.counted + 1) % 16384 }
 
 abbrev pub nexts_in : Store → List NextCount
 nexts_in store = map (next_of store.room.starts) store.routes
@@ -60,7 +62,8 @@ sending_of store sender bytes inc = record {
   message = stamped (reads_of store) bytes inc;
 }
 
--- what the application sends of a buffer: the message that its bytes begin with, under the buffer's number
+-- what the application sends of a buffer: the message that its bytes begin with, under the buffer's
+-- number
 abbrev pub passing_of : Store → ℕ → ℕ → List ℕ → Bool → Sending
 passing_of store sender buf bytes inc = record {
   sender = sender;
@@ -71,7 +74,8 @@ passing_of store sender buf bytes inc = record {
 
 -- The pool. --
 
--- this account, with as many blocks of each size out as numbers are held, of so many given: by these pipes, or as these unsent
--- buffers
+-- this account, with as many blocks of each size out as numbers are held, of so many given: by
+-- these pipes, or as these unsent buffers
 abbrev pub with_held : Account → List Pipe → List (List Buffer) → ℕ → Account
-with_held account pipes unsent given = record account { out = blocks_held account.sizes pipes unsent given }
+with_held account pipes unsent given =
+    record account { out = blocks_held account.sizes pipes unsent given }

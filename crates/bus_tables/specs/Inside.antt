@@ -1,5 +1,5 @@
--- How the three tables belong together: what waits on the pipes is counted at its subscriptions, and the destinations of an
--- id are its subscriptions.
+-- How the three tables belong together: what waits on the pipes is counted at its subscriptions,
+-- and the destinations of an id are its subscriptions.
 use Rattle.std.specs.Prelude.{◌≡◌, ℕ, ◌*◌, ◌≤◌, ◌==◌, ◌&&◌, Bool, true, List, [], map, filter, find, count_by, Option, Some, is_some}
 use Rattle.std.specs.List.{All}
 use Rattle.std.specs.Option.{option_map, option_map_or}
@@ -52,7 +52,8 @@ waiting_at row number = waiting_of (λ item. item.sub.number) row number
 
 -- a subscription's pipe is live, and as many of its messages wait there as it counts
 abbrev pub IsCounted : List (PipeOf Item) → subs.Subscription → Type 0
-IsCounted rows s = option_map (λ row. waiting_at row s.number) (pipe_at rows s.pipe) ≡ Some s.waiting
+IsCounted rows s =
+    option_map (λ row. waiting_at row s.number) (pipe_at rows s.pipe) ≡ Some s.waiting
 
 -- a subscription is the item's, where it has the item's number: in that slot, and of this pipe
 abbrev pub IsOf : ℕ → Item → subs.Subscription → Type 0
@@ -90,9 +91,11 @@ first_of subscribed id pipe = option_map subs.number_of (find (ties id pipe) sub
 abbrev pub of_id : ℕ → subs.Subscribed → List subs.Subscription
 of_id id subscribed = filter (λ s. s.id == id) subscribed.live
 
--- each id's destinations are its live subscriptions, each live one has a route, and no two tie the same id to the same pipe
+-- each id's destinations are its live subscriptions, each live one has a route, and no two tie the
+-- same id to the same pipe
 pub record AreRouted (subscribed : subs.Subscribed) (routing : Routing) : Type 0 where
-  pub dests : (id route : ℕ) → route_of routing.routes id ≡ Some route → map (λ dest. dest.1) (dests_at routing route) ≡ map subs.number_of (of_id id subscribed)
+  pub dests : (id route : ℕ) → route_of routing.routes id ≡ Some route →
+      map (λ dest. dest.1) (dests_at routing route) ≡ map subs.number_of (of_id id subscribed)
   pub ways : All (λ s. is_some (route_of routing.routes s.id) ≡ true) subscribed.live
   pub once : (id pipe : ℕ) → count_by (ties id pipe) subscribed.live ≤ 1
 
@@ -116,9 +119,11 @@ still subscribed = record subscribed { live = map uncounted subscribed.live }
 
 -- the subscriptions once one message fewer of the item's waits; as they are, where there is no item
 abbrev pub fewer_by : Option Item → subs.Subscribed → subs.Subscribed
-fewer_by item subscribed = option_map_or (λ i. subs.with_change subscribed i.sub subs.one_fewer) item subscribed
+fewer_by item subscribed =
+    option_map_or (λ i. subs.with_change subscribed i.sub subs.one_fewer) item subscribed
 
--- a table of pipes but for the pipes themselves: where they lie, how many were created, the room and the greatest depth
+-- a table of pipes but for the pipes themselves: where they lie, how many were created, the room
+-- and the greatest depth
 abbrev pub frame : Pipes → Pipes
 frame pipes = record pipes { live = [] }
 

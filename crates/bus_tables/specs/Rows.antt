@@ -1,4 +1,5 @@
--- The pipes, subscriptions and routes of a software bus as lists, and what becomes of a message on its way to the pipes.
+-- The pipes, subscriptions and routes of a software bus as lists, and what becomes of a message on
+-- its way to the pipes.
 use Rattle.std.specs.Prelude.{ℕ, ◌+◌, ◌%◌, ◌==◌, Bool, List, [], ◌∷◌, ◌++◌, map, find, Option, None, if◌then◌else◌}
 use Rattle.std.specs.List.{list_any}
 use Rattle.std.specs.Option.{option_map_or}
@@ -22,11 +23,14 @@ last_row_item rows app number = if owns rows app number then last_on rows number
 
 -- the item that a message is on the subscription's pipe
 abbrev pub item_of : Message → Subscription → ItemRow
-item_of message sub = record { number = message.number; desc = message.desc; subscription = sub.number }
+item_of message sub =
+    record { number = message.number; desc = message.desc; subscription = sub.number }
 
 -- a message, as pipes are offered it
 abbrev pub offer_of : Message → Offer ItemRow
-offer_of message = record { sender = message.sender; subscription_of = λ item. item.subscription; item_for = item_of message }
+offer_of message =
+    record { sender = message.sender; subscription_of = λ item. item.subscription;
+    item_for = item_of message }
 
 -- the verdict on a message of this sender for the subscription
 abbrev pub verdict_on : Row → Subscription → ℕ → Verdict
@@ -72,7 +76,8 @@ dropped_rows message subs rows = dropped_of (offer_of message) subs rows
 
 -- Routes. --
 
--- A message id with a route, and how many counts it has given, modulo 16384 (CCSDS 133.0-B, 4.1.3.4.3).
+-- A message id with a route, and how many counts it has given, modulo 16384 (CCSDS 133.0-B,
+-- 4.1.3.4.3).
 pub record RouteRow : Type 0 where
   pub id : ℕ
   pub counted : ℕ
@@ -87,14 +92,17 @@ has_way routes id = list_any (λ route. route.id == id) routes
 
 -- how many counts the id has given, modulo 16384, as its route says it
 abbrev pub counted_in : List RouteRow → ℕ → ℕ
-counted_in routes id = option_map_or (λ route. route.counted) (find (λ route. route.id == id) routes) 0
+counted_in routes id =
+    option_map_or (λ route. route.counted) (find (λ route. route.id == id) routes) 0
 
 -- the routes once the id's has given a count more
 abbrev pub counted_on : List RouteRow → ℕ → List RouteRow
 counted_on [] id = []
 counted_on (route ∷ routes) id =
-    if route.id == id then record route { counted = (route.counted + 1) % 16384 } ∷ routes else route ∷ counted_on routes id
+    if route.id == id then record route { counted = (route.counted + 1) % 16384 } ∷ routes
+        else route ∷ counted_on routes id
 
 -- the routes with one for the id
 abbrev pub with_route : List RouteRow → ℕ → List RouteRow
-with_route routes id = if has_way routes id then routes else routes ++ record { id = id; counted = 0 } ∷ []
+with_route routes id =
+    if has_way routes id then routes else routes ++ record { id = id; counted = 0 } ∷ []

@@ -4,8 +4,8 @@ use Rattle.fsw_base.specs.Limits.{Limits}
 use Rattle.bus_words.specs.Bus.{Subscription}
 use Rattle.bus_tables.specs.Rows.{Row, RouteRow}
 
--- How many pipes may be live and their greatest depth; how many ids may have a route, and how many subscriptions each; and the
--- counts at which ids start.
+-- How many pipes may be live and their greatest depth; how many ids may have a route, and how many
+-- subscriptions each; and the counts at which ids start.
 pub record Room : Type 0 where
   pub pipes : ℕ
   pub depth : ℕ
@@ -13,8 +13,8 @@ pub record Room : Type 0 where
   pub dests : ℕ
   pub starts : List (ℕ × ℕ)
 
--- The live pipes and how many were created, the live subscriptions and how many were made, each in order of number; and the
--- routes in order of making.
+-- The live pipes and how many were created, the live subscriptions and how many were made, each in
+-- order of number; and the routes in order of making.
 pub record Tables : Type 0 where
   pub pipes : List Row
   pub pipes_created : ℕ
@@ -35,4 +35,6 @@ room_for limits = record {
 
 -- nothing was created yet
 abbrev pub opened : Limits → Tables
-opened limits = record { pipes = []; pipes_created = 0; subscriptions = []; subscriptions_made = 0; routes = []; room = room_for limits }
+opened limits =
+    record { pipes = []; pipes_created = 0; subscriptions = []; subscriptions_made = 0; routes = [];
+    room = room_for limits }

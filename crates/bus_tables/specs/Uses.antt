@@ -1,4 +1,5 @@
--- How often the pipes name a send: once for each of its messages that waits, and once for each that was received last.
+-- How often the pipes name a send: once for each of its messages that waits, and once for each that
+-- was received last.
 use Rattle.std.specs.Prelude.{ℕ, ◌+◌, ◌==◌, if◌then◌else◌, List, count_by, sum_by, Option, Some, None}
 use Rattle.bus_tables.specs.declared.tables.ItemRow.{ItemRow}
 use Rattle.bus_tables.specs.Rows.{Row}

@@ -32,9 +32,9 @@ pub struct Miss {
 /// see both lists, and how many pipes there is room for.
 #[derive(Drop)]
 pub struct Misses {
-    /// The pipes, with room for as many as a message can have destinations.
+    // The pipes, with room for as many as a message can have destinations.
     items: Vec<Miss>,
-    /// The messages that were dropped: at most one for each of the pipes, and room for as many.
+    // The messages that were dropped: at most one for each of the pipes, and room for as many.
     dropped: Vec<ItemRow>,
 }
 

@@ -49,11 +49,11 @@ pub struct LastItems {
 /// was taken for them.
 #[derive(Drop)]
 pub struct BusTables {
-    /// The pipes, with what waits on them.
+    // The pipes, with what waits on them.
     pipes: PipeTable,
-    /// The subscriptions, each with the count of its messages that wait.
+    // The subscriptions, each with the count of its messages that wait.
     subs: Subs,
-    /// The routes: for each id that has one, its subscriptions and its sequence count.
+    // The routes: for each id that has one, its subscriptions and its sequence count.
     routes: Routes,
 }
 

@@ -1,5 +1,5 @@
--- The bus as a machine over a state that is enough by itself: what a call answers and changes follows from it alone, and no
--- history need be kept.
+-- The bus as a machine over a state that is enough by itself: what a call answers and changes
+-- follows from it alone, and no history need be kept.
 use Rattle.std.specs.Prelude.{◌≡◌, ℕ, ◌+◌, ◌%◌, ◌==◌, ◌&&◌, nat_le, Bool, true, List, [], ◌∷◌, ◌++◌, map, find, if◌then◌else◌}
 use Rattle.std.specs.List.{list_any}
 use Rattle.std.specs.Option.{option_map_or}
@@ -45,9 +45,11 @@ moved_on id n = if n.id == id then record n { next = (n.next + 1) % 16384 } else
 abbrev pub first_next : Limits → ℕ → NextCount
 first_next limits id = record { id = id; next = (start_of limits.starts id + 1) % 16384 }
 
--- the next counts after a call so answered: a subscription gives its id a route, an accepted send may move its id's count
+-- the next counts after a call so answered: a subscription gives its id a route, an accepted send
+-- may move its id's count
 abbrev pub nexts_after : Limits → List NextCount → Call → BusAnswer → List NextCount
-nexts_after limits nexts (Subscribe id pipe limit scope) Done = if has_next nexts id then nexts else nexts ++ first_next limits id ∷ []
+nexts_after limits nexts (Subscribe id pipe limit scope) Done =
+    if has_next nexts id then nexts else nexts ++ first_next limits id ∷ []
 nexts_after limits nexts (Transmit bytes inc) (Sent number reached) =
     if inc && nat_le 1 number then map (moved_on (message_id bytes)) nexts else nexts
 nexts_after limits nexts (TransmitBuffer buf bytes inc) (Sent number reached) =
@@ -58,7 +60,8 @@ nexts_after limits nexts call answer = nexts
 
 -- what a call was answered, with all of the state after it
 abbrev pub completed : Limits → Whole → Call → BusAnswer × State → BusAnswer × Whole
-completed limits w call made = (made.0, record { bus = made.1; nexts = nexts_after limits w.nexts call made.0 })
+completed limits w call made =
+    (made.0, record { bus = made.1; nexts = nexts_after limits w.nexts call made.0 })
 
 -- what the call answers, and the state afterwards
 abbrev pub act : Limits → Whole → ℕ → Call → BusAnswer × Whole
@@ -81,12 +84,14 @@ whole_after limits apps history = whole_from limits (opening_whole limits apps) 
 
 -- the next counts of these ids after a history
 abbrev pub nexts_of : Limits → List Entry → List ℕ → List NextCount
-nexts_of limits history ids = map (λ id. record { id = id; next = next_count limits history id }) ids
+nexts_of limits history ids =
+    map (λ id. record { id = id; next = next_count limits history id }) ids
 
 -- all of the state, where the bus is this after this history
 abbrev pub whole_of : Limits → List Entry → State → Whole
 whole_of limits history s = record { bus = s; nexts = nexts_of limits history s.routed }
 
--- two readings tell a call the same, where the bus is this: no call asks for the count of an id without a route
+-- two readings tell a call the same, where the bus is this: no call asks for the count of an id
+-- without a route
 pub record AreAlike (reads other : Reads) (s : State) : Type 0 where
   pub next : (id : ℕ) → has_route s.routed id ≡ true → reads.next id ≡ other.next id

@@ -1,5 +1,5 @@
--- One pipe alone: a list machine that knows its owner, option bits, depth, own subscriptions, queue and last message,
--- and of the rest of the bus nothing but the accepted sends.
+-- One pipe alone: a list machine that knows its owner, option bits, depth, own subscriptions, queue
+-- and last message, and of the rest of the bus nothing but the accepted sends.
 use Rattle.std.specs.Prelude.{◌≡◌, ℕ, ◌+◌, ◌==◌, ◌&&◌, not, nat_le, Bool, true, false, List, [], ◌∷◌, ◌++◌, filter, find, Option, Some, None, if◌then◌else◌}
 use Rattle.std.specs.List.{list_any}
 use Rattle.std.specs.Option.{option_map_or}
@@ -56,24 +56,33 @@ abbrev pub sub_alone : Alone → ℕ → ℕ → Alone
 sub_alone a id limit =
     if list_any (λ sub. sub.id == id) a.subscriptions then a
     else (record a {
-      subscriptions = a.subscriptions ++ record { number = a.made + 1; id = id; pipe = 1; limit = limit; scope = Global } ∷ [];
+      subscriptions =
+          a.subscriptions ++
+          record { number = a.made + 1; id = id; pipe = 1; limit = limit; scope = Global } ∷ [];
       made = a.made + 1;
     })
 
--- the pipe is offered the message where it has a live subscription to its id: it makes of it what the verdict says
+-- the pipe is offered the message where it has a live subscription to its id: it makes of it what
+-- the verdict says
 abbrev pub sent_alone : Alone → ℕ → ℕ → ℕ → List ℕ → Alone
 sent_alone a sender id number message =
-    option_map_or (λ sub. record a { pipe = offered (record { sender = sender; number = number; asked = 0; message = message }) sub a.pipe }) (own_subscription a id) a
+    option_map_or
+        (λ sub. record a
+        { pipe = offered (record { sender = sender; number = number; asked = 0; message = message })
+        sub a.pipe }) (own_subscription a id) a
 
 -- what an input does
 abbrev pub input_alone : Alone → Input → Alone
-input_alone a (Start owner depth) = record { pipe = empty_pipe owner depth; subscriptions = []; made = 0 }
+input_alone a (Start owner depth) =
+    record { pipe = empty_pipe owner depth; subscriptions = []; made = 0 }
 input_alone a (Sub id limit) = sub_alone a id limit
-input_alone a (Unsub id) = record a { subscriptions = filter (λ sub. not (sub.id == id)) a.subscriptions }
+input_alone a (Unsub id) =
+    record a { subscriptions = filter (λ sub. not (sub.id == id)) a.subscriptions }
 input_alone a (Opts bits) = record a { pipe = with_bits bits a.pipe }
 input_alone a (Send sender id number message) = sent_alone a sender id number message
 input_alone a Take = record a { pipe = after_receive a.pipe }
-input_alone a Stop = record a { pipe = record a.pipe { queue = []; last = None }; subscriptions = [] }
+input_alone a Stop =
+    record a { pipe = record a.pipe { queue = []; last = None }; subscriptions = [] }
 
 -- the pipe after these inputs
 abbrev pub solo : Alone → List Input → Alone
@@ -127,8 +136,8 @@ takes answer = false
 abbrev pub was_made : State → ℕ → Bool
 was_made s p = nat_le p s.pipes_created
 
--- what an entry is to pipe p, after this history and in this state of the bus: an accepted call on it, an accepted
--- send once the pipe was made, or its owner's end
+-- what an entry is to pipe p, after this history and in this state of the bus: an accepted call on
+-- it, an accepted send once the pipe was made, or its owner's end
 abbrev pub inputs_of : Limits → List Entry → State → ℕ → Entry → List Input
 inputs_of limits history s p e = of_call e.call e.answer
   where
@@ -139,11 +148,17 @@ inputs_of limits history s p e = of_call e.call e.answer
     of_call (Subscribe id pipe limit scope) Done = if_on p pipe (Sub id limit)
     of_call (Unsubscribe id pipe) Done = if_on p pipe (Unsub id)
     of_call (Transmit bytes inc) (Sent number reached) =
-        if nat_le 1 number && was_made s p then Send e.app (message_id bytes) number (delivered limits history bytes inc) ∷ [] else []
+        if nat_le 1 number && was_made s p
+            then Send e.app (message_id bytes) number (delivered limits history bytes inc) ∷ []
+            else []
     of_call Housekeeping (Sent number reached) =
-        if nat_le 1 number && was_made s p then Send e.app housekeeping_id number (delivered limits history (packet_in limits s) true) ∷ [] else []
+        if nat_le 1 number && was_made s p
+            then Send e.app housekeeping_id number
+            (delivered limits history (packet_in limits s) true) ∷ [] else []
     of_call (TransmitBuffer buf bytes inc) (Sent number reached) =
-        if nat_le 1 number && was_made s p then Send e.app (message_id bytes) number (delivered limits history (front_of bytes) inc) ∷ [] else []
+        if nat_le 1 number && was_made s p
+            then Send e.app (message_id bytes) number
+            (delivered limits history (front_of bytes) inc) ∷ [] else []
     of_call (Receive pipe) answer = if takes answer then if_on p pipe Take else []
     of_call (Pend pipe) answer = if takes answer then if_on p pipe Take else []
     of_call (Look pipe) answer = if takes answer then if_on p pipe Take else []
@@ -154,7 +169,8 @@ inputs_of limits history s p e = of_call e.call e.answer
 abbrev pub cut_from : Limits → List Entry → State → ℕ → List Entry → List Input
 cut_from limits history s p [] = []
 cut_from limits history s p (e ∷ es) =
-    inputs_of limits history s p e ++ cut_from limits (history ++ e ∷ []) ((step limits history s e.app e.call).1) p es
+    inputs_of limits history s p e ++
+        cut_from limits (history ++ e ∷ []) ((step limits history s e.app e.call).1) p es
 
 -- what a history of so many applications is to pipe p, from the entry on that made it
 abbrev pub cut : Limits → ℕ → ℕ → List Entry → List Input
@@ -176,7 +192,8 @@ gets_from p e = of_call e.call e.answer
 abbrev pub last_received : State → ℕ → List Received
 last_received s p = option_map_or (λ pipe. last_of pipe.last) (pipe_at s.pipes p) []
 
--- the messages that the entries which follow a history give from pipe p, each the last one after its entry
+-- the messages that the entries which follow a history give from pipe p, each the last one after
+-- its entry
 abbrev pub receipts_from : Limits → List Entry → State → ℕ → List Entry → List Received
 receipts_from limits history s p [] = []
 receipts_from limits history s p (e ∷ es) =
@@ -187,9 +204,11 @@ receipts_from limits history s p (e ∷ es) =
 abbrev pub receipts : Limits → ℕ → ℕ → List Entry → List Received
 receipts limits apps p history = receipts_from limits [] (opening limits apps) p history
 
--- an entry that follows a history gives this message from pipe p: it is the pipe's last, and the newest that the pipe
--- alone gives
-pub record Gives (limits : Limits) (apps p : ℕ) (history : List Entry) (e : Entry) (message : Received) : Type 0 where
+-- an entry that follows a history gives this message from pipe p: it is the pipe's last, and the
+-- newest that the pipe alone gives
+pub record Gives (limits : Limits) (apps p : ℕ) (history : List Entry) (e : Entry)
+    (message : Received) : Type 0 where
   pub answer : e.answer ≡ Got message.number
   pub last : last_received (state_after limits apps (history ++ e ∷ [])) p ≡ message ∷ []
-  pub newest : solo_receipts unmade (cut limits apps p (history ++ e ∷ [])) ≡ solo_receipts unmade (cut limits apps p history) ++ message ∷ []
+  pub newest : solo_receipts unmade (cut limits apps p (history ++ e ∷ [])) ≡
+      solo_receipts unmade (cut limits apps p history) ++ message ∷ []

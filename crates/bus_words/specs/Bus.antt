@@ -1,5 +1,5 @@
--- The state of the software bus (cFE Software Bus; packets by CCSDS 133.0-B, 4.1). Pipes keep copies of the
--- messages sent to them; nothing here is shared.
+-- The state of the software bus (cFE Software Bus; packets by CCSDS 133.0-B, 4.1). Pipes keep
+-- copies of the messages sent to them; nothing here is shared.
 use Rattle.std.specs.Prelude.{◌≡◌, ℕ, ◌≤◌, All, ◌-◌, ◌==◌, ◌&&◌, not, Bool, true, false, List, [], ◌∷◌, length, filter, find, replicate, slice_set, slice_index_or, Option, is_some, if◌then◌else◌}
 use Rattle.std.specs.List.{list_any, list_all}
 use Rattle.std.specs.Option.{option_map_or}
@@ -11,7 +11,8 @@ pub use Rattle.bus_words.specs.Pipes.{PipeOf, Subscription, Offer, is_queued, is
 use Rattle.bus_words.specs.declared.verdict.Verdict.{Verdict}
 use Rattle.bus_words.specs.Pipes as words
 
--- A message that is queued for one subscription: its send number, the size first asked for, the subscription's number, its bytes.
+-- A message that is queued for one subscription: its send number, the size first asked for, the
+-- subscription's number, its bytes.
 pub record Item : Type 0 where
   pub number : ℕ
   pub asked : ℕ
@@ -31,17 +32,19 @@ pub data Standing : Type 0 where
   -- it has ended
   Ended : Standing
 
--- A buffer that an application was given and hasn't sent yet: the number that it will be sent under, and how many bytes were
--- asked for.
+-- A buffer that an application was given and hasn't sent yet: the number that it will be sent
+-- under, and how many bytes were asked for.
 pub record Buffer : Type 0 where
   pub number : ℕ
   pub size : ℕ
 
--- The bus: the live pipes and how many were created, the live subscriptions and how many were made, each in order of
--- number; the ids that have a route; of each application, from 1, the buffers that it hasn't sent, the newest first; how
--- many send numbers were given; the standing of each application, from 1; the memory pools of applications; of the bus's
--- own pool how many blocks of each size were made, which is the greatest number that were ever out at once, and how many
--- blocks were drawn, told up to 2^32 - 1; the event desk; and the counters with the peaks of what was in use.
+-- The bus: the live pipes and how many were created, the live subscriptions and how many were made,
+-- each in order of number; the ids that have a route; of each application, from 1, the buffers that
+-- it hasn't sent, the newest first; how many send numbers were given; the standing of each
+-- application, from 1; the memory pools of applications; of the bus's own pool how many blocks of
+-- each size were made, which is the greatest number that were ever out at once, and how many blocks
+-- were drawn, told up to 2^32 - 1; the event desk; and the counters with the peaks of what was in
+-- use.
 pub record State : Type 0 where
   pub pipes : List Pipe
   pub pipes_created : ℕ
@@ -75,8 +78,8 @@ opening limits apps = record {
   statistics = no_statistics;
 }
 
--- the memory pools of a bus after so many entries: they have the limits' block sizes, each is counted, and each gave at most as
--- many grants as there are entries
+-- the memory pools of a bus after so many entries: they have the limits' block sizes, each is
+-- counted, and each gave at most as many grants as there are entries
 pub record ArePools (limits : Limits) (entries : ℕ) (pools : Pools) : Type 0 where
   pub most : pools.most ≡ limits.apppool
   pub sizes : pools.sizes ≡ limits.sizes
@@ -94,7 +97,8 @@ route subscriptions id = filter (λ sub. sub.id == id) subscriptions
 
 -- whether the pipe is subscribed to the id
 abbrev pub is_subscribed : List Subscription → ℕ → ℕ → Bool
-is_subscribed subscriptions id pipe = list_any (λ sub. sub.id == id && sub.pipe == pipe) subscriptions
+is_subscribed subscriptions id pipe =
+    list_any (λ sub. sub.id == id && sub.pipe == pipe) subscriptions
 
 -- whether the id has a route
 abbrev pub has_route : List ℕ → ℕ → Bool
@@ -114,7 +118,8 @@ has_unsent unsent app number = is_some (unsent_at unsent app number)
 
 -- its size; 0 where the application has no such buffer
 abbrev pub unsent_size : List (List Buffer) → ℕ → ℕ → ℕ
-unsent_size unsent app number = option_map_or (λ buffer. buffer.size) (unsent_at unsent app number) 0
+unsent_size unsent app number =
+    option_map_or (λ buffer. buffer.size) (unsent_at unsent app number) 0
 
 -- the buffers, with one more that the application was given
 abbrev pub with_unsent : List (List Buffer) → ℕ → Buffer → List (List Buffer)
@@ -122,7 +127,9 @@ with_unsent unsent app buffer = slice_set unsent (app - 1) (buffer ∷ unsent_of
 
 -- the buffers, without the application's of this number
 abbrev pub without_unsent : List (List Buffer) → ℕ → ℕ → List (List Buffer)
-without_unsent unsent app number = slice_set unsent (app - 1) (filter (λ buffer. not (buffer.number == number)) (unsent_of unsent app))
+without_unsent unsent app number =
+    slice_set unsent (app - 1)
+    (filter (λ buffer. not (buffer.number == number)) (unsent_of unsent app))
 
 -- the buffers, without all of the application's
 abbrev pub without_all_unsent : List (List Buffer) → ℕ → List (List Buffer)
@@ -137,11 +144,15 @@ pub record Sending : Type 0 where
 
 -- the item that a subscription queues
 abbrev pub item_for : Sending → Subscription → Item
-item_for sending sub = record { number = sending.number; asked = sending.asked; subscription = sub.number; message = sending.message }
+item_for sending sub =
+    record { number = sending.number; asked = sending.asked; subscription = sub.number;
+    message = sending.message }
 
 -- what is sent, as pipes are offered it
 abbrev pub offer_of : Sending → Offer Item
-offer_of sending = record { sender = sending.sender; subscription_of = λ item. item.subscription; item_for = item_for sending }
+offer_of sending =
+    record { sender = sending.sender; subscription_of = λ item. item.subscription;
+    item_for = item_for sending }
 
 -- how many messages of a subscription are queued in the pipe
 abbrev pub waiting_of : Pipe → ℕ → ℕ
@@ -171,7 +182,8 @@ drops sending subs pipes = words.drops (offer_of sending) subs pipes
 abbrev pub is_empty : List Pipe → ℕ → Bool
 is_empty pipes number = option_map_or (λ pipe. length pipe.queue == 0) (pipe_at pipes number) true
 
--- whether an application in this standing makes no further send by itself: it has ended, or waits on an empty pipe
+-- whether an application in this standing makes no further send by itself: it has ended, or waits
+-- on an empty pipe
 abbrev pub is_idle : List Pipe → Standing → Bool
 is_idle pipes Active = false
 is_idle pipes (Waiting pipe) = is_empty pipes pipe
@@ -191,7 +203,8 @@ has_ended Ended = true
 abbrev pub with_standing : State → ℕ → Standing → State
 with_standing s app standing = record s { standings = slice_set s.standings (app - 1) standing }
 
--- the pipe that an application in this standing waits on; 0, which no pipe has, where it doesn't wait
+-- the pipe that an application in this standing waits on; 0, which no pipe has, where it doesn't
+-- wait
 abbrev pub waited_on : Standing → ℕ
 waited_on Active = 0
 waited_on (Waiting pipe) = pipe

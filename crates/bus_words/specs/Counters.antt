@@ -1,4 +1,5 @@
--- What the bus counts of its calls, and its statistics after each (cFE Software Bus, housekeeping and statistics telemetry).
+-- What the bus counts of its calls, and its statistics after each (cFE Software Bus, housekeeping
+-- and statistics telemetry).
 use Rattle.std.specs.Prelude.{List, [], ◌∷◌, ◌++◌, map, fold, flat_map}
 use Rattle.fsw_base.specs.Limits.{Limits}
 use Rattle.fsw_base.specs.declared.config.BusStats.{BusStats}
@@ -49,7 +50,8 @@ refusal_counter (Receive pipe) (Sb BadArgument) = counters.Recv ∷ []
 refusal_counter (Pend pipe) (Sb BadArgument) = counters.Recv ∷ []
 refusal_counter call answer = []
 
--- the counters that a call so answered raises of which the bus tells this, one for each time: its refusal's, and the events'
+-- the counters that a call so answered raises of which the bus tells this, one for each time: its
+-- refusal's, and the events'
 abbrev pub counters_of : Call → BusAnswer → List ServiceEvent → List CounterName
 counters_of call answer events = refusal_counter call answer ++ flat_map event_counter events
 
@@ -59,9 +61,10 @@ counters_raised limits m = counters_of m.entry.call m.entry.answer (service_even
 
 -- Statistics. --
 
--- these statistics after a call so answered, of which the bus tells this, where so much is in use afterwards: its counters go up,
--- and the peaks rise to what is in use
-unfoldable pub statistics_by : Statistics → Call → BusAnswer → List ServiceEvent → InUse → Statistics
+-- these statistics after a call so answered, of which the bus tells this, where so much is in use
+-- afterwards: its counters go up, and the peaks rise to what is in use
+unfoldable pub statistics_by : Statistics → Call → BusAnswer → List ServiceEvent → InUse →
+    Statistics
 statistics_by statistics call answer events now = record {
   counts = fold ticked statistics.counts (counters_of call answer events);
   peak = greater statistics.peak now;
@@ -69,14 +72,19 @@ statistics_by statistics call answer events now = record {
 
 -- these statistics after an entry
 abbrev pub statistics_then : Limits → Statistics → Moment → Statistics
-statistics_then limits statistics m = statistics_by statistics m.entry.call m.entry.answer (service_events limits m) (in_use limits m.after)
+statistics_then limits statistics m =
+    statistics_by statistics m.entry.call m.entry.answer (service_events limits m)
+    (in_use limits m.after)
 
--- the statistics of these moments: how often each counter was raised, and of each number in use the greatest that stood after
--- one of them
+-- the statistics of these moments: how often each counter was raised, and of each number in use the
+-- greatest that stood after one of them
 abbrev pub statistics_told : Limits → List Moment → Statistics
-statistics_told limits moments = statistics_of (flat_map (counters_raised limits) moments) (map (λ m. in_use limits m.after) moments)
+statistics_told limits moments =
+    statistics_of (flat_map (counters_raised limits) moments)
+    (map (λ m. in_use limits m.after) moments)
 
--- the figures of the bus: the counters of messages that went nowhere, over their limit or to a full pipe, and the buffers in use
+-- the figures of the bus: the counters of messages that went nowhere, over their limit or to a full
+-- pipe, and the buffers in use
 abbrev pub stats_in : Limits → State → BusStats
 stats_in limits s = record {
   nosub = s.statistics.counts.nosub;

@@ -1,4 +1,5 @@
--- The events that the bus tells of its calls, and the event desk (cFE Event Services) after each call.
+-- The events that the bus tells of its calls, and the event desk (cFE Event Services) after each
+-- call.
 use Rattle.std.specs.Prelude.{ℕ, true, List, [], ◌∷◌, ◌++◌, fold, if◌then◌else◌}
 use Rattle.std.specs.Option.{option_map_or}
 use Rattle.fsw_base.specs.EventDesk.{Desk, new_desk, registered, unregistered, sent, reset, with_mode, cleared}
@@ -18,7 +19,8 @@ use Rattle.bus_words.specs.declared.verdict.Verdict.{Verdict}
 use Rattle.bus_words.specs.declared.verdict.Verdict.TheVariants.{Skip, OverLimit, In, Oldest, Full}
 use Rattle.bus_words.specs.Sends.{Reads, sending_from, sending_in, packet_in}
 
--- An entry of a history at its moment: what its call saw beside the bus, the bus before it, the entry, and the bus after it.
+-- An entry of a history at its moment: what its call saw beside the bus, the bus before it, the
+-- entry, and the bus after it.
 pub record Moment : Type 0 where
   pub reads : Reads
   pub before : State
@@ -27,8 +29,8 @@ pub record Moment : Type 0 where
 
 -- Sends. --
 
--- what is told of a destination with this verdict: that its pipe misses the message, by its limit or by its depth, or that it
--- dropped its oldest one
+-- what is told of a destination with this verdict: that its pipe misses the message, by its limit
+-- or by its depth, or that it dropped its oldest one
 abbrev pub verdict_events : Verdict → ℕ → ℕ → ℕ → List ServiceEvent
 verdict_events Skip id pipe sender = []
 verdict_events OverLimit id pipe sender = MessageLimit id pipe sender ∷ []
@@ -39,16 +41,19 @@ verdict_events Full id pipe sender = PipeOverflow id pipe sender ∷ []
 -- what is told of one destination of a message of this id
 abbrev pub destination_events : ℕ → Sending → Subscription → List Pipe → List ServiceEvent
 destination_events id sending sub pipes =
-    option_map_or (λ pipe. verdict_events (verdict pipe sub sending.sender) id sub.pipe sending.sender) (pipe_at pipes sub.pipe) []
+    option_map_or
+        (λ pipe. verdict_events (verdict pipe sub sending.sender) id sub.pipe sending.sender)
+        (pipe_at pipes sub.pipe) []
 
 -- what is told of these destinations, in order, each as its turn comes
 abbrev pub delivery_events : ℕ → Sending → List Subscription → List Pipe → List ServiceEvent
 delivery_events id sending [] pipes = []
 delivery_events id sending (sub ∷ subs) pipes =
-    destination_events id sending sub pipes ++ delivery_events id sending subs (with_pipe (offered sending sub) sub.pipe pipes)
+    destination_events id sending sub pipes ++
+        delivery_events id sending subs (with_pipe (offered sending sub) sub.pipe pipes)
 
--- what is told of a send of this id that isn't refused: that nobody subscribes to the id, or which pipes miss the message or
--- dropped their oldest one for it
+-- what is told of a send of this id that isn't refused: that nobody subscribes to the id, or which
+-- pipes miss the message or dropped their oldest one for it
 abbrev pub send_events : ℕ → Sending → List Subscription → List Pipe → List ServiceEvent
 send_events id sending [] pipes = NoSubscribers id ∷ []
 send_events id sending (sub ∷ subs) pipes = delivery_events id sending (sub ∷ subs) pipes
@@ -61,11 +66,13 @@ sent_events s id sending = send_events id sending (route s.subscriptions id) s.p
 
 -- what is told of a subscription of a pair, which stood already or didn't
 abbrev pub subscribe_events : State → ℕ → ℕ → List ServiceEvent
-subscribe_events s id pipe = if is_subscribed s.subscriptions id pipe then DuplicateSubscription id pipe ∷ [] else []
+subscribe_events s id pipe =
+    if is_subscribed s.subscriptions id pipe then DuplicateSubscription id pipe ∷ [] else []
 
 -- what is told of the end of a pair's subscription, which stood or didn't
 abbrev pub unsubscribe_events : State → ℕ → ℕ → List ServiceEvent
-unsubscribe_events s id pipe = if is_subscribed s.subscriptions id pipe then [] else NotSubscribed id pipe ∷ []
+unsubscribe_events s id pipe =
+    if is_subscribed s.subscriptions id pipe then [] else NotSubscribed id pipe ∷ []
 
 -- these events, where the call was accepted; of a refused call the bus tells none
 abbrev pub unless_refused : BusAnswer → List ServiceEvent → List ServiceEvent
@@ -74,24 +81,31 @@ unless_refused (Es status) events = []
 unless_refused (Evs status) events = []
 unless_refused answer events = events
 
--- what the bus tells of an application's call so answered, in order, where the call saw this beside this bus
+-- what the bus tells of an application's call so answered, in order, where the call saw this beside
+-- this bus
 unfoldable pub call_events : Limits → Reads → State → ℕ → Call → BusAnswer → List ServiceEvent
-call_events limits reads s app (Subscribe id pipe limit scope) answer = unless_refused answer (subscribe_events s id pipe)
-call_events limits reads s app (Unsubscribe id pipe) answer = unless_refused answer (unsubscribe_events s id pipe)
-call_events limits reads s app (Transmit bytes inc) answer = unless_refused answer (sent_events s (message_id bytes) (sending_from reads s app bytes inc))
+call_events limits reads s app (Subscribe id pipe limit scope) answer =
+    unless_refused answer (subscribe_events s id pipe)
+call_events limits reads s app (Unsubscribe id pipe) answer =
+    unless_refused answer (unsubscribe_events s id pipe)
+call_events limits reads s app (Transmit bytes inc) answer =
+    unless_refused answer (sent_events s (message_id bytes) (sending_from reads s app bytes inc))
 call_events limits reads s app (TransmitBuffer buf bytes inc) answer =
     unless_refused answer (sent_events s (message_id bytes) (sending_in reads s app buf bytes inc))
 call_events limits reads s app Housekeeping answer =
-    unless_refused answer (sent_events s housekeeping_id (sending_from reads s app (packet_in limits s) true))
+    unless_refused answer
+        (sent_events s housekeeping_id (sending_from reads s app (packet_in limits s) true))
 call_events limits reads s app call answer = []
 
 -- what the bus tells of an entry's call
 abbrev pub service_events : Limits → Moment → List ServiceEvent
-service_events limits m = call_events limits m.reads m.before m.entry.app m.entry.call m.entry.answer
+service_events limits m =
+    call_events limits m.reads m.before m.entry.app m.entry.call m.entry.answer
 
 -- The event desk. --
 
--- this event desk after an application's call: its own call of the event services, its end, or what the bus tells of the call
+-- this event desk after an application's call: its own call of the event services, its end, or what
+-- the bus tells of the call
 unfoldable pub desk_by : Desk → ℕ → Call → List ServiceEvent → Desk
 desk_by desk app (Register filters) events = registered desk app filters
 desk_by desk app (SendEvent id kind text) events = sent desk app id kind text

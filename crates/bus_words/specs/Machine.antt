@@ -1,4 +1,5 @@
--- The bus as a machine: why a call is refused, what it answers and what it changes, and which histories are legal.
+-- The bus as a machine: why a call is refused, what it answers and what it changes, and which
+-- histories are legal.
 use Rattle.std.specs.Prelude.{◌≡◌, ℕ, ◌+◌, ◌-◌, ◌%◌, ◌==◌, ◌&&◌, ◌||◌, not, nat_le, nat_lt, Bool, true, false, List, [], ◌∷◌, ◌++◌, length, filter, count_by, slice_set, Option, Some, None, is_some, IsTrue, if◌then◌else◌}
 use Rattle.std.specs.Option.{option_map, option_map_or}
 use Rattle.fsw_base.specs.declared.config.Scope.{Scope}
@@ -31,14 +32,18 @@ use Rattle.bus_words.specs.Bus.{Pipe, Subscription, Buffer, State, Standing, Act
 
 -- whether this call, so answered, was an accepted send of the id that moved its count
 abbrev pub counts_for : ℕ → Call → BusAnswer → Bool
-counts_for id (Transmit bytes inc) (Sent number reached) = inc && (message_id bytes == id) && nat_le 1 number
-counts_for id (TransmitBuffer buf bytes inc) (Sent number reached) = inc && (message_id bytes == id) && nat_le 1 number
+counts_for id (Transmit bytes inc) (Sent number reached) =
+    inc && (message_id bytes == id) && nat_le 1 number
+counts_for id (TransmitBuffer buf bytes inc) (Sent number reached) =
+    inc && (message_id bytes == id) && nat_le 1 number
 counts_for id Housekeeping (Sent number reached) = (housekeeping_id == id) && nat_le 1 number
 counts_for id call answer = false
 
--- the id's next count: its start, one for each accepted send of it that moved it, and one more, in 14 bits
+-- the id's next count: its start, one for each accepted send of it that moved it, and one more, in
+-- 14 bits
 abbrev pub next_count : Limits → List Entry → ℕ → ℕ
-next_count limits history id = (start_of limits.starts id + count_by (λ e. counts_for id e.call e.answer) history + 1) % 16384
+next_count limits history id =
+    (start_of limits.starts id + count_by (λ e. counts_for id e.call e.answer) history + 1) % 16384
 
 -- what a call sees after a history
 abbrev pub reads_after : Limits → List Entry → Reads
@@ -54,10 +59,13 @@ delivered limits history bytes inc = stamped (reads_after limits history) bytes 
 abbrev pub refused_if : {A : Type 0} → Bool → A → Option A → Option A
 refused_if test status others = if test then Some status else others
 
--- where the depth or the name isn't in its range, as many pipes are live as may be, or a live pipe has the name
+-- where the depth or the name isn't in its range, as many pipes are live as may be, or a live pipe
+-- has the name
 abbrev pub create_cause : Limits → State → ℕ → List ℕ → Option SbStatus
 create_cause limits s depth name =
-    refused_if (depth == 0 || nat_lt limits.depth depth || length name == 0 || nat_lt 19 (length name)) BadArgument
+    refused_if
+        (depth == 0 || nat_lt limits.depth depth || length name == 0 || nat_lt 19 (length name))
+        BadArgument
     (refused_if (nat_le limits.pipes (length s.pipes)) MaxPipesMet
     (refused_if (is_named s.pipes name) PipeCrErr None))
 
@@ -65,9 +73,12 @@ create_cause limits s depth name =
 abbrev pub unowned_cause : State → ℕ → ℕ → Option SbStatus
 unowned_cause s app pipe = refused_if (not (owns s.pipes app pipe)) BadArgument None
 
--- where the pipe isn't a live one of the application's own, or a bit is set that the version doesn't have
+-- where the pipe isn't a live one of the application's own, or a bit is set that the version
+-- doesn't have
 abbrev pub set_opts_cause : Limits → State → ℕ → ℕ → ℕ → Option SbStatus
-set_opts_cause limits s app pipe bits = refused_if (not (owns s.pipes app pipe) || nat_lt (all_bits limits.version) bits) BadArgument None
+set_opts_cause limits s app pipe bits =
+    refused_if (not (owns s.pipes app pipe) || nat_lt (all_bits limits.version) bits) BadArgument
+    None
 
 -- where no pipe of this number is live
 abbrev pub dead_cause : State → ℕ → Option SbStatus
@@ -82,12 +93,14 @@ abbrev pub subscribe_cause : Limits → State → ℕ → ℕ → ℕ → Option
 subscribe_cause limits s app id pipe =
     refused_if (not (is_valid_id id) || not (owns s.pipes app pipe)) BadArgument
     (if is_subscribed s.subscriptions id pipe then None
-    else refused_if (not (has_route s.routed id) && nat_le limits.msgids (length s.routed)) MaxMsgsMet
+    else refused_if (not (has_route s.routed id) && nat_le limits.msgids (length s.routed))
+        MaxMsgsMet
     (refused_if (nat_le limits.dests (length (route s.subscriptions id))) MaxDestsMet None))
 
 -- where no message may have the id, or the pipe isn't a live one of the application's own
 abbrev pub unsubscribe_cause : State → ℕ → ℕ → ℕ → Option SbStatus
-unsubscribe_cause s app id pipe = refused_if (not (is_valid_id id) || not (owns s.pipes app pipe)) BadArgument None
+unsubscribe_cause s app id pipe =
+    refused_if (not (is_valid_id id) || not (owns s.pipes app pipe)) BadArgument None
 
 -- a message that nobody subscribes to needs no block of the bus's pool
 abbrev pub transmit_cause : Limits → State → List ℕ → Option SbStatus
@@ -220,7 +233,10 @@ subscribed s id pipe limit scope = (
   Done,
   (if is_subscribed s.subscriptions id pipe then s
       else (record s {
-        subscriptions = s.subscriptions ++ record { number = s.subscriptions_made + 1; id = id; pipe = pipe; limit = limit; scope = scope } ∷ [];
+        subscriptions =
+            s.subscriptions ++
+            record { number = s.subscriptions_made + 1; id = id; pipe = pipe; limit = limit;
+            scope = scope } ∷ [];
         subscriptions_made = s.subscriptions_made + 1;
         routed = (if has_route s.routed id then s.routed else s.routed ++ id ∷ []);
       })),
@@ -228,7 +244,9 @@ subscribed s id pipe limit scope = (
 
 -- the live subscription of the pair leaves, if there is one
 abbrev pub unsubscribed : State → ℕ → ℕ → State
-unsubscribed s id pipe = record s { subscriptions = filter (λ sub. not (sub.id == id && sub.pipe == pipe)) s.subscriptions }
+unsubscribed s id pipe =
+    record s { subscriptions = filter (λ sub. not (sub.id == id && sub.pipe == pipe))
+    s.subscriptions }
 
 -- without a live subscription of its id a message goes nowhere, and takes no number and no block
 abbrev pub sent_along : Limits → List Subscription → Sending → State → BusAnswer × State
@@ -246,7 +264,8 @@ sent_along limits (sub ∷ subs) sending s = (
 -- a message goes to the live subscriptions of its id, in order
 abbrev pub transmitted : Reads → Limits → State → ℕ → List ℕ → Bool → BusAnswer × State
 transmitted reads limits s app bytes inc =
-    sent_along limits (route s.subscriptions (message_id bytes)) (sending_from reads s app bytes inc) s
+    sent_along limits (route s.subscriptions (message_id bytes))
+        (sending_from reads s app bytes inc) s
 
 -- a buffer, whose number is one more than were given; its block is drawn
 abbrev pub allocated : Limits → State → ℕ → ℕ → BusAnswer × State
@@ -264,21 +283,25 @@ allocated limits s app size = (
 abbrev pub buffer_gone : State → ℕ → ℕ → State
 buffer_gone s app buf = record s { unsent = without_unsent s.unsent app buf }
 
--- what is sent of a buffer goes under the buffer's number, in the buffer's block; without a live subscription of its id it goes
--- nowhere
+-- what is sent of a buffer goes under the buffer's number, in the buffer's block; without a live
+-- subscription of its id it goes nowhere
 abbrev pub passed_along : List Subscription → Sending → State → BusAnswer × State
 passed_along [] sending s = (Sent 0 0, s)
 passed_along (sub ∷ subs) sending s =
-    (Sent sending.number (reached sending (sub ∷ subs) s.pipes), record s { pipes = deliver sending (sub ∷ subs) s.pipes })
+    (Sent sending.number (reached sending (sub ∷ subs) s.pipes), record s
+        { pipes = deliver sending (sub ∷ subs) s.pipes })
 
 -- the buffer leaves, and the message that its bytes begin with is sent
 abbrev pub buffer_transmitted : Reads → State → ℕ → ℕ → List ℕ → Bool → BusAnswer × State
 buffer_transmitted reads s app buf bytes inc =
-    passed_along (route s.subscriptions (message_id bytes)) (sending_in reads s app buf bytes inc) (buffer_gone s app buf)
+    passed_along (route s.subscriptions (message_id bytes)) (sending_in reads s app buf bytes inc)
+        (buffer_gone s app buf)
 
 -- the number of the oldest message that is queued on the pipe
 abbrev pub oldest_number : List Pipe → ℕ → ℕ
-oldest_number pipes number = option_map_or (λ pipe. option_map_or (λ item. item.number) (oldest pipe.queue) 0) (pipe_at pipes number) 0
+oldest_number pipes number =
+    option_map_or (λ pipe. option_map_or (λ item. item.number) (oldest pipe.queue) 0)
+    (pipe_at pipes number) 0
 
 -- the bus after a receive on the pipe
 abbrev pub received : State → ℕ → State
@@ -291,14 +314,16 @@ pended_answer s app pipe =
     else if others_idle s app then TimeOut
     else Pending
 
--- the bus after a receive that may wait: after the receive, and where neither a message nor a time-out came the
--- application waits on the pipe
+-- the bus after a receive that may wait: after the receive, and where neither a message nor a
+-- time-out came the application waits on the pipe
 abbrev pub pended : State → ℕ → ℕ → State
 pended s app pipe =
-    if is_empty s.pipes pipe && not (others_idle s app) then with_standing (received s pipe) app (Waiting pipe)
+    if is_empty s.pipes pipe && not (others_idle s app)
+        then with_standing (received s pipe) app (Waiting pipe)
     else received s pipe
 
--- the bus after a look: as after a receive, with the application active again; as before where it still waits
+-- the bus after a look: as after a receive, with the application active again; as before where it
+-- still waits
 abbrev pub looked : State → ℕ → ℕ → State
 looked s app pipe =
     if is_empty s.pipes pipe && not (others_idle s app) then s
@@ -306,7 +331,8 @@ looked s app pipe =
 
 -- a new pool; its number is one more than there are
 abbrev pub pool_created : State → ℕ → BusAnswer × State
-pool_created s bytes = (Number (length s.pools.pools + 1), record s { pools = after_create s.pools bytes })
+pool_created s bytes =
+    (Number (length s.pools.pools + 1), record s { pools = after_create s.pools bytes })
 
 -- a grant of the pool, numbered one more than it gave
 abbrev pub pool_given : State → ℕ → ℕ → ℕ → BusAnswer × State
@@ -315,11 +341,14 @@ pool_given s app pool size = (
   record s { pools = with_pool s.pools pool (after_get (pool_in s.pools pool) app size) },
 )
 
--- the bus after a return to the pool, if there is one: the grant is back, or the return is counted as refused
+-- the bus after a return to the pool, if there is one: the grant is back, or the return is counted
+-- as refused
 abbrev pub pool_returned : State → ℕ → ℕ → State
-pool_returned s pool grant = record s { pools = with_pool s.pools pool (after_put (pool_in s.pools pool) grant) }
+pool_returned s pool grant =
+    record s { pools = with_pool s.pools pool (after_put (pool_in s.pools pool) grant) }
 
--- the application's pipes with their subscriptions leave, and its unsent buffers; its grants come back
+-- the application's pipes with their subscriptions leave, and its unsent buffers; its grants come
+-- back
 abbrev pub ended : State → ℕ → State
 ended s app = record s {
   pipes = filter (λ pipe. not (pipe.owner == app)) s.pipes;
@@ -329,11 +358,13 @@ ended s app = record s {
   pools = all_after_end app s.pools;
 }
 
--- What a call that isn't refused answers and changes, but for the event desk and the statistics: `recorded` alone changes these.
+-- What a call that isn't refused answers and changes, but for the event desk and the statistics:
+-- `recorded` alone changes these.
 abbrev pub accept_with : Reads → Limits → State → ℕ → Call → BusAnswer × State
 accept_with reads limits s app (Create depth name) = created s app depth name
 accept_with reads limits s app (Delete pipe) = (Done, deleted s pipe)
-accept_with reads limits s app (SetOpts pipe bits) = (Done, record s { pipes = with_pipe (with_bits bits) pipe s.pipes })
+accept_with reads limits s app (SetOpts pipe bits) =
+    (Done, record s { pipes = with_pipe (with_bits bits) pipe s.pipes })
 accept_with reads limits s app (GetOpts pipe) = (Number (bits_of s.pipes pipe), s)
 accept_with reads limits s app (Find name) = (Number (number_of s.pipes name), s)
 accept_with reads limits s app (PipeName pipe) = (Name (name_of s.pipes pipe), s)
@@ -344,7 +375,8 @@ accept_with reads limits s app (Receive pipe) = (Got (oldest_number s.pipes pipe
 accept_with reads limits s app (Pend pipe) = (pended_answer s app pipe, pended s app pipe)
 accept_with reads limits s app (Look pipe) = (pended_answer s app pipe, looked s app pipe)
 accept_with reads limits s app (Allocate size) = allocated limits s app size
-accept_with reads limits s app (TransmitBuffer buf bytes inc) = buffer_transmitted reads s app buf bytes inc
+accept_with reads limits s app (TransmitBuffer buf bytes inc) =
+    buffer_transmitted reads s app buf bytes inc
 accept_with reads limits s app (Release buf) = (Done, buffer_gone s app buf)
 accept_with reads limits s app (PoolCreate bytes) = pool_created s bytes
 accept_with reads limits s app (PoolGet pool size) = pool_given s app pool size
@@ -355,7 +387,8 @@ accept_with reads limits s app (SendEvent id kind text) = (Done, s)
 accept_with reads limits s app (ResetFilter id) = (Done, s)
 accept_with reads limits s app (LogMode mode) = (Done, s)
 accept_with reads limits s app ClearLog = (Done, s)
-accept_with reads limits s app Housekeeping = transmitted reads limits s app (packet_in limits s) true
+accept_with reads limits s app Housekeeping =
+    transmitted reads limits s app (packet_in limits s) true
 accept_with reads limits s app Figures = (Bus (stats_in limits s), s)
 accept_with reads limits s app End = (Done, ended s app)
 
@@ -363,8 +396,8 @@ accept_with reads limits s app End = (Done, ended s app)
 abbrev pub accept : Limits → List Entry → State → ℕ → Call → BusAnswer × State
 accept limits history s app call = accept_with (reads_after limits history) limits s app call
 
--- Beside what `recorded` tells and counts, a refused call changes nothing, but that a receive that finds no message has released
--- the last one, and that a pool counts the returns that were refused.
+-- Beside what `recorded` tells and counts, a refused call changes nothing, but that a receive that
+-- finds no message has released the last one, and that a pool counts the returns that were refused.
 abbrev pub refused_state : State → Call → Refusal → State
 refused_state s (Receive pipe) (OfBus NoMessage) = received s pipe
 refused_state s (PoolPut pool grant) why = pool_returned s pool grant
@@ -379,13 +412,17 @@ decided_with reads limits s app call None = accept_with reads limits s app call
 
 -- the same after a history
 abbrev pub decided : Limits → List Entry → State → ℕ → Call → Option Refusal → BusAnswer × State
-decided limits history s app call why = decided_with (reads_after limits history) limits s app call why
+decided limits history s app call why =
+    decided_with (reads_after limits history) limits s app call why
 
 -- a call so answered at its moment
 abbrev pub moment_of : Reads → State → ℕ → Call → BusAnswer × State → Moment
-moment_of reads s app call made = record { reads = reads; before = s; entry = record { app = app; call = call; answer = made.0 }; after = made.1 }
+moment_of reads s app call made =
+    record { reads = reads; before = s; entry = record { app = app; call = call; answer = made.0 };
+    after = made.1 }
 
--- what a call so answered leaves, refused or not, with what the event desk is told and what is counted
+-- what a call so answered leaves, refused or not, with what the event desk is told and what is
+-- counted
 abbrev pub recorded : Reads → Limits → State → ℕ → Call → BusAnswer × State → BusAnswer × State
 recorded reads limits s app call made = (
   made.0,
@@ -397,7 +434,9 @@ recorded reads limits s app call made = (
 
 -- what the call answers where it sees this beside the bus, and the bus afterwards
 abbrev pub step_with : Reads → Limits → State → ℕ → Call → BusAnswer × State
-step_with reads limits s app call = recorded reads limits s app call (decided_with reads limits s app call (cause limits s app call))
+step_with reads limits s app call =
+    recorded reads limits s app call
+    (decided_with reads limits s app call (cause limits s app call))
 
 -- what the call answers after this history, and the bus afterwards
 abbrev pub step : Limits → List Entry → State → ℕ → Call → BusAnswer × State
@@ -406,14 +445,15 @@ step limits history s app call = step_with (reads_after limits history) limits s
 -- the bus after the entries that follow a history
 abbrev pub state_from : Limits → List Entry → State → List Entry → State
 state_from limits history s [] = s
-state_from limits history s (e ∷ es) = state_from limits (history ++ e ∷ []) ((step limits history s e.app e.call).1) es
+state_from limits history s (e ∷ es) =
+    state_from limits (history ++ e ∷ []) ((step limits history s e.app e.call).1) es
 
 -- the bus after a history of so many applications
 abbrev pub state_after : Limits → ℕ → List Entry → State
 state_after limits apps history = state_from limits [] (opening limits apps) history
 
--- whether an application may make this call: a look while it waits on that pipe, its end while it hasn't ended, every
--- other call while it is active
+-- whether an application may make this call: a look while it waits on that pipe, its end while it
+-- hasn't ended, every other call while it is active
 abbrev pub may_call : Standing → Call → Bool
 may_call Active (Look pipe) = false
 may_call Active call = true
@@ -422,19 +462,20 @@ may_call (Waiting pipe) End = true
 may_call (Waiting pipe) call = false
 may_call Ended call = false
 
--- whether a call so answered makes an entry: a look that finds the application still waiting makes none
+-- whether a call so answered makes an entry: a look that finds the application still waiting makes
+-- none
 abbrev pub makes_entry : Call → BusAnswer → Bool
 makes_entry (Look pipe) Pending = false
 makes_entry call answer = true
 
--- whether a call brings the bytes that it is about: the transmission of a buffer as many as the application's buffer has, and
--- none where the application has no such buffer
+-- whether a call brings the bytes that it is about: the transmission of a buffer as many as the
+-- application's buffer has, and none where the application has no such buffer
 abbrev pub brings : List (List Buffer) → ℕ → Call → Bool
 brings unsent app (TransmitBuffer buf bytes inc) = length bytes == unsent_size unsent app buf
 brings unsent app call = true
 
--- each entry's application may make its call, with the bytes that it is about, and is answered what the machine answers; no
--- look stands there that found nothing
+-- each entry's application may make its call, with the bytes that it is about, and is answered what
+-- the machine answers; no look stands there that found nothing
 abbrev pub LegalFrom : Limits → List Entry → State → List Entry → Type 0
 LegalFrom limits history s [] = Unit {0}
 LegalFrom limits history s (e ∷ es) =
@@ -455,7 +496,8 @@ abbrev pub moments_from : Limits → List Entry → State → List Entry → Lis
 moments_from limits history s [] = []
 moments_from limits history s (e ∷ es) =
     let after = (step limits history s e.app e.call).1 in
-    record { reads = reads_after limits history; before = s; entry = e; after = after } ∷ moments_from limits (history ++ e ∷ []) after es
+    record { reads = reads_after limits history; before = s; entry = e; after = after } ∷
+        moments_from limits (history ++ e ∷ []) after es
 
 -- the entries of a history of so many applications, each at its moment
 abbrev pub moments : Limits → ℕ → List Entry → List Moment

@@ -14,8 +14,8 @@ abbrev pub number_sent : ℕ → List ℕ
 number_sent zero = []
 number_sent (suc n) = suc n ∷ []
 
--- the send number that a call so answered gave: to a message, to a housekeeping packet, or to a buffer, which keeps it when it is
--- transmitted
+-- the send number that a call so answered gave: to a message, to a housekeeping packet, or to a
+-- buffer, which keeps it when it is transmitted
 abbrev pub number_given : Call → BusAnswer → List ℕ
 number_given (Transmit bytes inc) (Sent number reached) = number_sent number
 number_given Housekeeping (Sent number reached) = number_sent number
@@ -36,5 +36,7 @@ NumbersInOrder =
 -- a number that one entry more gives is greater than all before
 abbrev pub NumbersAreNew : Type 0
 NumbersAreNew =
-    (limits : Limits) (apps : ℕ) (history : List Entry) (e : Entry) → IsLegal limits apps (history ++ e ∷ []) →
-    All (λ number. All (λ before. before < number) (numbers_in history)) (number_given e.call e.answer)
+    (limits : Limits) (apps : ℕ) (history : List Entry) (e : Entry) →
+        IsLegal limits apps (history ++ e ∷ []) →
+    All (λ number. All (λ before. before < number) (numbers_in history))
+        (number_given e.call e.answer)

@@ -1,5 +1,6 @@
--- Pipes of the software bus (cFE Software Bus), whatever they queue: an item may be of any kind that tells its subscription. What
--- becomes of a message that pipes are offered, and what a receive leaves, is said here alone.
+-- Pipes of the software bus (cFE Software Bus), whatever they queue: an item may be of any kind
+-- that tells its subscription. What becomes of a message that pipes are offered, and what a receive
+-- leaves, is said here alone.
 use Rattle.std.specs.Prelude.{ℕ, ◌+◌, ◌/◌, ◌%◌, ◌<◌, ◌==◌, ◌&&◌, not, nat_le, nat_lt, Bool, true, false, List, [], ◌∷◌, ◌++◌, length, drop, map, filter, find, count_by, Option, Some, None, if◌then◌else◌}
 use Rattle.std.specs.List.{list_any}
 use Rattle.std.specs.Option.{option_map, option_map_or, option_and_then}
@@ -8,8 +9,8 @@ use Rattle.fsw_base.specs.declared.config.Scope.{Scope}
 use Rattle.bus_words.specs.declared.verdict.Verdict.{Verdict}
 use Rattle.bus_words.specs.declared.verdict.Verdict.TheVariants.{Skip, OverLimit, In, Oldest, Full}
 
--- A pipe: number, name, owner, how many messages it may hold (its depth), option bits, what it queues, oldest first, and the item
--- received last.
+-- A pipe: number, name, owner, how many messages it may hold (its depth), option bits, what it
+-- queues, oldest first, and the item received last.
 pub record PipeOf (item : Type 0) : Type 0 where
   pub number : ℕ
   pub name : List ℕ
@@ -19,7 +20,8 @@ pub record PipeOf (item : Type 0) : Type 0 where
   pub queue : List item
   pub last : Option item
 
--- A subscription: its number, message id and pipe, how many of its messages may be queued at once, and its scope.
+-- A subscription: its number, message id and pipe, how many of its messages may be queued at once,
+-- and its scope.
 pub record Subscription : Type 0 where
   pub number : ℕ
   pub id : ℕ
@@ -27,8 +29,8 @@ pub record Subscription : Type 0 where
   pub limit : ℕ
   pub scope : Scope
 
--- A message that pipes are offered: who sends it, which subscription an item is of, and the item that a subscription's pipe queues
--- for it.
+-- A message that pipes are offered: who sends it, which subscription an item is of, and the item
+-- that a subscription's pipe queues for it.
 pub record Offer (item : Type 0) : Type 0 where
   pub sender : ℕ
   pub subscription_of : item → ℕ
@@ -84,7 +86,8 @@ module _ {item : Type 0} where
 
   -- the pipes, with the one of this number changed
   abbrev pub with_pipe : (PipeOf item → PipeOf item) → ℕ → List (PipeOf item) → List (PipeOf item)
-  with_pipe change number pipes = map (λ pipe. if pipe.number == number then change pipe else pipe) pipes
+  with_pipe change number pipes =
+      map (λ pipe. if pipe.number == number then change pipe else pipe) pipes
 
   -- the pipes but the one of this number
   abbrev pub without_pipe : ℕ → List (PipeOf item) → List (PipeOf item)
@@ -111,13 +114,16 @@ module _ {item : Type 0} where
 
   -- a pipe on which nothing waits
   abbrev pub new_pipe : ℕ → List ℕ → ℕ → ℕ → PipeOf item
-  new_pipe number name owner depth = record { number = number; name = name; owner = owner; depth = depth; bits = 0; queue = []; last = None }
+  new_pipe number name owner depth =
+      record { number = number; name = name; owner = owner; depth = depth; bits = 0; queue = [];
+      last = None }
 
   -- the pipe with these option bits
   abbrev pub with_bits : ℕ → PipeOf item → PipeOf item
   with_bits bits pipe = record pipe { bits = bits }
 
-  -- the pipe after a receive: its last item is released, and the oldest that is queued, if any, takes its place
+  -- the pipe after a receive: its last item is released, and the oldest that is queued, if any,
+  -- takes its place
   abbrev pub after_receive : PipeOf item → PipeOf item
   after_receive pipe = record pipe { queue = drop 1 pipe.queue; last = oldest pipe.queue }
 
@@ -145,9 +151,11 @@ module _ {item : Type 0} where
 
   -- how many items of a subscription are queued in the pipe
   abbrev pub waiting_of : (item → ℕ) → PipeOf item → ℕ → ℕ
-  waiting_of subscription_of pipe subscription = count_by (λ queued. subscription_of queued == subscription) pipe.queue
+  waiting_of subscription_of pipe subscription =
+      count_by (λ queued. subscription_of queued == subscription) pipe.queue
 
-  -- the first of the verdicts that applies to a message of this sender, where it is told whether its subscription's limit is reached
+  -- the first of the verdicts that applies to a message of this sender, where it is told whether
+  -- its subscription's limit is reached
   abbrev pub verdict_over : Bool → PipeOf item → ℕ → Verdict
   verdict_over is_over pipe sender =
       if ignores_sender pipe sender then Skip
@@ -158,10 +166,11 @@ module _ {item : Type 0} where
 
   -- the verdict on a message of this sender for the subscription
   abbrev pub verdict : (item → ℕ) → PipeOf item → Subscription → ℕ → Verdict
-  verdict subscription_of pipe sub sender = verdict_over (nat_le sub.limit (waiting_of subscription_of pipe sub.number)) pipe sender
+  verdict subscription_of pipe sub sender =
+      verdict_over (nat_le sub.limit (waiting_of subscription_of pipe sub.number)) pipe sender
 
-  -- what is queued once an item was offered that got this verdict: at Oldest the item that waits longest leaves, and at In and at
-  -- Oldest the new one goes last
+  -- what is queued once an item was offered that got this verdict: at Oldest the item that waits
+  -- longest leaves, and at In and at Oldest the new one goes last
   abbrev pub queue_after : Verdict → item → List item → List item
   queue_after Skip newest queue = queue
   queue_after OverLimit newest queue = queue
@@ -180,27 +189,35 @@ module _ {item : Type 0} where
   -- the pipe after the offer of an item of this sender, given whether its subscription's limit is
   -- reached: it queues what the verdict says
   abbrev pub offered_over : Bool → ℕ → item → PipeOf item → PipeOf item
-  offered_over is_over sender newest pipe = record pipe { queue = queue_after (verdict_over is_over pipe sender) newest pipe.queue }
+  offered_over is_over sender newest pipe =
+      record pipe { queue = queue_after (verdict_over is_over pipe sender) newest pipe.queue }
 
   -- the pipe once a subscription of its own was offered the message
   abbrev pub offered : Offer item → Subscription → PipeOf item → PipeOf item
-  offered offer sub pipe = offered_over (nat_le sub.limit (waiting_of offer.subscription_of pipe sub.number)) offer.sender (offer.item_for sub) pipe
+  offered offer sub pipe =
+      offered_over (nat_le sub.limit (waiting_of offer.subscription_of pipe sub.number))
+      offer.sender (offer.item_for sub) pipe
 
   -- the pipes once each of these subscriptions was offered the message, in order
   abbrev pub deliver : Offer item → List Subscription → List (PipeOf item) → List (PipeOf item)
   deliver offer [] pipes = pipes
-  deliver offer (sub ∷ subs) pipes = deliver offer subs (with_pipe (offered offer sub) sub.pipe pipes)
+  deliver offer (sub ∷ subs) pipes =
+      deliver offer subs (with_pipe (offered offer sub) sub.pipe pipes)
 
   -- 1 where the verdict on the message for the subscription is one of these
   abbrev pub counted_by : (Verdict → Bool) → Offer item → Subscription → List (PipeOf item) → ℕ
   counted_by test offer sub pipes =
-      option_map_or (λ pipe. if test (verdict offer.subscription_of pipe sub offer.sender) then 1 else 0) (pipe_at pipes sub.pipe) 0
+      option_map_or
+          (λ pipe. if test (verdict offer.subscription_of pipe sub offer.sender) then 1 else 0)
+          (pipe_at pipes sub.pipe) 0
 
   -- how many of these subscriptions have such a verdict, each as its turn comes
-  abbrev pub verdicts_of : (Verdict → Bool) → Offer item → List Subscription → List (PipeOf item) → ℕ
+  abbrev pub verdicts_of : (Verdict → Bool) → Offer item → List Subscription →
+      List (PipeOf item) → ℕ
   verdicts_of test offer [] pipes = 0
   verdicts_of test offer (sub ∷ subs) pipes =
-      counted_by test offer sub pipes + verdicts_of test offer subs (with_pipe (offered offer sub) sub.pipe pipes)
+      counted_by test offer sub pipes +
+          verdicts_of test offer subs (with_pipe (offered offer sub) sub.pipe pipes)
 
   -- how many of these subscriptions have the verdict In or Oldest, each as its turn comes
   abbrev pub reached : Offer item → List Subscription → List (PipeOf item) → ℕ

@@ -1,4 +1,5 @@
--- The counts of a memory pool, read off a history: how many grants it gave, and how many returns it refused.
+-- The counts of a memory pool, read off a history: how many grants it gave, and how many returns it
+-- refused.
 use Rattle.std.specs.Prelude.{ℕ, ◌-◌, ◌^◌, ◌==◌, min, Bool, false, List, count_by}
 use Rattle.fsw_base.specs.Limits.{Limits}
 use Rattle.fsw_base.specs.PoolAccounts.{Account}
@@ -28,4 +29,5 @@ times kind history = min (count_by (λ e. kind e.call e.answer) history) (2 ^ 32
 
 -- the account of the pool of this number after a history
 abbrev pub account_after : Limits → ℕ → List Entry → ℕ → Account
-account_after limits apps history pool = (pool_in (state_after limits apps history).pools pool).account
+account_after limits apps history pool =
+    (pool_in (state_after limits apps history).pools pool).account

@@ -5,8 +5,8 @@ use Rattle.ccsds_msg.specs.declared.packet.Header.{Header}
 use Rattle.ccsds_msg.specs.declared.packet.MsgFault.{MsgFault}
 use Rattle.ccsds_msg.specs.declared.packet.MsgFault.TheVariants.{Short, Length, BadId}
 
--- 4.1.3.2 and 4.1.3.3: the first 16 bits, which are the version number (3 bits), the packet type (1),
--- the secondary header flag (1) and the application process identifier (11)
+-- 4.1.3.2 and 4.1.3.3: the first 16 bits, which are the version number (3 bits), the packet type
+-- (1), the secondary header flag (1) and the application process identifier (11)
 abbrev pub message_id : List ℕ → ℕ
 message_id bytes = big_number 2 bytes
 
@@ -41,7 +41,8 @@ message_size bytes = data_length bytes + 7
 -- the four fields that a reader of the header answers
 abbrev pub header_of : List ℕ → Header
 header_of bytes =
-    record { id = message_id bytes; flags = message_flags bytes; count = message_count bytes; size = message_size bytes }
+    record { id = message_id bytes; flags = message_flags bytes; count = message_count bytes;
+        size = message_size bytes }
 
 -- a valid message id is 1 to 0x1FFF, so that the version number is 0
 abbrev pub is_valid_id : ℕ → Bool
@@ -59,7 +60,8 @@ fault bytes =
     else if message_size bytes == length bytes then id_fault (message_id bytes)
     else Some (Length (message_size bytes) (length bytes))
 
--- why bytes do not begin with a message: the same, but bytes past the size that the header says do no harm
+-- why bytes do not begin with a message: the same, but bytes past the size that the header says do
+-- no harm
 unfoldable pub front_fault : List ℕ → Option MsgFault
 front_fault bytes =
     if nat_lt (length bytes) 7 then Some Short
@@ -80,14 +82,16 @@ unfoldable pub with_count : List ℕ → ℕ → List ℕ
 with_count bytes count =
     take 2 bytes ++ big_bytes 2 (message_flags bytes * 16384 + count) ++ drop 4 bytes
 
--- the 6 bytes of a header with sequence flags 3, a packet that is not cut into segments, of a message
--- of `size` bytes
+-- the 6 bytes of a header with sequence flags 3, a packet that is not cut into segments, of a
+-- message of `size` bytes
 unfoldable pub header_bytes : ℕ → ℕ → ℕ → List ℕ
-header_bytes id count size = big_bytes 2 id ++ big_bytes 2 (3 * 16384 + count) ++ big_bytes 2 (size - 7)
+header_bytes id count size =
+    big_bytes 2 id ++ big_bytes 2 (3 * 16384 + count) ++ big_bytes 2 (size - 7)
 
 -- a command with a secondary header, and so with a function code
 abbrev pub has_function_code : List ℕ → Bool
-has_function_code bytes = nat_le 7 (length bytes) && (packet_type bytes == 1 && secondary_header_flag bytes == 1)
+has_function_code bytes =
+    nat_le 7 (length bytes) && (packet_type bytes == 1 && secondary_header_flag bytes == 1)
 
 -- the function code: the low 7 bits of the byte behind the header, where there is one
 abbrev pub function_code_of : List ℕ → Option ℕ

@@ -9,8 +9,12 @@ pub record IsAccountOf (pool : PoolState) (account : Account) : Type 0 where
   pub sizes : account.sizes ≡ pool.sizes
   pub made_all : length account.made ≡ length pool.sizes
   pub out_all : length account.out ≡ length pool.sizes
-  pub made : (class : ℕ) → class < length pool.sizes → slice_index account.made class ≡ made_in pool.blocks class
-  pub out : (class : ℕ) → class < length pool.sizes → slice_index account.out class ≡ out_in pool.blocks class
-  pub classes : (number : ℕ) → number < length pool.blocks → (slice_index_or pool.blocks number (record { class = 0; out = true })).class < length pool.sizes
+  pub made : (class : ℕ) → class < length pool.sizes →
+      slice_index account.made class ≡ made_in pool.blocks class
+  pub out : (class : ℕ) → class < length pool.sizes →
+      slice_index account.out class ≡ out_in pool.blocks class
+  pub classes : (number : ℕ) → number < length pool.blocks →
+      (slice_index_or pool.blocks number (record { class = 0; out = true })).class <
+      length pool.sizes
   pub requests : account.requests ≡ pool.requests
   pub errors : account.errors ≡ pool.errors

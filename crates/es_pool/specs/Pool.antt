@@ -4,8 +4,9 @@ use Rattle.fsw_base.specs.PoolAccounts.{counted, overhead}
 use Rattle.fsw_base.specs.Blocks.{are_block_sizes, class_of}
 use Rattle.es_pool.specs.declared.blocks.CutBlock.{CutBlock}
 
--- the pool's bytes and the most that they can be set to, its block sizes, the blocks cut so far in order of cutting, so
--- that a block's number is its place, how many blocks were drawn, and how many puts were refused
+-- the pool's bytes and the most that they can be set to, its block sizes, the blocks cut so far in
+-- order of cutting, so that a block's number is its place, how many blocks were drawn, and how many
+-- puts were refused
 pub record PoolState : Type 0 where
   pub bytes : ℕ
   pub most : ℕ
@@ -32,21 +33,25 @@ used_by sizes blocks = sum_by (λ block. slice_index sizes block.class + overhea
 
 -- the sizes of the blocks that are out, added up
 abbrev pub in_use_by : List ℕ → List CutBlock → ℕ
-in_use_by sizes blocks = sum_by (λ block. if block.out then slice_index sizes block.class else 0) blocks
+in_use_by sizes blocks =
+    sum_by (λ block. if block.out then slice_index sizes block.class else 0) blocks
 
 -- the bytes never cut
 abbrev pub rest_of : PoolState → ℕ
 rest_of pool = pool.bytes - used_by pool.sizes pool.blocks
 
--- so many blocks of a class can be drawn: what has to be cut beyond the blocks made so far still fits
+-- so many blocks of a class can be drawn: what has to be cut beyond the blocks made so far still
+-- fits
 abbrev pub fits_class : PoolState → ℕ → ℕ → Bool
 fits_class pool class count =
     nat_le
     (used_by pool.sizes pool.blocks
-    + (slice_index pool.sizes class + overhead) * (out_in pool.blocks class + count - made_in pool.blocks class))
+    + (slice_index pool.sizes class + overhead) *
+        (out_in pool.blocks class + count - made_in pool.blocks class))
     pool.bytes
 
--- so many blocks for a size can be drawn: some block size is large enough, and that many of the smallest such size fit
+-- so many blocks for a size can be drawn: some block size is large enough, and that many of the
+-- smallest such size fit
 abbrev pub fits_if : PoolState → ℕ → Option ℕ → Bool
 fits_if pool count None = false
 fits_if pool count (Some class) = fits_class pool class count
@@ -66,13 +71,18 @@ is_free pool number = not (slice_index_or pool.blocks number (record { class = 0
 pub data Draws (old new : PoolState) (class number : ℕ) : Type 0 where
   Reuses :
       number < length old.blocks
-      → slice_index_or old.blocks number (record { class = class; out = true }) ≡ record { class = class; out = false }
-      → new ≡ record old { blocks = slice_set old.blocks number (record { class = class; out = true }); requests = counted old.requests }
+      → slice_index_or old.blocks number (record { class = class; out = true }) ≡
+          record { class = class; out = false }
+      → new ≡ record old
+          { blocks = slice_set old.blocks number (record { class = class; out = true });
+          requests = counted old.requests }
       → Draws old new class number
   Cuts :
       free_in old.blocks class ≡ 0
       → number ≡ length old.blocks
-      → new ≡ record old { blocks = old.blocks ++ record { class = class; out = true } ∷ []; requests = counted old.requests }
+      → new ≡ record old
+          { blocks = old.blocks ++ record { class = class; out = true } ∷ [];
+          requests = counted old.requests }
       → Draws old new class number
 
 -- a draw for a size is one of the smallest class that is large enough
@@ -93,7 +103,9 @@ class_at pool number = (slice_index_or pool.blocks number (record { class = 0; o
 
 -- a block that was out is free in its own class
 abbrev pub given_back : PoolState → ℕ → PoolState
-given_back pool number = record pool { blocks = slice_set pool.blocks number (record { class = class_at pool number; out = false }) }
+given_back pool number =
+    record pool
+    { blocks = slice_set pool.blocks number (record { class = class_at pool number; out = false }) }
 
 -- the size of a block
 abbrev pub size_at : PoolState → ℕ → ℕ
@@ -103,11 +115,12 @@ size_at pool number = slice_index pool.sizes (class_at pool number)
 abbrev pub most_cut : PoolState → ℕ
 most_cut pool = pool.most / (slice_index pool.sizes 0 + overhead)
 
--- what is always true of a pool: its sizes rise, what was cut is paid for by its bytes, each block has one of the sizes, and
--- no more blocks were cut than ever can be
+-- what is always true of a pool: its sizes rise, what was cut is paid for by its bytes, each block
+-- has one of the sizes, and no more blocks were cut than ever can be
 pub record IsWhole (pool : PoolState) : Type 0 where
   pub sizes_fit : IsTrue (are_block_sizes pool.sizes)
   pub within : pool.bytes ≤ pool.most
   pub paid : used_by pool.sizes pool.blocks ≤ pool.bytes
-  pub classes : (number : ℕ) → number < length pool.blocks → class_at pool number < length pool.sizes
+  pub classes : (number : ℕ) → number < length pool.blocks →
+      class_at pool number < length pool.sizes
   pub few : length pool.blocks ≤ most_cut pool

@@ -14,17 +14,17 @@ use std::marker::Model;
 /// numbers and no free lists.
 #[derive(Drop)]
 pub struct PlainPool {
-    /// The pool's bytes.
+    // The pool's bytes.
     bytes: u32,
-    /// The block sizes.
+    // The block sizes.
     sizes: BlockSizes,
-    /// Of each class, the greatest number of blocks that were ever out at once.
+    // Of each class, the greatest number of blocks that were ever out at once.
     made: Vec<u32>,
-    /// Of each class, how many blocks are out.
+    // Of each class, how many blocks are out.
     out: Vec<u32>,
-    /// How many blocks were drawn; it stops at the largest number.
+    // How many blocks were drawn; it stops at the largest number.
     requests: u32,
-    /// How many puts were refused; it stops at the largest number.
+    // How many puts were refused; it stops at the largest number.
     errors: u32,
 }
 

@@ -20,27 +20,27 @@ const MOST_COST: u32 = MAX_BLOCK_SIZE + OVERHEAD;
 /// class is a block size, by its place.
 #[derive(Drop)]
 pub struct Pool {
-    /// The block sizes.
+    // The block sizes.
     sizes: BlockSizes,
-    /// The most bytes that the pool can be set to, for which there is room.
+    // The most bytes that the pool can be set to, for which there is room.
     most: u32,
-    /// The pool's bytes.
+    // The pool's bytes.
     bytes: u32,
-    /// The bytes never cut.
+    // The bytes never cut.
     rest: u32,
-    /// The sizes of the blocks that are out, added up.
+    // The sizes of the blocks that are out, added up.
     in_use: u32,
-    /// How many blocks are out.
+    // How many blocks are out.
     out: u32,
-    /// How many blocks were drawn; it stops at the largest number.
+    // How many blocks were drawn; it stops at the largest number.
     requests: u32,
-    /// How many puts were refused; it stops at the largest number.
+    // How many puts were refused; it stops at the largest number.
     errors: u32,
-    /// The blocks cut, by number. There is room for all that can be cut.
+    // The blocks cut, by number. There is room for all that can be cut.
     blocks: Vec<CutBlock>,
-    /// How many blocks of each class were cut.
+    // How many blocks of each class were cut.
     made: Vec<u32>,
-    /// The free blocks of each class.
+    // The free blocks of each class.
     free: Lists,
 }
 

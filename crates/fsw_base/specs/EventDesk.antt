@@ -1,4 +1,5 @@
--- The event desk: who registered with which filters, the log, and the counts of events. For each call the desk that it leaves.
+-- The event desk: who registered with which filters, the log, and the counts of events. For each
+-- call the desk that it leaves.
 use Rattle.std.specs.Prelude.{ℕ, ◌+◌, ◌-◌, min, Bool, List, [], replicate, Option, Some, None, slice_index_or, slice_set, if◌then◌else◌}
 use Rattle.fsw_base.specs.declared.events.EventKind.{EventKind}
 use Rattle.fsw_base.specs.declared.statuses.EvsStatus.{EvsStatus}
@@ -23,7 +24,9 @@ pub record Desk : Type 0 where
 
 -- a new desk: none of the 16 applications is registered, nothing is logged or counted
 abbrev pub new_desk : Desk
-new_desk = record { registrations = replicate 16 None; log = empty_log; sent = 0; filtered = 0; cut = 0; refused = 0; lost = 0 }
+new_desk =
+    record { registrations = replicate 16 None; log = empty_log; sent = 0; filtered = 0; cut = 0;
+    refused = 0; lost = 0 }
 
 -- one more, short of the last value of a count
 abbrev pub one_more : ℕ → ℕ
@@ -39,9 +42,11 @@ filters_of desk app = slice_index_or desk.registrations (app - 1) None
 
 -- the desk with another registration of an application
 abbrev pub with_filters : Desk → ℕ → Option (List EventFilter) → Desk
-with_filters desk app filters = record desk { registrations = slice_set desk.registrations (app - 1) filters }
+with_filters desk app filters =
+    record desk { registrations = slice_set desk.registrations (app - 1) filters }
 
--- an application registers with pairs of an event id and a mask, in place of what it registered before
+-- an application registers with pairs of an event id and a mask, in place of what it registered
+-- before
 abbrev pub registered : Desk → ℕ → List (ℕ × ℕ) → Desk
 registered desk app pairs = with_filters desk app (Some (fresh_filters pairs))
 
@@ -70,7 +75,8 @@ refused_once desk = record desk { refused = one_more desk.refused }
 abbrev pub tested : Desk → ℕ → List EventFilter → ℕ → Desk
 tested desk app filters id = with_filters desk app (Some (counted filters id))
 
--- an application sends an event: refused where it isn't registered, else passed or held back by its filters
+-- an application sends an event: refused where it isn't registered, else passed or held back by its
+-- filters
 unfoldable pub sent : Desk → ℕ → ℕ → EventKind → List ℕ → Desk
 sent desk app id kind text = by_filters (filters_of desk app)
   where
@@ -88,7 +94,8 @@ send_refusal desk app = by_filters (filters_of desk app)
     by_filters None = Some AppNotRegistered
     by_filters (Some filters) = None
 
--- why a reset is refused: the application isn't registered, or none of its filters is for this event id
+-- why a reset is refused: the application isn't registered, or none of its filters is for this
+-- event id
 abbrev pub reset_refusal : Desk → ℕ → ℕ → Option EvsStatus
 reset_refusal desk app id = by_filters (filters_of desk app)
   where
@@ -103,7 +110,8 @@ reset desk app id = by_filters (filters_of desk app)
     by_filters : Option (List EventFilter) → Desk
     by_filters None = refused_once desk
     by_filters (Some filters) =
-        if has_filter filters id then with_filters desk app (Some (restarted filters id)) else refused_once desk
+        if has_filter filters id then with_filters desk app (Some (restarted filters id))
+            else refused_once desk
 
 -- what a full log drops from now on; the lines stay
 abbrev pub with_mode : Desk → ℕ → Desk

@@ -2,8 +2,8 @@
 use Rattle.std.specs.Prelude.{ℕ, ◌+◌, ◌==◌, ◌||◌, not, min, bit_and, Bool, List, map, if◌then◌else◌}
 use Rattle.std.specs.List.{list_any, list_all}
 
--- a filter: an event id, ones where the count must have zeros for an event to pass, and the events of this id since the
--- registration or the last reset
+-- a filter: an event id, ones where the count must have zeros for an event to pass, and the events
+-- of this id since the registration or the last reset
 pub record EventFilter : Type 0 where
   pub id : ℕ
   pub mask : ℕ
@@ -27,7 +27,8 @@ passes filters id = list_all (λ filter. not (filter.id == id) || is_open filter
 
 -- a filter after an event of this id, passed or not: it counts those of its own id, up to 65535
 abbrev pub after_event : ℕ → EventFilter → EventFilter
-after_event id filter = if filter.id == id then record filter { count = min (filter.count + 1) 65535 } else filter
+after_event id filter =
+    if filter.id == id then record filter { count = min (filter.count + 1) 65535 } else filter
 
 -- the filters after an event of this id, passed or not
 abbrev pub counted : List EventFilter → ℕ → List EventFilter

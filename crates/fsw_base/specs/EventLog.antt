@@ -32,8 +32,10 @@ event_line app id kind text = record { app = app; id = id; kind = kind; text = t
 abbrev pub is_full : Log → Bool
 is_full log = length log.lines == 20
 
--- the log with a line that goes last. A full log drops its oldest line in mode 0, and the new one in mode 1
+-- the log with a line that goes last. A full log drops its oldest line in mode 0, and the new one
+-- in mode 1
 abbrev pub kept : Log → Line → Log
 kept log line =
-    if is_full log then (if log.mode == 0 then record log { lines = drop 1 log.lines ++ line ∷ [] } else log)
+    if is_full log
+        then (if log.mode == 0 then record log { lines = drop 1 log.lines ++ line ∷ [] } else log)
     else (record log { lines = log.lines ++ line ∷ [] })

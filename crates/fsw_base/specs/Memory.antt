@@ -6,7 +6,8 @@ use Rattle.fsw_base.specs.declared.outside.ReadAnswer.TheVariants.{Got, End, Fai
 use Rattle.fsw_base.specs.declared.outside.WriteAnswer.{WriteAnswer}
 use Rattle.fsw_base.specs.declared.outside.WriteAnswer.TheVariants as writes
 
--- a source: its bytes left, the most that a read gives, the calls that fail, calls and failures so far
+-- a source: its bytes left, the most that a read gives, the calls that fail, calls and failures so
+-- far
 pub record Supply : Type 0 where
   pub left : List ℕ
   pub piece : ℕ
@@ -14,7 +15,8 @@ pub record Supply : Type 0 where
   pub calls : ℕ
   pub faults : ℕ
 
--- a sink: the bytes written, the room left, the most that a write takes, the calls that fail, calls and failures so far
+-- a sink: the bytes written, the room left, the most that a write takes, the calls that fail, calls
+-- and failures so far
 pub record Store : Type 0 where
   pub written : List ℕ
   pub room : ℕ
@@ -35,18 +37,23 @@ is_listed call fails = list_any (λ fail. fail == call) fails
 abbrev pub read_answer : Supply → ℕ → ReadAnswer
 read_answer s room =
     if is_listed (counted s.calls) s.fails then Failed
-    else (if min s.piece (min room (length s.left)) == 0 then End else (Got (min s.piece (min room (length s.left)))))
+    else (if min s.piece (min room (length s.left)) == 0 then End
+        else (Got (min s.piece (min room (length s.left)))))
 
 -- what a read leaves
 abbrev pub after_read : Supply → ℕ → Supply
 after_read s room =
-    if is_listed (counted s.calls) s.fails then record s { calls = counted s.calls; faults = counted s.faults }
-    else (record s { calls = counted s.calls; left = drop (min s.piece (min room (length s.left))) s.left })
+    if is_listed (counted s.calls) s.fails
+        then record s { calls = counted s.calls; faults = counted s.faults }
+    else (record s
+        { calls = counted s.calls; left = drop (min s.piece (min room (length s.left))) s.left })
 
--- a listed call and one that finds no room fail; else it takes as much as a piece, the bytes given and the room allow
+-- a listed call and one that finds no room fail; else it takes as much as a piece, the bytes given
+-- and the room allow
 abbrev pub write_answer : Store → ℕ → WriteAnswer
 write_answer s given =
-    if is_listed (counted s.calls) s.fails || (min s.piece (min given s.room) == 0) then writes.Failed
+    if is_listed (counted s.calls) s.fails || (min s.piece (min given s.room) == 0)
+        then writes.Failed
     else (writes.Took (min s.piece (min given s.room)))
 
 -- what a write leaves

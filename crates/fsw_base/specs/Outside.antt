@@ -15,15 +15,17 @@ pub record IsCountOf (n all : ℕ) : Type 0 where
   pub one : 1 ≤ n
   pub within : n ≤ all
 
--- Got n: what was left is the first n bytes of the buffer and what is left now; End: nothing was left; Failed: nothing was
--- read, and `Rose` says that the count of faults rose
+-- Got n: what was left is the first n bytes of the buffer and what is left now; End: nothing was
+-- left; Failed: nothing was read, and `Rose` says that the count of faults rose
 abbrev pub Reads : ReadAnswer → Option (List ℕ) → Option (List ℕ) → List ℕ → Type 0
-Reads (Got n) old new buf = IsCountOf n (length buf) × (old ≡ option_map (λ rest. take n buf ++ rest) new)
+Reads (Got n) old new buf =
+    IsCountOf n (length buf) × (old ≡ option_map (λ rest. take n buf ++ rest) new)
 Reads End old new buf = (new ≡ old) × IfSome old (λ bytes. bytes ≡ [])
 Reads Failed old new buf = new ≡ old
 
--- Took n: the first n bytes given are written behind the others; Failed: nothing is written, and `Rose` says that the count
--- of faults rose
+-- Took n: the first n bytes given are written behind the others; Failed: nothing is written, and
+-- `Rose` says that the count of faults rose
 abbrev pub Writes : WriteAnswer → Option (List ℕ) → Option (List ℕ) → List ℕ → Type 0
-Writes (writes.Took n) old new bytes = IsCountOf n (length bytes) × (new ≡ option_map (λ before. before ++ take n bytes) old)
+Writes (writes.Took n) old new bytes =
+    IsCountOf n (length bytes) × (new ≡ option_map (λ before. before ++ take n bytes) old)
 Writes writes.Failed old new bytes = new ≡ old

@@ -6,7 +6,8 @@ use Rattle.fsw_base.specs.declared.starts.TheConstants.{MAX_STARTS, MAX_ID, MAX_
 -- no first part stands twice
 abbrev pub are_distinct_ids : List (ℕ × ℕ) → Bool
 are_distinct_ids [] = true
-are_distinct_ids (pair ∷ pairs) = not (list_any (λ other. other.0 == pair.0) pairs) && are_distinct_ids pairs
+are_distinct_ids (pair ∷ pairs) =
+    not (list_any (λ other. other.0 == pair.0) pairs) && are_distinct_ids pairs
 
 -- a message id and a count that its 14 bits hold
 abbrev pub is_start : ℕ × ℕ → Bool
@@ -14,7 +15,8 @@ is_start pair = nat_le 1 pair.0 && nat_le pair.0 MAX_ID && nat_le pair.1 MAX_COU
 
 -- not too many, each valid, each id once
 abbrev pub are_count_starts : List (ℕ × ℕ) → Bool
-are_count_starts pairs = nat_le (length pairs) MAX_STARTS && list_all is_start pairs && are_distinct_ids pairs
+are_count_starts pairs =
+    nat_le (length pairs) MAX_STARTS && list_all is_start pairs && are_distinct_ids pairs
 
 -- the count at which this id starts: its pair's, else 0
 abbrev pub start_of : List (ℕ × ℕ) → ℕ → ℕ

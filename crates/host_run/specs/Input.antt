@@ -1,4 +1,5 @@
--- What reading a source to its end does to the bytes left, where these are told, and to its count of faults.
+-- What reading a source to its end does to the bytes left, where these are told, and to its count
+-- of faults.
 use Rattle.std.specs.Prelude.{◌≡◌, ℕ, ◌+◌, ◌≤◌, Bool, true, false, List, [], ◌++◌, length, Option, IfSome}
 use Rattle.std.specs.Option.{option_map}
 use Rattle.fsw_base.specs.Outside.{Rose, IsCountOf}

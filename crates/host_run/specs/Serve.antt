@@ -43,7 +43,8 @@ usage_text = codes "usage: run | lockstep | gen N | soak N\n"
 
 -- the line that tells a fault
 abbrev pub fault_text : ScriptFault → List ℕ
-fault_text fault = codes "script:" ++ decimal fault.line ++ codes ":" ++ fault_name fault.kind ++ codes "\n"
+fault_text fault =
+    codes "script:" ++ decimal fault.line ++ codes ":" ++ fault_name fault.kind ++ codes "\n"
 
 -- the fault of an input that is longer than any script
 abbrev pub too_large : ScriptFault
@@ -53,13 +54,14 @@ too_large = record { line = 0; kind = TooLarge }
 abbrev pub figures_after : Limits → ℕ → List Entry → BusFigures
 figures_after limits apps history = figures_shown limits (state_after limits apps history)
 
--- the report of a script's histories, with what each of its applications tells of what it received and held, and with the figures of
--- both services after them
+-- the report of a script's histories, with what each of its applications tells of what it received
+-- and held, and with the figures of both services after them
 abbrev pub report : ScriptText → Histories → List ℕ
 report script histories =
     report_text histories.bus histories.tables
     (map (receipts_told script histories) (range_with_len 1 (length script.apps)))
-    (figures_after script.limits (length script.apps) histories.bus) (table_figures_shown script.limits (length script.apps) histories.tables)
+    (figures_after script.limits (length script.apps) histories.bus)
+        (table_figures_shown script.limits (length script.apps) histories.tables)
 
 -- the end of this report, from its line `counters` on
 abbrev pub report_ending : ScriptText → Histories → List ℕ
@@ -72,7 +74,8 @@ abbrev pub report_part : Part → ScriptText → Histories → List ℕ
 report_part Whole script histories = report script histories
 report_part Ending script histories = report_ending script histories
 
--- this much of the report of these histories, of the applications' lists of receipts, and of these figures
+-- this much of the report of these histories, of the applications' lists of receipts, and of these
+-- figures
 abbrev pub part_of : Part → Histories → List Receipts → BusFigures → TableFigures → List ℕ
 part_of Whole histories lists figures tables =
     report_text histories.bus histories.tables (map (λ list. list.receipts) lists) figures tables
@@ -97,20 +100,23 @@ fed_by left faults source = record { left = left source; faults = faults source 
 abbrev pub fed_through : GuardedSource → Fed
 fed_through source = record { left = source.left; faults = source.faults }
 
--- What the program made: the bytes written, where they are told, the count of the sink's faults, and the histories of the runs
--- that an audit was shown, where it tells them.
+-- What the program made: the bytes written, where they are told, the count of the sink's faults,
+-- and the histories of the runs that an audit was shown, where it tells them.
 pub record Made : Type 0 where
   pub written : Option (List ℕ)
   pub faults : ℕ
   pub shown : Option (List Histories)
 
 -- a sink and an audit as they are, by what their traits tell
-abbrev pub made_by : {K A : Type 0} → (K → Option (List ℕ)) → (K → ℕ) → (A → Option (List Histories)) → K → A → Made
-made_by written faults shown sink audit = record { written = written sink; faults = faults sink; shown = shown audit }
+abbrev pub made_by : {K A : Type 0} → (K → Option (List ℕ)) → (K → ℕ) →
+    (A → Option (List Histories)) → K → A → Made
+made_by written faults shown sink audit =
+    record { written = written sink; faults = faults sink; shown = shown audit }
 
 -- a sink and an audit as they are behind their guards
 abbrev pub made_through : GuardedSink → GuardedAudit → Made
-made_through sink audit = record { written = sink.written; faults = sink.faults; shown = audit.shown }
+made_through sink audit =
+    record { written = sink.written; faults = sink.faults; shown = audit.shown }
 
 -- nothing was written or shown
 abbrev pub MakesNothing : Made → Made → Type 0
@@ -141,10 +147,12 @@ pub record ReportsFront (old new : Made) (histories : Histories) (text : List �
 -- what a wanted end, or a failing sink in its place, made of a text
 abbrev pub EndsTelling : HostStatus → HostStatus → Made → Made → List ℕ → Type 0
 EndsTelling wanted result old new text =
-    ((result ≡ wanted) × Tells old new text) ⊎ ((result ≡ status.WriteFault) × TellsFront old new text)
+    ((result ≡ wanted) × Tells old new text) ⊎
+        ((result ≡ status.WriteFault) × TellsFront old new text)
 
--- the histories that a run of a script leaves: in rotation those of its rotation; on threads, whatever the interleaving, ones that both
--- services can have and that merge the calls of its applications
+-- the histories that a run of a script leaves: in rotation those of its rotation; on threads,
+-- whatever the interleaving, ones that both services can have and that merge the calls of its
+-- applications
 abbrev pub IsLeftBy : Way → ScriptText → Histories → Type 0
 IsLeftBy way.Rotating script histories = histories ≡ rotation script
 IsLeftBy way.OnThreads script histories = IsRunOf script histories
@@ -152,14 +160,17 @@ IsLeftBy way.OnThreads script histories = IsRunOf script histories
 -- the histories that a run of a script left were shown, and this part of their report written
 abbrev pub ReportsRun : Way → Part → ScriptText → Made → Made → Type 0
 ReportsRun how part script old new =
-    (histories : Histories) × IsLeftBy how script histories × Reports old new histories (report_part part script histories)
+    (histories : Histories) × IsLeftBy how script histories ×
+        Reports old new histories (report_part part script histories)
 
 -- the same, but that a front of the report was written, since the sink failed
 abbrev pub ReportsRunFront : Way → Part → ScriptText → Made → Made → Type 0
 ReportsRunFront how part script old new =
-    (histories : Histories) × IsLeftBy how script histories × ReportsFront old new histories (report_part part script histories)
+    (histories : Histories) × IsLeftBy how script histories ×
+        ReportsFront old new histories (report_part part script histories)
 
--- what was made of a script that was run in a way, and of which this much is reported, by how it ended
+-- what was made of a script that was run in a way, and of which this much is reported, by how it
+-- ended
 abbrev pub EndsScript : HostStatus → Way → Part → ScriptText → Made → Made → Type 0
 EndsScript status.Done how part script old new = ReportsRun how part script old new
 EndsScript status.WriteFault how part script old new = ReportsRunFront how part script old new
@@ -203,20 +214,26 @@ EndsInput result how (Err fault) old new = EndsRefused result fault old new
 -- On a word that has a script read and run in this way, one of these happened.
 pub data Runs (how : Way) (result : HostStatus) (fed fed' : Fed) (old new : Made) : Type 0 where
   -- the whole input was read, and made what it is worth
-  Read : (bytes : List ℕ) → IsWhole bytes fed.left fed'.left → EndsInput result how (grammar bytes) old new → Runs how result fed fed' old new
+  Read : (bytes : List ℕ) → IsWhole bytes fed.left fed'.left →
+      EndsInput result how (grammar bytes) old new → Runs how result fed fed' old new
   -- the input is longer than any script
-  TooLong : IsTooLarge fed.left fed'.left → EndsRefused result too_large old new → Runs how result fed fed' old new
+  TooLong : IsTooLarge fed.left fed'.left → EndsRefused result too_large old new →
+      Runs how result fed fed' old new
   -- the source failed
-  SourceFailed : result ≡ status.ReadFault → Rose fed.faults fed'.faults → IsPartRead fed.left fed'.left → MakesNothing old new → Runs how result fed fed' old new
+  SourceFailed : result ≡ status.ReadFault → Rose fed.faults fed'.faults →
+      IsPartRead fed.left fed'.left → MakesNothing old new → Runs how result fed fed' old new
   -- no memory for the input, of which nothing was read
-  NoRoom : result ≡ status.NoMemory → fed' ≡ fed → MakesNothing old new → Runs how result fed fed' old new
+  NoRoom : result ≡ status.NoMemory → fed' ≡ fed → MakesNothing old new →
+      Runs how result fed fed' old new
 
 -- on `gen` and a number nothing is read, and the generated script of this number is written
-pub record Generates (result : HostStatus) (number : ℕ) (fed fed' : Fed) (old new : Made) : Type 0 where
+pub record Generates (result : HostStatus) (number : ℕ) (fed fed' : Fed)
+    (old new : Made) : Type 0 where
   pub unread : fed' ≡ fed
   pub ends : EndsText result (spelled_script (generated number)) old new
 
--- on `soak` and a number nothing is read; the generated script of this number is run, and the end of its report written
+-- on `soak` and a number nothing is read; the generated script of this number is run, and the end
+-- of its report written
 pub record Soaks (result : HostStatus) (number : ℕ) (fed fed' : Fed) (old new : Made) : Type 0 where
   pub unread : fed' ≡ fed
   pub ends : EndsScript result way.Rotating Ending (generated number) old new
@@ -227,16 +244,19 @@ pub record OtherWords (result : HostStatus) (fed fed' : Fed) (old new : Made) : 
   pub usage : EndsTelling status.Usage result old new usage_text
 
 -- what happened, by what the words ask for
-pub record Serves (wanted : Option Task) (result : HostStatus) (fed fed' : Fed) (old new : Made) : Type 0 where
+pub record Serves (wanted : Option Task) (result : HostStatus) (fed fed' : Fed)
+    (old new : Made) : Type 0 where
   pub on_threads : wanted ≡ Some task.Run → Runs way.OnThreads result fed fed' old new
   pub lockstep : wanted ≡ Some task.Lockstep → Runs way.Rotating result fed fed' old new
-  pub generates : (number : ℕ) → wanted ≡ Some (task.Generate number) → Generates result number fed fed' old new
+  pub generates : (number : ℕ) → wanted ≡ Some (task.Generate number) →
+      Generates result number fed fed' old new
   pub soaks : (number : ℕ) → wanted ≡ Some (task.Soak number) → Soaks result number fed fed' old new
   pub other_words : wanted ≡ None → OtherWords result fed fed' old new
 
 -- Causes. --
 
--- why it ended so: at a failure the count of faults rose, and other words alone are answered with the usage
+-- why it ended so: at a failure the count of faults rose, and other words alone are answered with
+-- the usage
 abbrev pub HasCauses : HostStatus → Fed → Fed → Made → Made → Type 0
 HasCauses status.Usage fed fed' old new = ⊥
 HasCauses status.ReadFault fed fed' old new = Rose fed.faults fed'.faults
@@ -253,18 +273,23 @@ Completes result fed fed' old new =
     ¬ Rose fed.faults fed'.faults → ¬ Rose old.faults new.faults →
     (result ≡ status.Done) ⊎ (result ≡ status.NoMemory)
 
--- where nothing was read, and the sink's count of faults didn't rise, all was done or there was no memory
+-- where nothing was read, and the sink's count of faults didn't rise, all was done or there was no
+-- memory
 abbrev pub CompletesUnread : HostStatus → Made → Made → Type 0
-CompletesUnread result old new = ¬ Rose old.faults new.faults → (result ≡ status.Done) ⊎ (result ≡ status.NoMemory)
+CompletesUnread result old new =
+    ¬ Rose old.faults new.faults → (result ≡ status.Done) ⊎ (result ≡ status.NoMemory)
 
--- The headline, of runs on threads and in rotation alike: where all was done, the whole input was read and is a script, and there are a
--- history of the bus and one of the tables, both legal under the script's limits, so that each answer is the machine's and each refusal its
--- named cause's, which merge the calls of the script's applications, each once and in script order. By these each pipe's receipts are
--- those of a list machine over the accepted sends, under the pipe's own limits and depth; each send number that is given is new; at no
--- time are more blocks of the bus's pool out than were made, or more bytes in use than it has; and at the end nothing is held, no byte is
--- in use and no table is left. That the pool itself has just the blocks that these histories hold is said at each time by the bus's
--- readers (`pool`, clause `in_use`; `desk`, clause `blocks`), and that what is held never changes by what a port reads (`held`, `last`).
--- These two histories the audit was shown, by the cores that have them, and the report of these was written.
+-- The headline, of runs on threads and in rotation alike: where all was done, the whole input was
+-- read and is a script, and there are a history of the bus and one of the tables, both legal under
+-- the script's limits, so that each answer is the machine's and each refusal its named cause's,
+-- which merge the calls of the script's applications, each once and in script order. By these each
+-- pipe's receipts are those of a list machine over the accepted sends, under the pipe's own limits
+-- and depth; each send number that is given is new; at no time are more blocks of the bus's pool
+-- out than were made, or more bytes in use than it has; and at the end nothing is held, no byte is
+-- in use and no table is left. That the pool itself has just the blocks that these histories hold
+-- is said at each time by the bus's readers (`pool`, clause `in_use`; `desk`, clause `blocks`), and
+-- that what is held never changes by what a port reads (`held`, `last`). These two histories the
+-- audit was shown, by the cores that have them, and the report of these was written.
 abbrev pub Headline : HostStatus → Fed → Fed → Made → Made → Type 0
 Headline result fed fed' old new =
     result ≡ status.Done → (bytes : List ℕ) × (script : ScriptText) × (histories : Histories)

@@ -12,11 +12,15 @@ with_word words word = if nat_lt (length words) 5 then words ++ take 64 word ∷
 
 -- the number that a word spells in decimal, with no needless 0 before it; none past 4294967295
 abbrev pub decimal_number : List ℕ → Option ℕ
-decimal_number word = if is_decimal word && nat_le (value_in 10 word) 4294967295 then Some (value_in 10 word) else None
+decimal_number word =
+    if is_decimal word && nat_le (value_in 10 word) 4294967295 then Some (value_in 10 word)
+    else None
 
 -- what one word asks for: `run` or `lockstep`
 abbrev pub task_alone : List ℕ → Option Task
-task_alone word = if bytes_eq word (codes "run") then Some Run else (if bytes_eq word (codes "lockstep") then Some Lockstep else None)
+task_alone word =
+    if bytes_eq word (codes "run") then Some Run
+    else (if bytes_eq word (codes "lockstep") then Some Lockstep else None)
 
 -- what a word asks for with a number behind it: `gen N` or `soak N`
 abbrev pub task_with : List ℕ → List ℕ → Option Task

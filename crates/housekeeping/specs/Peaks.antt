@@ -21,7 +21,8 @@ abbrev pub greatest : List ℕ → ℕ
 greatest [] = 0
 greatest (number ∷ numbers) = max number (greatest numbers)
 
--- the peaks of what was in use, one time after the other: of each number by itself the greatest that it ever was
+-- the peaks of what was in use, one time after the other: of each number by itself the greatest
+-- that it ever was
 abbrev pub peak_of : List InUse → InUse
 peak_of uses = record {
   msgids = greatest (map (λ now. now.msgids) uses);

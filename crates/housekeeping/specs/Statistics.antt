@@ -14,6 +14,7 @@ pub record Statistics : Type 0 where
 abbrev pub no_statistics : Statistics
 no_statistics = record { counts = no_counts; peak = nothing_in_use }
 
--- the statistics of a bus at which these events were counted and these numbers were seen in use, both in order
+-- the statistics of a bus at which these events were counted and these numbers were seen in use,
+-- both in order
 abbrev pub statistics_of : List CounterName → List InUse → Statistics
 statistics_of events uses = record { counts = counts_of events; peak = peak_of uses }

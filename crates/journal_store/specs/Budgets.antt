@@ -13,7 +13,8 @@ pub record AreBudgets (budgets : List Budget) : Type 0 where
 
 -- what applications with these budgets may add
 abbrev pub allowances : List Budget → List Allowance
-allowances budgets = map (λ budget. record { entries = budget.entries; bytes = budget.bytes }) budgets
+allowances budgets =
+    map (λ budget. record { entries = budget.entries; bytes = budget.bytes }) budgets
 
 -- what an application, from 1, may still add; one that is not known may add nothing
 abbrev pub allowance_of : List Allowance → ℕ → Allowance
@@ -28,7 +29,9 @@ pub record HasRoom (left : List Allowance) (app bytes : ℕ) : Type 0 where
 -- one entry of so many bytes less for the application
 abbrev pub charged : List Allowance → ℕ → ℕ → List Allowance
 charged left app bytes =
-    slice_set left (app - 1) (record { entries = (allowance_of left app).entries - 1; bytes = (allowance_of left app).bytes - bytes })
+    slice_set left (app - 1)
+        (record { entries = (allowance_of left app).entries - 1;
+        bytes = (allowance_of left app).bytes - bytes })
 
 -- What an entry takes: of which application, and its bytes.
 pub record Charge : Type 0 where

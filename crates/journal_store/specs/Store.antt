@@ -1,4 +1,5 @@
--- A journal's rows with their bytes, and the budgets of its applications. What each may still add follows.
+-- A journal's rows with their bytes, and the budgets of its applications. What each may still add
+-- follows.
 use Rattle.std.specs.Prelude.{ℕ, List, [], ◌∷◌, ◌++◌, length, map}
 use Rattle.fsw_base.specs.declared.config.Budget.{Budget}
 use Rattle.journal_store.specs.declared.allowance.Allowance.{Allowance}

@@ -1,4 +1,5 @@
--- What a part and a deed own. A block that is borrowed for r is lent for a lifetime of the loan, and a part is a share of that lifetime's token.
+-- What a part and a deed own. A block that is borrowed for r is lent for a lifetime of the loan,
+-- and a part is a share of that lifetime's token.
 use Rattle.std.specs.Prelude.{ℕ, List, [], ◌∷◌}
 use mir.Syntax.{named}
 use base.Fml.{Lft, Fml, fsep, flft, flent}
@@ -23,7 +24,8 @@ part_owns r place bytes loan count = fsep (tokens loan count) (readable r place 
 
 -- what a part shows while it is borrowed itself
 abbrev pub part_shares : Lft → Ptr → List ℕ → ℕ → Lft → Fml
-part_shares r place bytes loan = beside (one (λ q. flft (loan ∷ []) q)) (held (loan ∷ []) (readable r place bytes))
+part_shares r place bytes loan =
+    beside (one (λ q. flft (loan ∷ []) q)) (held (loan ∷ []) (readable r place bytes))
 
 -- a deed: all that the borrowed block owns, once the loan has ended
 abbrev pub deed_owns : Lft → MutBor (List ℕ) → ℕ → Fml

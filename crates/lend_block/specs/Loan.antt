@@ -2,7 +2,8 @@
 use Rattle.std.specs.Prelude.{ℕ, List}
 use denote.Ref.{MutBor}
 
--- a sealed block: the number of its loan, the bytes that are lent, how many views are out, and the borrowed block that comes back
+-- a sealed block: the number of its loan, the bytes that are lent, how many views are out, and the
+-- borrowed block that comes back
 pub record LentBlock : Type 0 where
   pub loan : ℕ
   pub bytes : List ℕ

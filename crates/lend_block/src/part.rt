@@ -15,7 +15,7 @@ use std::slice;
 /// The right to read the block, for as long as this is held.
 #[derive(Drop)]
 pub(crate) struct Part<'r> {
-    /// The first byte of the block.
+    // The first byte of the block.
     ptr: *const u8,
     // The lifetime of the loan.
     marker: PhantomData<&'r u8>,
@@ -38,7 +38,7 @@ impl<'r> Model for Part<'r> {
 /// The right to have the block back, against all parts of its loan.
 #[derive(Drop)]
 pub(crate) struct Deed<'r> {
-    /// The first byte of the block.
+    // The first byte of the block.
     ptr: *mut u8,
     // The lifetime of the loan.
     marker: PhantomData<&'r u8>,

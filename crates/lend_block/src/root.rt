@@ -26,15 +26,15 @@ use std::marker::Model;
 /// Dropping it leaves the block sealed for as long as it was borrowed.
 #[derive(Drop)]
 pub struct Root<'r> {
-    /// The right to have the block back, against all parts.
+    // The right to have the block back, against all parts.
     deed: Deed<'r>,
-    /// The parts that no view has.
+    // The parts that no view has.
     part: Part<'r>,
-    /// The length of the block in bytes.
+    // The length of the block in bytes.
     whole: usize,
-    /// How many bytes are lent, from the first of the block on; at most `whole`.
+    // How many bytes are lent, from the first of the block on; at most `whole`.
     len: usize,
-    /// How many views are out.
+    // How many views are out.
     out: u32,
 }
 

@@ -18,9 +18,9 @@ const PLACES: usize = 0x2000;
 /// many ids more there is room for.
 #[derive(Drop)]
 pub struct IdMap {
-    /// At each id, its route. There are [`PLACES`] of them.
+    // At each id, its route. There are [`PLACES`] of them.
     table: Vec<Option<u32>>,
-    /// How many ids more may be inserted.
+    // How many ids more may be inserted.
     room: u32,
 }
 

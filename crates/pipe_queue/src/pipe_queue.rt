@@ -11,11 +11,11 @@ use std::marker::Model;
 /// that wait, oldest first, and the last one.
 #[derive(Drop)]
 pub struct PipeQueue {
-    /// How many items may wait; 0 before the first start. The ring has room for them.
+    // How many items may wait; 0 before the first start. The ring has room for them.
     depth: u32,
-    /// The items that wait, oldest first; at most as many as the depth.
+    // The items that wait, oldest first; at most as many as the depth.
     ring: HeapCircularBuffer<Item>,
-    /// The item received last.
+    // The item received last.
     last: Option<Item>,
 }
 

@@ -1,4 +1,5 @@
--- Where the live pipes lie: each in a place of its own. Their numbers and their places stand in two lists, in order of number.
+-- Where the live pipes lie: each in a place of its own. Their numbers and their places stand in two
+-- lists, in order of number.
 use Rattle.std.specs.Prelude.{◌≡◌, ℕ, eqb, ◌+◌, ◌==◌, if◌then◌else◌, ◌<◌, ◌≤◌, All, List, [], ◌∷◌, ◌++◌, length, zip, Option, Some, None, slice_index_or}
 use Rattle.std.specs.Option.{option_map, option_to_list}
 use Rattle.std.specs.List.{IsDistinct}
@@ -28,7 +29,8 @@ number_of pipe = option_map (λ pipe. pipe.number) pipe
 abbrev pub place_under : List ℕ → List ℕ → ℕ → Option ℕ
 place_under [] at number = None
 place_under (n ∷ numbers) [] number = None
-place_under (n ∷ numbers) (place ∷ at) number = if n == number then Some place else place_under numbers at number
+place_under (n ∷ numbers) (place ∷ at) number =
+    if n == number then Some place else place_under numbers at number
 
 -- the pipe that a number's place has
 abbrev pub pipe_of : List PlaceState → Option ℕ → Option (PipeOf Item)
@@ -77,7 +79,8 @@ pub record IsFree (places : List PlaceState) (place : ℕ) : Type 0 where
   pub empty : pipe_in places place ≡ None
 
 -- each live pipe stands under its number, none is above those given, and all other places are free
-pub record AreKept (depth : ℕ) (places : List PlaceState) (numbers at free : List ℕ) (created : ℕ) : Type 0 where
+pub record AreKept (depth : ℕ) (places : List PlaceState) (numbers at free : List ℕ)
+    (created : ℕ) : Type 0 where
   pub filed : AreFiled 0 places numbers at
   pub given : All (λ number. number ≤ created) numbers
   pub empty : All (IsFree places) free

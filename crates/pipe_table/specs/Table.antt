@@ -3,8 +3,8 @@ use Rattle.std.specs.Prelude.{ℕ, ◌==◌, not, List, Option, option_map, filt
 use Rattle.bus_words.specs.Pipes.{PipeOf}
 use Rattle.pipe_queue.specs.declared.item.Item.{Item}
 
--- The live pipes by rising number, the number and the place of each one in the same order, how many were created, how many may
--- be live, and the greatest depth.
+-- The live pipes by rising number, the number and the place of each one in the same order, how many
+-- were created, how many may be live, and the greatest depth.
 pub record Pipes : Type 0 where
   pub live : List (PipeOf Item)
   pub places : List (ℕ × ℕ)

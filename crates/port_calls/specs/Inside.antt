@@ -5,7 +5,8 @@ use Rattle.bus_service.specs.Ports.{PortView}
 use Rattle.tbl_service.specs.Ports.{PortView as TablesPortView}
 
 -- The two ports are of these two locks, which the services at hand have, and of one application.
-pub record AreOfOne (bus_lock tables_lock : TableId) (p : PortView) (b : TableId) (q : TablesPortView) (t : TableId) : Type 0 where
+pub record AreOfOne (bus_lock tables_lock : TableId) (p : PortView) (b : TableId)
+    (q : TablesPortView) (t : TableId) : Type 0 where
   pub bus : b ≡ bus_lock
   pub tables : t ≡ tables_lock
   pub bus_port : p.lock ≡ b

@@ -4,8 +4,9 @@ use Rattle.bus_service.specs.Ports.{PortView}
 use Rattle.tbl_service.specs.Ports.{PortView as TablesPortView}
 use Rattle.app_calls.specs.Callers.{Caller}
 
--- Who calls through these two ports: their application; both services as the ports have seen them, with its bags in the ports. Who
--- calls owns the ports, so no names of references tell them apart. Others call the services too.
+-- Who calls through these two ports: their application; both services as the ports have seen them,
+-- with its bags in the ports. Who calls owns the ports, so no names of references tell them apart.
+-- Others call the services too.
 abbrev pub caller_of : PortView → TablesPortView → Caller
 caller_of port tables_port = record {
   app = port.app;

@@ -19,7 +19,8 @@ Linked links from (x ∷ xs) to = (slice_index links from ≡ x) × Linked links
 -- the list behind each anchor, as long as its length says; anchors are numbered on from the first
 abbrev pub rings : List ℕ → ℕ → List ℕ → List (List ℕ)
 rings links anchor [] = []
-rings links anchor (len ∷ lens) = chain links (slice_index links anchor) len ∷ rings links (anchor + 1) lens
+rings links anchor (len ∷ lens) =
+    chain links (slice_index links anchor) len ∷ rings links (anchor + 1) lens
 
 -- the last of these, or what stands before them
 abbrev pub last_of : ℕ → List ℕ → ℕ
@@ -37,7 +38,8 @@ dest_at subs node = (node, sub_at subs node)
 -- the place before the first node of a subscription
 abbrev pub place_before : List SubNo → SubNo → ℕ → List ℕ → ℕ
 place_before subs sub from [] = from
-place_before subs sub from (x ∷ xs) = if is_sub (sub_at subs x) sub then from else place_before subs sub x xs
+place_before subs sub from (x ∷ xs) =
+    if is_sub (sub_at subs x) sub then from else place_before subs sub x xs
 
 -- the destinations of each list
 abbrev pub dests_seen : List SubNo → List (List ℕ) → List (List Dest)
@@ -47,8 +49,10 @@ dests_seen subs lists = map (λ nodes. map (dest_at subs) nodes) lists
 abbrev pub made_before : ℕ → ℕ → ℕ
 made_before nodes node = if nat_lt node nodes then 1 else 0
 
--- each list is a ring round its anchor with its last node noted, and each node made so far stands once in one list or is free
-pub record AreRings (links tails lens : List ℕ) (subs : List SubNo) (nodes limit : ℕ) (free : Listed) : Type 0 where
+-- each list is a ring round its anchor with its last node noted, and each node made so far stands
+-- once in one list or is free
+pub record AreRings (links tails lens : List ℕ) (subs : List SubNo) (nodes limit : ℕ)
+    (free : Listed) : Type 0 where
   pub links_all : length links ≡ nodes + length lens
   pub few : nodes + length lens < 2 ^ 32
   pub tails_all : length tails ≡ length lens
@@ -57,11 +61,17 @@ pub record AreRings (links tails lens : List ℕ) (subs : List SubNo) (nodes lim
   pub free_room : free.room ≡ nodes
   pub free_made : free.nodes ≤ nodes
   pub free_one : length free.lists ≡ 1
-  pub linked : (list : ℕ) → list < length lens → Linked links (nodes + list) (slice_index_or (rings links nodes lens) list []) (nodes + list)
-  pub tailed : (list : ℕ) → list < length lens → 0 < slice_index lens list → slice_index tails list ≡ last_of (nodes + list) (slice_index_or (rings links nodes lens) list [])
+  pub linked : (list : ℕ) → list < length lens →
+      Linked links (nodes + list) (slice_index_or (rings links nodes lens) list []) (nodes + list)
+  pub tailed : (list : ℕ) → list < length lens → 0 < slice_index lens list →
+      slice_index tails list ≡
+      last_of (nodes + list) (slice_index_or (rings links nodes lens) list [])
   pub within : (list : ℕ) → list < length lens → slice_index lens list ≤ limit
-  pub placed : (node : ℕ) → times (rings links nodes lens) node + times_in (listed_at free 0) node ≡ made_before free.nodes node
-  pub all : sum_by (λ nodes. length nodes) (rings links nodes lens) + length (listed_at free 0) ≡ free.nodes
+  pub placed : (node : ℕ) →
+      times (rings links nodes lens) node + times_in (listed_at free 0) node ≡
+      made_before free.nodes node
+  pub all : sum_by (λ nodes. length nodes) (rings links nodes lens) + length (listed_at free 0) ≡
+      free.nodes
 
 -- a node that is taken from the free ones: one that was given back, else one that is made
 pub record Takes (before after : Listed) (node : ℕ) : Type 0 where
@@ -69,8 +79,12 @@ pub record Takes (before after : Listed) (node : ℕ) : Type 0 where
   pub one : length after.lists ≡ 1
   pub exists : node < after.nodes
   pub made : after.nodes ≤ before.room
-  pub taken : (other : ℕ) → times_in (listed_at after 0) other + (if node == other then 1 else 0) + made_before before.nodes other ≡ times_in (listed_at before 0) other + made_before after.nodes other
-  pub fewer : length (listed_at after 0) + 1 + before.nodes ≡ length (listed_at before 0) + after.nodes
+  pub taken : (other : ℕ) →
+      times_in (listed_at after 0) other + (if node == other then 1 else 0) +
+      made_before before.nodes other ≡ times_in (listed_at before 0) other +
+      made_before after.nodes other
+  pub fewer : length (listed_at after 0) + 1 + before.nodes ≡ length (listed_at before 0) +
+      after.nodes
 
 -- Routes: how their parts belong together. --
 
@@ -79,15 +93,19 @@ abbrev pub routes_with : List ℕ → List ℕ → List (List Dest) → List Rou
 routes_with [] counts lists = []
 routes_with (id ∷ ids) [] lists = []
 routes_with (id ∷ ids) (count ∷ counts) [] = []
-routes_with (id ∷ ids) (count ∷ counts) (dests ∷ lists) = record { id = id; counted = count; dests = dests } ∷ routes_with ids counts lists
+routes_with (id ∷ ids) (count ∷ counts) (dests ∷ lists) =
+    record { id = id; counted = count; dests = dests } ∷ routes_with ids counts lists
 
 -- the place of an id among these, counted on from this number
 abbrev pub place_from : ℕ → List ℕ → ℕ → Option ℕ
 place_from number [] id = None
-place_from number (other ∷ ids) id = if other == id then Some number else place_from (number + 1) ids id
+place_from number (other ∷ ids) id =
+    if other == id then Some number else place_from (number + 1) ids id
 
--- each id is mapped to its place, no other id is mapped, and no id stands twice; there is a count and a list for each route that may be made, 0 and empty until then; counts have 14 bits
-pub record AreNumbered (numbers : IdRoutes) (ids : List ℕ) (capacity : ℕ) (counted : List ℕ) (table : DestTable) (msgids limit : ℕ) : Type 0 where
+-- each id is mapped to its place, no other id is mapped, and no id stands twice; there is a count
+-- and a list for each route that may be made, 0 and empty until then; counts have 14 bits
+pub record AreNumbered (numbers : IdRoutes) (ids : List ℕ) (capacity : ℕ) (counted : List ℕ)
+    (table : DestTable) (msgids limit : ℕ) : Type 0 where
   pub mapped : (id : ℕ) → finmap.get numbers.routes id ≡ place_from 0 ids id
   pub once : (id : ℕ) → count_by (λ other. other == id) ids ≤ 1
   pub room : numbers.room + length ids ≡ msgids
@@ -101,7 +119,8 @@ pub record AreNumbered (numbers : IdRoutes) (ids : List ℕ) (capacity : ℕ) (c
   pub dests_none : (route : ℕ) → length ids ≤ route → dests_in table route ≡ []
 
 -- beside each id stands the count at which it starts, and there is room for more
-pub record AreStarted (starts : List (ℕ × ℕ)) (ids firsts : List ℕ) (capacity msgids : ℕ) : Type 0 where
+pub record AreStarted (starts : List (ℕ × ℕ)) (ids firsts : List ℕ)
+    (capacity msgids : ℕ) : Type 0 where
   pub each : firsts ≡ map (start_of starts) ids
   pub small : (route : ℕ) → slice_index firsts route < 16384
   pub capacity_all : msgids ≤ capacity

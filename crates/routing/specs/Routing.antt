@@ -1,17 +1,18 @@
--- The routes of the software bus: for each message id that has one, its sequence count (CCSDS 133.0-B, 4.1.3.4.3) and its
--- destinations.
+-- The routes of the software bus: for each message id that has one, its sequence count (CCSDS
+-- 133.0-B, 4.1.3.4.3) and its destinations.
 use Rattle.std.specs.Prelude.{◌≡◌, ℕ, ◌+◌, ◌%◌, ◌==◌, List, [], ◌∷◌, slice_index_or, slice_set, Option, Some, None, if◌then◌else◌}
 use Rattle.fsw_base.specs.Starts.{start_of}
 use Rattle.routing.specs.Dests.{Dest}
 
--- A route: its message id, how many counts it has given, modulo 16384, and its destinations in order of subscription.
+-- A route: its message id, how many counts it has given, modulo 16384, and its destinations in
+-- order of subscription.
 pub record Route : Type 0 where
   pub id : ℕ
   pub counted : ℕ
   pub dests : List Dest
 
--- How many routes there may be and how many destinations each may have, the counts at which ids start, and the routes in
--- order of making: a route's number is its place.
+-- How many routes there may be and how many destinations each may have, the counts at which ids
+-- start, and the routes in order of making: a route's number is its place.
 pub record Routing : Type 0 where
   pub msgids : ℕ
   pub dests : ℕ
@@ -33,7 +34,8 @@ dests_at s route = (route_at s route).dests
 -- the number of the id's route, where routes are numbered on from this number
 abbrev pub route_from : ℕ → List Route → ℕ → Option ℕ
 route_from number [] id = None
-route_from number (route ∷ routes) id = if route.id == id then Some number else route_from (number + 1) routes id
+route_from number (route ∷ routes) id =
+    if route.id == id then Some number else route_from (number + 1) routes id
 
 -- the number of the id's route
 abbrev pub route_of : List Route → ℕ → Option ℕ
@@ -47,7 +49,8 @@ with_route s number route = record s { routes = slice_set s.routes number route 
 abbrev pub with_dests : Routing → ℕ → List Dest → Routing
 with_dests s number dests = with_route s number (record (route_at s number) { dests = dests })
 
--- the next count of a route: its id's start, one for each count that it has given, and one more, in 14 bits
+-- the next count of a route: its id's start, one for each count that it has given, and one more, in
+-- 14 bits
 abbrev pub next_of : List (ℕ × ℕ) → Route → ℕ
 next_of starts route = (start_of starts route.id + route.counted + 1) % 16384
 
@@ -59,10 +62,11 @@ counted_on route = record route { counted = (route.counted + 1) % 16384 }
 abbrev pub HasGiven : Route → ℕ → Type 0
 HasGiven route calls = route.counted ≡ calls % 16384
 
--- Whatever has been given so far, the next count is the id's start, one for each count given and one more, in 14 bits; and
--- then one more is given. A fresh route has given none.
+-- Whatever has been given so far, the next count is the id's start, one for each count given and
+-- one more, in 14 bits; and then one more is given. A fresh route has given none.
 abbrev pub CountsGoByCalls : Type 0
 CountsGoByCalls =
     ((id : ℕ) → HasGiven (fresh_route id) 0)
-    × ((starts : List (ℕ × ℕ)) (route : Route) (calls : ℕ) → HasGiven route calls → next_of starts route ≡ (start_of starts route.id + calls + 1) % 16384)
+    × ((starts : List (ℕ × ℕ)) (route : Route) (calls : ℕ) → HasGiven route calls →
+        next_of starts route ≡ (start_of starts route.id + calls + 1) % 16384)
     × ((route : Route) (calls : ℕ) → HasGiven route calls → HasGiven (counted_on route) (calls + 1))

@@ -22,20 +22,20 @@ use subscriptions::SubNo;
 /// Each list is a ring through its nodes and an anchor of its own, so its end needs no mark.
 #[derive(Drop)]
 pub(crate) struct DestLists {
-    /// At each node in a list, the node behind it; at its last one, the anchor. Behind the nodes
-    /// stand the anchors, in order of list: at each the first node of its list, or itself.
+    // At each node in a list, the node behind it; at its last one, the anchor. Behind the nodes
+    // stand the anchors, in order of list: at each the first node of its list, or itself.
     links: Links,
-    /// At each list that isn't empty, its last node.
+    // At each list that isn't empty, its last node.
     tails: Links,
-    /// How many destinations each list has.
+    // How many destinations each list has.
     lens: Vec<u32>,
-    /// At each node in a list, its subscription.
+    // At each node in a list, its subscription.
     subs: Vec<SubNo>,
-    /// The nodes that were given back, and how many were made so far.
+    // The nodes that were given back, and how many were made so far.
     free: Lists,
-    /// How many nodes there is room for: for each list, as many as it may have.
+    // How many nodes there is room for: for each list, as many as it may have.
     nodes: u32,
-    /// How many destinations a list may have.
+    // How many destinations a list may have.
     limit: u32,
 }
 

@@ -24,22 +24,22 @@ const COUNTS: u16 = 16384;
 /// no node is in two places.
 #[derive(Drop)]
 pub struct Routes {
-    /// The number of each id's route.
+    // The number of each id's route.
     numbers: IdMap,
-    /// The id of each route. There is room for `msgids` of them.
+    // The id of each route. There is room for `msgids` of them.
     ids: Vec<u16>,
-    /// How many counts each route has given, modulo [`COUNTS`]; 0 for routes that aren't made yet.
+    // How many counts each route has given, modulo [`COUNTS`]; 0 for routes that aren't made yet.
     counted: Vec<u16>,
-    /// The destinations of each route; none for routes that aren't made yet.
+    // The destinations of each route; none for routes that aren't made yet.
     dests: DestLists,
-    /// The count at which each id starts.
+    // The count at which each id starts.
     starts: CountStarts,
-    /// The count at which each route's id starts, so that a count is no search. There is room for
-    /// `msgids` of them.
+    // The count at which each route's id starts, so that a count is no search. There is room for
+    // `msgids` of them.
     firsts: Vec<u16>,
-    /// How many routes there may be.
+    // How many routes there may be.
     msgids: u32,
-    /// How many destinations a route may have.
+    // How many destinations a route may have.
     limit: u32,
 }
 

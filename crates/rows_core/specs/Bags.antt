@@ -13,9 +13,12 @@ pub record BusWithBags : Type 0 where
 
 -- a bag with nothing in it, and room for so many views and buffers
 abbrev pub empty_bag : ℕ → ℕ → Holding LentBytes
-empty_bag views buffers = record { views = []; buffers = []; view_room = views; buffer_room = buffers }
+empty_bag views buffers =
+    record { views = []; buffers = []; view_room = views; buffer_room = buffers }
 
--- Bytes may have been written into a bag's buffers; their blocks are what they were, and so is all else.
+-- Bytes may have been written into a bag's buffers; their blocks are what they were, and so is all
+-- else.
 pub record IsWrittenOver (old new : Holding LentBytes) : Type 0 where
-  pub shapes : (number : ℕ) → option_map shape_of (buffer_at new number) ≡ option_map shape_of (buffer_at old number)
+  pub shapes : (number : ℕ) →
+      option_map shape_of (buffer_at new number) ≡ option_map shape_of (buffer_at old number)
   pub rest : new ≡ record old { buffers = new.buffers }

@@ -7,4 +7,6 @@ use Rattle.sb_calls.specs.Core.{Core}
 
 -- each of these is the bag of its application: the first that of application 1, and so on
 abbrev pub HaveBags : Core → List (Holding LentBytes) → Type 0
-HaveBags core bags = (place : ℕ) (bag : Holding LentBytes) → slice_get bags place ≡ Some bag → HasBag core (place + 1) bag
+HaveBags core bags =
+    (place : ℕ) (bag : Holding LentBytes) → slice_get bags place ≡ Some bag →
+    HasBag core (place + 1) bag

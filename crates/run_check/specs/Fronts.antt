@@ -24,15 +24,18 @@ EndsLine text = (line : List ℕ) × (text ≡ line ++ 10 ∷ [])
 -- If whole lines begin both the bytes and the report of some run, this text begins with them too.
 abbrev pub IsForced : ScriptText → List ℕ → List ℕ → Type 0
 IsForced script bytes text =
-    (opening front others rest : List ℕ) → Beginning script opening → opening ≡ front ++ others → bytes ≡ front ++ rest → EndsLine front →
+    (opening front others rest : List ℕ) → Beginning script opening → opening ≡ front ++ others →
+        bytes ≡ front ++ rest → EndsLine front →
     (more : List ℕ) × (text ≡ front ++ more)
 
 -- some run begins with this text
 abbrev pub IsReached : ScriptText → List ℕ → Type 0
-IsReached script text = (opening : List ℕ) × (more : List ℕ) × Beginning script opening × (opening ≡ text ++ more)
+IsReached script text =
+    (opening : List ℕ) × (more : List ℕ) × Beginning script opening × (opening ≡ text ++ more)
 
 -- the line in which bytes aren't such a text is the first that is no run's
 abbrev pub WrongLinesAreFirst : Type 0
 WrongLinesAreFirst =
-    (script : ScriptText) (bytes text : List ℕ) → IsForced script bytes text → IsReached script text →
+    (script : ScriptText) (bytes text : List ℕ) → IsForced script bytes text →
+        IsReached script text →
     IsFirstWrong script bytes (wrong_line bytes text)

@@ -13,8 +13,8 @@ use Rattle.run_report.specs.Report.{figures_shown, table_figures_shown, report_t
 use Rattle.run_report.specs.TableText.{table_entries_text}
 use Rattle.run_check.specs.Begun.{IsWhole, AreWholeTables}
 
--- the report of a script's histories, with what each of its applications tells of what it received and held, and with the figures of
--- both services after them
+-- the report of a script's histories, with what each of its applications tells of what it received
+-- and held, and with the figures of both services after them
 abbrev pub report : ScriptText → Histories → List ℕ
 report script histories =
     report_text histories.bus histories.tables
@@ -34,15 +34,20 @@ bus_part script history = head script ++ entries_text history
 abbrev pub tables_part : List TableEntry → List ℕ
 tables_part history = codes "tables\n" ++ table_entries_text history
 
--- A report begins so where a run of the script has these histories so far: with the lines on the bus; where no entry of the bus is
--- missing, also with those on the tables; and it is all there where none of the tables is missing either.
+-- A report begins so where a run of the script has these histories so far: with the lines on the
+-- bus; where no entry of the bus is missing, also with those on the tables; and it is all there
+-- where none of the tables is missing either.
 pub data Opens (script : ScriptText) (histories : Histories) (text : List ℕ) : Type 0 where
   WithBus : text ≡ bus_part script histories.bus → Opens script histories text
-  WithTables : IsWhole script histories.bus → text ≡ bus_part script histories.bus ++ tables_part histories.tables → Opens script histories text
-  WithAll : IsWhole script histories.bus → AreWholeTables script histories.tables → text ≡ report script histories → Opens script histories text
+  WithTables : IsWhole script histories.bus →
+      text ≡ bus_part script histories.bus ++ tables_part histories.tables →
+      Opens script histories text
+  WithAll : IsWhole script histories.bus → AreWholeTables script histories.tables →
+      text ≡ report script histories → Opens script histories text
 
 -- the first lines of a text, so many, each with its line end; None where it has fewer
 abbrev pub first_lines : ℕ → List ℕ → Option (List ℕ)
 first_lines zero text = Some []
 first_lines (suc n) [] = None
-first_lines (suc n) (byte ∷ text) = option_map (λ line. byte ∷ line) (first_lines (if byte == 10 then n else suc n) text)
+first_lines (suc n) (byte ∷ text) =
+    option_map (λ line. byte ∷ line) (first_lines (if byte == 10 then n else suc n) text)

@@ -1,5 +1,5 @@
--- The lines of a report on what was counted and on what is in use: of the bus, of its memory pools and of its event desk, and of the
--- tables and their pool.
+-- The lines of a report on what was counted and on what is in use: of the bus, of its memory pools
+-- and of its event desk, and of the tables and their pool.
 use Rattle.std.specs.Prelude.{ℕ, ◌-◌, ◌==◌, List, [], ◌++◌, length, map, slice_index, codes, decimal, if◌then◌else◌}
 use Rattle.std.specs.List.{flat_map, range_with_len}
 use Rattle.fsw_base.specs.EventDesk.{Desk}
@@ -13,8 +13,9 @@ use Rattle.text_page.specs.Texts.{numbered}
 use Rattle.run_report.specs.declared.pools.PoolName.{PoolName}
 use Rattle.run_report.specs.declared.pools.PoolName.TheVariants.{Bus, Applications, Tables}
 
--- What a report shows of a bus beside its history: its version, the event desk, the counters with the peaks, what is in use now, the
--- account of the bus's own memory pool, and those of the applications' pools, number 1 first.
+-- What a report shows of a bus beside its history: its version, the event desk, the counters with
+-- the peaks, what is in use now, the account of the bus's own memory pool, and those of the
+-- applications' pools, number 1 first.
 pub record BusFigures : Type 0 where
   pub version : ℕ
   pub events : Desk
@@ -23,7 +24,8 @@ pub record BusFigures : Type 0 where
   pub pool : Account
   pub pools : List Account
 
--- What a report shows of the tables beside their history: what is in use now and was at the most, and the account of their pool.
+-- What a report shows of the tables beside their history: what is in use now and was at the most,
+-- and the account of their pool.
 pub record TableFigures : Type 0 where
   pub now : TblUse
   pub peak : TblUse
@@ -46,16 +48,21 @@ oldest_text version counts = if version == 2 then field_text (codes "oldest") co
 -- what the counters of a bus of this version show
 abbrev pub counts_text : ℕ → Counts → List ℕ
 counts_text version counts =
-    codes "bus" ++ field_text (codes "nosub") counts.nosub ++ field_text (codes "send") counts.send ++ field_text (codes "recv") counts.recv
-    ++ field_text (codes "create") counts.create ++ field_text (codes "sub") counts.sub ++ field_text (codes "opts") counts.opts
-    ++ field_text (codes "find") counts.find ++ field_text (codes "dup") counts.dup ++ field_text (codes "limit") counts.limit
+    codes "bus" ++ field_text (codes "nosub") counts.nosub ++
+        field_text (codes "send") counts.send ++ field_text (codes "recv") counts.recv
+    ++ field_text (codes "create") counts.create ++ field_text (codes "sub") counts.sub ++
+        field_text (codes "opts") counts.opts
+    ++ field_text (codes "find") counts.find ++ field_text (codes "dup") counts.dup ++
+        field_text (codes "limit") counts.limit
     ++ field_text (codes "overflow") counts.overflow ++ oldest_text version counts ++ codes "\n"
 
 -- the five numbers in use, with their peaks
 abbrev pub uses_text : InUse → InUse → List ℕ
 uses_text now peak =
-    codes "use" ++ use_text (codes "msgids") now.msgids peak.msgids ++ use_text (codes "pipes") now.pipes peak.pipes
-    ++ use_text (codes "subs") now.subs peak.subs ++ use_text (codes "buffers") now.buffers peak.buffers
+    codes "use" ++ use_text (codes "msgids") now.msgids peak.msgids ++
+        use_text (codes "pipes") now.pipes peak.pipes
+    ++ use_text (codes "subs") now.subs peak.subs ++
+        use_text (codes "buffers") now.buffers peak.buffers
     ++ use_text (codes "bytes") now.bytes peak.bytes ++ codes "\n"
 
 -- Memory pools. --
@@ -71,7 +78,8 @@ account_read pool = record {
   errors = pool.errors;
 }
 
--- how the line of a pool begins: the bus's own, one of the applications by its number, or the tables'
+-- how the line of a pool begins: the bus's own, one of the applications by its number, or the
+-- tables'
 abbrev pub pool_head : PoolName → List ℕ
 pool_head Bus = codes "pool"
 pool_head (Applications number) = codes "apool " ++ decimal number
@@ -83,34 +91,46 @@ class_head Bus = codes "class"
 class_head (Applications number) = codes "aclass " ++ decimal number
 class_head Tables = codes "tclass"
 
--- a pool: its bytes, those that were never cut into blocks, the blocks drawn and the returns refused
+-- a pool: its bytes, those that were never cut into blocks, the blocks drawn and the returns
+-- refused
 abbrev pub pool_text : PoolName → Account → List ℕ
 pool_text name account =
-    pool_head name ++ field_text (codes "size") account.bytes ++ field_text (codes "free") (account.bytes - cost_of account.made account.sizes)
-    ++ field_text (codes "requests") account.requests ++ field_text (codes "errors") account.errors ++ codes "\n"
+    pool_head name ++ field_text (codes "size") account.bytes ++
+        field_text (codes "free") (account.bytes - cost_of account.made account.sizes)
+    ++ field_text (codes "requests") account.requests ++
+        field_text (codes "errors") account.errors ++ codes "\n"
 
--- a block size, by its place: how many blocks were cut, and how many of them are free; nothing where none was cut
+-- a block size, by its place: how many blocks were cut, and how many of them are free; nothing
+-- where none was cut
 abbrev pub class_text : PoolName → Account → ℕ → List ℕ
 class_text name account class =
     if slice_index account.made class == 0 then [] else
-    class_head name ++ codes " " ++ decimal (slice_index account.sizes class) ++ field_text (codes "made") (slice_index account.made class)
-    ++ field_text (codes "free") (slice_index account.made class - slice_index account.out class) ++ codes "\n"
+    class_head name ++ codes " " ++ decimal (slice_index account.sizes class) ++
+        field_text (codes "made") (slice_index account.made class)
+    ++ field_text (codes "free") (slice_index account.made class - slice_index account.out class) ++
+        codes "\n"
 
 -- a pool, and its block sizes, the smallest first
 abbrev pub account_text : PoolName → Account → List ℕ
-account_text name account = pool_text name account ++ flat_map (class_text name account) (range_with_len 0 (length account.sizes))
+account_text name account =
+    pool_text name account ++
+    flat_map (class_text name account) (range_with_len 0 (length account.sizes))
 
 -- the applications' pools, numbered from 1
 abbrev pub accounts_text : List Account → List ℕ
-accounts_text accounts = numbered (λ number account. account_text (Applications number) account) 1 accounts
+accounts_text accounts =
+    numbered (λ number account. account_text (Applications number) account) 1 accounts
 
 -- The event desk. --
 
--- events that passed, were held back, were cut; calls refused; the lines of the log now, events that found it full, and its mode
+-- events that passed, were held back, were cut; calls refused; the lines of the log now, events
+-- that found it full, and its mode
 abbrev pub desk_text : Desk → List ℕ
 desk_text desk =
-    codes "evs" ++ field_text (codes "sent") desk.sent ++ field_text (codes "filtered") desk.filtered ++ field_text (codes "cut") desk.cut
-    ++ field_text (codes "refused") desk.refused ++ field_text (codes "logged") (length desk.log.lines) ++ field_text (codes "lost") desk.lost
+    codes "evs" ++ field_text (codes "sent") desk.sent ++
+        field_text (codes "filtered") desk.filtered ++ field_text (codes "cut") desk.cut
+    ++ field_text (codes "refused") desk.refused ++
+        field_text (codes "logged") (length desk.log.lines) ++ field_text (codes "lost") desk.lost
     ++ field_text (codes "mode") desk.log.mode ++ codes "\n"
 
 -- The tables. --
@@ -118,12 +138,15 @@ desk_text desk =
 -- the three numbers in use, with their peaks
 abbrev pub table_uses_text : TblUse → TblUse → List ℕ
 table_uses_text now peak =
-    codes "tbl" ++ use_text (codes "count") now.tables peak.tables ++ use_text (codes "handles") now.handles peak.handles
+    codes "tbl" ++ use_text (codes "count") now.tables peak.tables ++
+        use_text (codes "handles") now.handles peak.handles
     ++ use_text (codes "bytes") now.bytes peak.bytes ++ codes "\n"
 
 -- All lines. --
 
 abbrev pub counters_text : BusFigures → TableFigures → List ℕ
 counters_text figures tables =
-    counts_text figures.version figures.statistics.counts ++ uses_text figures.now figures.statistics.peak ++ account_text Bus figures.pool
-    ++ accounts_text figures.pools ++ desk_text figures.events ++ table_uses_text tables.now tables.peak ++ account_text Tables tables.pool
+    counts_text figures.version figures.statistics.counts ++
+        uses_text figures.now figures.statistics.peak ++ account_text Bus figures.pool
+    ++ accounts_text figures.pools ++ desk_text figures.events ++
+        table_uses_text tables.now tables.peak ++ account_text Tables tables.pool

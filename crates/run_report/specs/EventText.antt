@@ -9,10 +9,12 @@ abbrev pub behind_blank : List ℕ → List ℕ
 behind_blank [] = []
 behind_blank (byte ∷ bytes) = codes " " ++ byte ∷ bytes
 
--- the line of an event: its application, 0 where a service told it, its id, the number of its kind, and its text as the log keeps it
+-- the line of an event: its application, 0 where a service told it, its id, the number of its kind,
+-- and its text as the log keeps it
 abbrev pub log_line_text : Line → List ℕ
 log_line_text line =
-    codes "a" ++ decimal line.app ++ codes " " ++ decimal line.id ++ codes " " ++ decimal (kind_number line.kind) ++ behind_blank line.text
+    codes "a" ++ decimal line.app ++ codes " " ++ decimal line.id ++ codes " " ++
+        decimal (kind_number line.kind) ++ behind_blank line.text
     ++ codes "\n"
 
 -- the lines of the log, the oldest first

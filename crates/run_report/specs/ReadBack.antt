@@ -99,12 +99,15 @@ tells_plain_name (Evs status) = true
 
 -- whether the figures of a pool have 32 bits
 abbrev pub are_short : PoolStats → Bool
-are_short figures = list_all (λ number. nat_lt number (2 ^ 32)) (figures.size ∷ figures.requests ∷ figures.errors ∷ figures.free ∷ [])
+are_short figures =
+    list_all (λ number. nat_lt number (2 ^ 32))
+    (figures.size ∷ figures.requests ∷ figures.errors ∷ figures.free ∷ [])
 
 -- whether the figures of the bus have 32 bits
 abbrev pub are_short_stats : BusStats → Bool
 are_short_stats stats =
-    list_all (λ number. nat_lt number (2 ^ 32)) (stats.nosub ∷ stats.limit ∷ stats.overflow ∷ stats.buffers ∷ stats.bytes ∷ [])
+    list_all (λ number. nat_lt number (2 ^ 32))
+        (stats.nosub ∷ stats.limit ∷ stats.overflow ∷ stats.buffers ∷ stats.bytes ∷ [])
 
 -- whether an answer's numbers have 32 bits
 abbrev pub has_short_numbers : BusAnswer → Bool

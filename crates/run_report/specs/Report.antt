@@ -50,20 +50,25 @@ figures_read readings = record {
 
 -- what a report shows of what was read off the tables
 abbrev pub table_figures_read : TableReadings → TableFigures
-table_figures_read readings = record { now = readings.in_use; peak = readings.peak; pool = account_read readings.pool.now }
+table_figures_read readings =
+    record { now = readings.in_use; peak = readings.peak; pool = account_read readings.pool.now }
 
 -- the end of a report: the lines on the counters, and the last line
 abbrev pub ending_text : BusFigures → TableFigures → List ℕ
 ending_text figures tables = codes "counters\n" ++ counters_text figures tables ++ codes "end\n"
 
--- the version of the bus, its history and that of the tables, the receipts of the applications 1, 2, 3 and so on, the event log, and
--- the figures of both services
-abbrev pub report_text : List Entry → List TableEntry → List (List Receipt) → BusFigures → TableFigures → List ℕ
+-- the version of the bus, its history and that of the tables, the receipts of the applications 1,
+-- 2, 3 and so on, the event log, and the figures of both services
+abbrev pub report_text : List Entry → List TableEntry → List (List Receipt) → BusFigures →
+    TableFigures → List ℕ
 report_text entries table_entries receipts figures tables =
-    codes "fsw " ++ decimal figures.version ++ codes "\nbus\n" ++ entries_text entries ++ codes "tables\n" ++ table_entries_text table_entries
-    ++ codes "receipts\n" ++ receipts_text receipts ++ codes "events\n" ++ log_text figures.events.log ++ ending_text figures tables
+    codes "fsw " ++ decimal figures.version ++ codes "\nbus\n" ++ entries_text entries ++
+        codes "tables\n" ++ table_entries_text table_entries
+    ++ codes "receipts\n" ++ receipts_text receipts ++ codes "events\n" ++
+        log_text figures.events.log ++ ending_text figures tables
 
 -- the report of what was read off both services, and of the applications' lists of receipts
 abbrev pub report_of : BusReadings → TableReadings → List Receipts → List ℕ
 report_of bus tables lists =
-    report_text bus.journal.now.entries tables.journal.now.entries (map (λ list. list.receipts) lists) (figures_read bus) (table_figures_read tables)
+    report_text bus.journal.now.entries tables.journal.now.entries
+        (map (λ list. list.receipts) lists) (figures_read bus) (table_figures_read tables)

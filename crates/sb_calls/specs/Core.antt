@@ -1,5 +1,5 @@
--- The bus core as its callers see it: its limits, its journal with the budgets, and the note of each entry. What the bus is
--- follows from them.
+-- The bus core as its callers see it: its limits, its journal with the budgets, and the note of
+-- each entry. What the bus is follows from them.
 use Rattle.std.specs.Prelude.{◌≡◌, ℕ, ◌≤◌, List, [], ◌∷◌, ◌++◌, length, Some, IsTrue}
 use Rattle.fsw_base.specs.Limits.{Limits}
 use Rattle.lend_block.specs.Loan.{LentBytes}
@@ -53,13 +53,16 @@ pub record MayCall (core : Core) (app : ℕ) (call : Call) : Type 0 where
 
 -- the core with one more entry and its note
 abbrev pub with_noted : Core → Entry → Note → Core
-with_noted core e note = record core { log = with_entry core.log e; notes = core.notes ++ note ∷ [] }
+with_noted core e note =
+    record core { log = with_entry core.log e; notes = core.notes ++ note ∷ [] }
 
 -- The call was answered as the bus answers it after the core's history. Its entry is the last one,
 -- noted with the loan of the view or the descriptor of the buffer that was given, if one was.
 pub record Does (old new : Core) (app : ℕ) (call : Call) (answer : BusAnswer) : Type 0 where
   pub name : ℕ
-  pub entry : new ≡ with_noted old (record { app = app; call = call; answer = answer }) (note_due answer call name)
+  pub entry : new ≡
+      with_noted old (record { app = app; call = call; answer = answer })
+      (note_due answer call name)
   pub as_machine : answer ≡ (step old.limits old.log.entries (state_of old) app call).0
   pub state : state_of new ≡ (step old.limits old.log.entries (state_of old) app call).1
   pub legal : IsLegalCore new
@@ -68,19 +71,23 @@ pub record Does (old new : Core) (app : ℕ) (call : Call) (answer : BusAnswer) 
 -- a look does what the bus does; where it finds the application still waiting, nothing changes
 abbrev pub Looks : Core → Core → ℕ → ℕ → Pended → Type 0
 Looks old new app pipe Pending =
-    (new ≡ old) × ((step old.limits old.log.entries (state_of old) app (Look pipe)).0 ≡ waited Pending)
+    (new ≡ old) ×
+        ((step old.limits old.log.entries (state_of old) app (Look pipe)).0 ≡ waited Pending)
 Looks old new app pipe answer = Does old new app (Look pipe) (waited answer)
 
 -- Isolation. --
 
--- the message of this number, which the application gets from a pipe by this call, is what its bag shows of the pipe, the
--- pipe's last message, and the newest that the pipe alone gives
+-- the message of this number, which the application gets from a pipe by this call, is what its bag
+-- shows of the pipe, the pipe's last message, and the newest that the pipe alone gives
 abbrev pub GotAlone : Core → ℕ → ℕ → Call → ℕ → Holding LentBytes → Type 0
 GotAlone old app pipe call number bag =
     (message : Received) × (message.number ≡ number) × (bytes_seen bag pipe ≡ Some message.message)
-    × Gives old.limits (apps_of old) pipe old.log.entries (record { app = app; call = call; answer = Got number }) message
+    × Gives old.limits (apps_of old) pipe old.log.entries
+        (record { app = app; call = call; answer = Got number }) message
 
 -- what each pipe gave so far is what the pipe alone gives, whatever befell the others
 abbrev pub StandAlone : Core → Type 0
 StandAlone core =
-    (pipe : ℕ) → receipts core.limits (apps_of core) pipe core.log.entries ≡ solo_receipts unmade (cut core.limits (apps_of core) pipe core.log.entries)
+    (pipe : ℕ) →
+        receipts core.limits (apps_of core) pipe core.log.entries ≡
+        solo_receipts unmade (cut core.limits (apps_of core) pipe core.log.entries)

@@ -14,13 +14,17 @@ use Rattle.sb_calls.specs.Notes.{noted, noted_desc}
 abbrev pub core_of : Inside → Core
 core_of a = record { limits = a.core.limits; log = a.noted.log; notes = a.noted.notes }
 
--- What is always true of a core: its history is one that the bus can have, each entry has the note that is due, its state is the
--- one that the history leaves, the last message of each pipe is lent by the loan that was noted, each unsent buffer's block has
--- the descriptor that was noted, and a number is left for every entry that may come.
+-- What is always true of a core: its history is one that the bus can have, each entry has the note
+-- that is due, its state is the one that the history leaves, the last message of each pipe is lent
+-- by the loan that was noted, each unsent buffer's block has the descriptor that was noted, and a
+-- number is left for every entry that may come.
 pub record Stands (a : Inside) : Type 0 where
   pub legal : IsLegalCore (core_of a)
   pub due : IsNoted (core_of a)
-  pub whole : a.core.whole ≡ whole_after a.core.limits (length a.noted.log.budgets) a.noted.log.entries
-  pub loans : (pipe : ℕ) → is_some (last_on a.core.whole.bus.pipes pipe) ≡ true → loan_of a.core.loans pipe ≡ noted pipe a.noted.log.entries a.noted.notes
-  pub descs : (number : ℕ) → is_unsent a.core.whole.bus.unsent number ≡ true → desc_of a.core.descs number ≡ noted_desc number a.noted.log.entries a.noted.notes
+  pub whole : a.core.whole ≡
+      whole_after a.core.limits (length a.noted.log.budgets) a.noted.log.entries
+  pub loans : (pipe : ℕ) → is_some (last_on a.core.whole.bus.pipes pipe) ≡ true →
+      loan_of a.core.loans pipe ≡ noted pipe a.noted.log.entries a.noted.notes
+  pub descs : (number : ℕ) → is_unsent a.core.whole.bus.unsent number ≡ true →
+      desc_of a.core.descs number ≡ noted_desc number a.noted.log.entries a.noted.notes
   pub few : length a.noted.log.entries + entries_left (left_of a.noted.log) < 2 ^ 32

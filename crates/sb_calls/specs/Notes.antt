@@ -1,4 +1,5 @@
--- The notes beside the entries of a journal: which loan each message that was given is lent by, and which block each buffer is in.
+-- The notes beside the entries of a journal: which loan each message that was given is lent by, and
+-- which block each buffer is in.
 use Rattle.std.specs.Prelude.{◌≡◌, ℕ, ◌==◌, Bool, false, List, [], ◌∷◌, Option, Some, None, Result, Ok, Err, if◌then◌else◌}
 use Rattle.fsw_base.specs.declared.statuses.SbStatus.{SbStatus}
 use Rattle.buf_desc.specs.Block.{Unsent}
@@ -18,8 +19,8 @@ pub record NotedLog : Type 0 where
   pub log : Log
   pub notes : List Note
 
--- the note of an entry with this answer of a call: where a message was given, the loan of its view; where a buffer was, the number
--- of its block's descriptor; else nothing
+-- the note of an entry with this answer of a call: where a message was given, the loan of its view;
+-- where a buffer was, the number of its block's descriptor; else nothing
 abbrev pub note_due : BusAnswer → Call → ℕ → Note
 note_due (Got number) call name = Loan (record { loan = name })
 note_due (Number number) (Allocate size) name = Desc name
@@ -28,7 +29,8 @@ note_due answer call name = Nothing
 -- each entry has the note that is due
 abbrev pub AreDue : List Entry → List Note → Type 0
 AreDue [] [] = Unit {0}
-AreDue (e ∷ es) (note ∷ notes) = ((name : ℕ) × (note ≡ note_due e.answer e.call name)) × AreDue es notes
+AreDue (e ∷ es) (note ∷ notes) =
+    ((name : ℕ) × (note ≡ note_due e.answer e.call name)) × AreDue es notes
 AreDue es notes = ⊥
 
 -- Loans. --
@@ -41,10 +43,12 @@ loan_in (Loan name) = name.loan
 
 -- the loan noted of pipe p after these entries, where it was this loan before them
 abbrev pub noted_from : ℕ → ℕ → List Entry → List Note → ℕ
-noted_from p loan (e ∷ es) (note ∷ notes) = noted_from p (if gets_from p e then loan_in note else loan) es notes
+noted_from p loan (e ∷ es) (note ∷ notes) =
+    noted_from p (if gets_from p e then loan_in note else loan) es notes
 noted_from p loan es notes = loan
 
--- the loan noted of pipe p: that of the newest entry that gives a message from it; 0 where none does
+-- the loan noted of pipe p: that of the newest entry that gives a message from it; 0 where none
+-- does
 abbrev pub noted : ℕ → List Entry → List Note → ℕ
 noted p entries notes = noted_from p 0 entries notes
 
@@ -69,12 +73,15 @@ desc_in Nothing = 0
 desc_in (Desc desc) = desc
 desc_in (Loan name) = 0
 
--- the descriptor noted of the buffer of this number after these entries, where it was this one before them
+-- the descriptor noted of the buffer of this number after these entries, where it was this one
+-- before them
 abbrev pub noted_desc_from : ℕ → ℕ → List Entry → List Note → ℕ
-noted_desc_from number desc (e ∷ es) (note ∷ notes) = noted_desc_from number (if gives_buffer number e then desc_in note else desc) es notes
+noted_desc_from number desc (e ∷ es) (note ∷ notes) =
+    noted_desc_from number (if gives_buffer number e then desc_in note else desc) es notes
 noted_desc_from number desc es notes = desc
 
--- the descriptor noted of the buffer of this number, beside the entry that gives it; 0 where none does
+-- the descriptor noted of the buffer of this number, beside the entry that gives it; 0 where none
+-- does
 abbrev pub noted_desc : ℕ → List Entry → List Note → ℕ
 noted_desc number entries notes = noted_desc_from number 0 entries notes
 
@@ -83,7 +90,8 @@ abbrev pub note_given : Option Unsent → Note
 note_given None = Nothing
 note_given (Some block) = Desc block.desc
 
--- what is noted of a request for a buffer that was so answered, where the bag has these blocks by their numbers
+-- what is noted of a request for a buffer that was so answered, where the bag has these blocks by
+-- their numbers
 abbrev pub note_told : Result ℕ SbStatus → (ℕ → Option Unsent) → Note
 note_told (Ok number) blocks = note_given (blocks number)
 note_told (Err status) blocks = Nothing

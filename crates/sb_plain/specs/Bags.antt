@@ -1,5 +1,5 @@
--- What applications have in their bags of the messages that they received and of the buffers that they haven't sent, by which
--- loans and in which blocks.
+-- What applications have in their bags of the messages that they received and of the buffers that
+-- they haven't sent, by which loans and in which blocks.
 use Rattle.std.specs.Prelude.{◌≡◌, ◌≢◌, ℕ, false}
 use Rattle.lend_block.specs.Loan.{LentBytes}
 use Rattle.buf_desc.specs.Held.{Holding, buffer_at}
@@ -10,8 +10,8 @@ use Rattle.sb_plain.specs.Core.{Plain}
 
 -- Bags. --
 
--- the bag has a view of the last message of each of the application's pipes, and no other view; and the blocks of its unsent
--- buffers, and no others
+-- the bag has a view of the last message of each of the application's pipes, and no other view; and
+-- the blocks of its unsent buffers, and no others
 pub record HasBag (core : Plain) (app : ℕ) (bag : Holding LentBytes) : Type 0 where
   pub views : HoldsViews core.whole.bus.pipes core.loans core.limits.pipes app bag
   pub buffers : HoldsBuffers core.whole.bus.unsent core.descs core.limits.sizes app bag
@@ -22,11 +22,14 @@ KeepsBags old new = (app : ℕ) (bag : Holding LentBytes) → HasBag old app bag
 
 -- the bag of every other application stays one
 abbrev pub KeepsOtherBags : Plain → Plain → ℕ → Type 0
-KeepsOtherBags old new app = (other : ℕ) (bag : Holding LentBytes) → other ≢ app → HasBag old other bag → HasBag new other bag
+KeepsOtherBags old new app =
+    (other : ℕ) (bag : Holding LentBytes) → other ≢ app → HasBag old other bag →
+    HasBag new other bag
 
 -- every buffer of a bag but that of this number is what it was
 abbrev pub KeepsBuffers : Holding LentBytes → Holding LentBytes → ℕ → Type 0
-KeepsBuffers old new number = (other : ℕ) → number ≢ other → buffer_at new other ≡ buffer_at old other
+KeepsBuffers old new number =
+    (other : ℕ) → number ≢ other → buffer_at new other ≡ buffer_at old other
 
 -- Loans. --
 
@@ -36,11 +39,14 @@ KeepsAllLoans old new = (pipe : ℕ) → loan_of new.loans pipe ≡ loan_of old.
 
 -- the loan of every other pipe's last message stays
 abbrev pub KeepsLoans : Plain → Plain → ℕ → Type 0
-KeepsLoans old new pipe = (other : ℕ) → pipe ≢ other → loan_of new.loans other ≡ loan_of old.loans other
+KeepsLoans old new pipe =
+    (other : ℕ) → pipe ≢ other → loan_of new.loans other ≡ loan_of old.loans other
 
 -- the loan of the last message of every pipe that isn't the application's stays
 abbrev pub KeepsOtherLoans : Plain → Plain → ℕ → Type 0
-KeepsOtherLoans old new app = (pipe : ℕ) → owns old.whole.bus.pipes app pipe ≡ false → loan_of new.loans pipe ≡ loan_of old.loans pipe
+KeepsOtherLoans old new app =
+    (pipe : ℕ) → owns old.whole.bus.pipes app pipe ≡ false →
+    loan_of new.loans pipe ≡ loan_of old.loans pipe
 
 -- Descriptors. --
 
@@ -50,8 +56,11 @@ KeepsAllDescs old new = (number : ℕ) → desc_of new.descs number ≡ desc_of 
 
 -- the descriptor of every other unsent buffer stays
 abbrev pub KeepsDescs : Plain → Plain → ℕ → Type 0
-KeepsDescs old new number = (other : ℕ) → number ≢ other → desc_of new.descs other ≡ desc_of old.descs other
+KeepsDescs old new number =
+    (other : ℕ) → number ≢ other → desc_of new.descs other ≡ desc_of old.descs other
 
 -- the descriptor of every unsent buffer that isn't the application's stays
 abbrev pub KeepsOtherDescs : Plain → Plain → ℕ → Type 0
-KeepsOtherDescs old new app = (number : ℕ) → has_unsent old.whole.bus.unsent app number ≡ false → desc_of new.descs number ≡ desc_of old.descs number
+KeepsOtherDescs old new app =
+    (number : ℕ) → has_unsent old.whole.bus.unsent app number ≡ false →
+    desc_of new.descs number ≡ desc_of old.descs number

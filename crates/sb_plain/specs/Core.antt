@@ -1,4 +1,5 @@
--- The core as its callers see it: its limits, the state, the loans of the last messages, and the descriptors of unsent buffers.
+-- The core as its callers see it: its limits, the state, the loans of the last messages, and the
+-- descriptors of unsent buffers.
 use Rattle.std.specs.Prelude.{◌≡◌, ℕ, ◌≤◌, nat_le, nat_lt, Bool, true, List, [], length, IsTrue}
 use Rattle.fsw_base.specs.Limits.{Limits}
 use Rattle.housekeeping.specs.declared.names.CounterName.{CounterName}
@@ -11,7 +12,8 @@ use Rattle.bus_words.specs.Machine.{may_call}
 use Rattle.bus_words.specs.Acts.{Whole, act}
 use Rattle.bus_store.specs.Store.{LastLoan, BufferDesc}
 
--- The limits, the state, the loan that the last message of each live pipe is lent by, and the descriptor of each unsent buffer.
+-- The limits, the state, the loan that the last message of each live pipe is lent by, and the
+-- descriptor of each unsent buffer.
 pub record Plain : Type 0 where
   pub limits : Limits
   pub whole : Whole
@@ -27,17 +29,22 @@ abbrev pub with_tick : Plain → CounterName → Plain
 with_tick core which = record core {
   whole = record core.whole {
     bus = record core.whole.bus {
-      statistics = record core.whole.bus.statistics { counts = ticked core.whole.bus.statistics.counts which };
+      statistics =
+          record core.whole.bus.statistics
+          { counts = ticked core.whole.bus.statistics.counts which };
     };
   };
 }
 
--- how many pipes drop their oldest message for one of this id that the application sends, whatever message it is
+-- how many pipes drop their oldest message for one of this id that the application sends, whatever
+-- message it is
 abbrev pub drops_for : State → ℕ → ℕ → ℕ
-drops_for s app id = drops (record { sender = app; number = 0; asked = 0; message = [] }) (route s.subscriptions id) s.pipes
+drops_for s app id =
+    drops (record { sender = app; number = 0; asked = 0; message = [] }) (route s.subscriptions id)
+    s.pipes
 
--- a name of at most 64 bytes, a message of at most 65542, an event's text of at most 200, a mode of 0 or 1; what a buffer may have
--- is bounded by its size
+-- a name of at most 64 bytes, a message of at most 65542, an event's text of at most 200, a mode of
+-- 0 or 1; what a buffer may have is bounded by its size
 abbrev pub is_within : Call → Bool
 is_within (Create depth name) = nat_le (length name) 64
 is_within (Delete pipe) = true

@@ -40,7 +40,9 @@ means a = record {
 
 -- the core as its callers see it
 abbrev pub plain_of : Inside → Plain
-plain_of a = record { limits = limits_of a.config; whole = means a; loans = a.store.loans; descs = a.store.descs }
+plain_of a =
+    record { limits = limits_of a.config; whole = means a; loans = a.store.loans;
+    descs = a.store.descs }
 
 -- the pool has the limits' bytes and block sizes, and no return was refused
 pub record IsPoolOf (limits : Limits) (account : Account) : Type 0 where
@@ -55,7 +57,8 @@ pub record IsReady (pipes : List Pipe) (app pipe : ℕ) : Type 0 where
 
 -- each application that waits does so on a pipe of its own, whose last message it let go before
 abbrev pub AreReady : List Pipe → List Activity → Type 0
-AreReady pipes acts = (app pipe : ℕ) → activity_at acts app ≡ activities.Waiting pipe → IsReady pipes app pipe
+AreReady pipes acts =
+    (app pipe : ℕ) → activity_at acts app ≡ activities.Waiting pipe → IsReady pipes app pipe
 
 -- the store and what the applications do belong together, and are within the limits
 pub record IsInOrder (limits : Limits) (store : Store) (acts : List Activity) : Type 0 where
@@ -75,7 +78,9 @@ AreInOrder a = IsInOrder (limits_of a.config) a.store a.activities.items
 
 -- nothing in use is above its peak
 abbrev pub IsCovered : Plain → Type 0
-IsCovered core = greater core.whole.bus.statistics.peak (in_use core.limits core.whole.bus) ≡ core.whole.bus.statistics.peak
+IsCovered core =
+    greater core.whole.bus.statistics.peak (in_use core.limits core.whole.bus) ≡
+    core.whole.bus.statistics.peak
 
 pub record Keeps (a : Inside) : Type 0 where
   pub order : AreInOrder a

@@ -15,7 +15,9 @@ has_message pipes Active = false
 has_message pipes (Waiting pipe) = not (is_empty pipes pipe)
 has_message pipes Ended = false
 
--- whether some waiting application would be answered if it looked now: with a message, or with a time-out, since every application has
--- ended or waits on an empty pipe
+-- whether some waiting application would be answered if it looked now: with a message, or with a
+-- time-out, since every application has ended or waits on an empty pipe
 abbrev pub has_news : State → Bool
-has_news s = list_any (has_message s.pipes) s.standings || (list_any is_waiting s.standings && list_all (is_idle s.pipes) s.standings)
+has_news s =
+    list_any (has_message s.pipes) s.standings ||
+    (list_any is_waiting s.standings && list_all (is_idle s.pipes) s.standings)

@@ -1,4 +1,5 @@
--- What the core keeps of applications and routes, what bags tell, and what is in use, as the machine has it.
+-- What the core keeps of applications and routes, what bags tell, and what is in use, as the
+-- machine has it.
 use Rattle.std.specs.Prelude.{◌≡◌, ℕ, ◌-◌, ◌==◌, Bool, false, not, List, [], ◌∷◌, length, slice_index_or, Option, None, is_some, if◌then◌else◌}
 use Rattle.fsw_base.specs.declared.statuses.SbStatus.{SbStatus}
 use Rattle.fsw_base.specs.declared.statuses.SbStatus.TheVariants.{BadArgument, BufferInvalid}
@@ -21,7 +22,8 @@ standing_in activities.Ended = Ended
 
 -- what the application of this number does; one that the core doesn't know has ended
 abbrev pub activity_at : List Activity → ℕ → Activity
-activity_at acts app = if app == 0 then activities.Ended else slice_index_or acts (app - 1) activities.Ended
+activity_at acts app =
+    if app == 0 then activities.Ended else slice_index_or acts (app - 1) activities.Ended
 
 -- whether the application makes no further send by itself
 abbrev pub idle_in : List Pipe → Activity → Bool
@@ -38,8 +40,8 @@ buffer_cause bag buf =
     refused_if (not (is_some (buffer_at bag buf))) BufferInvalid
     (refused_if (is_some (front_fault (bytes_at bag buf))) BadArgument None)
 
--- what is in use at the store: the routes, the live pipes, the live subscriptions, the numbers that are held, and the sizes of the
--- blocks that are out, added up
+-- what is in use at the store: the routes, the live pipes, the live subscriptions, the numbers that
+-- are held, and the sizes of the blocks that are out, added up
 abbrev pub in_use_at : Store → InUse
 in_use_at store = record {
   msgids = length store.routes;

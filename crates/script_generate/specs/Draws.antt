@@ -1,7 +1,9 @@
--- What is drawn with a generator of pseudo-random numbers: a chain of numbers below 2^31, each made from the one before.
+-- What is drawn with a generator of pseudo-random numbers: a chain of numbers below 2^31, each made
+-- from the one before.
 use Rattle.std.specs.Prelude.{ℕ, ◌+◌, ◌*◌, ◌/◌, ◌%◌}
 
--- Something drawn, from the generator's number before: what it is, and the generator's number afterwards.
+-- Something drawn, from the generator's number before: what it is, and the generator's number
+-- afterwards.
 abbrev pub Drawing : Type 0 → Type 0
 Drawing X = ℕ → X × ℕ
 

@@ -14,7 +14,8 @@ use Rattle.script_generate.specs.Draws.{Drawing, done, ◌>>=◌, draw, first_nu
 abbrev pub id_of : ℕ → ℕ
 id_of app = 2048 + app
 
--- A message is drawn: whose id it has, of the four applications, then its size, then its first payload byte.
+-- A message is drawn: whose id it has, of the four applications, then its size, then its first
+-- payload byte.
 unfoldable pub draft : Drawing Draft
 draft = do
   app ← draw 4
@@ -22,11 +23,14 @@ draft = do
   fill ← draw 256
   done (record { id = id_of (1 + app); size = 7 + more; fill = fill })
 
--- the kind of action that a number stands for: one of four sends, one sends a buffer, the other two receive
+-- the kind of action that a number stands for: one of four sends, one sends a buffer, the other two
+-- receive
 abbrev pub kind_of : ℕ → Kind
-kind_of number = if number == 0 then kind.Send else (if number == 2 then kind.SendBuffer else kind.Receive)
+kind_of number =
+    if number == 0 then kind.Send else (if number == 2 then kind.SendBuffer else kind.Receive)
 
--- the lines of an action: a message is sent; or it is made in a buffer, which is sent without a copy; or one is received
+-- the lines of an action: a message is sent; or it is made in a buffer, which is sent without a
+-- copy; or one is received
 unfoldable pub action_of : Kind → Drawing (List Line)
 action_of kind.Send = do
   message ← draft
@@ -50,8 +54,8 @@ actions (suc count) = do
   others ← actions count
   done (first ++ others)
 
--- the lines before the actions: a pipe, and its subscriptions to the application's own id and to that of the next one,
--- which for the fourth is the first
+-- the lines before the actions: a pipe, and its subscriptions to the application's own id and to
+-- that of the next one, which for the fourth is the first
 unfoldable pub first_lines : ℕ → List Line
 first_lines app =
     Create 0 8 (codes "P" ++ decimal app)
@@ -75,4 +79,5 @@ applications app (suc count) = do
 
 -- The script of a number: four applications, under the usual limits.
 unfoldable pub generated : ℕ → ScriptText
-generated script = record { limits = usual_limits; apps = (applications 1 4 (first_number script)).0 }
+generated script =
+    record { limits = usual_limits; apps = (applications 1 4 (first_number script)).0 }

@@ -13,16 +13,22 @@ use Rattle.script_lines.specs.TableLines.{table_word, table_line_of, show_of}
 
 -- the first words of call lines
 unfoldable pub table_or_show : Word → Option CallWord
-table_or_show word = elim (table_word word) [ Some first ↦ Some (Table first) | None ↦ (if is_same word (codes "show") then Some Show else None) ]
+table_or_show word =
+    elim (table_word word)
+    [ Some first ↦ Some (Table first) | None ↦
+    (if is_same word (codes "show") then Some Show else None) ]
 
 unfoldable pub event_or_table : Word → Option CallWord
-event_or_table word = elim (event_word word) [ Some first ↦ Some (Event first) | None ↦ table_or_show word ]
+event_or_table word =
+    elim (event_word word) [ Some first ↦ Some (Event first) | None ↦ table_or_show word ]
 
 unfoldable pub memory_or_event : Word → Option CallWord
-memory_or_event word = elim (memory_word word) [ Some first ↦ Some (Memory first) | None ↦ event_or_table word ]
+memory_or_event word =
+    elim (memory_word word) [ Some first ↦ Some (Memory first) | None ↦ event_or_table word ]
 
 unfoldable pub call_word : Word → Option CallWord
-call_word word = elim (bus_word word) [ Some first ↦ Some (Bus first) | None ↦ memory_or_event word ]
+call_word word =
+    elim (bus_word word) [ Some first ↦ Some (Bus first) | None ↦ memory_or_event word ]
 
 -- the call line with this first word, from the line behind it
 unfoldable pub call_line_of : CallWord → List ℕ → Result Line FaultKind

@@ -20,11 +20,13 @@ is_name name = nat_le (length name) 64 && list_all is_visible name && not (is_sa
 
 -- the text of an event: at most 200 bytes, with no blanks round it
 abbrev pub is_event_text : List ℕ → Bool
-is_event_text text = nat_le (length text) 200 && list_all is_text text && is_same (trimmed text) text
+is_event_text text =
+    nat_le (length text) 200 && list_all is_text text && is_same (trimmed text) text
 
 -- 1 to 256 bytes, spelled as digits
 abbrev pub is_spelled : List ℕ → Bool
-is_spelled bytes = nat_le 1 (length bytes) && nat_le (length bytes) 256 && list_all (λ byte. nat_le byte 255) bytes
+is_spelled bytes =
+    nat_le 1 (length bytes) && nat_le (length bytes) 256 && list_all (λ byte. nat_le byte 255) bytes
 
 abbrev pub is_content : Content → Bool
 is_content (Hex bytes) = is_spelled bytes
@@ -44,9 +46,11 @@ is_readable (SetOpts pipe bits) = nat_lt pipe 64 && nat_le bits 255
 is_readable (GetOpts pipe) = nat_lt pipe 64
 is_readable (Find pipe name) = nat_lt pipe 64 && is_name name
 is_readable (PipeName pipe) = nat_lt pipe 64
-is_readable (Subscribe id pipe limit scope) = nat_le id 65535 && nat_lt pipe 64 && nat_le limit 65535
+is_readable (Subscribe id pipe limit scope) =
+    nat_le id 65535 && nat_lt pipe 64 && nat_le limit 65535
 is_readable (Unsubscribe id pipe) = nat_le id 65535 && nat_lt pipe 64
-is_readable (Send id size fill inc) = nat_le id 65535 && nat_le 7 size && nat_le size 65542 && nat_le fill 255
+is_readable (Send id size fill inc) =
+    nat_le id 65535 && nat_le 7 size && nat_le size 65542 && nat_le fill 255
 is_readable (SendRaw bytes inc) = is_spelled bytes
 is_readable (Receive pipe) = nat_lt pipe 64
 is_readable (Pend pipe) = nat_lt pipe 64
@@ -65,14 +69,17 @@ is_readable ClearLog = true
 is_readable Housekeeping = true
 is_readable Figures = true
 is_readable (TableRegister handle name size option rules) =
-    nat_lt handle 64 && is_name name && nat_le size 1000000 && nat_le option 7 && nat_le (length rules) 8 && list_all is_rule rules
+    nat_lt handle 64 && is_name name && nat_le size 1000000 && nat_le option 7 &&
+        nat_le (length rules) 8 && list_all is_rule rules
 is_readable (TableShare handle name) = nat_lt handle 64 && is_name name
 is_readable (TableUnregister handle) = nat_lt handle 64
-is_readable (Stage handle offset content) = nat_lt handle 64 && nat_le offset 65536 && is_content content
+is_readable (Stage handle offset content) =
+    nat_lt handle 64 && nat_le offset 65536 && is_content content
 is_readable (Validate handle) = nat_lt handle 64
 is_readable (Update handle) = nat_lt handle 64
 is_readable (Abort handle) = nat_lt handle 64
-is_readable (Load handle offset content) = nat_lt handle 64 && nat_le offset 65536 && is_content content
+is_readable (Load handle offset content) =
+    nat_lt handle 64 && nat_le offset 65536 && is_content content
 is_readable (GetAddress handle) = nat_lt handle 64
 is_readable (ReleaseAddress handle) = nat_lt handle 64
 is_readable (Status handle) = nat_lt handle 64

@@ -32,7 +32,8 @@ rule_of triple =
     else Err OutOfRange
 
 -- the register, the name, the size, the options, and at most eight rules
-unfoldable pub table_words : List Word → Result ((Word × Word) × (Word × Word × List Word)) FaultKind
+unfoldable pub table_words : List Word →
+    Result ((Word × Word) × (Word × Word × List Word)) FaultKind
 table_words words = do
   front ← next_two words
   others ← next_two front.2
@@ -91,7 +92,8 @@ table_line_of Update words = table_alone words >>= λ handle. Ok (lines.Update h
 table_line_of Abort words = table_alone words >>= λ handle. Ok (lines.Abort handle)
 table_line_of Load words = load_of words >>= λ load. Ok (lines.Load load.0 load.1 load.2)
 table_line_of GetAddress words = table_alone words >>= λ handle. Ok (lines.GetAddress handle)
-table_line_of ReleaseAddress words = table_alone words >>= λ handle. Ok (lines.ReleaseAddress handle)
+table_line_of ReleaseAddress words =
+    table_alone words >>= λ handle. Ok (lines.ReleaseAddress handle)
 table_line_of Status words = table_alone words >>= λ handle. Ok (lines.Status handle)
 
 -- the first words of these lines
@@ -113,7 +115,8 @@ table_word word =
 -- what a show line names: a pipe or a table
 unfoldable pub shown : Word → Result Line FaultKind
 shown word =
-    if starts_with (λ a b. a == b) word (codes "p") then (pipe_of word >>= λ pipe. Ok (lines.ShowPipe pipe))
+    if starts_with (λ a b. a == b) word (codes "p")
+        then (pipe_of word >>= λ pipe. Ok (lines.ShowPipe pipe))
     else (table_of word >>= λ handle. Ok (lines.ShowTable handle))
 
 -- show pN, show tN

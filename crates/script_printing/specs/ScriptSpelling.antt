@@ -28,18 +28,22 @@ limit_word TablePool = codes "tablepool"
 
 -- the line of the version, where it isn't 1
 unfoldable pub version_lines : ℕ → List (List ℕ)
-version_lines version = if version == 1 then [] else (spaced (codes "script" ∷ decimal version ∷ []) ∷ [])
+version_lines version =
+    if version == 1 then [] else (spaced (codes "script" ∷ decimal version ∷ []) ∷ [])
 
 -- the line that sets a limit, where it isn't the usual one
 unfoldable pub set_lines_of : LimitName → ℕ → List (List ℕ)
-set_lines_of name value = if value == limit_of usual_limits name then [] else (spaced (codes "set" ∷ limit_word name ∷ decimal value ∷ []) ∷ [])
+set_lines_of name value =
+    if value == limit_of usual_limits name then []
+    else (spaced (codes "set" ∷ limit_word name ∷ decimal value ∷ []) ∷ [])
 
 abbrev pub set_lines : Limits → List (List ℕ)
 set_lines limits = flat_map (λ name. set_lines_of name (limit_of limits name)) all_limits
 
 -- the line of the block sizes, where they aren't the usual ones
 unfoldable pub sizes_lines : List ℕ → List (List ℕ)
-sizes_lines sizes = if is_same sizes usual_sizes then [] else (spaced (codes "sizes" ∷ map decimal sizes) ∷ [])
+sizes_lines sizes =
+    if is_same sizes usual_sizes then [] else (spaced (codes "sizes" ∷ map decimal sizes) ∷ [])
 
 -- the line of a count's start
 abbrev pub seq_text : ℕ × ℕ → List ℕ
@@ -51,7 +55,10 @@ app_lines app = spaced (codes "app" ∷ app.name ∷ []) ∷ map line_text app.l
 
 -- the lines of a script
 unfoldable pub spelled_lines : ScriptText → List (List ℕ)
-spelled_lines script = version_lines script.limits.version ++ set_lines script.limits ++ sizes_lines script.limits.sizes ++ map seq_text script.limits.starts ++ flat_map app_lines script.apps
+spelled_lines script =
+    version_lines script.limits.version ++ set_lines script.limits ++
+    sizes_lines script.limits.sizes ++ map seq_text script.limits.starts ++
+    flat_map app_lines script.apps
 
 -- lines, each with a line feed at its end
 abbrev pub ended : List (List ℕ) → List ℕ

@@ -6,8 +6,8 @@ use Rattle.script_runs.specs.TableTrace.{TableTrace, first_handles, own_table_en
 use Rattle.script_runs.specs.Trace.{Trace, first_registers, own_entries}
 use Rattle.script_runs.specs.Written.{first_written}
 
--- Each of the two histories has each application's calls of its service, each once and in the order of the application's lines, and
--- no other's.
+-- Each of the two histories has each application's calls of its service, each once and in the order
+-- of the application's lines, and no other's.
 pub record Merges (script : ScriptText) (histories : Histories) : Type 0 where
   pub each :
       (app : ℕ) → 1 ≤ app → app ≤ length script.apps →

@@ -1,4 +1,5 @@
--- The bytes that lines make: the message of a `send` line (CCSDS 133.0-B, 4.1), and the content of a load.
+-- The bytes that lines make: the message of a `send` line (CCSDS 133.0-B, 4.1), and the content of
+-- a load.
 use Rattle.std.specs.Prelude.{ℕ, ◌+◌, ◌-◌, ◌%◌, List, ◌++◌, map}
 use Rattle.std.specs.List.{range_with_len}
 use Rattle.ccsds_msg.specs.Message.{header_bytes}

@@ -13,13 +13,14 @@ abbrev pub first_left : List Running → Option Running
 first_left [] = None
 first_left (r ∷ rs) = Some r
 
--- These entries of the bus are what an application in this standing has still to make: those of the lines left, behind a look where
--- it waits; none where it doesn't go on.
+-- These entries of the bus are what an application in this standing has still to make: those of the
+-- lines left, behind a look where it waits; none where it doesn't go on.
 abbrev pub Owes : Standing → Option Running → List Entry → Type 0
 Owes standing None es = es ≡ []
 Owes Active (Some r) es = Trace r.registers r.written r.lines es
 Owes (Waiting pipe) (Some r) [] = ⊥
-Owes (Waiting pipe) (Some r) (e ∷ es) = (e.call ≡ calls.Look pipe) × Trace r.registers r.written r.lines es
+Owes (Waiting pipe) (Some r) (e ∷ es) =
+    (e.call ≡ calls.Look pipe) × Trace r.registers r.written r.lines es
 Owes Ended (Some r) es = ⊥
 
 -- And these of the tables, where no call waits.

@@ -1,5 +1,5 @@
--- What a history of the tables has of one application of a script: the calls of its lines, each once and in their order. No table
--- call waits, so each has one entry.
+-- What a history of the tables has of one application of a script: the calls of its lines, each
+-- once and in their order. No table call waits, so each has one entry.
 use Rattle.std.specs.Prelude.{◌≡◌, ℕ, ◌==◌, List, [], ◌∷◌, filter, replicate, slice_index, slice_set, Option, Some, None}
 use Rattle.tbl_words.specs.declared.calls.TblAnswer.{TblAnswer}
 use Rattle.tbl_words.specs.declared.calls.TblAnswer.TheVariants.{Number, Duplicate}
@@ -14,7 +14,8 @@ use Rattle.script_runs.specs.Messages.{content_bytes}
 abbrev pub first_handles : List ℕ
 first_handles = replicate 64 0
 
--- The call of the tables that a line makes, its register filled in; None for a line that the tables don't see.
+-- The call of the tables that a line makes, its register filled in; None for a line that the tables
+-- don't see.
 unfoldable pub table_call_of : List ℕ → Line → Option Call
 table_call_of handles (lines.Create pipe depth name) = None
 table_call_of handles (lines.Delete pipe) = None
@@ -42,16 +43,22 @@ table_call_of handles (lines.LogMode mode) = None
 table_call_of handles lines.ClearLog = None
 table_call_of handles lines.Housekeeping = None
 table_call_of handles lines.Figures = None
-table_call_of handles (lines.TableRegister handle name size option rules) = Some (calls.Register name size option rules)
+table_call_of handles (lines.TableRegister handle name size option rules) =
+    Some (calls.Register name size option rules)
 table_call_of handles (lines.TableShare handle name) = Some (calls.Share name)
-table_call_of handles (lines.TableUnregister handle) = Some (calls.Unregister (slice_index handles handle))
-table_call_of handles (lines.Stage handle offset content) = Some (calls.Stage (slice_index handles handle) offset (content_bytes content))
+table_call_of handles (lines.TableUnregister handle) =
+    Some (calls.Unregister (slice_index handles handle))
+table_call_of handles (lines.Stage handle offset content) =
+    Some (calls.Stage (slice_index handles handle) offset (content_bytes content))
 table_call_of handles (lines.Validate handle) = Some (calls.Validate (slice_index handles handle))
 table_call_of handles (lines.Update handle) = Some (calls.Update (slice_index handles handle))
 table_call_of handles (lines.Abort handle) = Some (calls.Abort (slice_index handles handle))
-table_call_of handles (lines.Load handle offset content) = Some (calls.Load (slice_index handles handle) offset (content_bytes content))
-table_call_of handles (lines.GetAddress handle) = Some (calls.GetAddress (slice_index handles handle))
-table_call_of handles (lines.ReleaseAddress handle) = Some (calls.ReleaseAddress (slice_index handles handle))
+table_call_of handles (lines.Load handle offset content) =
+    Some (calls.Load (slice_index handles handle) offset (content_bytes content))
+table_call_of handles (lines.GetAddress handle) =
+    Some (calls.GetAddress (slice_index handles handle))
+table_call_of handles (lines.ReleaseAddress handle) =
+    Some (calls.ReleaseAddress (slice_index handles handle))
 table_call_of handles (lines.Status handle) = Some (calls.Status (slice_index handles handle))
 table_call_of handles (lines.Form buf id fill) = None
 table_call_of handles (lines.Put buf offset bytes) = None
@@ -66,12 +73,15 @@ handle_of answer = 0
 
 -- the registers of handles once the line's call was answered
 unfoldable pub handles_after : List ℕ → Line → TblAnswer → List ℕ
-handles_after handles (lines.TableRegister handle name size option rules) answer = slice_set handles handle (handle_of answer)
-handles_after handles (lines.TableShare handle name) answer = slice_set handles handle (handle_of answer)
+handles_after handles (lines.TableRegister handle name size option rules) answer =
+    slice_set handles handle (handle_of answer)
+handles_after handles (lines.TableShare handle name) answer =
+    slice_set handles handle (handle_of answer)
 handles_after handles line answer = handles
 
 -- the entries of a line: none where the tables don't see it, else one of its call
-abbrev pub TableLineEntries : Option Call → (TblAnswer → List Entry → Type 0) → (List Entry → Type 0) → List Entry → Type 0
+abbrev pub TableLineEntries : Option Call → (TblAnswer → List Entry → Type 0) →
+    (List Entry → Type 0) → List Entry → Type 0
 TableLineEntries None Next Same es = Same es
 TableLineEntries (Some call) Next Same [] = ⊥
 TableLineEntries (Some call) Next Same (e ∷ es) = (e.call ≡ call) × Next e.answer es
@@ -82,11 +92,13 @@ IsTableEnd [] = ⊥
 IsTableEnd (e ∷ []) = e.call ≡ calls.End
 IsTableEnd (e ∷ f ∷ es) = ⊥
 
--- One entry for each line that the tables see, with that line's call; the application's end after them all.
+-- One entry for each line that the tables see, with that line's call; the application's end after
+-- them all.
 abbrev pub TableTrace : List ℕ → List Line → List Entry → Type 0
 TableTrace handles [] es = IsTableEnd es
 TableTrace handles (line ∷ lines) es =
-    TableLineEntries (table_call_of handles line) (λ answer rest. TableTrace (handles_after handles line answer) lines rest)
+    TableLineEntries (table_call_of handles line)
+        (λ answer rest. TableTrace (handles_after handles line answer) lines rest)
     (λ rest. TableTrace handles lines rest) es
 
 -- the entries of one application

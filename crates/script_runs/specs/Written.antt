@@ -29,11 +29,13 @@ with_buffer written number buffer = λ other. if number == other then buffer els
 abbrev pub with_bytes : Written → ℕ → (List ℕ → List ℕ) → Written
 with_bytes written number change = with_buffer written number (option_map change (written number))
 
--- What an answer leaves of the buffers: a new one is zeros, and one that was sent or given back is gone, as all are at the end.
--- A refused call changes nothing.
+-- What an answer leaves of the buffers: a new one is zeros, and one that was sent or given back is
+-- gone, as all are at the end. A refused call changes nothing.
 abbrev pub written_after : Written → Call → BusAnswer → Written
-written_after written (Allocate size) (Number number) = with_buffer written number (Some (replicate size 0))
-written_after written (TransmitBuffer buf bytes inc) (Sent number reached) = with_buffer written buf None
+written_after written (Allocate size) (Number number) =
+    with_buffer written number (Some (replicate size 0))
+written_after written (TransmitBuffer buf bytes inc) (Sent number reached) =
+    with_buffer written buf None
 written_after written (Release buf) Done = with_buffer written buf None
 written_after written End Done = first_written
 written_after written call answer = written
@@ -41,11 +43,15 @@ written_after written call answer = written
 -- the bytes with these from an offset on; as they were where these don't fit
 abbrev pub put_in : List ℕ → ℕ → List ℕ → List ℕ
 put_in old offset bytes =
-    if nat_le (offset + length bytes) (length old) then take offset old ++ (bytes ++ drop (offset + length bytes) old) else old
+    if nat_le (offset + length bytes) (length old) then take offset old ++
+        (bytes ++ drop (offset + length bytes) old) else old
 
--- What a line that no service sees writes, with the registers of buffers: `form` makes the whole buffer a message, with a
--- payload that counts up; `put` writes bytes where they fit. Neither does anything where the application has no such buffer.
+-- What a line that no service sees writes, with the registers of buffers: `form` makes the whole
+-- buffer a message, with a payload that counts up; `put` writes bytes where they fit. Neither does
+-- anything where the application has no such buffer.
 unfoldable pub written_by : Written → List ℕ → Line → Written
-written_by written buffers (Form buf id fill) = with_bytes written (slice_index buffers buf) (λ old. sent_message id (length old) fill)
-written_by written buffers (Put buf offset bytes) = with_bytes written (slice_index buffers buf) (λ old. put_in old offset bytes)
+written_by written buffers (Form buf id fill) =
+    with_bytes written (slice_index buffers buf) (λ old. sent_message id (length old) fill)
+written_by written buffers (Put buf offset bytes) =
+    with_bytes written (slice_index buffers buf) (λ old. put_in old offset bytes)
 written_by written buffers line = written

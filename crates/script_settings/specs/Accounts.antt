@@ -10,8 +10,8 @@ use Rattle.script_words.specs.Content.{content_len}
 abbrev pub no_calls : Account
 no_calls = record { calls = 0; waits = 0; bytes = 0; buffers = 0; sizes = replicate 64 0 }
 
--- The charge of a line, in bytes: of a message, a name, a text or a load; for xmit the size that the
--- latest alloc of its register asked for.
+-- The charge of a line, in bytes: of a message, a name, a text or a load; for xmit the size that
+-- the latest alloc of its register asked for.
 unfoldable pub charge_of : Account → Line → ℕ
 charge_of account (Create pipe depth name) = length name
 charge_of account (Find pipe name) = length name
@@ -54,10 +54,12 @@ counted account line = record {
 unfoldable pub account_of : List Line → Account
 account_of lines = fold counted no_calls lines
 
--- what an application with this account may add to a run: an entry for each call line, one more for each that
--- waits, and one for its end
+-- what an application with this account may add to a run: an entry for each call line, one more for
+-- each that waits, and one for its end
 abbrev pub budget_in : Account → Budget
-budget_in account = record { entries = account.calls + account.waits + 1; bytes = account.bytes; buffers = account.buffers }
+budget_in account =
+    record { entries = account.calls + account.waits + 1; bytes = account.bytes;
+    buffers = account.buffers }
 
 unfoldable pub budget_of : List Line → Budget
 budget_of lines = budget_in (account_of lines)

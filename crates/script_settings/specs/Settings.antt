@@ -128,7 +128,9 @@ seq_of words = do
 
 -- a letter, a digit or an underscore
 abbrev pub is_name_byte : ℕ → Bool
-is_name_byte byte = is_digit byte || (nat_le 65 byte && nat_le byte 90) || (nat_le 97 byte && nat_le byte 122) || (byte == 95)
+is_name_byte byte =
+    is_digit byte || (nat_le 65 byte && nat_le byte 90) || (nat_le 97 byte && nat_le byte 122) ||
+    (byte == 95)
 
 -- an application's name: 1 to 19 of them
 unfoldable pub is_app_name : Word → Bool

@@ -14,11 +14,15 @@ use Rattle.script_words.specs.declared.content.Content.TheVariants.{Hex, Fill}
 
 -- NAME: any word of at most 64 bytes; a hyphen alone is the empty name
 unfoldable pub name_of : Word → Result (List ℕ) FaultKind
-name_of word = if is_same word (codes "-") then Ok [] else (if nat_le (length word) 64 then Ok word else Err OutOfRange)
+name_of word =
+    if is_same word (codes "-") then Ok []
+    else (if nat_le (length word) 64 then Ok word else Err OutOfRange)
 
 -- the mode's word: whether a send counts on
 unfoldable pub mode_word : Word → Result Bool FaultKind
-mode_word word = if is_same word (codes "inc") then Ok true else (if is_same word (codes "keep") then Ok false else Err BadWord)
+mode_word word =
+    if is_same word (codes "inc") then Ok true
+    else (if is_same word (codes "keep") then Ok false else Err BadWord)
 
 -- the mode: inc where the word is left out
 unfoldable pub mode_of : Option Word → Result Bool FaultKind
@@ -26,7 +30,9 @@ mode_of None = Ok true
 mode_of (Some word) = mode_word word
 
 unfoldable pub scope_word : Word → Result Scope FaultKind
-scope_word word = if is_same word (codes "global") then Ok Global else (if is_same word (codes "local") then Ok Local else Err BadWord)
+scope_word word =
+    if is_same word (codes "global") then Ok Global
+    else (if is_same word (codes "local") then Ok Local else Err BadWord)
 
 -- the scope: global where the word is left out
 unfoldable pub scope_of : Option Word → Result Scope FaultKind
@@ -36,7 +42,8 @@ scope_of (Some word) = scope_word word
 -- CONTENT: `fill:LEN:BYTE`, whose numbers these are, or HEX
 unfoldable pub filling_of : Word → Result (Option (ℕ × ℕ)) FaultKind
 filling_of word =
-    if starts_with (λ a b. a == b) word (codes "fill:") then (numbers_2 (parts_of (drop 5 word)) >>= λ fill. Ok (Some fill))
+    if starts_with (λ a b. a == b) word (codes "fill:")
+        then (numbers_2 (parts_of (drop 5 word)) >>= λ fill. Ok (Some fill))
     else (if is_hex word then Ok None else Err BadWord)
 
 -- the content that the word spells, where its filling is in range

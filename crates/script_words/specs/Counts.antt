@@ -59,7 +59,8 @@ next_two words = do
   Ok (first.0, second.0, second.1)
 
 -- two to four words
-unfoldable pub two_to_four : List Word → Result ((Word × Word) × (Option Word × Option Word)) FaultKind
+unfoldable pub two_to_four : List Word →
+    Result ((Word × Word) × (Option Word × Option Word)) FaultKind
 two_to_four words = do
   front ← next_two words
   others ← two_optional front.2

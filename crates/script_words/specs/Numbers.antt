@@ -21,7 +21,9 @@ is_hex_digit byte = is_digit byte || is_upper_digit byte || is_lower_digit byte
 
 -- what a hexadecimal digit stands for
 unfoldable pub digit_value : ℕ → ℕ
-digit_value byte = if is_digit byte then byte - 48 else (if is_upper_digit byte then byte - 55 else (if is_lower_digit byte then byte - 87 else 0))
+digit_value byte =
+    if is_digit byte then byte - 48
+    else (if is_upper_digit byte then byte - 55 else (if is_lower_digit byte then byte - 87 else 0))
 
 -- the number that digits spell in a base
 abbrev pub value_in : ℕ → List ℕ → ℕ
@@ -30,11 +32,13 @@ value_in base digits = fold (λ n digit. n * base + digit_value digit) 0 digits
 -- decimal digits without a needless 0 at the front
 unfoldable pub is_decimal : List ℕ → Bool
 is_decimal [] = false
-is_decimal (first ∷ digits) = list_all is_digit (first ∷ digits) && (not (first == 48) || not (has_bytes digits))
+is_decimal (first ∷ digits) =
+    list_all is_digit (first ∷ digits) && (not (first == 48) || not (has_bytes digits))
 
 -- one to eight hexadecimal digits
 abbrev pub is_hexadecimal : List ℕ → Bool
-is_hexadecimal digits = nat_le 1 (length digits) && nat_le (length digits) 8 && list_all is_hex_digit digits
+is_hexadecimal digits =
+    nat_le 1 (length digits) && nat_le (length digits) 8 && list_all is_hex_digit digits
 
 -- A number is at most 4294967295; what is past it is no number.
 abbrev pub small : ℕ → Result ℕ FaultKind
@@ -51,7 +55,8 @@ number_of word =
 unfoldable pub register_of : ℕ → ℕ → List ℕ → Result ℕ FaultKind
 register_of letter count [] = Err BadWord
 register_of letter count (first ∷ digits) =
-    if (first == letter) && is_decimal digits && nat_lt (value_in 10 digits) count then Ok (value_in 10 digits) else Err BadWord
+    if (first == letter) && is_decimal digits && nat_lt (value_in 10 digits) count
+        then Ok (value_in 10 digits) else Err BadWord
 
 -- whether a number is in its range
 unfoldable pub within : ℕ → ℕ → ℕ → Result ℕ FaultKind
@@ -59,7 +64,9 @@ within low high n = if nat_le low n && nat_le n high then Ok n else Err OutOfRan
 
 -- HEX: an even number of hexadecimal digits, 2 to 512
 unfoldable pub is_hex : List ℕ → Bool
-is_hex word = (length word % 2 == 0) && nat_le 2 (length word) && nat_le (length word) 512 && list_all is_hex_digit word
+is_hex word =
+    (length word % 2 == 0) && nat_le 2 (length word) && nat_le (length word) 512 &&
+    list_all is_hex_digit word
 
 -- two digits make a byte
 abbrev pub hex_bytes : List ℕ → List ℕ

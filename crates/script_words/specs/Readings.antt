@@ -6,7 +6,8 @@ use Rattle.script_words.specs.declared.fail.LineFail.TheVariants.{Memory, Fault}
 
 -- the second step on what the first one found
 infixl 10 ◌>>=◌
-abbrev pub ◌>>=◌ : {A B : Type 0} → Result A FaultKind → (A → Result B FaultKind) → Result B FaultKind
+abbrev pub ◌>>=◌ : {A B : Type 0} → Result A FaultKind → (A → Result B FaultKind) →
+    Result B FaultKind
 (Ok x) >>= next = next x
 (Err fault) >>= next = Err fault
 

@@ -26,7 +26,8 @@ is_same (a ∷ as_) (b ∷ bs) = (a == b) && is_same as_ bs
 
 -- the line, without one carriage return at its end
 abbrev pub without_return : List ℕ → List ℕ
-without_return line = if ends_with (λ a b. a == b) line (13 ∷ []) then take (length line - 1) line else line
+without_return line =
+    if ends_with (λ a b. a == b) line (13 ∷ []) then take (length line - 1) line else line
 
 -- whether there is a byte
 abbrev pub has_bytes : List ℕ → Bool
@@ -39,7 +40,8 @@ without_empty_last [] = []
 without_empty_last (line ∷ []) = if has_bytes line then (line ∷ []) else []
 without_empty_last (line ∷ next ∷ lines) = line ∷ without_empty_last (next ∷ lines)
 
--- The lines of a script: what stands between its line feeds. Where it ends with one, no line follows.
+-- The lines of a script: what stands between its line feeds. Where it ends with one, no line
+-- follows.
 unfoldable pub lines_of : List ℕ → List (List ℕ)
 lines_of bytes = map without_return (without_empty_last (slice_split is_feed bytes))
 

@@ -11,10 +11,10 @@ use std::sync::ledger::{Blank, Book, Ledger, Share};
 /// it cannot be set back or copied.
 #[derive(Drop)]
 pub struct Steps<L: Ledger> {
-    /// Its total is the number of steps.
+    // Its total is the number of steps.
     book: Book<L>,
-    /// What every step is added to. It has a part of the ledger, without which nothing can be
-    /// added.
+    // What every step is added to. It has a part of the ledger, without which nothing can be
+    // added.
     share: Share<L>,
 }
 

@@ -6,18 +6,24 @@ use Rattle.subscriptions.specs.Subs.{Subscription}
 
 -- the subscription that a slot holds
 abbrev pub held_in : ℕ → Place → Subscription
-held_in slot p = record { slot = slot; number = p.number; id = p.id; pipe = p.pipe; place = p.place; limit = p.limit; scope = p.scope; waiting = p.waiting }
+held_in slot p =
+    record { slot = slot; number = p.number; id = p.id; pipe = p.pipe; place = p.place;
+    limit = p.limit; scope = p.scope; waiting = p.waiting }
 
 -- what others are told of it
 abbrev pub row_in : Place → SubRow
-row_in p = record { id = p.id; pipe = p.pipe; place = p.place; limit = p.limit; scope = p.scope; waiting = p.waiting }
+row_in p =
+    record { id = p.id; pipe = p.pipe; place = p.place; limit = p.limit; scope = p.scope;
+    waiting = p.waiting }
 
--- the subscription of this number, where one of these slots holds it; they are numbered on from the first
+-- the subscription of this number, where one of these slots holds it; they are numbered on from the
+-- first
 abbrev pub numbered : ℕ → ℕ → List (Option Place) → List Subscription
 numbered number slot [] = []
 numbered number slot (None ∷ slots) = numbered number (slot + 1) slots
 numbered number slot (Some p ∷ slots) =
-    if p.number == number then held_in slot p ∷ numbered number (slot + 1) slots else numbered number (slot + 1) slots
+    if p.number == number then held_in slot p ∷ numbered number (slot + 1) slots
+        else numbered number (slot + 1) slots
 
 -- the live subscriptions with numbers up to this one, in order of number
 abbrev pub live_upto : List (Option Place) → ℕ → List Subscription
@@ -34,7 +40,8 @@ number_at slots slot = number_in (slice_index_or slots slot None)
 
 -- what a slot holds where it has this number
 abbrev pub held_at : List (Option Place) → ℕ → ℕ → Option Place
-held_at slots slot number = if number_at slots slot == number then slice_index_or slots slot None else None
+held_at slots slot number =
+    if number_at slots slot == number then slice_index_or slots slot None else None
 
 -- what a slot holds, with another count of messages that wait
 abbrev pub with_waiting : ℕ → Option Place → Option Place
@@ -44,16 +51,21 @@ with_waiting waiting (Some p) = Some (record p { waiting = waiting })
 -- what a slot holds, with the count of messages that wait changed where it has this number
 abbrev pub recounted : ℕ → (ℕ → ℕ) → Option Place → Option Place
 recounted number change None = None
-recounted number change (Some p) = if p.number == number then with_waiting (change p.waiting) (Some p) else Some p
+recounted number change (Some p) =
+    if p.number == number then with_waiting (change p.waiting) (Some p) else Some p
 
 -- these slots are free, and each is named once
 pub record AreFree (slots : List (Option Place)) (free : List ℕ) : Type 0 where
-  pub empty : (i : ℕ) → i < length free → (slice_index free i < length slots) × (slice_index_or slots (slice_index free i) None ≡ None)
-  pub once : (i j : ℕ) → i < length free → j < length free → slice_index free i ≡ slice_index free j → i ≡ j
+  pub empty : (i : ℕ) → i < length free → (slice_index free i < length slots) ×
+      (slice_index_or slots (slice_index free i) None ≡ None)
+  pub once : (i j : ℕ) → i < length free → j < length free →
+      slice_index free i ≡ slice_index free j → i ≡ j
 
--- each subscription has a number of its own, none above those given, and each slot holds a live one or is free
+-- each subscription has a number of its own, none above those given, and each slot holds a live one
+-- or is free
 pub record AreKept (slots : List (Option Place)) (free : List ℕ) (made : ℕ) : Type 0 where
-  pub positive : (slot : ℕ) → is_some (slice_index_or slots slot None) ≡ true → 0 < number_at slots slot
+  pub positive : (slot : ℕ) → is_some (slice_index_or slots slot None) ≡ true →
+      0 < number_at slots slot
   pub distinct : (j k : ℕ) → 0 < number_at slots j → number_at slots j ≡ number_at slots k → j ≡ k
   pub unused : AreFree slots free
   pub numbers : (slot : ℕ) → number_at slots slot ≤ made

@@ -1,4 +1,5 @@
--- The subscriptions of a software bus, as a caller sees them (cFE Software Bus, subscriptions and message limits).
+-- The subscriptions of a software bus, as a caller sees them (cFE Software Bus, subscriptions and
+-- message limits).
 use Rattle.std.specs.Prelude.{ℕ, ◌+◌, ◌-◌, ◌==◌, ◌&&◌, nat_le, ◌<◌, ◌≤◌, not, Bool, List, [], ◌∷◌, length, map, filter, find, Option, if◌then◌else◌}
 use Rattle.std.specs.List.{All}
 use Rattle.std.specs.Option.{option_map_or}
@@ -8,8 +9,9 @@ use Rattle.subscriptions.specs.declared.words.SubRow.{SubRow}
 use Rattle.subscriptions.specs.declared.words.Verdict.{Verdict}
 use Rattle.subscriptions.specs.declared.words.Verdict.TheVariants.{Inside, OverLimit}
 
--- A live subscription: the slot that holds it, its number, message id and pipe, the place where the pipe lies, how many of
--- its messages may wait at once (its limit), its scope, and how many wait now.
+-- A live subscription: the slot that holds it, its number, message id and pipe, the place where the
+-- pipe lies, how many of its messages may wait at once (its limit), its scope, and how many wait
+-- now.
 pub record Subscription : Type 0 where
   pub slot : ℕ
   pub number : ℕ
@@ -20,7 +22,8 @@ pub record Subscription : Type 0 where
   pub scope : Scope
   pub waiting : ℕ
 
--- How many may be live at once, how many were made so far, and those that are live, in order of number.
+-- How many may be live at once, how many were made so far, and those that are live, in order of
+-- number.
 pub record Subscribed : Type 0 where
   pub room : ℕ
   pub made : ℕ
@@ -40,7 +43,9 @@ live_at subs sub = find (goes_by sub) subs.live
 
 -- what a subscription was made with, and how many of its messages wait
 abbrev pub row_of : Subscription → SubRow
-row_of s = record { id = s.id; pipe = s.pipe; place = s.place; limit = s.limit; scope = s.scope; waiting = s.waiting }
+row_of s =
+    record { id = s.id; pipe = s.pipe; place = s.place; limit = s.limit; scope = s.scope;
+    waiting = s.waiting }
 
 -- what its limit says of one message more
 abbrev pub verdict_of : SubRow → Verdict
@@ -60,7 +65,8 @@ one_fewer s = record s { waiting = s.waiting - 1 }
 
 -- the subscriptions, with a change of the one of this slot and number, where it is live
 abbrev pub with_change : Subscribed → SubNo → (Subscription → Subscription) → Subscribed
-with_change subs sub change = record subs { live = map (λ s. if goes_by sub s then change s else s) subs.live }
+with_change subs sub change =
+    record subs { live = map (λ s. if goes_by sub s then change s else s) subs.live }
 
 -- the subscriptions without the one of this number
 abbrev pub without : Subscribed → SubNo → Subscribed
@@ -71,7 +77,8 @@ abbrev pub IsRising : ℕ → List Subscription → Type 0
 IsRising below [] = Unit {0}
 IsRising below (s ∷ live) = (below < s.number) × IsRising s.number live
 
--- the live subscriptions stand in order of number, none made later than the last one made, each in a slot below the room
+-- the live subscriptions stand in order of number, none made later than the last one made, each in
+-- a slot below the room
 pub record AreInOrder (subs : Subscribed) : Type 0 where
   pub rising : IsRising 0 subs.live
   pub numbers : All (λ s. s.number ≤ subs.made) subs.live

@@ -15,13 +15,13 @@ use std::marker::Model;
 /// and those that are live, in order of number.
 #[derive(Drop)]
 pub struct Subs {
-    /// What each slot holds; None where it is free. Each subscription has a number of its own.
+    // What each slot holds; None where it is free. Each subscription has a number of its own.
     slots: Vec<Option<Place>>,
-    /// The free slots, each once, the next one to use last. It has room for all slots.
+    // The free slots, each once, the next one to use last. It has room for all slots.
     free: Vec<u32>,
-    /// How many subscriptions were made, which is the newest one's number.
+    // How many subscriptions were made, which is the newest one's number.
     made: u32,
-    /// No slot from this one on was ever used.
+    // No slot from this one on was ever used.
     top: u32,
 }
 

@@ -1,4 +1,5 @@
--- What all tables contain, as their user sees it: the pool with its account, each table by its key, and the working buffers.
+-- What all tables contain, as their user sees it: the pool with its account, each table by its key,
+-- and the working buffers.
 use Rattle.std.specs.Prelude.{◌≡◌, ◌≢◌, ℕ, ◌+◌, ◌-◌, ◌≤◌, ◌==◌, ◌&&◌, ◌||◌, not, Bool, true, false, List, length, count_by, replicate, slice_set, if◌then◌else◌, Option, Some, None}
 use Rattle.std.specs.Option.{option_map_or}
 use Rattle.fsw_base.specs.Blocks.{class_of}
@@ -6,7 +7,8 @@ use Rattle.es_pool.specs.Pool.{PoolState, is_out, class_at}
 use Rattle.tbl_blocks.specs.Memory.{DrawsEach, all_given_back}
 use Rattle.tbl_blocks.specs.Contents.{Content, is_double, is_staged, is_inactive, staged_in, older_in, blocks_of, is_open, content_at, staged_by, without_staged, with_value}
 
--- the pool of the tables, the bytes of the largest table, what is kept for each table by its key, and how many working buffers are free
+-- the pool of the tables, the bytes of the largest table, what is kept for each table by its key,
+-- and how many working buffers are free
 pub record Stored : Type 0 where
   pub pool : PoolState
   pub most : ℕ
@@ -25,7 +27,8 @@ buffers_taken tables = count_by has_buffer tables
 abbrev pub with_content : Stored → ℕ → Content → Stored
 with_content s key c = record s { tables = slice_set s.tables key (Some c) }
 
--- A table was opened: its blocks were drawn, and it has zeros, version 0, no view out and nothing staged.
+-- A table was opened: its blocks were drawn, and it has zeros, version 0, no view out and nothing
+-- staged.
 pub record Opens (old new : Stored) (key size option : ℕ) (c : Content) : Type 0 where
   pub kept : new ≡ record (with_content old key c) { pool = new.pool }
   pub drawn : DrawsEach old.pool new.pool size (blocks_of c)
@@ -39,14 +42,19 @@ pub record Opens (old new : Stored) (key size option : ℕ) (c : Content) : Type
 
 -- a table was closed: its blocks are the pool's again
 abbrev pub closed : Stored → ℕ → Stored
-closed s key = record s { pool = all_given_back s.pool (blocks_of (content_at s.tables key)); tables = slice_set s.tables key None }
+closed s key =
+    record s { pool = all_given_back s.pool (blocks_of (content_at s.tables key));
+    tables = slice_set s.tables key None }
 
--- a value is staged: in the inactive block of a double-buffered table, else in a working buffer, which is then taken
+-- a value is staged: in the inactive block of a double-buffered table, else in a working buffer,
+-- which is then taken
 abbrev pub after_stage : Stored → ℕ → ℕ → List ℕ → Stored
 after_stage s key offset bytes =
     if is_double (content_at s.tables key)
-    then with_content s key (staged_by (content_at s.tables key) offset bytes (content_at s.tables key).present.whole)
-    else record (with_content s key (staged_by (content_at s.tables key) offset bytes s.most)) { free = s.free - 1 }
+    then with_content s key
+        (staged_by (content_at s.tables key) offset bytes (content_at s.tables key).present.whole)
+    else record (with_content s key (staged_by (content_at s.tables key) offset bytes s.most))
+        { free = s.free - 1 }
 
 -- how many working buffers are free once a table gave back the one it had
 abbrev pub free_after : Stored → ℕ → ℕ
@@ -54,15 +62,19 @@ free_after s key = if is_double (content_at s.tables key) then s.free else s.fre
 
 -- a staged value is dropped, and its working buffer is free
 abbrev pub after_abort : Stored → ℕ → ℕ → Stored
-after_abort s key loan = record (with_content s key (without_staged (content_at s.tables key) loan)) { free = free_after s key }
+after_abort s key loan =
+    record (with_content s key (without_staged (content_at s.tables key) loan))
+    { free = free_after s key }
 
 -- the staged value is the present one, and its working buffer is free
 abbrev pub after_update : Stored → ℕ → ℕ → Stored
 after_update s key loan =
-    record (with_content s key (with_value (content_at s.tables key) loan (staged_in (content_at s.tables key).next).bytes)) { free = free_after s key }
+    record (with_content s key
+        (with_value (content_at s.tables key) loan
+        (staged_in (content_at s.tables key).next).bytes)) { free = free_after s key }
 
--- Where a table lies: its blocks are out of the pool and of the smallest size that is large enough, and a double-buffered table has
--- two.
+-- Where a table lies: its blocks are out of the pool and of the smallest size that is large enough,
+-- and a double-buffered table has two.
 pub record IsPlaced (pool : PoolState) (c : Content) : Type 0 where
   pub first_out : is_out pool c.first ≡ true
   pub second_out : is_out pool c.second ≡ true
@@ -72,11 +84,14 @@ pub record IsPlaced (pool : PoolState) (c : Content) : Type 0 where
 
 -- whether a block of the pool is that of the table of a key
 abbrev pub has_block : List (Option Content) → ℕ → ℕ → Bool
-has_block tables key block = is_open tables key && ((content_at tables key).first == block || (content_at tables key).second == block)
+has_block tables key block =
+    is_open tables key &&
+    ((content_at tables key).first == block || (content_at tables key).second == block)
 
--- What is always true of what is kept for a table: it is no larger than a working buffer, its values have its size, nothing lies beside
--- the present version of a single-buffered table but a staged value, its blocks are out of the pool and of the smallest size that is
--- large enough, and a double-buffered table has two.
+-- What is always true of what is kept for a table: it is no larger than a working buffer, its
+-- values have its size, nothing lies beside the present version of a single-buffered table but a
+-- staged value, its blocks are out of the pool and of the smallest size that is large enough, and a
+-- double-buffered table has two.
 pub record IsWhole (pool : PoolState) (most : ℕ) (c : Content) : Type 0 where
   pub small : c.size ≤ most
   pub present : length c.present.bytes ≡ c.size

@@ -1,4 +1,5 @@
--- What is kept for one table: its blocks, the present version, and beside it the version before or a staged value.
+-- What is kept for one table: its blocks, the present version, and beside it the version before or
+-- a staged value.
 use Rattle.std.specs.Prelude.{ℕ, ◌+◌, ◌-◌, ◌==◌, Bool, true, false, List, [], ◌∷◌, if◌then◌else◌, Option, None, is_some, slice_index_or}
 use Rattle.std.specs.Option.{option_map_or}
 use Rattle.tbl_words.specs.Machine.{with_range}
@@ -6,9 +7,10 @@ use Rattle.tbl_blocks.specs.Versions.{LentVersion, StagedValue}
 use Rattle.tbl_blocks.specs.declared.next.Next.{Next}
 use Rattle.tbl_blocks.specs.declared.next.Next.TheVariants.{Nothing, Inactive, Staged}
 
--- A table's size and option, how often it was updated, the numbers of its blocks in the pool (a single-buffered table has one, and
--- its number stands twice), the present version, and what lies beside it: nothing; the inactive block with the version before, or
--- with bytes that nobody holds; or a staged value, in the inactive block of a double-buffered table, else in a working buffer.
+-- A table's size and option, how often it was updated, the numbers of its blocks in the pool (a
+-- single-buffered table has one, and its number stands twice), the present version, and what lies
+-- beside it: nothing; the inactive block with the version before, or with bytes that nobody holds;
+-- or a staged value, in the inactive block of a double-buffered table, else in a working buffer.
 pub record Content : Type 0 where
   pub size : ℕ
   pub option : ℕ
@@ -77,7 +79,8 @@ with_views version views = record version { views = views }
 abbrev pub view_given : Content → Content
 view_given c = record c { present = with_views c.present (c.present.views + 1) }
 
--- the table with one view fewer out of the version of this number: of the present one, or else of the one before
+-- the table with one view fewer out of the version of this number: of the present one, or else of
+-- the one before
 abbrev pub view_back : Content → ℕ → Content
 view_back c version =
     if version == c.version
@@ -87,30 +90,38 @@ view_back c version =
 -- the present value with a range replaced, staged in so many bytes of memory, not validated
 abbrev pub staged_by : Content → ℕ → List ℕ → ℕ → Content
 staged_by c offset bytes whole =
-    record c { next = Staged (record { bytes = with_range c.present.bytes offset bytes; validated = false; whole = whole }) }
+    record c { next = Staged
+        (record { bytes = with_range c.present.bytes offset bytes; validated = false;
+        whole = whole }) }
 
 -- a staged value that was validated
 abbrev pub validated : Content → Content
 validated c = record c { next = Staged (record (staged_in c.next) { validated = true }) }
 
--- what lies beside the present version where the one before had this: a double-buffered table has it in the inactive block
+-- what lies beside the present version where the one before had this: a double-buffered table has
+-- it in the inactive block
 abbrev pub beside : Content → LentVersion → Next
 beside c version = if is_double c then Inactive version else Nothing
 
 -- nothing staged: the inactive block is sealed as it was left
 abbrev pub without_staged : Content → ℕ → Content
-without_staged c loan = record c { next = beside c (lent loan (staged_in c.next).bytes (staged_in c.next).whole) }
+without_staged c loan =
+    record c { next = beside c (lent loan (staged_in c.next).bytes (staged_in c.next).whole) }
 
--- an update to this value: it is the present version, one later, in a block sealed anew; a double-buffered table has the version
--- before beside it, as it was
+-- an update to this value: it is the present version, one later, in a block sealed anew; a
+-- double-buffered table has the version before beside it, as it was
 abbrev pub with_value : Content → ℕ → List ℕ → Content
-with_value c loan value = record c { version = c.version + 1; present = lent loan value c.present.whole; next = beside c c.present }
+with_value c loan value =
+    record c { version = c.version + 1; present = lent loan value c.present.whole;
+    next = beside c c.present }
 
 -- All tables, by key. --
 
 -- what is kept under a key where no table is
 abbrev pub no_content : Content
-no_content = record { size = 0; option = 0; version = 0; first = 0; second = 0; present = no_version; next = Nothing }
+no_content =
+    record { size = 0; option = 0; version = 0; first = 0; second = 0; present = no_version;
+    next = Nothing }
 
 -- what is kept under a key
 abbrev pub kept_at : List (Option Content) → ℕ → Option Content

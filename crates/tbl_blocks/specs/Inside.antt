@@ -17,7 +17,8 @@ abbrev pub Fits : PoolState → ℕ → Slot → Type 0
 Fits pool block (Free bytes) = (is_out pool block ≡ false) × (length bytes ≡ size_at pool block)
 Fits pool block (Taken key) = is_out pool block ≡ true
 
--- every block of the pool has a slot that fits it, there is room for the others, and the region has the bytes for them
+-- every block of the pool has a slot that fits it, there is room for the others, and the region has
+-- the bytes for them
 pub record IsKept (pool : PoolState) (slots : List Slot) (rest capacity : ℕ) : Type 0 where
   pub all : length slots ≡ length pool.blocks
   pub room : most_cut pool ≤ capacity
@@ -26,10 +27,12 @@ pub record IsKept (pool : PoolState) (slots : List Slot) (rest capacity : ℕ) :
 
 -- A table. --
 
--- what lies beside the present version fits the option: a double-buffered table always has its other block, as large as the first
+-- what lies beside the present version fits the option: a double-buffered table always has its
+-- other block, as large as the first
 abbrev pub IsBeside : Bool → ℕ → ℕ → Next → Type 0
 IsBeside true size whole Nothing = ⊥
-IsBeside true size whole (Inactive version) = (version.whole ≡ whole) × (length version.bytes ≡ size)
+IsBeside true size whole (Inactive version) =
+    (version.whole ≡ whole) × (length version.bytes ≡ size)
 IsBeside true size whole (Staged value) = (value.whole ≡ whole) × (length value.bytes ≡ size)
 IsBeside false size whole Nothing = ⊤
 IsBeside false size whole (Inactive version) = ⊥
@@ -43,8 +46,8 @@ pub record IsTable (c : Content) : Type 0 where
 
 -- All tables. --
 
--- a table's blocks are its own, two where it is double buffered, of the size that the pool takes for its bytes; it is no larger
--- than a working buffer, and one that it has is whole
+-- a table's blocks are its own, two where it is double buffered, of the size that the pool takes
+-- for its bytes; it is no larger than a working buffer, and one that it has is whole
 pub record IsHeld (memory : Memory) (most key : ℕ) (c : Content) : Type 0 where
   pub small : c.size ≤ most
   pub first : slot_at memory.slots c.first ≡ Taken key
@@ -55,8 +58,10 @@ pub record IsHeld (memory : Memory) (most key : ℕ) (c : Content) : Type 0 wher
   pub apart : is_double c ≡ true → c.first ≢ c.second
   pub working : is_double c ≡ false → is_staged c.next ≡ true → (staged_in c.next).whole ≡ most
 
--- this is so of each table; the working buffers are whole, four with those that tables have, and there is room for all of them
-pub record IsStore (memory : Memory) (most : ℕ) (tables : List (Option Content)) (work : List (List ℕ)) (capacity : ℕ) : Type 0 where
+-- this is so of each table; the working buffers are whole, four with those that tables have, and
+-- there is room for all of them
+pub record IsStore (memory : Memory) (most : ℕ) (tables : List (Option Content))
+    (work : List (List ℕ)) (capacity : ℕ) : Type 0 where
   pub held : (key : ℕ) (c : Content) → kept_at tables key ≡ Some c → IsHeld memory most key c
   pub buffers : length work + buffers_taken tables ≡ 4
   pub room : 4 ≤ capacity

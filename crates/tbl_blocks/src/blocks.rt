@@ -28,13 +28,13 @@ use step_count::{Ledger, Steps};
 /// code, no call takes memory after `new`.
 #[derive(Drop)]
 pub struct TableBlocks<'r> {
-    /// The pool, with the memory of its blocks.
+    // The pool, with the memory of its blocks.
     memory: PoolMemory<'r>,
-    /// The bytes of the largest table, and of each working buffer.
+    // The bytes of the largest table, and of each working buffer.
     most: u32,
-    /// What is kept for each table, by its key.
+    // What is kept for each table, by its key.
     tables: Vec<Option<Table<'r>>>,
-    /// The working buffers that no table has.
+    // The working buffers that no table has.
     work: Vec<Space<'r>>,
 }
 

@@ -15,7 +15,7 @@ use std::marker::Model;
 /// reads about log n of the n views.
 #[derive(Drop)]
 pub struct HeldTables<'r> {
-    /// The views, in a bag that has no room for anything else.
+    // The views, in a bag that has no room for anything else.
     bag: Held<'r>,
 }
 

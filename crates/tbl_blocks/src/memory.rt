@@ -16,11 +16,11 @@ use step_count::{Ledger, Steps};
 /// account, and whose each block is.
 #[derive(Drop)]
 pub struct PoolMemory<'r> {
-    /// Which blocks are out.
+    // Which blocks are out.
     pool: Pool,
-    /// Whose each block is that was cut.
+    // Whose each block is that was cut.
     slots: Vec<Slot<'r>>,
-    /// The part of the region that was never cut.
+    // The part of the region that was never cut.
     rest: Space<'r>,
 }
 

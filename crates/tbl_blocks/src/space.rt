@@ -9,7 +9,7 @@ use std::mem;
 /// see its bytes.
 #[derive(Drop)]
 pub struct Space<'r> {
-    /// All of it.
+    // All of it.
     bytes: &'r mut [u8],
 }
 

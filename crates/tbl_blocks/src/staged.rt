@@ -9,11 +9,11 @@ use std::marker::Model;
 /// has.
 #[derive(Drop)]
 pub struct StagedBytes<'r> {
-    /// The memory that it lies in.
+    // The memory that it lies in.
     space: Space<'r>,
-    /// How many bytes it has.
+    // How many bytes it has.
     len: usize,
-    /// Whether it was validated.
+    // Whether it was validated.
     validated: bool,
 }
 

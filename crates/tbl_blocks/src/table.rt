@@ -30,21 +30,21 @@ use std::marker::Model;
 /// One table: its blocks, the present version, and what lies beside it.
 #[derive(Drop)]
 pub struct Table<'r> {
-    /// Its bytes.
+    // Its bytes.
     size: u32,
-    /// 1 where it is double buffered.
+    // 1 where it is double buffered.
     option: u32,
-    /// How often it was updated.
+    // How often it was updated.
     version: u64,
-    /// The number of its block in the pool.
+    // The number of its block in the pool.
     first: u32,
-    /// The number of its other block. A single-buffered table has one, whose number stands twice.
-    /// Both blocks have one size, and which of the two numbers the present version has is told to
-    /// nobody: an exchange leaves the numbers as they are.
+    // The number of its other block. A single-buffered table has one, whose number stands twice.
+    // Both blocks have one size, and which of the two numbers the present version has is told to
+    // nobody: an exchange leaves the numbers as they are.
     second: u32,
-    /// The present version.
+    // The present version.
     present: Version<'r>,
-    /// What lies beside it.
+    // What lies beside it.
     next: Next<'r>,
 }
 

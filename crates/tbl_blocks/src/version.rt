@@ -9,7 +9,7 @@ use std::marker::Model;
 /// A version that is lent: nobody writes its bytes as long as it is sealed.
 #[derive(Drop)]
 pub struct Version<'r> {
-    /// Its loan.
+    // Its loan.
     root: Root<'r>,
 }
 

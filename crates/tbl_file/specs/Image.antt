@@ -1,5 +1,5 @@
--- Table image files: cFE's file header (CFE_FS_Header), the header of a table file behind it (CFE_TBL_File_Hdr), and the table's bytes.
--- Every number has four bytes, the highest first.
+-- Table image files: cFE's file header (CFE_FS_Header), the header of a table file behind it
+-- (CFE_TBL_File_Hdr), and the table's bytes. Every number has four bytes, the highest first.
 use Rattle.std.specs.Prelude.{◌≡◌, ℕ, ◌-◌, ◌≤◌, ◌==◌, ◌&&◌, not, nat_le, nat_lt, Bool, List, [], ◌∷◌, ◌++◌, length, take, drop, replicate, Option, Some, None, IsTrue, if◌then◌else◌}
 use Rattle.std.specs.List.{list_all, flat_map, before_first}
 use Rattle.byteorder.specs.Endian.{big_number, big_bytes}
@@ -25,13 +25,16 @@ name_in file = before_first (λ byte. byte == 0) (bytes_at 76 40 file)
 
 -- a name that a zero byte can end in its field of 40: 1 to 39 visible bytes
 unfoldable pub is_table_name : List ℕ → Bool
-is_table_name name = nat_le 1 (length name) && nat_le (length name) 39 && list_all (λ byte. nat_le 0x21 byte && nat_le byte 0x7e) name
+is_table_name name =
+    nat_le 1 (length name) && nat_le (length name) 39 &&
+    list_all (λ byte. nat_le 0x21 byte && nat_le byte 0x7e) name
 
 -- NumBytes: how many bytes the header says that the table has
 abbrev pub size_said : List ℕ → ℕ
 size_said file = number_at 72 file
 
--- each field of the image is what stands in its place; what follows the zero byte in the name's field is free
+-- each field of the image is what stands in its place; what follows the zero byte in the name's
+-- field is free
 pub record HasFields (file : List ℕ) (image : Image) : Type 0 where
   pub sub : image.sub ≡ number_at 4 file
   pub length_told : image.length ≡ number_at 8 file
@@ -46,8 +49,8 @@ pub record HasFields (file : List ℕ) (image : Image) : Type 0 where
   pub name : image.name.now ≡ name_in file
   pub bytes : image.bytes.now ≡ drop 116 file
 
--- The file is this image: it is a file of cFE with these fields, its name is one, and its table's bytes are all that follow the headers,
--- one at least.
+-- The file is this image: it is a file of cFE with these fields, its name is one, and its table's
+-- bytes are all that follow the headers, one at least.
 pub record IsImage (file : List ℕ) (image : Image) : Type 0 where
   pub content : number_at 0 file ≡ content_id
   pub fields : HasFields file image
@@ -55,8 +58,9 @@ pub record IsImage (file : List ℕ) (image : Image) : Type 0 where
   pub some : 1 ≤ length image.bytes.now
   pub size : size_said file ≡ length image.bytes.now
 
--- why a file is no image, if it is none: it is shorter than its headers, its first field is another one, its name is none or doesn't
--- end, its table has no bytes, or another number of them than follow the headers; the first of these
+-- why a file is no image, if it is none: it is shorter than its headers, its first field is another
+-- one, its name is none or doesn't end, its table has no bytes, or another number of them than
+-- follow the headers; the first of these
 unfoldable pub image_fault : List ℕ → Option ImageFault
 image_fault file =
     if nat_lt (length file) 116 then Some Short
@@ -69,7 +73,8 @@ image_fault file =
 -- the numbers of the file header
 abbrev pub file_numbers : Image → List ℕ
 file_numbers image =
-    content_id ∷ image.sub ∷ image.length ∷ image.spacecraft ∷ image.processor ∷ image.application ∷ image.seconds ∷ image.subseconds ∷ []
+    content_id ∷ image.sub ∷ image.length ∷ image.spacecraft ∷ image.processor ∷ image.application ∷
+        image.seconds ∷ image.subseconds ∷ []
 
 -- and of the table's header
 abbrev pub table_numbers : Image → List ℕ
@@ -82,5 +87,6 @@ name_field name = name ++ replicate (40 - length name) 0
 -- the file of an image, whose name's field ends with zeros
 unfoldable pub image_file : Image → List ℕ
 image_file image =
-    flat_map (big_bytes 4) (file_numbers image) ++ image.description.now ++ flat_map (big_bytes 4) (table_numbers image)
+    flat_map (big_bytes 4) (file_numbers image) ++ image.description.now ++
+        flat_map (big_bytes 4) (table_numbers image)
     ++ name_field image.name.now ++ image.bytes.now

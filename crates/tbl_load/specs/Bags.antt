@@ -1,4 +1,5 @@
--- What an application has in its bag of what its handles hold, said of the history, its notes and the bag.
+-- What an application has in its bag of what its handles hold, said of the history, its notes and
+-- the bag.
 use Rattle.std.specs.Prelude.{◌≡◌, ◌≢◌, ℕ, ◌==◌, ◌++◌, All, List, map, Option, None, if◌then◌else◌}
 use Rattle.std.specs.Option.{option_map, option_and_then}
 use Rattle.lend_block.specs.declared.note.Note.{Note}
@@ -11,13 +12,16 @@ use Rattle.tbl_load.specs.Notes.{AreDue, noted}
 
 -- of each live handle, the loan that was noted of it
 abbrev pub loans_of : Core → List Lent
-loans_of core = map (λ h. record { handle = h.number; loan = noted h.number core.log.entries core.notes }) (state_of core).handles
+loans_of core =
+    map (λ h. record { handle = h.number; loan = noted h.number core.log.entries core.notes })
+    (state_of core).handles
 
 -- the tables after the history, with these loans
 abbrev pub lent_tables : Core → Plain
 lent_tables core = record { limits = core.limits; state = state_of core; lent = loans_of core }
 
--- the bag has a view of what each of the application's handles holds, by the loan that was noted, and no other view
+-- the bag has a view of what each of the application's handles holds, by the loan that was noted,
+-- and no other view
 abbrev pub HasBag : Core → ℕ → HeldViews → Type 0
 HasBag core app bag = Holds (lent_tables core) app bag
 
@@ -27,7 +31,8 @@ KeepsBags old new = (app : ℕ) (bag : HeldViews) → HasBag old app bag → Has
 
 -- the bag of every other application stays one
 abbrev pub KeepsOtherBags : Core → Core → ℕ → Type 0
-KeepsOtherBags old new app = (other : ℕ) (bag : HeldViews) → other ≢ app → HasBag old other bag → HasBag new other bag
+KeepsOtherBags old new app =
+    (other : ℕ) (bag : HeldViews) → other ≢ app → HasBag old other bag → HasBag new other bag
 
 -- the bytes that the bag shows for a handle
 abbrev pub bytes_seen : HeldViews → ℕ → Option (List ℕ)
@@ -36,21 +41,27 @@ bytes_seen bag number = option_map (λ view. view.bytes) (held_at bag number)
 -- the bytes that the live handle of a number holds, where it is the application's
 abbrev pub held_bytes : State → ℕ → ℕ → Option (List ℕ)
 held_bytes s app number =
-    option_and_then (λ h. if h.app == app then option_map (λ hold. hold.value) h.hold else None) (handle_at s.handles number)
+    option_and_then (λ h. if h.app == app then option_map (λ hold. hold.value) h.hold else None)
+        (handle_at s.handles number)
 
--- handles that hold one version of one table have one loan noted, by which the bags of their applications have it
+-- handles that hold one version of one table have one loan noted, by which the bags of their
+-- applications have it
 abbrev pub AreOneLoan : Core → Type 0
 AreOneLoan core =
-    (number other table version : ℕ) → HoldsVersion (state_of core).handles number table version → HoldsVersion (state_of core).handles other table version →
+    (number other table version : ℕ) → HoldsVersion (state_of core).handles number table version →
+        HoldsVersion (state_of core).handles other table version →
     noted number core.log.entries core.notes ≡ noted other core.log.entries core.notes
 
--- Only others called meanwhile: their entries, each with the note that is due, stand behind those that were there, and none of this
--- application's own.
+-- Only others called meanwhile: their entries, each with the note that is due, stand behind those
+-- that were there, and none of this application's own.
 pub record CalledByOthers (old new : Core) (app : ℕ) : Type 0 where
   pub entries : List Entry
   pub notes : List Note
   pub by_others : All (λ entry. entry.app ≢ app) entries
-  pub grown : new ≡ record { limits = old.limits; log = record { budgets = old.log.budgets; entries = old.log.entries ++ entries }; notes = old.notes ++ notes }
+  pub grown : new ≡
+      record { limits = old.limits;
+      log = record { budgets = old.log.budgets; entries = old.log.entries ++ entries }; notes =
+      old.notes ++ notes }
   pub legal : IsLegalCore new
   pub before : IsNoted old
   pub noted : AreDue entries notes

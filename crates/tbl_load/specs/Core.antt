@@ -1,5 +1,5 @@
--- The core of Table Services as its callers see it: its limits, its journal with the budgets, and the note of each entry. What the
--- tables are follows from them.
+-- The core of Table Services as its callers see it: its limits, its journal with the budgets, and
+-- the note of each entry. What the tables are follows from them.
 use Rattle.std.specs.Prelude.{◌≡◌, ℕ, ◌≤◌, List, [], ◌∷◌, ◌++◌, length, IsTrue}
 use Rattle.fsw_base.specs.Limits.{Limits}
 use Rattle.lend_block.specs.declared.note.Note.{Note}
@@ -35,8 +35,8 @@ IsLegalCore core = IsLegal core.limits (apps_of core) core.log.entries
 abbrev pub IsNoted : Core → Type 0
 IsNoted core = AreDue core.log.entries core.notes
 
--- the application may make this call now: it is known and hasn't ended, has an entry and the call's bytes left, and what it loads
--- is a range of 1 to 65536 bytes
+-- the application may make this call now: it is known and hasn't ended, has an entry and the call's
+-- bytes left, and what it loads is a range of 1 to 65536 bytes
 pub record MayCall (core : Core) (app : ℕ) (call : Call) : Type 0 where
   pub known : app ≤ apps_of core
   pub standing : IsTrue (may_call (state_of core) app)
@@ -45,13 +45,15 @@ pub record MayCall (core : Core) (app : ℕ) (call : Call) : Type 0 where
 
 -- the core with one more entry and its note
 abbrev pub with_noted : Core → Entry → Note → Core
-with_noted core e note = record core { log = with_entry core.log e; notes = core.notes ++ note ∷ [] }
+with_noted core e note =
+    record core { log = with_entry core.log e; notes = core.notes ++ note ∷ [] }
 
 -- The call was answered as the tables answer it after the core's history. Its entry is the last
 -- one, noted with the loan of the view that was given, if one was.
 pub record Does (old new : Core) (app : ℕ) (call : Call) (answer : TblAnswer) : Type 0 where
   pub loan : ℕ
-  pub entry : new ≡ with_noted old (record { app = app; call = call; answer = answer }) (note_due answer loan)
+  pub entry : new ≡
+      with_noted old (record { app = app; call = call; answer = answer }) (note_due answer loan)
   pub as_machine : answer ≡ (step old.limits (state_of old) app call).0
   pub state : state_of new ≡ (step old.limits (state_of old) app call).1
   pub legal : IsLegalCore new

@@ -14,12 +14,15 @@ use Rattle.tbl_load.specs.Notes.{noted}
 abbrev pub core_of : Inside → Core
 core_of a = record { limits = a.core.limits; log = a.noted.log; notes = a.noted.notes }
 
--- What is always true of a core: its history is one that the tables can have, its state is the one that the history leaves, what a
--- handle holds is lent by the loan that was noted of it, the peak is the history's, and a number is left for every entry that may
--- come.
+-- What is always true of a core: its history is one that the tables can have, its state is the one
+-- that the history leaves, what a handle holds is lent by the loan that was noted of it, the peak
+-- is the history's, and a number is left for every entry that may come.
 pub record Stands (a : Inside) : Type 0 where
   pub legal : IsLegalCore (core_of a)
-  pub state : a.core.state ≡ state_after a.core.limits (length a.noted.log.budgets) a.noted.log.entries
-  pub loans : (number : ℕ) → is_some (hold_of a.core.state.handles number) ≡ true → loan_of a.core.lent number ≡ noted number a.noted.log.entries a.noted.notes
-  pub peak : a.noted.peak ≡ peak_after a.core.limits (length a.noted.log.budgets) a.noted.log.entries
+  pub state : a.core.state ≡
+      state_after a.core.limits (length a.noted.log.budgets) a.noted.log.entries
+  pub loans : (number : ℕ) → is_some (hold_of a.core.state.handles number) ≡ true →
+      loan_of a.core.lent number ≡ noted number a.noted.log.entries a.noted.notes
+  pub peak : a.noted.peak ≡
+      peak_after a.core.limits (length a.noted.log.budgets) a.noted.log.entries
   pub few : length a.noted.log.entries + entries_left (left_of a.noted.log) < 2 ^ 32

@@ -17,7 +17,8 @@ pub record NotedLog : Type 0 where
   pub notes : List Note
   pub peak : TblUse
 
--- the note of an entry with this answer: the loan of the view that was given where an address was, else nothing
+-- the note of an entry with this answer: the loan of the view that was given where an address was,
+-- else nothing
 abbrev pub note_due : TblAnswer → ℕ → Note
 note_due (Address told version) loan = Loan (record { loan = loan })
 note_due answer loan = Nothing
@@ -50,10 +51,12 @@ gives_for number call answer = false
 
 -- the loan noted of the handle after these entries, where it was this loan before them
 abbrev pub noted_from : ℕ → ℕ → List Entry → List Note → ℕ
-noted_from number loan (e ∷ es) (note ∷ notes) = noted_from number (if gives_for number e.call e.answer then loan_in note else loan) es notes
+noted_from number loan (e ∷ es) (note ∷ notes) =
+    noted_from number (if gives_for number e.call e.answer then loan_in note else loan) es notes
 noted_from number loan es notes = loan
 
--- the loan noted of the handle of this number: that of the newest entry that gave it an address; 0 where none did
+-- the loan noted of the handle of this number: that of the newest entry that gave it an address; 0
+-- where none did
 abbrev pub noted : ℕ → List Entry → List Note → ℕ
 noted number entries notes = noted_from number 0 entries notes
 

@@ -30,7 +30,9 @@ figures_told (Err status) = answers.Refused status
 
 -- the same of figures whose version has 64 bits
 abbrev pub state_of : PlainState → TblState
-state_of figures = record { version = figures.version; loaded = figures.loaded; staged = figures.staged; holds = figures.holds }
+state_of figures =
+    record { version = figures.version; loaded = figures.loaded; staged = figures.staged;
+    holds = figures.holds }
 
 abbrev pub plain_figures_told : Result PlainState TblStatus → TblAnswer
 plain_figures_told (Ok figures) = answers.State (state_of figures)
@@ -46,9 +48,11 @@ abbrev pub plain_addressed : Result PlainAddress TblStatus → TblAnswer
 plain_addressed (Ok address) = answers.Address address.told address.version
 plain_addressed (Err status) = answers.Refused status
 
--- what an address is told with, by the version before and now: that there was no load, or whether one came
+-- what an address is told with, by the version before and now: that there was no load, or whether
+-- one came
 abbrev pub told_by : ℕ → ℕ → Told
-told_by before version = if version == 0 then NeverLoaded else if before == version then Same else Updated
+told_by before version =
+    if version == 0 then NeverLoaded else if before == version then Same else Updated
 
 -- done, or the refusal
 abbrev pub done : Result (Unit {0}) TblStatus → TblAnswer

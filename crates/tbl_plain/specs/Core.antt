@@ -1,4 +1,5 @@
--- The core as its callers see it: its limits, the state and what is lent; and what an application has in its bag of what it holds.
+-- The core as its callers see it: its limits, the state and what is lent; and what an application
+-- has in its bag of what it holds.
 use Rattle.std.specs.Prelude.{◌≡◌, ◌≢◌, ℕ, ◌+◌, ◌^◌, ◌<◌, ◌≤◌, ◌==◌, nat_le, nat_lt, ◌&&◌, Bool, true, false, if◌then◌else◌, List, length, find, count_by, IsTrue, Option, Some, None, is_some, IfSome, IsSomeAnd}
 use Rattle.std.specs.Option.{unwrap_or, option_map, option_map_or, option_and_then}
 use Rattle.fsw_base.specs.Limits.{Limits}
@@ -17,7 +18,8 @@ pub record Lent : Type 0 where
   pub handle : ℕ
   pub loan : ℕ
 
--- The limits, the tables and the live handles, and for each live handle, in order, what it was lent.
+-- The limits, the tables and the live handles, and for each live handle, in order, what it was
+-- lent.
 pub record Plain : Type 0 where
   pub limits : Limits
   pub state : State
@@ -31,17 +33,22 @@ loan_of lent number = option_map_or (λ one. one.loan) (find (λ one. one.handle
 
 -- the view of what a handle holds, if anything
 abbrev pub view_of : List Lent → Handle → Option LentBytes
-view_of lent h = option_map (λ hold. record { loan = loan_of lent h.number; bytes = hold.value }) h.hold
+view_of lent h =
+    option_map (λ hold. record { loan = loan_of lent h.number; bytes = hold.value }) h.hold
 
--- the view that an application has for the live handle of a number: of what it holds, where it is the application's
+-- the view that an application has for the live handle of a number: of what it holds, where it is
+-- the application's
 abbrev pub view_due : Plain → ℕ → ℕ → Option LentBytes
-view_due core app number = option_and_then (λ h. if h.app == app then view_of core.lent h else None) (handle_at core.state.handles number)
+view_due core app number =
+    option_and_then (λ h. if h.app == app then view_of core.lent h else None)
+    (handle_at core.state.handles number)
 
 -- how many of the application's handles hold something
 abbrev pub views_due : Plain → ℕ → ℕ
 views_due core app = count_by (λ h. h.app == app && is_some h.hold) core.state.handles
 
--- the bag has the views that are due and no others, and room for one of each handle that there may be
+-- the bag has the views that are due and no others, and room for one of each handle that there may
+-- be
 pub record Holds (core : Plain) (app : ℕ) (bag : HeldViews) : Type 0 where
   pub seen : (number : ℕ) → held_at bag number ≡ view_due core app number
   pub counted : length bag.views ≡ views_due core app
@@ -50,19 +57,22 @@ pub record Holds (core : Plain) (app : ℕ) (bag : HeldViews) : Type 0 where
 -- the live handle of a number is of this table, and holds this version of it
 abbrev pub HoldsVersion : List Handle → ℕ → ℕ → ℕ → Type 0
 HoldsVersion handles number table version =
-    IsSomeAnd (handle_at handles number) (λ h. (h.table ≡ table) × (option_map (λ hold. hold.version) h.hold ≡ Some version))
+    IsSomeAnd (handle_at handles number)
+        (λ h. (h.table ≡ table) × (option_map (λ hold. hold.version) h.hold ≡ Some version))
 
 -- handles that hold one version of one table are lent it by one loan
 abbrev pub AreOneLoan : Plain → Type 0
 AreOneLoan core =
-    (number other table version : ℕ) → HoldsVersion core.state.handles number table version → HoldsVersion core.state.handles other table version →
+    (number other table version : ℕ) → HoldsVersion core.state.handles number table version →
+        HoldsVersion core.state.handles other table version →
     loan_of core.lent number ≡ loan_of core.lent other
 
 -- Calls. --
 
 -- a range of 1 to 65536 bytes, from an offset of at most 65536 on
 abbrev pub is_range : ℕ → List ℕ → Bool
-is_range offset bytes = nat_le offset 65536 && nat_le 1 (length bytes) && nat_le (length bytes) 65536
+is_range offset bytes =
+    nat_le offset 65536 && nat_le 1 (length bytes) && nat_le (length bytes) 65536
 
 -- what a call loads is such a range; names are of any length
 abbrev pub is_within : Call → Bool
@@ -88,14 +98,16 @@ pub record MayAct (core : Plain) (app : ℕ) (call : Call) : Type 0 where
 abbrev pub has_handle_number : State → Bool
 has_handle_number s = nat_lt s.handles_made 4294967295
 
--- a number is left for one version more of the table of this handle, if there is one: numbers of versions are below 2^64
+-- a number is left for one version more of the table of this handle, if there is one: numbers of
+-- versions are below 2^64
 abbrev pub HasNextVersion : State → ℕ → Type 0
 HasNextVersion s handle = IfSome (table_of s handle) (λ t. t.version + 1 < 2 ^ 64)
 
--- What an update or a load is answered that would make a version behind the last: its refusal, or where it has none, that the table
--- is locked.
+-- What an update or a load is answered that would make a version behind the last: its refusal, or
+-- where it has none, that the table is locked.
 abbrev pub answer_behind_last : Plain → ℕ → Call → TblAnswer
-answer_behind_last core app call = Refused (unwrap_or (cause core.limits core.state app call) InfoTableLocked)
+answer_behind_last core app call =
+    Refused (unwrap_or (cause core.limits core.state app call) InfoTableLocked)
 
 -- whether the call changes what its own application holds
 abbrev pub changes_bag : Call → Bool
@@ -112,9 +124,10 @@ changes_bag (ReleaseAddress handle) = true
 changes_bag (Status handle) = false
 changes_bag End = true
 
--- the call was answered, and left the state, as the machine does; and what applications hold stays, but for the caller's own where the
--- call changes it
+-- the call was answered, and left the state, as the machine does; and what applications hold stays,
+-- but for the caller's own where the call changes it
 pub record Acts (old new : Plain) (app : ℕ) (call : Call) (answer : TblAnswer) : Type 0 where
   pub made : step old.limits old.state app call ≡ (answer, new.state)
   pub limits : new.limits ≡ old.limits
-  pub bags : (other : ℕ) (bag : HeldViews) → (changes_bag call ≡ true → other ≢ app) → Holds old other bag → Holds new other bag
+  pub bags : (other : ℕ) (bag : HeldViews) → (changes_bag call ≡ true → other ≢ app) →
+      Holds old other bag → Holds new other bag

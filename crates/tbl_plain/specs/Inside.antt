@@ -65,7 +65,10 @@ handle_in contents h = handle_with h (content_at contents h.key)
 
 -- what a handle was lent
 abbrev pub lent_in : List (Option Content) → Handle → Lent
-lent_in contents h = record { handle = h.number; loan = option_map_or (λ version. (version_at (content_at contents h.key) version).loan) h.held 0 }
+lent_in contents h =
+    record { handle = h.number;
+    loan = option_map_or (λ version. (version_at (content_at contents h.key) version).loan)
+    h.held 0 }
 
 -- what is told of each place below so many
 abbrev pub each_below : (ℕ → ℕ) → ℕ → List ℕ
@@ -85,7 +88,9 @@ means a = record {
 
 -- the core as its callers see it
 abbrev pub plain_of : Inside → Plain
-plain_of a = record { limits = limits_of a.config; state = means a; lent = map (lent_in a.blocks.tables) a.registry.handles }
+plain_of a =
+    record { limits = limits_of a.config; state = means a;
+    lent = map (lent_in a.blocks.tables) a.registry.handles }
 
 -- What is always true. --
 
@@ -99,16 +104,23 @@ abbrev pub is_other : ℕ → Option ℕ → Bool
 is_other version None = false
 is_other version (Some held) = not (held == version)
 
--- Of a table: it has contents of its size and option; of each of its two versions as many views are out as handles hold it; no
--- handle was told of a version that is still to come; and nothing is staged where it is unregistered.
-pub record IsFilled (handles : List Handle) (contents : List (Option Content)) (t : Table) : Type 0 where
+-- Of a table: it has contents of its size and option; of each of its two versions as many views are
+-- out as handles hold it; no handle was told of a version that is still to come; and nothing is
+-- staged where it is unregistered.
+pub record IsFilled (handles : List Handle) (contents : List (Option Content))
+    (t : Table) : Type 0 where
   pub there : is_open contents t.key ≡ true
   pub size : (content_at contents t.key).size ≡ t.size
   pub option : (content_at contents t.key).option ≡ t.option
-  pub views : (content_at contents t.key).present.views ≡ count_by (λ h. h.table == t.number && is_this (content_at contents t.key).version h.held) handles
-  pub older_views : (older_in (content_at contents t.key).next).views ≡ count_by (λ h. h.table == t.number && is_other (content_at contents t.key).version h.held) handles
+  pub views : (content_at contents t.key).present.views ≡
+      count_by (λ h. h.table == t.number && is_this (content_at contents t.key).version h.held)
+      handles
+  pub older_views : (older_in (content_at contents t.key).next).views ≡
+      count_by (λ h. h.table == t.number && is_other (content_at contents t.key).version h.held)
+      handles
   pub told : All (λ h. h.table ≡ t.number → h.told ≤ (content_at contents t.key).version) handles
-  pub unstaged : is_live handles t.number ≡ false → is_staged (content_at contents t.key).next ≡ false
+  pub unstaged : is_live handles t.number ≡ false →
+      is_staged (content_at contents t.key).next ≡ false
 
 pub record Keeps (a : Inside) : Type 0 where
   -- the registry and the contents have the room that the limits ask for
@@ -120,10 +132,13 @@ pub record Keeps (a : Inside) : Type 0 where
   pub pool_sizes : a.blocks.pool.sizes ≡ (limits_of a.config).sizes
   -- the blocks that are out are those of the tables
   pub account : IsAccountOf a.blocks.pool (state.account_of (limits_of a.config) (means a))
-  -- each table has rules that fit its size, a handle and its contents, and there are no other contents
+  -- each table has rules that fit its size, a handle and its contents, and there are no other
+  -- contents
   pub fit : All (λ t. has_misfit t.size t.rules ≡ false) a.registry.tables
   pub had : AllHaveHandles a.registry
   -- a handle with a table's number is that table's
-  pub owners : All (λ h. All (λ t. h.number ≡ t.number → h.table ≡ t.number) a.registry.tables) a.registry.handles
+  pub owners : All (λ h. All (λ t. h.number ≡ t.number → h.table ≡ t.number) a.registry.tables)
+      a.registry.handles
   pub filled : All (IsFilled a.registry.handles a.blocks.tables) a.registry.tables
-  pub known : (key : ℕ) → is_open a.blocks.tables key ≡ true → IsSome (table_at a.registry.tables key)
+  pub known : (key : ℕ) → is_open a.blocks.tables key ≡ true →
+      IsSome (table_at a.registry.tables key)

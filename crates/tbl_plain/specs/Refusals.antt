@@ -1,4 +1,5 @@
--- Who may use a handle, which tables can't be registered whatever others there are, and which loads can't be staged.
+-- Who may use a handle, which tables can't be registered whatever others there are, and which loads
+-- can't be staged.
 use Rattle.std.specs.Prelude.{ℕ, ◌+◌, ◌==◌, ◌&&◌, ◌||◌, not, nat_lt, Bool, List, length, Result, Ok, Err, Option, Some, None, is_some, if◌then◌else◌}
 use Rattle.tbl_words.specs.declared.statuses.TblStatus.{TblStatus}
 use Rattle.tbl_words.specs.declared.statuses.TblStatus.TheVariants.{ErrInvalidHandle, ErrInvalidName, ErrInvalidSize, ErrInvalidOptions, ErrNoAccess, ErrUnregistered, ErrDumpOnly, ErrFileTooLarge, ErrPartialLoad, ErrLoadInProgress, ErrNoBufferAvail, InfoTableLocked}
@@ -16,7 +17,8 @@ own_handle app (Some h) = if h.app == app then Ok h else Err ErrNoAccess
 
 -- the handle, where the one that its table's registration gave is live
 abbrev pub registered_one : List Handle → Result Handle TblStatus → Result Handle TblStatus
-registered_one handles (Ok h) = if is_some (handle_at handles h.table) then Ok h else Err ErrUnregistered
+registered_one handles (Ok h) =
+    if is_some (handle_at handles h.table) then Ok h else Err ErrUnregistered
 registered_one handles (Err status) = Err status
 
 -- the live handle of a number, where it is the application's and its table is registered
@@ -46,7 +48,8 @@ is_lent c = not (is_double c) && nat_lt 0 c.present.views
 abbrev pub lacks_buffer : ℕ → Content → Bool
 lacks_buffer free c = not (is_double c) && free == 0
 
--- why bytes can't be staged from an offset on, by what is kept for the table and how many working buffers are free; then the others
+-- why bytes can't be staged from an offset on, by what is kept for the table and how many working
+-- buffers are free; then the others
 abbrev pub unstaged_cause : ℕ → Content → ℕ → List ℕ → Option TblStatus → Option TblStatus
 unstaged_cause free c offset bytes others =
     refused_if (c.option == 2) ErrDumpOnly

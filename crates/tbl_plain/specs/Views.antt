@@ -8,7 +8,10 @@ use Rattle.tbl_blocks.specs.Contents.{Content, is_staged, version_at, content_at
 
 -- the view of what a handle holds, of a table with these contents
 abbrev pub held_by : Content → Handle → Option LentBytes
-held_by c h = option_map (λ version. record { loan = (version_at c version).loan; bytes = (version_at c version).bytes }) h.held
+held_by c h =
+    option_map
+    (λ version. record { loan = (version_at c version).loan; bytes = (version_at c version).bytes })
+    h.held
 
 -- how many views a handle has
 abbrev pub views_of : Handle → ℕ
@@ -24,6 +27,8 @@ abbrev pub with_back : Content → Option ℕ → Content
 with_back c None = c
 with_back c (Some version) = view_back c version
 
--- the blocks once a handle of the table of a key leaves: where it is the owner's, and something is staged, that is dropped
+-- the blocks once a handle of the table of a key leaves: where it is the owner's, and something is
+-- staged, that is dropped
 abbrev pub after_owner : Bool → Stored → ℕ → ℕ → Stored
-after_owner owner s key loan = if owner && is_staged (content_at s.tables key).next then after_abort s key loan else s
+after_owner owner s key loan =
+    if owner && is_staged (content_at s.tables key).next then after_abort s key loan else s

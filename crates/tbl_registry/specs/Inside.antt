@@ -1,5 +1,5 @@
--- Where the registry keeps its tables: each in a place of its own, whose number is its key, and which says where in a slab the
--- table lies.
+-- Where the registry keeps its tables: each in a place of its own, whose number is its key, and
+-- which says where in a slab the table lies.
 use Rattle.std.specs.Prelude.{◌≡◌, ℕ, ◌<◌, ◌≤◌, true, List, [], ◌∷◌, ◌++◌, map, length, count_by, slice_index_or, All, Option, Some, None, is_some}
 use Rattle.std.specs.List.{AllPairs}
 use Rattle.std.specs.Option.{option_and_then, option_to_list}
@@ -15,10 +15,12 @@ lies_at slab at = option_and_then (get slab) at
 abbrev pub shelf_of : Slab Table → List (Option ℕ) → List (Option Table)
 shelf_of slab at = map (lies_at slab) at
 
--- each place that has a slab's key has a table there; no two places have the same one, and the slab has no others and room for all
+-- each place that has a slab's key has a table there; no two places have the same one, and the slab
+-- has no others and room for all
 pub record IsShelf (slab : Slab Table) (at : List (Option ℕ)) : Type 0 where
   pub there : (i k : ℕ) → slice_index_or at i None ≡ Some k → is_some (get slab k) ≡ true
-  pub apart : (i j k : ℕ) → slice_index_or at i None ≡ Some k → slice_index_or at j None ≡ Some k → i ≡ j
+  pub apart : (i j k : ℕ) → slice_index_or at i None ≡ Some k → slice_index_or at j None ≡ Some k →
+      i ≡ j
   pub counted : slab_len slab ≡ count_by is_some at
   pub room : length at ≤ slab.capacity
 
@@ -47,15 +49,18 @@ listing_of shelf keys handles made room = record {
   handle_room = room;
 }
 
--- each place among these has a table, as many as there are places with one; and what the registry stands for is tied
-pub record IsKept (shelf : List (Option Table)) (keys : List ℕ) (handles : List Handle) (made room : ℕ) : Type 0 where
+-- each place among these has a table, as many as there are places with one; and what the registry
+-- stands for is tied
+pub record IsKept (shelf : List (Option Table)) (keys : List ℕ) (handles : List Handle)
+    (made room : ℕ) : Type 0 where
   pub filed : All (IsFiled shelf) keys
   pub counted : length keys ≡ count_by is_some shelf
   pub tied : IsTied (listing_of shelf keys handles made room)
 
 -- the handle at a place has the number
 abbrev pub HasNumber : List Handle → ℕ → ℕ → Type 0
-HasNumber handles number i = (i < length handles) × ((d : Handle) → (slice_index_or handles i d).number ≡ number)
+HasNumber handles number i =
+    (i < length handles) × ((d : Handle) → (slice_index_or handles i d).number ≡ number)
 
 -- the numbers rise
 abbrev pub AreRising : List Handle → Type 0

@@ -1,4 +1,5 @@
--- What a registry says of the state of Table Services: the same tables and handles, but for what tables contain and handles hold.
+-- What a registry says of the state of Table Services: the same tables and handles, but for what
+-- tables contain and handles hold.
 use Rattle.std.specs.Prelude.{◌≡◌, ℕ, ◌==◌, Bool, true, false, List, length, map, filter, All, if◌then◌else◌}
 use Rattle.std.specs.Option.{option_map, option_map_or, option_and_then}
 use Rattle.fsw_base.specs.Limits.{Limits}
@@ -20,11 +21,15 @@ pub record TableFacts : Type 0 where
 
 -- what the state says of it
 abbrev pub facts_of : state.Table → TableFacts
-facts_of t = record { number = t.number; name = t.name; owner = t.owner; registered = t.registered; size = t.size; option = t.option; rules = t.rules }
+facts_of t =
+    record { number = t.number; name = t.name; owner = t.owner; registered = t.registered;
+    size = t.size; option = t.option; rules = t.rules }
 
 -- what the registry says of it
 abbrev pub facts_in : List Handle → Table → TableFacts
-facts_in handles t = record { number = t.number; name = t.name; owner = t.owner; registered = is_registered handles t; size = t.size; option = t.option; rules = t.rules }
+facts_in handles t =
+    record { number = t.number; name = t.name; owner = t.owner;
+    registered = is_registered handles t; size = t.size; option = t.option; rules = t.rules }
 
 -- what both know of a handle
 pub record HandleFacts : Type 0 where
@@ -49,11 +54,17 @@ pub record FindsAlike (s : state.State) (l : Listing) : Type 0 where
   pub tables_many : length s.tables ≡ length l.tables
   pub handles_many : length s.handles ≡ length l.handles
   pub live : (number : ℕ) → state.is_live s.handles number ≡ is_live l.handles number
-  pub owned : (app number : ℕ) → state.owns s.handles app number ≡ option_map_or (λ h. h.app == app) (handle_at l.handles number) false
+  pub owned : (app number : ℕ) →
+      state.owns s.handles app number ≡
+      option_map_or (λ h. h.app == app) (handle_at l.handles number) false
   pub shared : (table : ℕ) → state.has_handle s.handles table ≡ has_handle l.handles table
   pub tabled : (number : ℕ) →
-      option_map facts_of (state.table_of s number) ≡ option_and_then (λ h. option_map (facts_in l.handles) (table_at l.tables h.key)) (handle_at l.handles number)
-  pub named : (name : List ℕ) → option_map facts_of (state.table_named s.tables name) ≡ option_map (facts_in l.handles) (table_named l name)
+      option_map facts_of (state.table_of s number) ≡
+          option_and_then (λ h. option_map (facts_in l.handles) (table_at l.tables h.key))
+          (handle_at l.handles number)
+  pub named : (name : List ℕ) →
+      option_map facts_of (state.table_named s.tables name) ≡
+      option_map (facts_in l.handles) (table_named l name)
 
 -- whatever the state, where the registry lists it
 abbrev pub ListedFindAlike : Type 0
@@ -63,12 +74,14 @@ ListedFindAlike = (s : state.State) (l : Listing) → IsTied l → IsListed s l 
 abbrev pub NewHandlesAreListed : Type 0
 NewHandlesAreListed =
     (s : state.State) (l : Listing) (app table key : ℕ) (marked : Bool) →
-    IsTied l → IsListed s l → IsListed (machine.with_new_handle s app table marked) (with_new_handle l app table key)
+    IsTied l → IsListed s l →
+        IsListed (machine.with_new_handle s app table marked) (with_new_handle l app table key)
 
 -- so is a new table, with its owner's handle
 abbrev pub NewTablesAreListed : Type 0
 NewTablesAreListed =
-    (limits : Limits) (s : state.State) (old new : Listing) (app : ℕ) (name : List ℕ) (size option : ℕ) (rules : List Rule) →
+    (limits : Limits) (s : state.State) (old new : Listing) (app : ℕ) (name : List ℕ)
+        (size option : ℕ) (rules : List Rule) →
     IsTied old → IsListed s old → AddsTable old new app name size option rules →
     IsListed (machine.with_new_table limits s app name size option rules) new
 
@@ -82,7 +95,8 @@ without_handle_of l number =
 abbrev pub LeavesAreListed : Type 0
 LeavesAreListed =
     (s : state.State) (l : Listing) (number : ℕ) →
-    IsListed s l → IsListed (machine.without_handles (λ h. h.number == number) s) (without_handle_of l number)
+    IsListed s l →
+        IsListed (machine.without_handles (λ h. h.number == number) s) (without_handle_of l number)
 
 -- each table has a handle
 abbrev pub AllHaveHandles : Listing → Type 0
@@ -92,7 +106,8 @@ AllHaveHandles l = All (λ t. has_handle l.handles t.number ≡ true) l.tables
 abbrev pub key_under : List Handle → ℕ → ℕ
 key_under handles number = option_map_or (λ h. h.key) (handle_at handles number) 0
 
--- so it is listed once the handle was dropped, and where it was its table's last one the table was removed by its key
+-- so it is listed once the handle was dropped, and where it was its table's last one the table was
+-- removed by its key
 abbrev pub DropsAreLeaves : Type 0
 DropsAreLeaves =
     (l : Listing) (number : ℕ) →
@@ -101,12 +116,16 @@ DropsAreLeaves =
     ≡ record l {
       handles = without_handle number l.handles;
       tables =
-          if has_handle (without_handle number l.handles) (table_under l.handles number) then l.tables
+          if has_handle (without_handle number l.handles) (table_under l.handles number)
+              then l.tables
           else without_table (key_under l.handles number) l.tables;
     }
 
--- each table goes on to have a handle: with a handle more, with a table more, and once a handle left
+-- each table goes on to have a handle: with a handle more, with a table more, and once a handle
+-- left
 pub record HandlesGoOn : Type 0 where
-  pub added : (l : Listing) (app table key : ℕ) → AllHaveHandles l → AllHaveHandles (with_new_handle l app table key)
-  pub opened : (old new : Listing) (app : ℕ) (name : List ℕ) (size option : ℕ) (rules : List Rule) → AddsTable old new app name size option rules → AllHaveHandles old → AllHaveHandles new
+  pub added : (l : Listing) (app table key : ℕ) → AllHaveHandles l →
+      AllHaveHandles (with_new_handle l app table key)
+  pub opened : (old new : Listing) (app : ℕ) (name : List ℕ) (size option : ℕ) (rules : List Rule) →
+      AddsTable old new app name size option rules → AllHaveHandles old → AllHaveHandles new
   pub left : (l : Listing) (number : ℕ) → AllHaveHandles (without_handle_of l number)

@@ -1,5 +1,5 @@
--- The registry as its callers see it: which tables there are, and the live handles by which applications reach them (cFE Table
--- Services, table registry).
+-- The registry as its callers see it: which tables there are, and the live handles by which
+-- applications reach them (cFE Table Services, table registry).
 use Rattle.std.specs.Prelude.{◌≡◌, ℕ, ◌+◌, ◌<◌, ◌≤◌, ◌==◌, ◌&&◌, not, Bool, List, [], ◌∷◌, ◌++◌, length, map, filter, find, All, Option, Some, None, if◌then◌else◌}
 use Rattle.std.specs.List.{list_any, AllPairs}
 use Rattle.std.specs.Option.{option_map, option_map_or}
@@ -9,8 +9,8 @@ use Rattle.tbl_registry.specs.declared.rows.Handle.{Handle}
 use Rattle.tbl_registry.specs.declared.rows.HandleRow.{HandleRow}
 use Rattle.tbl_registry.specs.declared.rows.TableRow.{TableRow}
 
--- A table: its number, which is that of the handle that its registration gave, the owner's; its key, which is the registry's own
--- place for it; and what it was registered with.
+-- A table: its number, which is that of the handle that its registration gave, the owner's; its
+-- key, which is the registry's own place for it; and what it was registered with.
 pub record Table : Type 0 where
   pub number : ℕ
   pub key : ℕ
@@ -20,7 +20,8 @@ pub record Table : Type 0 where
   pub option : ℕ
   pub rules : List Rule
 
--- The tables and the live handles, both in order of number; how many handles were made; and how many of both there may be.
+-- The tables and the live handles, both in order of number; how many handles were made; and how
+-- many of both there may be.
 pub record Listing : Type 0 where
   pub tables : List Table
   pub handles : List Handle
@@ -60,7 +61,8 @@ without_handle number handles = filter (λ h. not (h.number == number)) handles
 
 -- a handle that was never told of a version and holds none
 abbrev pub made_handle : ℕ → ℕ → ℕ → ℕ → Handle
-made_handle number app table key = record { number = number; app = app; table = table; key = key; told = 0; held = None }
+made_handle number app table key =
+    record { number = number; app = app; table = table; key = key; told = 0; held = None }
 
 -- the handle once its application knows of a version and holds it
 abbrev pub with_hold : ℕ → Handle → Handle
@@ -121,11 +123,14 @@ with_new_handle l app table key = record l {
 }
 
 -- one table more, with its owner's handle: its key is one that no table has
-pub record AddsTable (old new : Listing) (app : ℕ) (name : List ℕ) (size option : ℕ) (rules : List Rule) : Type 0 where
+pub record AddsTable (old new : Listing) (app : ℕ) (name : List ℕ) (size option : ℕ)
+    (rules : List Rule) : Type 0 where
   pub key : ℕ
   pub within : key < old.table_room
   pub free : table_at old.tables key ≡ None
-  pub tables : new.tables ≡ old.tables ++ record { number = old.made + 1; key = key; name = name; owner = app; size = size; option = option; rules = rules } ∷ []
+  pub tables : new.tables ≡ old.tables ++
+      record { number = old.made + 1; key = key; name = name; owner = app; size = size;
+      option = option; rules = rules } ∷ []
   pub others : record new { tables = old.tables } ≡ with_new_handle old app (old.made + 1) key
 
 -- one handle more of the table with this key
@@ -134,8 +139,9 @@ pub record AddsHandle (old new : Listing) (app key : ℕ) : Type 0 where
   pub of : number_at old.tables key ≡ Some table
   pub is : new ≡ with_new_handle old app table key
 
--- What is always so: numbers rise, and none is above the count of the handles made; keys are below the room, and no two tables
--- have one; the table of a handle is there under the handle's key; and there are no more of both than there may be.
+-- What is always so: numbers rise, and none is above the count of the handles made; keys are below
+-- the room, and no two tables have one; the table of a handle is there under the handle's key; and
+-- there are no more of both than there may be.
 pub record IsTied (l : Listing) : Type 0 where
   pub tables_rise : AllPairs (λ earlier later. earlier.number < later.number) l.tables
   pub handles_rise : AllPairs (λ earlier later. earlier.number < later.number) l.handles

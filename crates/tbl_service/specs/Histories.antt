@@ -1,4 +1,5 @@
--- What the lock knows of the core: what never changes, and its history, each call with its answer and note beside its application.
+-- What the lock knows of the core: what never changes, and its history, each call with its answer
+-- and note beside its application.
 use Rattle.std.specs.Prelude.{ℕ, ◌==◌, List, [], ◌∷◌, map, filter, Option, Some, None}
 use Rattle.fsw_base.specs.Limits.{Limits, usual_limits}
 use Rattle.fsw_base.specs.declared.config.Budget.{Budget}
@@ -17,7 +18,8 @@ fixed_of core = record { limits = core.limits; budgets = core.log.budgets }
 
 -- entries with their notes, each beside its application
 abbrev pub with_notes : List Entry → List Note → List (ℕ × NotedCall)
-with_notes (e ∷ entries) (note ∷ notes) = (e.app, record { call = e.call; answer = e.answer; note = note }) ∷ with_notes entries notes
+with_notes (e ∷ entries) (note ∷ notes) =
+    (e.app, record { call = e.call; answer = e.answer; note = note }) ∷ with_notes entries notes
 with_notes entries notes = []
 
 abbrev pub history_of : Core → List (ℕ × NotedCall)

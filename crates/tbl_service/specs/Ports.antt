@@ -1,4 +1,5 @@
--- What is seen of a port, of one that is finished and of the main part, and what a port's calls answer.
+-- What is seen of a port, of one that is finished and of the main part, and what a port's calls
+-- answer.
 use Rattle.std.specs.Prelude.{◌≡◌, ℕ, ◌==◌, ◌⊎◌, false, List, [], ◌∷◌, ◌++◌}
 use Rattle.atomic_table.specs.Seated.{TableId}
 use Rattle.journal_store.specs.declared.allowance.Allowance.{Allowance}
@@ -11,8 +12,8 @@ use Rattle.tbl_load.specs.Core.{Core, Does}
 use Rattle.tbl_load.specs.Bags.{HasBag, CalledByOthers, AreOneLoan}
 use mathlib.Core.List.{IsPrefix}
 
--- A port: the lock that it is of, its application, the core with the history that it has seen, the entries that it made, and what
--- its application holds.
+-- A port: the lock that it is of, its application, the core with the history that it has seen, the
+-- entries that it made, and what its application holds.
 pub record PortView : Type 0 where
   pub lock : TableId
   pub app : ℕ
@@ -27,8 +28,8 @@ pub record DoneView : Type 0 where
   pub seen : Core
   pub mine : List Entry
 
--- The main part: the lock that it is of, the core with the history that it has seen, the applications whose ports were made, and
--- those whose ports were joined, each with its entries.
+-- The main part: the lock that it is of, the core with the history that it has seen, the
+-- applications whose ports were made, and those whose ports were joined, each with its entries.
 pub record MainView : Type 0 where
   pub lock : TableId
   pub seen : Core
@@ -58,7 +59,8 @@ pub record Answers (old new : PortView) (call : Call) (answer : TblAnswer) : Typ
 
 -- what is held for other handles than this one stays
 abbrev pub KeepsOthers : ℕ → HeldViews → HeldViews → Type 0
-KeepsOthers handle old new = (other : ℕ) → (handle == other) ≡ false → held_at new other ≡ held_at old other
+KeepsOthers handle old new =
+    (other : ℕ) → (handle == other) ≡ false → held_at new other ≡ held_at old other
 
 -- Joins and the close. --
 
@@ -69,8 +71,11 @@ pub record Begins (one other : Core) : Type 0 where
 
 -- this core, with the history of that one
 abbrev pub with_history : Core → Core → Core
-with_history core other = record { limits = core.limits; log = record { budgets = core.log.budgets; entries = other.log.entries }; notes = other.notes }
+with_history core other =
+    record { limits = core.limits;
+    log = record { budgets = core.log.budgets; entries = other.log.entries }; notes = other.notes }
 
 -- one of the two histories begins the other, and the longer one is kept
 abbrev pub KeepsLongerOf : Core → Core → Core → Type 0
-KeepsLongerOf one other kept = (Begins one other × (kept ≡ with_history one other)) ⊎ (Begins other one × (kept ≡ one))
+KeepsLongerOf one other kept =
+    (Begins one other × (kept ≡ with_history one other)) ⊎ (Begins other one × (kept ≡ one))

@@ -8,7 +8,8 @@ use Rattle.tbl_words.specs.Machine.{state_after}
 -- no more handles were made than there are entries
 abbrev pub HandlesGoByEntries : Type 0
 HandlesGoByEntries =
-    (limits : Limits) (apps : ℕ) (history : List Entry) → (state_after limits apps history).handles_made ≤ length history
+    (limits : Limits) (apps : ℕ) (history : List Entry) →
+        (state_after limits apps history).handles_made ≤ length history
 
 -- and no table has had more versions
 abbrev pub VersionsGoByEntries : Type 0

@@ -12,14 +12,15 @@ use Rattle.tbl_words.specs.Runs.{run_from}
 
 -- what the calls of so many applications are answered
 abbrev pub answers_to : ℕ → List (ℕ × Call) → List TblAnswer
-answers_to apps calls = map (λ e. e.answer) (run_from usual_limits [] (opening usual_limits apps) calls).0
+answers_to apps calls =
+    map (λ e. e.answer) (run_from usual_limits [] (opening usual_limits apps) calls).0
 
 -- calls that application 1 makes
 abbrev pub by_one : List Call → List (ℕ × Call)
 by_one calls = map (λ call. (1, call)) calls
 
--- A double-buffered table of four bytes. While its version 1 is held, version 2 can be loaded; then nothing can be staged as long
--- as version 1 is held.
+-- A double-buffered table of four bytes. While its version 1 is held, version 2 can be loaded; then
+-- nothing can be staged as long as version 1 is held.
 abbrev pub double_buffered_calls : List Call
 double_buffered_calls =
     Register (68 ∷ []) 4 1 [] ∷
@@ -50,8 +51,9 @@ double_buffered_answers =
     Done ∷
     []
 
--- A single-buffered table of four bytes, whose first byte is to be from 1 to 9. A load that fails its rule leaves nothing staged;
--- while the table is held nothing can be written over it, but a load can be staged.
+-- A single-buffered table of four bytes, whose first byte is to be from 1 to 9. A load that fails
+-- its rule leaves nothing staged; while the table is held nothing can be written over it, but a
+-- load can be staged.
 abbrev pub single_buffered_calls : List Call
 single_buffered_calls =
     Register (83 ∷ []) 4 0 (record { offset = 0; low = 1; high = 9 } ∷ []) ∷
@@ -94,8 +96,9 @@ single_buffered_answers =
     Done ∷
     []
 
--- A table of two bytes that application 1 registers and application 2 shares. Once its owner has given it back the other can look
--- at what it holds, let go of it and give its own handle back, and no more; and the name is free.
+-- A table of two bytes that application 1 registers and application 2 shares. Once its owner has
+-- given it back the other can look at what it holds, let go of it and give its own handle back, and
+-- no more; and the name is free.
 abbrev pub shared_calls : List (ℕ × Call)
 shared_calls =
     (1, Register (84 ∷ []) 2 0 []) ∷

@@ -1,4 +1,5 @@
--- Handles that leave: at once, or one after another; and what is left once all applications have ended.
+-- Handles that leave: at once, or one after another; and what is left once all applications have
+-- ended.
 use Rattle.std.specs.Prelude.{◌≡◌, ◌||◌, Bool, []}
 use Rattle.fsw_base.specs.Limits.{Limits}
 use Rattle.tbl_words.specs.Tables.{Handle, State, bytes_in_use}

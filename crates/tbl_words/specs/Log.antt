@@ -1,4 +1,5 @@
--- What a journal stands for: the budgets of its applications, and its entries. What each may still add follows.
+-- What a journal stands for: the budgets of its applications, and its entries. What each may still
+-- add follows.
 use Rattle.std.specs.Prelude.{List, [], ◌∷◌, ◌++◌, map}
 use Rattle.fsw_base.specs.declared.config.Budget.{Budget}
 use Rattle.journal_store.specs.declared.allowance.Allowance.{Allowance}

@@ -1,5 +1,5 @@
--- Table Services as a machine: why a call is refused, what it answers and what it changes, and which histories are legal. Its
--- state is enough by itself: no call looks at anything else.
+-- Table Services as a machine: why a call is refused, what it answers and what it changes, and
+-- which histories are legal. Its state is enough by itself: no call looks at anything else.
 use Rattle.std.specs.Prelude.{◌≡◌, ℕ, ◌+◌, ◌-◌, ◌==◌, ◌&&◌, ◌||◌, not, nat_le, nat_lt, Bool, true, false, List, [], ◌∷◌, ◌++◌, length, take, drop, map, filter, replicate, slice_set, Option, Some, None, is_some, IsTrue, if◌then◌else◌}
 use Rattle.std.specs.Option.{option_map_or}
 use Rattle.fsw_base.specs.Blocks.{class_of}
@@ -31,29 +31,31 @@ with_range value offset bytes = take offset value ++ bytes ++ drop (offset + len
 abbrev pub refused_if : Bool → TblStatus → Option TblStatus → Option TblStatus
 refused_if test status others = if test then Some status else others
 
--- a new table is refused where as many tables have a handle as there may be, as many handles are live, or the pool can't give
--- its blocks
+-- a new table is refused where as many tables have a handle as there may be, as many handles are
+-- live, or the pool can't give its blocks
 abbrev pub new_table_cause : Limits → State → ℕ → ℕ → Option TblStatus
 new_table_cause limits s size option =
     refused_if (nat_le limits.tables (length s.tables)) ErrRegistryFull
     (refused_if (nat_le limits.handles (length s.handles)) ErrHandlesFull
     (refused_if (not (fits (account_of limits s) size (blocks_for option))) ErrMemBlockSize None))
 
--- a name that a registered table has is refused where that table is another application's, or the caller's own with another size;
--- else it is a duplicate, and no refusal
+-- a name that a registered table has is refused where that table is another application's, or the
+-- caller's own with another size; else it is a duplicate, and no refusal
 abbrev pub duplicate_cause : ℕ → ℕ → Table → Option TblStatus
 duplicate_cause app size t =
     refused_if (not (t.owner == app)) ErrDuplicateNotOwned
     (refused_if (not (t.size == size)) ErrDuplicateDiffSize None)
 
--- a registration: the name has 1 to 15 bytes, the size is from 1 to the largest there may be, the option is one of three, and the
--- rules fit the size; then by whether a registered table has the name
+-- a registration: the name has 1 to 15 bytes, the size is from 1 to the largest there may be, the
+-- option is one of three, and the rules fit the size; then by whether a registered table has the
+-- name
 abbrev pub register_cause : Limits → State → ℕ → List ℕ → ℕ → ℕ → List Rule → Option TblStatus
 register_cause limits s app name size option rules =
     refused_if (length name == 0 || nat_lt 15 (length name)) ErrInvalidName
     (refused_if (size == 0 || nat_lt limits.tablemax size) ErrInvalidSize
     (refused_if (nat_lt 2 option || has_misfit size rules) ErrInvalidOptions
-    (option_map_or (duplicate_cause app size) (table_named s.tables name) (new_table_cause limits s size option))))
+    (option_map_or (duplicate_cause app size) (table_named s.tables name)
+        (new_table_cause limits s size option))))
 
 -- a share: a registered table has the name, and there may be one handle more
 abbrev pub share_cause : Limits → State → List ℕ → Option TblStatus
@@ -71,15 +73,17 @@ access_cause s app handle others =
 abbrev pub table_cause : State → ℕ → ℕ → (Table → Option TblStatus) → Option TblStatus
 table_cause s app handle others =
     access_cause s app handle
-    (option_map_or (λ t. refused_if (not t.registered) ErrUnregistered (others t)) (table_of s handle) None)
+    (option_map_or (λ t. refused_if (not t.registered) ErrUnregistered (others t))
+        (table_of s handle) None)
 
 -- the range that a load gives isn't the whole table
 abbrev pub is_partial : Table → ℕ → List ℕ → Bool
 is_partial t offset bytes = not (offset == 0 && length bytes == t.size)
 
--- a load: the table is dump only; the bytes go past its end; it was never loaded and they aren't all of it; a load is staged
--- already; it is double buffered and a version other than the present one is held, which lies where the load would; it is single
--- buffered and all four working buffers are taken; then the others
+-- a load: the table is dump only; the bytes go past its end; it was never loaded and they aren't
+-- all of it; a load is staged already; it is double buffered and a version other than the present
+-- one is held, which lies where the load would; it is single buffered and all four working buffers
+-- are taken; then the others
 abbrev pub stage_cause : State → ℕ → List ℕ → Option TblStatus → Table → Option TblStatus
 stage_cause s offset bytes others t =
     refused_if (t.option == 2) ErrDumpOnly
@@ -87,11 +91,13 @@ stage_cause s offset bytes others t =
     (refused_if (not t.loaded && is_partial t offset bytes) ErrPartialLoad
     (refused_if (is_some t.staged) ErrLoadInProgress
     (refused_if (is_double t && is_held_apart s.handles t.number t.version) InfoTableLocked
-    (refused_if (not (is_double t) && nat_le 4 (buffers_taken s.tables)) ErrNoBufferAvail others)))))
+    (refused_if (not (is_double t) && nat_le 4 (buffers_taken s.tables)) ErrNoBufferAvail
+        others)))))
 
 -- the value fails a rule; then what one that meets them all says
 abbrev pub rules_cause : List Rule → List ℕ → Option TblStatus → Option TblStatus
-rules_cause rules value others = option_map_or (λ number. Some (Validation number)) (failed_rule rules value) others
+rules_cause rules value others =
+    option_map_or (λ number. Some (Validation number)) (failed_rule rules value) others
 
 -- nothing is staged; then what the staged value says
 abbrev pub staged_cause : TblStatus → (Staged → Option TblStatus) → Table → Option TblStatus
@@ -105,11 +111,13 @@ is_locked s t = not (is_double t) && is_held s.handles t.number
 abbrev pub validate_cause : Table → Option TblStatus
 validate_cause t = staged_cause NoLoad (λ staged. rules_cause t.rules staged.value None) t
 
--- an update: something is staged, was validated, and wouldn't be written over a single buffer that is held
+-- an update: something is staged, was validated, and wouldn't be written over a single buffer that
+-- is held
 abbrev pub update_cause : State → Table → Option TblStatus
 update_cause s t =
     staged_cause InfoNoUpdatePending
-    (λ staged. refused_if (not staged.validated) NotValidated (refused_if (is_locked s t) InfoTableLocked None)) t
+    (λ staged. refused_if (not staged.validated) NotValidated
+        (refused_if (is_locked s t) InfoTableLocked None)) t
 
 -- an abort: something is staged
 abbrev pub abort_cause : Table → Option TblStatus
@@ -119,14 +127,17 @@ abort_cause t = staged_cause NoLoad (λ staged. None) t
 abbrev pub load_cause : State → ℕ → List ℕ → Table → Option TblStatus
 load_cause s offset bytes t =
     stage_cause s offset bytes
-    (rules_cause t.rules (with_range t.value offset bytes) (refused_if (is_locked s t) InfoTableLocked None)) t
+    (rules_cause t.rules (with_range t.value offset bytes)
+        (refused_if (is_locked s t) InfoTableLocked None)) t
 
 -- the first refusal whose condition holds
 abbrev pub cause : Limits → State → ℕ → Call → Option TblStatus
-cause limits s app (Register name size option rules) = register_cause limits s app name size option rules
+cause limits s app (Register name size option rules) =
+    register_cause limits s app name size option rules
 cause limits s app (Share name) = share_cause limits s name
 cause limits s app (Unregister handle) = access_cause s app handle None
-cause limits s app (Stage handle offset bytes) = table_cause s app handle (stage_cause s offset bytes None)
+cause limits s app (Stage handle offset bytes) =
+    table_cause s app handle (stage_cause s offset bytes None)
 cause limits s app (Validate handle) = table_cause s app handle validate_cause
 cause limits s app (Update handle) = table_cause s app handle (update_cause s)
 cause limits s app (Abort handle) = table_cause s app handle abort_cause
@@ -141,7 +152,10 @@ cause limits s app End = None
 -- one handle more of a table, which holds nothing
 abbrev pub with_new_handle : State → ℕ → ℕ → Bool → State
 with_new_handle s app table marked = record s {
-  handles = s.handles ++ record { number = s.handles_made + 1; app = app; table = table; marked = marked; hold = None } ∷ [];
+  handles =
+      s.handles ++
+      record { number = s.handles_made + 1; app = app; table = table; marked = marked;
+      hold = None } ∷ [];
   handles_made = s.handles_made + 1;
 }
 
@@ -164,7 +178,8 @@ new_table number app name size option rules = record {
 -- the pool has given so many blocks for a size
 abbrev pub with_blocks : Limits → State → ℕ → ℕ → State
 with_blocks limits s size count = record s {
-  made = option_map_or (λ class. (after_draws (account_of limits s) class count).made) (class_of size limits.sizes) s.made;
+  made = option_map_or (λ class. (after_draws (account_of limits s) class count).made)
+      (class_of size limits.sizes) s.made;
   drawn = counted_by s.drawn count;
 }
 
@@ -173,7 +188,8 @@ abbrev pub with_new_table : Limits → State → ℕ → List ℕ → ℕ → �
 with_new_table limits s app name size option rules =
     let given = with_blocks limits s size (blocks_for option) in
     with_new_handle
-    (record given { tables = s.tables ++ new_table (s.handles_made + 1) app name size option rules ∷ [] })
+    (record given
+        { tables = s.tables ++ new_table (s.handles_made + 1) app name size option rules ∷ [] })
     app (s.handles_made + 1) false
 
 -- a duplicate changes nothing and is told its owner's handle
@@ -182,23 +198,30 @@ after_register limits s app name size option rules =
     option_map_or (λ t. (answers.Duplicate t.number, s)) (table_named s.tables name)
     (answers.Number (s.handles_made + 1), with_new_table limits s app name size option rules)
 
--- one handle more of the registered table of a name, to be told of its contents where it was ever loaded
+-- one handle more of the registered table of a name, to be told of its contents where it was ever
+-- loaded
 abbrev pub after_share : State → ℕ → List ℕ → State
-after_share s app name = option_map_or (λ t. with_new_handle s app t.number t.loaded) (table_named s.tables name) s
+after_share s app name =
+    option_map_or (λ t. with_new_handle s app t.number t.loaded) (table_named s.tables name) s
 
--- a table once handles have left: where its owner's is among those it is unregistered, and nothing is staged
+-- a table once handles have left: where its owner's is among those it is unregistered, and nothing
+-- is staged
 abbrev pub after_leave : List Handle → Table → Table
-after_leave left t = if is_live left t.number then t else (record t { registered = false; staged = None })
+after_leave left t =
+    if is_live left t.number then t else (record t { registered = false; staged = None })
 
--- the handles of which the test is true leave with their holds; a table without handles leaves, and its blocks go back
+-- the handles of which the test is true leave with their holds; a table without handles leaves, and
+-- its blocks go back
 abbrev pub without_handles : (Handle → Bool) → State → State
 without_handles gone s =
     let left = filter (λ h. not (gone h)) s.handles in
-    record s { handles = left; tables = filter (λ t. has_handle left t.number) (map (after_leave left) s.tables) }
+    record s { handles = left;
+        tables = filter (λ t. has_handle left t.number) (map (after_leave left) s.tables) }
 
 -- the table with this value staged; whether it was validated
 abbrev pub with_staged : List ℕ → Bool → Table → Table
-with_staged value validated t = record t { staged = Some (record { value = value; validated = validated }) }
+with_staged value validated t =
+    record t { staged = Some (record { value = value; validated = validated }) }
 
 -- the table with its staged value validated
 abbrev pub with_validated : Table → Table
@@ -206,11 +229,14 @@ with_validated t = option_map_or (λ staged. with_staged staged.value true t) t.
 
 -- the table once this value is its own: a version more, loaded, nothing staged
 abbrev pub with_value : List ℕ → Table → Table
-with_value value t = record t { version = t.version + 1; value = value; loaded = true; staged = None }
+with_value value t =
+    record t { version = t.version + 1; value = value; loaded = true; staged = None }
 
 -- the table of a handle changed
 abbrev pub with_table_of : State → ℕ → (Table → Table) → State
-with_table_of s handle change = option_map_or (λ t. record s { tables = with_table change t.number s.tables }) (table_of s handle) s
+with_table_of s handle change =
+    option_map_or (λ t. record s { tables = with_table change t.number s.tables })
+    (table_of s handle) s
 
 -- the table updated to this value, and all its handles to be told
 abbrev pub with_update : State → List ℕ → Table → State
@@ -222,19 +248,23 @@ with_update s value t = record s {
 -- the table of a handle updated to its staged value
 abbrev pub after_update : State → ℕ → State
 after_update s handle =
-    option_map_or (λ t. option_map_or (λ staged. with_update s staged.value t) t.staged s) (table_of s handle) s
+    option_map_or (λ t. option_map_or (λ staged. with_update s staged.value t) t.staged s)
+        (table_of s handle) s
 
 -- the table of a handle updated to its value with this range replaced
 abbrev pub after_load : State → ℕ → ℕ → List ℕ → State
-after_load s handle offset bytes = option_map_or (λ t. with_update s (with_range t.value offset bytes) t) (table_of s handle) s
+after_load s handle offset bytes =
+    option_map_or (λ t. with_update s (with_range t.value offset bytes) t) (table_of s handle) s
 
--- what an address is told with: that the table was never loaded, or else whether an update came since the last one
+-- what an address is told with: that the table was never loaded, or else whether an update came
+-- since the last one
 abbrev pub told_of : Table → Handle → Told
 told_of t h = if not t.loaded then NeverLoaded else if h.marked then Updated else Same
 
 -- the handle once its application holds this version, and knows of it
 abbrev pub with_hold : ℕ → List ℕ → Handle → Handle
-with_hold version value h = record h { marked = false; hold = Some (record { version = version; value = value }) }
+with_hold version value h =
+    record h { marked = false; hold = Some (record { version = version; value = value }) }
 
 -- the handle once it holds nothing
 abbrev pub without_hold : Handle → Handle
@@ -244,13 +274,16 @@ without_hold h = record h { hold = None }
 abbrev pub address_of : State → ℕ → TblAnswer
 address_of s handle =
     option_map_or
-    (λ h. option_map_or (λ t. answers.Address (told_of t h) t.version) (table_of s handle) (answers.Refused ErrInvalidHandle))
+    (λ h. option_map_or (λ t. answers.Address (told_of t h) t.version) (table_of s handle)
+        (answers.Refused ErrInvalidHandle))
     (handle_at s.handles handle) (answers.Refused ErrInvalidHandle)
 
 -- the handle holds the present version of its table
 abbrev pub after_address : State → ℕ → State
 after_address s handle =
-    option_map_or (λ t. record s { handles = with_handle (with_hold t.version t.value) handle s.handles }) (table_of s handle) s
+    option_map_or
+        (λ t. record s { handles = with_handle (with_hold t.version t.value) handle s.handles })
+        (table_of s handle) s
 
 -- 0 where nothing is staged, 1 where something is, 2 where it was validated
 abbrev pub staged_number : Option Staged → ℕ
@@ -268,7 +301,9 @@ figures_of s t = record {
 
 -- what is told of the table of a handle
 abbrev pub status_of : State → ℕ → TblAnswer
-status_of s handle = option_map_or (λ t. answers.State (figures_of s t)) (table_of s handle) (answers.Refused ErrInvalidHandle)
+status_of s handle =
+    option_map_or (λ t. answers.State (figures_of s t)) (table_of s handle)
+    (answers.Refused ErrInvalidHandle)
 
 -- each handle of the application is unregistered, and it has ended
 abbrev pub after_end : State → ℕ → State
@@ -277,16 +312,22 @@ after_end s app =
     record left { ended = slice_set s.ended (app - 1) true }
 
 abbrev pub accept : Limits → State → ℕ → Call → TblAnswer × State
-accept limits s app (Register name size option rules) = after_register limits s app name size option rules
+accept limits s app (Register name size option rules) =
+    after_register limits s app name size option rules
 accept limits s app (Share name) = (answers.Number (s.handles_made + 1), after_share s app name)
-accept limits s app (Unregister handle) = (answers.Done, without_handles (λ h. h.number == handle) s)
-accept limits s app (Stage handle offset bytes) = (answers.Done, with_table_of s handle (λ t. with_staged (with_range t.value offset bytes) false t))
+accept limits s app (Unregister handle) =
+    (answers.Done, without_handles (λ h. h.number == handle) s)
+accept limits s app (Stage handle offset bytes) =
+    (answers.Done, with_table_of s handle
+    (λ t. with_staged (with_range t.value offset bytes) false t))
 accept limits s app (Validate handle) = (answers.Done, with_table_of s handle with_validated)
 accept limits s app (Update handle) = (answers.Done, after_update s handle)
-accept limits s app (Abort handle) = (answers.Done, with_table_of s handle (λ t. record t { staged = None }))
+accept limits s app (Abort handle) =
+    (answers.Done, with_table_of s handle (λ t. record t { staged = None }))
 accept limits s app (Load handle offset bytes) = (answers.Done, after_load s handle offset bytes)
 accept limits s app (GetAddress handle) = (address_of s handle, after_address s handle)
-accept limits s app (ReleaseAddress handle) = (answers.Done, record s { handles = with_handle without_hold handle s.handles })
+accept limits s app (ReleaseAddress handle) =
+    (answers.Done, record s { handles = with_handle without_hold handle s.handles })
 accept limits s app (Status handle) = (status_of s handle, s)
 accept limits s app End = (answers.Done, after_end s app)
 

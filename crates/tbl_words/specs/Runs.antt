@@ -14,10 +14,14 @@ callers history = map (λ e. (e.app, e.call)) history
 abbrev pub run_from : Limits → List Entry → State → List (ℕ × Call) → List Entry × State
 run_from limits history s [] = (history, s)
 run_from limits history s (made ∷ calls) =
-    run_from limits (history ++ record { app = made.0; call = made.1; answer = (step limits s made.0 made.1).0 } ∷ [])
+    run_from limits
+        (history ++
+        record { app = made.0; call = made.1; answer = (step limits s made.0 made.1).0 } ∷ [])
     ((step limits s made.0 made.1).1) calls
 
--- the entry may follow the history: the longer history is legal, and its tables are those that the step leaves
+-- the entry may follow the history: the longer history is legal, and its tables are those that the
+-- step leaves
 pub record Follows (limits : Limits) (apps : ℕ) (history : List Entry) (e : Entry) : Type 0 where
   pub legal : IsLegal limits apps (history ++ e ∷ [])
-  pub state : state_after limits apps (history ++ e ∷ []) ≡ (step limits (state_after limits apps history) e.app e.call).1
+  pub state : state_after limits apps (history ++ e ∷ []) ≡
+      (step limits (state_after limits apps history) e.app e.call).1

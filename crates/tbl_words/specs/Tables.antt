@@ -1,5 +1,6 @@
--- The state of Table Services: tables, the handles by which applications reach them, and what the memory pool of the tables has
--- given. A value is a list of bytes, and whoever holds one has a copy: nothing here is shared, and no buffer has a place.
+-- The state of Table Services: tables, the handles by which applications reach them, and what the
+-- memory pool of the tables has given. A value is a list of bytes, and whoever holds one has a
+-- copy: nothing here is shared, and no buffer has a place.
 use Rattle.std.specs.Prelude.{ℕ, ◌-◌, ◌*◌, ◌==◌, ◌&&◌, not, Bool, true, false, List, [], length, map, find, count_by, sum_by, replicate, slice_index, slice_index_or, Option, Some, None, is_some, if◌then◌else◌}
 use Rattle.std.specs.List.{list_any}
 use Rattle.std.specs.Option.{option_map_or, option_and_then}
@@ -14,8 +15,9 @@ pub record Staged : Type 0 where
   pub value : List ℕ
   pub validated : Bool
 
--- A table. Its number is that of the handle which its registration gave, the owner's; no other handle ever gets it. As long as
--- that handle is live the table is registered and no other can have its name; it stays as long as any handle of it is live.
+-- A table. Its number is that of the handle which its registration gave, the owner's; no other
+-- handle ever gets it. As long as that handle is live the table is registered and no other can have
+-- its name; it stays as long as any handle of it is live.
 pub record Table : Type 0 where
   pub number : ℕ
   pub name : List ℕ
@@ -38,8 +40,8 @@ pub record Hold : Type 0 where
   pub version : ℕ
   pub value : List ℕ
 
--- A handle: its number, its application, the number of its table, whether its next address is to be told as updated, and the
--- version that it holds, if any.
+-- A handle: its number, its application, the number of its table, whether its next address is to be
+-- told as updated, and the version that it holds, if any.
 pub record Handle : Type 0 where
   pub number : ℕ
   pub app : ℕ
@@ -47,9 +49,10 @@ pub record Handle : Type 0 where
   pub marked : Bool
   pub hold : Option Hold
 
--- Table Services: the tables that have a handle and the live handles, both in order of number; how many handles were made; for
--- each application, from 1, whether it has ended; and of the memory pool of the tables, by block size, the greatest number of
--- blocks that were ever out at once, and how many were drawn, a count that stops at 4294967295.
+-- Table Services: the tables that have a handle and the live handles, both in order of number; how
+-- many handles were made; for each application, from 1, whether it has ended; and of the memory
+-- pool of the tables, by block size, the greatest number of blocks that were ever out at once, and
+-- how many were drawn, a count that stops at 4294967295.
 pub record State : Type 0 where
   pub tables : List Table
   pub handles : List Handle
@@ -106,7 +109,8 @@ is_other version (Some hold) = not (hold.version == version)
 
 -- whether a handle of the table holds another version of it than this one
 abbrev pub is_held_apart : List Handle → ℕ → ℕ → Bool
-is_held_apart handles table version = list_any (λ h. h.table == table && is_other version h.hold) handles
+is_held_apart handles table version =
+    list_any (λ h. h.table == table && is_other version h.hold) handles
 
 -- the handles, with the one of this number changed
 abbrev pub with_handle : (Handle → Handle) → ℕ → List Handle → List Handle
@@ -142,7 +146,8 @@ with_table change number tables = map (λ t. if t.number == number then change t
 abbrev pub is_double : Table → Bool
 is_double t = t.option == 1
 
--- how many single-buffered tables have a staged value, for each of which one shared working buffer is taken
+-- how many single-buffered tables have a staged value, for each of which one shared working buffer
+-- is taken
 abbrev pub buffers_taken : List Table → ℕ
 buffers_taken tables = count_by (λ t. not (is_double t) && is_some t.staged) tables
 
@@ -152,13 +157,15 @@ buffers_taken tables = count_by (λ t. not (is_double t) && is_some t.staged) ta
 abbrev pub blocks_for : ℕ → ℕ
 blocks_for option = if option == 1 then 2 else 1
 
--- the block size that a table of this size takes: the smallest that is large enough; 0 where there is none
+-- the block size that a table of this size takes: the smallest that is large enough; 0 where there
+-- is none
 abbrev pub block_size : List ℕ → ℕ → ℕ
 block_size sizes size = option_map_or (slice_index sizes) (class_of size sizes) 0
 
 -- how many blocks of this size the tables have
 abbrev pub blocks_out : List ℕ → List Table → ℕ → ℕ
-blocks_out sizes tables block = sum_by (λ t. if block_size sizes t.size == block then blocks_for t.option else 0) tables
+blocks_out sizes tables block =
+    sum_by (λ t. if block_size sizes t.size == block then blocks_for t.option else 0) tables
 
 -- the bytes in use: the sum of the sizes of the blocks that the tables have
 abbrev pub bytes_in_use : List ℕ → List Table → ℕ
@@ -175,6 +182,8 @@ account_of limits s = record {
   errors = 0;
 }
 
--- whether the pool can give so many blocks for a size: some block size is large enough, and so many more of the smallest such fit
+-- whether the pool can give so many blocks for a size: some block size is large enough, and so many
+-- more of the smallest such fit
 abbrev pub fits : Account → ℕ → ℕ → Bool
-fits account size count = option_map_or (λ class. has_room_for account class count) (class_of size account.sizes) false
+fits account size count =
+    option_map_or (λ class. has_room_for account class count) (class_of size account.sizes) false

@@ -6,9 +6,12 @@ use Rattle.tbl_words.specs.declared.history.Entry.{Entry}
 use Rattle.tbl_words.specs.Tables.{State, opening, bytes_in_use}
 use Rattle.tbl_words.specs.Machine.{step, state_after}
 
--- what is in use: the tables that have a handle, the live handles, and the bytes of the tables' blocks
+-- what is in use: the tables that have a handle, the live handles, and the bytes of the tables'
+-- blocks
 abbrev pub use_of : Limits → State → TblUse
-use_of limits s = record { tables = length s.tables; handles = length s.handles; bytes = bytes_in_use limits.sizes s.tables }
+use_of limits s =
+    record { tables = length s.tables; handles = length s.handles;
+    bytes = bytes_in_use limits.sizes s.tables }
 
 -- of each number the greater one
 abbrev pub greater_of : TblUse → TblUse → TblUse
@@ -33,17 +36,20 @@ peak_from limits peak s (e ∷ es) =
 
 -- the greatest numbers that were in use after any beginning of a history of so many applications
 abbrev pub peak_after : Limits → ℕ → List Entry → TblUse
-peak_after limits apps history = peak_from limits (use_of limits (opening limits apps)) (opening limits apps) history
+peak_after limits apps history =
+    peak_from limits (use_of limits (opening limits apps)) (opening limits apps) history
 
 -- one entry more: the peak is the greater of the one before and what is in use now
 abbrev pub PeaksGoOn : Type 0
 PeaksGoOn =
     (limits : Limits) (apps : ℕ) (history : List Entry) (e : Entry) →
     peak_after limits apps (history ++ e ∷ [])
-    ≡ greater_of (peak_after limits apps history) (use_of limits (state_after limits apps (history ++ e ∷ [])))
+    ≡ greater_of (peak_after limits apps history)
+        (use_of limits (state_after limits apps (history ++ e ∷ [])))
 
 -- what was in use after a beginning of a history is within its peak
 abbrev pub PeaksAreGreatest : Type 0
 PeaksAreGreatest =
     (limits : Limits) (apps : ℕ) (history more : List Entry) →
-    IsWithin (use_of limits (state_after limits apps history)) (peak_after limits apps (history ++ more))
+    IsWithin (use_of limits (state_after limits apps history))
+        (peak_after limits apps (history ++ more))

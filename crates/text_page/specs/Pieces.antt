@@ -1,4 +1,5 @@
--- How a text reaches a sink: in pieces, over a page that is written out where it is full, and not at all after a failure.
+-- How a text reaches a sink: in pieces, over a page that is written out where it is full, and not
+-- at all after a failure.
 use Rattle.std.specs.Prelude.{◌≡◌, ℕ, ◌≤◌, true, false, List, ◌++◌, Option}
 use Rattle.std.specs.Option.{option_map}
 use Rattle.fsw_base.specs.Guards.{GuardedSink}
@@ -8,8 +9,8 @@ use Rattle.fsw_base.specs.Outside.{Rose}
 abbrev pub Grew : Option (List ℕ) → Option (List ℕ) → List ℕ → Type 0
 Grew old new text = new ≡ option_map (λ before. before ++ text) old
 
--- A piece is put behind what waits: the sink takes a front of both; what is left waits, or is lost at a failure, which
--- the count of faults shows.
+-- A piece is put behind what waits: the sink takes a front of both; what is left waits, or is lost
+-- at a failure, which the count of faults shows.
 pub record GoesOn (old new : GuardedSink) (before after text : List ℕ) : Type 0 where
   pub sent : List ℕ
   pub left : List ℕ
@@ -19,7 +20,8 @@ pub record GoesOn (old new : GuardedSink) (before after text : List ℕ) : Type 
   pub cause : new.failed ≡ true → Rose old.faults new.faults
   pub never_falls : old.faults ≤ new.faults
 
--- What putting a piece does to a sink and to what waits for it; after a failure it leaves the sink as it is.
+-- What putting a piece does to a sink and to what waits for it; after a failure it leaves the sink
+-- as it is.
 pub record Puts (old new : GuardedSink) (before after text : List ℕ) : Type 0 where
   pub stays : old.failed ≡ true → new ≡ old
   pub goes : old.failed ≡ false → GoesOn old new before after text

@@ -23,7 +23,8 @@ abbrev pub name_text : List ℕ → List ℕ
 name_text [] = codes "-"
 name_text (byte ∷ bytes) = byte ∷ bytes
 
--- the texts of a list's members one after another, each made with the member's number; the first has number n
+-- the texts of a list's members one after another, each made with the member's number; the first
+-- has number n
 abbrev pub numbered : {X : Type 0} → (ℕ → X → List ℕ) → ℕ → List X → List ℕ
 numbered text n [] = []
 numbered text n (x ∷ xs) = text n x ++ numbered text (n + 1) xs

@@ -15,14 +15,16 @@ numbers zero = []
 numbers (suc n) = numbers n ++ suc n ∷ []
 
 -- Ports of the bus were made of so many of the script's applications, before any call.
-pub record IsOpen (script : ScriptText) (lock : TableId) (count : ℕ) (main : MainView) : Type 0 where
+pub record IsOpen (script : ScriptText) (lock : TableId) (count : ℕ)
+    (main : MainView) : Type 0 where
   pub lock_is : main.lock ≡ lock
   pub before : main.seen ≡ opened script
   pub made : main.apps ≡ numbers count
   pub none : main.ended ≡ []
 
 -- And of the tables.
-pub record AreOpen (script : ScriptText) (lock : TableId) (count : ℕ) (main : TablesMainView) : Type 0 where
+pub record AreOpen (script : ScriptText) (lock : TableId) (count : ℕ)
+    (main : TablesMainView) : Type 0 where
   pub lock_is : main.lock ≡ lock
   pub before : main.seen ≡ opened_tables script
   pub made : main.apps ≡ numbers count
@@ -35,8 +37,10 @@ ended_at_bus done = (done.port.app, done.port.mine)
 abbrev pub ended_at_tables : Done → ℕ × List TableEntry
 ended_at_tables done = (done.tables_port.app, done.tables_port.mine)
 
--- The ports of these were joined to the bus, each with its entries; what each had seen begins what the main part has seen now.
-pub record IsJoined (script : ScriptText) (lock : TableId) (dones : List Done) (main : MainView) : Type 0 where
+-- The ports of these were joined to the bus, each with its entries; what each had seen begins what
+-- the main part has seen now.
+pub record IsJoined (script : ScriptText) (lock : TableId) (dones : List Done)
+    (main : MainView) : Type 0 where
   pub lock_is : main.lock ≡ lock
   pub limits : main.seen.limits ≡ script.limits
   pub budgets : main.seen.log.budgets ≡ budgets_for script
@@ -45,7 +49,8 @@ pub record IsJoined (script : ScriptText) (lock : TableId) (dones : List Done) (
   pub begun : All (λ done. Begins done.port.seen main.seen) dones
 
 -- And to the tables.
-pub record AreJoined (script : ScriptText) (lock : TableId) (dones : List Done) (main : TablesMainView) : Type 0 where
+pub record AreJoined (script : ScriptText) (lock : TableId) (dones : List Done)
+    (main : TablesMainView) : Type 0 where
   pub lock_is : main.lock ≡ lock
   pub limits : main.seen.limits ≡ script.limits
   pub budgets : main.seen.log.budgets ≡ budgets_for script

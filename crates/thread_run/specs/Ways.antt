@@ -20,7 +20,8 @@ use Rattle.app_run.specs.Turns.{Stands}
 abbrev pub still_going : Equipped → Option Running
 still_going one = first_left (going one)
 
--- the services are for the script's applications, under its limits, and their histories are ones that can be
+-- the services are for the script's applications, under its limits, and their histories are ones
+-- that can be
 pub record AreForScript (script : ScriptText) (services : Services) : Type 0 where
   pub limits : services.bus.limits ≡ script.limits
   pub apps : apps_of services.bus ≡ length script.apps
@@ -28,8 +29,9 @@ pub record AreForScript (script : ScriptText) (services : Services) : Type 0 whe
   pub legal : IsLegalCore services.bus
   pub legal_tables : AreLegalTables services.tables
 
--- The application has come so far, by services as it saw them last: they know it as it is, and it has its bags; its entries so far, with
--- those that it has still to make, are those of its lines, at each of the two; and its receipts so far are what it has told.
+-- The application has come so far, by services as it saw them last: they know it as it is, and it
+-- has its bags; its entries so far, with those that it has still to make, are those of its lines,
+-- at each of the two; and its receipts so far are what it has told.
 pub record IsOnItsWay (script : ScriptText) (services : Services) (one : Equipped) : Type 0 where
   pub script_is : AreForScript script services
   pub stands : Stands one services

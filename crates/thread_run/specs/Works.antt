@@ -18,28 +18,34 @@ use Rattle.thread_run.specs.declared.works.Work.{Work}
 use Rattle.thread_run.specs.Ways.{IsOnItsWay}
 
 -- the ports are the application's, and of these two locks
-pub record AreItsPorts (bus tables : TableId) (app : ℕ) (port : PortView) (tables_port : TablesPortView) : Type 0 where
+pub record AreItsPorts (bus tables : TableId) (app : ℕ) (port : PortView)
+    (tables_port : TablesPortView) : Type 0 where
   pub bus_lock : port.lock ≡ bus
   pub tables_lock : tables_port.lock ≡ tables
   pub bus_app : port.app ≡ app
   pub tables_app : tables_port.app ≡ app
 
--- An application between two turns: the calls are its own, and it is on its way by the services as these calls saw them last.
-pub record IsBetweenTurns (script : ScriptText) (app : ℕ) (progress : Progress) (caller : Caller) : Type 0 where
+-- An application between two turns: the calls are its own, and it is on its way by the services as
+-- these calls saw them last.
+pub record IsBetweenTurns (script : ScriptText) (app : ℕ) (progress : Progress)
+    (caller : Caller) : Type 0 where
   pub some : 1 ≤ app
   pub app_is : progress.running.app ≡ app
   pub own : caller.app ≡ app
   pub way : IsOnItsWay script (services_of caller) (with_bags progress caller)
 
 -- the application may take its first turn, by its own ports
-pub record MayWork (script : ScriptText) (bus tables : TableId) (app : ℕ) (work : Work) : Type 0 where
+pub record MayWork (script : ScriptText) (bus tables : TableId) (app : ℕ)
+    (work : Work) : Type 0 where
   pub ports : AreItsPorts bus tables app work.port work.tables_port
   pub between : IsBetweenTurns script app work.runner (caller_of work.port work.tables_port)
   pub goes_on : work.runner.ended ≡ false
 
--- The application is through: its entries at each service are those of its lines, each once and in order; and whatever others did behind
--- what it has seen, its receipts are those that its lines tell.
-pub record IsDone (script : ScriptText) (bus tables : TableId) (app : ℕ) (done : Done) : Type 0 where
+-- The application is through: its entries at each service are those of its lines, each once and in
+-- order; and whatever others did behind what it has seen, its receipts are those that its lines
+-- tell.
+pub record IsDone (script : ScriptText) (bus tables : TableId) (app : ℕ)
+    (done : Done) : Type 0 where
   pub bus_lock : done.port.lock ≡ bus
   pub tables_lock : done.tables_port.lock ≡ tables
   pub bus_app : done.port.app ≡ app
@@ -49,7 +55,8 @@ pub record IsDone (script : ScriptText) (bus tables : TableId) (app : ℕ) (done
   pub told :
       (entries : Histories) →
       receipts_told script
-      (record { bus = done.port.seen.log.entries ++ entries.bus; tables = done.tables_port.seen.log.entries ++ entries.tables }) app
+      (record { bus = done.port.seen.log.entries ++ entries.bus;
+          tables = done.tables_port.seen.log.entries ++ entries.tables }) app
       ≡ done.receipts.receipts
 
 -- each of a list, by its application's number, from this one on

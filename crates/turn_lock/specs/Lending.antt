@@ -8,5 +8,10 @@ use Rattle.turn_lock.specs.contracts.turn.Turn.{the_row}
 abbrev pub with_value : {T F E : Type 0} → TurnView T F E → T → TurnView T F E
 with_value t value = record t { value = value }
 
-abbrev pub LendsValue : (T F E : RattleType) → (T.Denot → F.Denot) → (T.Denot → List (ℕ × E.Denot)) → (awaited news : T.Denot → Bool) → MutBor (TurnView T.Denot F.Denot E.Denot) → MutBor T.Denot → Fml
-LendsValue T F E fixed history awaited news s r = Lends (the_row T F E record { fixed = fixed; history = history; awaited = awaited; news = news }) T s r (with_value s.now)
+abbrev pub LendsValue : (T F E : RattleType) → (T.Denot → F.Denot) →
+    (T.Denot → List (ℕ × E.Denot)) → (awaited news : T.Denot → Bool) →
+    MutBor (TurnView T.Denot F.Denot E.Denot) → MutBor T.Denot → Fml
+LendsValue T F E fixed history awaited news s r =
+    Lends (the_row T F E
+    record { fixed = fixed; history = history; awaited = awaited; news = news }) T s r
+    (with_value s.now)

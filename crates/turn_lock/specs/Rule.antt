@@ -9,7 +9,8 @@ use Rattle.turn_lock.specs.declared.view.View.{View}
 use Rattle.turn_lock.specs.Views.{entries_of, is_live, is_served, is_main, is_there}
 
 module _ {F E : Type 0} where
-  -- what the rule says of one seat, in a lock whose value has this fixed part, where this history was published last
+  -- what the rule says of one seat, in a lock whose value has this fixed part, where this history
+  -- was published last
   pub record Fits (fixed : F) (log : List (ℕ × E)) (v : View F E) : Type 0 where
     pub opening : is_there v.stage ≡ true → v.fixed ≡ Some fixed
     pub seen : IsPrefix v.seen log
@@ -19,7 +20,8 @@ module _ {F E : Type 0} where
     pub ended : All (λ e. entries_of e.0 log ≡ e.1) v.ended
     pub alive : is_live v.stage ≡ true → All (λ e. v.app ≢ e.0) v.ended
 
-  -- what it says of two seats: not both have a turn, no application has two seats or is ended while it has one, and one seat is the main one
+  -- what it says of two seats: not both have a turn, no application has two seats or is ended while
+  -- it has one, and one seat is the main one
   pub record Differ (v w : View F E) : Type 0 where
     pub turns : is_served v.stage ≡ true → is_served w.stage ≡ true → ⊥
     pub apps : is_live v.stage ≡ true → is_live w.stage ≡ true → v.app ≢ w.app
@@ -32,14 +34,17 @@ module _ {F E : Type 0} where
   Each P views = (i : ℕ) (v : View F E) → get_elem? views i ≡ some v → P v
 
   abbrev pub AllDiffer : List (View F E) → Type 0
-  AllDiffer views = (i j : ℕ) (v w : View F E) → i ≢ j → get_elem? views i ≡ some v → get_elem? views j ≡ some w → Differ v w
+  AllDiffer views =
+      (i j : ℕ) (v w : View F E) → i ≢ j → get_elem? views i ≡ some v → get_elem? views j ≡ some w →
+      Differ v w
 
   -- the applications that a seat knows of are among these
   pub record IsAmong (apps : List ℕ) (v : View F E) : Type 0 where
     pub live : is_live v.stage ≡ true → Contains apps v.app
     pub ended : All (λ e. Contains apps e.0) v.ended
 
-  -- what the rule says of the main seat: it has split off all other seats, and no entry is of another application
+  -- what the rule says of the main seat: it has split off all other seats, and no entry is of
+  -- another application
   pub record Governs (log : List (ℕ × E)) (views : List (View F E)) (main : View F E) : Type 0 where
     pub count : length views ≡ length main.apps + 1
     pub others : (app : ℕ) → ¬ (Contains main.apps app) → entries_of app log ≡ []
@@ -53,16 +58,23 @@ module _ {F E : Type 0} where
 
   -- the value is out with one seat
   abbrev pub IsOutWithOne : List (View F E) → Type 0
-  IsOutWithOne views = (i : ℕ) × (v : View F E) × (get_elem? views i ≡ some v) × (is_served v.stage ≡ true)
+  IsOutWithOne views =
+      (i : ℕ) × (v : View F E) × (get_elem? views i ≡ some v) × (is_served v.stage ≡ true)
 
 module _ {T F E : Type 0} (fixed : T → F) (history : T → List (ℕ × E)) (opening : F) where
-  -- the value is at home, with the fixed part of the opening and just the history that was published last
+  -- the value is at home, with the fixed part of the opening and just the history that was
+  -- published last
   abbrev pub IsHome : List (ℕ × E) → List (home.Option (Option T)) → List (View F E) → Type 0
-  IsHome log homes views = (x : T) × (get_elem? homes 0 ≡ some (some (Some x))) × (history x ≡ log) × (fixed x ≡ opening) × NoneServed views
+  IsHome log homes views =
+      (x : T) × (get_elem? homes 0 ≡ some (some (Some x))) × (history x ≡ log) ×
+      (fixed x ≡ opening) × NoneServed views
 
   -- where the turn's word is 0 the value is at home, and else it is out
-  abbrev pub IsHomeOrOut : List ℕ → List (ℕ × E) → List (home.Option (Option T)) → List (View F E) → Type 0
-  IsHomeOrOut words log homes views = ((slice_index words 0 ≡ 0) × IsHome log homes views) ⊎ ((slice_index words 0 ≢ 0) × IsOutWithOne views)
+  abbrev pub IsHomeOrOut : List ℕ → List (ℕ × E) → List (home.Option (Option T)) → List (View F E) →
+      Type 0
+  IsHomeOrOut words log homes views =
+      ((slice_index words 0 ≡ 0) × IsHome log homes views) ⊎
+      ((slice_index words 0 ≢ 0) × IsOutWithOne views)
 
   -- the rule
   pub record Kept (s : State (Option T) (View F E)) : Type 0 where

@@ -9,9 +9,9 @@ pub record LockView : Type 0 where
   pub name : TableId
   pub seats : ℕ
 
--- What a seat knows: the fixed part of the value; whether it is the main seat, and otherwise its application; the history that it has
--- seen, and the entries that it made. The main seat also knows the applications that were split off, and those whose seats were
--- joined, each with its entries.
+-- What a seat knows: the fixed part of the value; whether it is the main seat, and otherwise its
+-- application; the history that it has seen, and the entries that it made. The main seat also knows
+-- the applications that were split off, and those whose seats were joined, each with its entries.
 pub record Known (F E : Type 0) : Type 0 where
   pub fixed : Option F
   pub main : Bool
@@ -21,14 +21,15 @@ pub record Known (F E : Type 0) : Type 0 where
   pub apps : List ℕ
   pub ended : List (ℕ × List (ℕ × E))
 
--- A seat: which lock it is of; what it knows, or nothing while its turn is out; and whether it left its last turn to sleep, and hasn't
--- slept since.
+-- A seat: which lock it is of; what it knows, or nothing while its turn is out; and whether it left
+-- its last turn to sleep, and hasn't slept since.
 pub record SeatView (F E : Type 0) : Type 0 where
   pub lock : TableId
   pub knows : List (Known F E)
   pub rests : Bool
 
--- A turn: which lock it is of, what its seat knows, the value as the turn found it, and as it is now.
+-- A turn: which lock it is of, what its seat knows, the value as the turn found it, and as it is
+-- now.
 pub record TurnView (T F E : Type 0) : Type 0 where
   pub lock : TableId
   pub view : Known F E
@@ -37,16 +38,21 @@ pub record TurnView (T F E : Type 0) : Type 0 where
 
 -- one of two histories begins the other, and the longer one is kept
 abbrev pub KeepsLonger : {E : Type 0} → List (ℕ × E) → List (ℕ × E) → List (ℕ × E) → Type 0
-KeepsLonger one other kept = (IsPrefix one other × (kept ≡ other)) ⊎ (IsPrefix other one × (kept ≡ one))
+KeepsLonger one other kept =
+    (IsPrefix one other × (kept ≡ other)) ⊎ (IsPrefix other one × (kept ≡ one))
 
 module _ {F E : Type 0} where
   -- the main seat of a new lock, whose value has this fixed part and this history
   abbrev pub main_view : F → List (ℕ × E) → Known F E
-  main_view fixed log = record { fixed = Some fixed; main = true; app = 0; seen = log; mine = []; apps = []; ended = [] }
+  main_view fixed log =
+      record { fixed = Some fixed; main = true; app = 0; seen = log; mine = []; apps = [];
+      ended = [] }
 
   -- a seat for an application, new from the main seat: it has seen as much, and made no entry
   abbrev pub seat_view : Known F E → ℕ → Known F E
-  seat_view main app = record { fixed = main.fixed; main = false; app = app; seen = main.seen; mine = []; apps = []; ended = [] }
+  seat_view main app =
+      record { fixed = main.fixed; main = false; app = app; seen = main.seen; mine = []; apps = [];
+      ended = [] }
 
   -- the main seat, with one application more split off
   abbrev pub with_app : Known F E → ℕ → Known F E
@@ -62,7 +68,8 @@ module _ {F E : Type 0} where
 
   -- a seat that knows nothing
   abbrev pub blank_view : Known F E
-  blank_view = record { fixed = None; main = false; app = 0; seen = []; mine = []; apps = []; ended = [] }
+  blank_view =
+      record { fixed = None; main = false; app = 0; seen = []; mine = []; apps = []; ended = [] }
 
   abbrev pub first_view : List (Known F E) → Known F E
   first_view [] = blank_view

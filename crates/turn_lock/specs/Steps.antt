@@ -14,10 +14,12 @@ pub record Grows {F E : Type 0} (v : View F E) (log : List (ℕ × E)) : Type 0 
   pub others : (app : ℕ) → app ≢ v.app → entries_of app more ≡ []
 
 module _ {T F E : Type 0} (fixed : T → F) (history : T → List (ℕ × E)) where
-  -- the turn has come, and the value is out with this seat: it has the opening's fixed part, its history extends the one seen, and of the seat's application it has just the seat's own entries
+  -- the turn has come, and the value is out with this seat: it has the opening's fixed part, its
+  -- history extends the one seen, and of the seat's application it has just the seat's own entries
   abbrev pub IsServed : Me (Option T) (View F E) → Me (Option T) (View F E) → Type 0
   IsServed before now =
-      (x : T) × (Some (fixed x) ≡ before.0.fixed) × IsPrefix before.0.seen (history x) × (entries_of before.0.app (history x) ≡ before.0.mine)
+      (x : T) × (Some (fixed x) ≡ before.0.fixed) × IsPrefix before.0.seen (history x) ×
+          (entries_of before.0.app (history x) ≡ before.0.mine)
       × (now ≡ (served_place before.0 (history x), (0, Some x) ∷ []))
 
   -- the turn was free and is the seat's, or it was not and nothing changed
@@ -29,10 +31,12 @@ module _ {T F E : Type 0} where
   abbrev pub Passes : List (ℕ × E) → Me (Option T) (View F E) → Me (Option T) (View F E) → Type 0
   Passes log before now = now ≡ (passed_place before.0 log, [])
 
-  -- of what main has seen and what the ended seat had seen one begins the other, and main keeps the longer, which has no entries of applications that main hasn't split off
+  -- of what main has seen and what the ended seat had seen one begins the other, and main keeps the
+  -- longer, which has no entries of applications that main hasn't split off
   abbrev pub Meets : Me (Option T) (View F E) → Me (Option T) (View F E) → Type 0
   Meets before now =
-      (now ≡ (record before.0 { seen = now.0.seen }, before.1)) × KeepsLonger before.0.seen before.0.joined now.0.seen
+      (now ≡ (record before.0 { seen = now.0.seen }, before.1)) ×
+          KeepsLonger before.0.seen before.0.joined now.0.seen
       × ((app : ℕ) → ¬ (Contains before.0.apps app) → entries_of app now.0.seen ≡ [])
 
 -- a place in the table stays the one that it was
@@ -41,7 +45,8 @@ pub record Stays {S V : Type 0} (before now : places.Seat S V) : Type 0 where
   pub id : now.id ≡ before.id
 
 -- the value of a closed lock has the fixed part of the opening and the history of all seats
-pub record Closes {T F E : Type 0} (fixed : T → F) (history : T → List (ℕ × E)) (main : View F E) (x : T) : Type 0 where
+pub record Closes {T F E : Type 0} (fixed : T → F) (history : T → List (ℕ × E)) (main : View F E)
+    (x : T) : Type 0 where
   pub opening : Some (fixed x) ≡ main.fixed
   pub seen : IsPrefix main.seen (history x)
   pub ended : All (λ e. entries_of e.0 (history x) ≡ e.1) main.ended

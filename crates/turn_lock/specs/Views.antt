@@ -39,11 +39,15 @@ is_there Spent = false
 module _ {F E : Type 0} where
   -- the main seat of a new lock, whose value has this fixed part and this history
   abbrev pub main_place : F → List (ℕ × E) → View F E
-  main_place fixed log = record { fixed = Some fixed; seen = log; app = 0; mine = []; stage = Main; apps = []; ended = []; joined = [] }
+  main_place fixed log =
+      record { fixed = Some fixed; seen = log; app = 0; mine = []; stage = Main; apps = [];
+      ended = []; joined = [] }
 
   -- a seat for an application, new from the main seat: it has seen as much, and made no entry
   abbrev pub seat_place : View F E → ℕ → View F E
-  seat_place main app = record { fixed = main.fixed; seen = main.seen; app = app; mine = []; stage = Away; apps = []; ended = []; joined = [] }
+  seat_place main app =
+      record { fixed = main.fixed; seen = main.seen; app = app; mine = []; stage = Away; apps = [];
+      ended = []; joined = [] }
 
   -- the main seat, with one application more split off
   abbrev pub with_seat : View F E → ℕ → View F E
@@ -53,7 +57,8 @@ module _ {F E : Type 0} where
   abbrev pub served_place : View F E → List (ℕ × E) → View F E
   served_place v log = record v { seen = log; stage = Has }
 
-  -- a seat that left its turn, with this history seen, of which its own entries are its application's
+  -- a seat that left its turn, with this history seen, of which its own entries are its
+  -- application's
   abbrev pub passed_place : View F E → List (ℕ × E) → View F E
   passed_place v log = record v { seen = log; mine = entries_of v.app log; stage = Away }
 
@@ -63,7 +68,9 @@ module _ {F E : Type 0} where
 
   -- what is left of an ended seat
   abbrev pub spent_place : View F E
-  spent_place = record { fixed = None; seen = []; app = 0; mine = []; stage = Spent; apps = []; ended = []; joined = [] }
+  spent_place =
+      record { fixed = None; seen = []; app = 0; mine = []; stage = Spent; apps = []; ended = [];
+      joined = [] }
 
   -- the seat of each application that was split off was joined
   abbrev pub AreAllBack : View F E → Type 0

@@ -30,9 +30,9 @@ pub const MOST_SEATS: u32 = 16;
 /// Contracts see which lock it is and how many seats can be split off.
 #[derive(Drop)]
 pub struct TurnLock<T: Historied> {
-    /// The words and the slot.
+    // The words and the slot.
     board: Board<T>,
-    /// How many seats can be split off.
+    // How many seats can be split off.
     seats: u32,
 }
 

@@ -24,7 +24,8 @@ IsLetGo held desc = times held.lists desc ≡ 0
 abbrev pub without : ℕ → List ℕ → List ℕ
 without desc descs = filter (λ d. not (d == desc)) descs
 
--- no descriptor is held twice, neither by one application nor by two, and each that is held is one of those that there are
+-- no descriptor is held twice, neither by one application nor by two, and each that is held is one
+-- of those that there are
 pub record AreApart (held : Held) : Type 0 where
   pub once : (desc : ℕ) → times held.lists desc ≤ 1
   pub exist : (desc : ℕ) → held.descs ≤ desc → IsLetGo held desc

@@ -23,17 +23,17 @@ use step_count::{Ledger, Steps};
 /// descriptor needs no search.
 #[derive(Drop)]
 pub struct HeldLists {
-    /// At each descriptor in a list, the one behind it; at its last one, the anchor. Behind the
-    /// descriptors stand the anchors, in order of application: at each the first of its list, or
-    /// itself.
+    // At each descriptor in a list, the one behind it; at its last one, the anchor. Behind the
+    // descriptors stand the anchors, in order of application: at each the first of its list, or
+    // itself.
     next: Links,
-    /// The same in the other direction.
+    // The same in the other direction.
     prev: Links,
-    /// How many descriptors there are.
+    // How many descriptors there are.
     descs: u32,
-    /// How many each application holds.
+    // How many each application holds.
     counts: Vec<u32>,
-    /// At each descriptor, the number of the application that holds it, or 0.
+    // At each descriptor, the number of the application that holds it, or 0.
     owners: Vec<u32>,
 }
 
