@@ -10,8 +10,13 @@ use Rattle.app_run.specs.Runners.{Progress}
 abbrev pub progress_in : Inside → Progress
 progress_in a = record {
   running =
-      record { app = a.app; begun = a.next; lines = drop a.next (app_at a.script.now a.app).lines;
-      registers = a.registers; handles = a.handles };
+      record {
+        app = a.app;
+        begun = a.next;
+        lines = drop a.next (app_at a.script.now a.app).lines;
+        registers = a.registers;
+        handles = a.handles;
+      };
   waits_on = a.waits_on;
   ended = a.ended;
   receipts = a.receipts.receipts;

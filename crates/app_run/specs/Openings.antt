@@ -17,14 +17,20 @@ budgets_for script = map (λ a. budget_of a.lines) script.apps
 -- the bus before the first call
 abbrev pub opened : ScriptText → Core
 opened script =
-    record { limits = script.limits; log = record { budgets = budgets_for script; entries = [] };
-    notes = [] }
+    record {
+      limits = script.limits;
+      log = record { budgets = budgets_for script; entries = [] };
+      notes = [];
+    }
 
 -- the tables before the first call, with the same budgets
 abbrev pub opened_tables : ScriptText → TableCore
 opened_tables script =
-    record { limits = script.limits; log = record { budgets = budgets_for script; entries = [] };
-    notes = [] }
+    record {
+      limits = script.limits;
+      log = record { budgets = budgets_for script; entries = [] };
+      notes = [];
+    }
 
 -- a bag with nothing in it, and room for so many views and buffers
 abbrev pub empty_bag : ℕ → ℕ → Holding LentBytes

@@ -24,8 +24,8 @@ use Rattle.app_calls.specs.Callers.{Caller}
 abbrev pub taken_from : Caller → ℕ → ℕ → List Receipt
 taken_from caller pipe number =
     option_to_list
-        (option_map (λ item. message_receipt pipe number item.message)
-        (own_last (state_of caller.core).pipes caller.app pipe))
+    (option_map (λ item. message_receipt pipe number item.message)
+    (own_last (state_of caller.core).pipes caller.app pipe))
 
 -- the receipts of a call that was so answered, with the bus as it is now: one where it got a
 -- message
@@ -60,14 +60,14 @@ Remember receipts s app =
 abbrev pub held_receipt : ℕ → ℕ → List ℕ → Receipt
 held_receipt handle version bytes =
     let r = table_receipt handle version bytes in Table r.handle r.version r.size r.sum_of_bytes
-        r.head
+    r.head
 
 -- the receipt of what a handle of the caller's holds, under this version
 abbrev pub held_under : Caller → ℕ → ℕ → List Receipt
 held_under caller handle version =
     option_to_list
-        (option_map (λ hold. held_receipt handle version hold.value)
-        (own_hold (tables_of caller.tables) caller.app handle))
+    (option_map (λ hold. held_receipt handle version hold.value)
+    (own_hold (tables_of caller.tables) caller.app handle))
 
 -- the receipts of a call of the tables that was so answered, with the tables as they are now: one
 -- where it gave an address

@@ -94,7 +94,7 @@ told_on Ended app lines at = []
 abbrev pub to_come : Limits → SoFar → Running → Histories → List Receipt
 to_come limits sofar running entries =
     told_on (standing_of sofar.state running.app) running.app running.lines
-        (telling_now limits sofar running entries)
+    (telling_now limits sofar running entries)
 
 -- the histories of both services, and these entries behind them
 abbrev pub histories_with : Services → Histories → Histories
@@ -110,7 +110,7 @@ HasTold script services one =
     (entries : Histories) →
     receipts_told script (histories_with services entries) one.progress.running.app
     ≡ one.progress.receipts ++
-        to_come services.bus.limits (so_far services) (running_of one) entries
+    to_come services.bus.limits (so_far services) (running_of one) entries
 
 -- the same of each application, on services for the script
 pub record AllTold (script : ScriptText) (services : Services) (all : List Equipped) : Type 0 where
@@ -140,7 +140,7 @@ pub record AreTurned (i : ℕ) (before : Services) (first : List Equipped) (afte
   pub stand : AllStand after all
   pub turns :
       (let rest = rotated before.bus.limits (so_far after) (all_going (drop i all)) in
-          (rest.0, all_going (take i all) ++ rest.1))
+      (rest.0, all_going (take i all) ++ rest.1))
       ≡ rotated before.bus.limits (so_far before) (all_going first)
   pub told : (script : ScriptText) → AllTold script before first → AllTold script after all
   pub count : length all ≡ length first

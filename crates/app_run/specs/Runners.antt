@@ -46,8 +46,13 @@ pub record Progress : Type 0 where
 abbrev pub beginning : ScriptText → ℕ → Progress
 beginning script app = record {
   running =
-      record { app = app; begun = 0; lines = (app_at script app).lines; registers = first_registers;
-      handles = first_handles };
+      record {
+        app = app;
+        begun = 0;
+        lines = (app_at script app).lines;
+        registers = first_registers;
+        handles = first_handles;
+      };
   waits_on = None;
   ended = false;
   receipts = [];

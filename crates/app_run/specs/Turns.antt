@@ -46,7 +46,7 @@ other_tells limits sofar running line None =
     shown running.app sofar.state sofar.tables running.registers running.handles line
 other_tells limits sofar running line (Some call) =
     addressed_in running.app (after_table_call limits sofar running.app call).tables call
-        (table_answer_to limits sofar running.app call)
+    (table_answer_to limits sofar running.app call)
 
 -- a line: what its call of the bus got, or what it tells otherwise
 abbrev pub line_tells : Limits → SoFar → Running → Line → Option Call → List Receipt
@@ -54,7 +54,7 @@ line_tells limits sofar running line None =
     other_tells limits sofar running line (table_call_of running.handles line)
 line_tells limits sofar running line (Some call) =
     got_in running.app (after_call limits sofar running.app call).state call
-        (answer_to limits sofar running.app call)
+    (answer_to limits sofar running.app call)
 
 -- the next line; the end tells nothing
 abbrev pub active_tells : Limits → SoFar → Running → List Line → List Receipt
@@ -80,7 +80,7 @@ tells limits sofar running = tells_in limits sofar running (standing_of sofar.st
 abbrev pub entries_to_come : Progress → ℕ
 entries_to_come progress =
     if progress.ended then 0
-        else entries_due progress.running.lines + (if is_some progress.waits_on then 1 else 0)
+    else entries_due progress.running.lines + (if is_some progress.waits_on then 1 else 0)
 
 -- The bus knows the application as it is, and has room for all that it may still do, as its bag has
 -- for the buffers; the application's receipts tell which messages it received last; and no message

@@ -85,7 +85,7 @@ after_app s words = app_of words >>= λ name.
     if list_any (λ app. is_same app.name name) (apps_of s) then Err Repeated
     else (if nat_le 16 (length (apps_of s)) then Err TooManyApps
     else Ok (record s
-        { started = true; done = apps_of s; present = record { name = name; lines = [] } }))
+    { started = true; done = apps_of s; present = record { name = name; lines = [] } }))
 
 -- ---- call lines
 
@@ -123,14 +123,14 @@ unfoldable pub after_words : Progress → List Word → List ℕ → Result Prog
 after_words s [] rest = Ok s
 after_words s (first ∷ words) rest =
     if starts_with (λ a b. a == b) first (codes "#") then Ok s
-        else after_known s (form_of first) rest
+    else after_known s (form_of first) rest
 
 -- a line: skipped where it has no word or begins with a hash sign
 unfoldable pub after_line : Progress → List ℕ → Result Progress FaultKind
 after_line s line =
     if nat_lt 1024 (length line) then Err LineTooLong
     else (if list_all is_text line then after_words s (words_of line) (behind_word line)
-        else Err BadByte)
+    else Err BadByte)
 
 -- a fault of the line with this number
 abbrev pub at_line : {A : Type 0} → ℕ → Result A FaultKind → Result A ScriptFault
@@ -158,7 +158,7 @@ unfoldable pub progress_of : List ℕ → Result Progress ScriptFault
 progress_of bytes =
     if nat_lt 1048576 (length bytes) then Err (whole_fault TooLarge)
     else (after_lines 1 opening (lines_of bytes) >=>
-        λ s. if s.started then Ok s else Err (whole_fault NoApp))
+    λ s. if s.started then Ok s else Err (whole_fault NoApp))
 
 -- The script that the bytes are, or the first fault.
 unfoldable pub grammar : List ℕ → Result ScriptText ScriptFault

@@ -53,7 +53,7 @@ abbrev pub are_new_settings : List Setting → List Setting → Bool
 are_new_settings before [] = true
 are_new_settings before (setting ∷ settings) =
     not (list_any (λ other. is_same_setting other setting) before) &&
-        are_new_settings (before ++ setting ∷ []) settings
+    are_new_settings (before ++ setting ∷ []) settings
 
 -- ---- a whole script
 

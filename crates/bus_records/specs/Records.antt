@@ -27,9 +27,10 @@ no_recordings = record { events = new_desk; statistics = no_statistics }
 -- one more on the counter of a name
 abbrev pub counter_ticked : Recordings → CounterName → Recordings
 counter_ticked records name =
-    record records
-        { statistics = record records.statistics
-        { counts = ticked records.statistics.counts name } }
+    record records {
+      statistics = record records.statistics
+          { counts = ticked records.statistics.counts name };
+    }
 
 -- each peak rises to what is in use, where that is more
 abbrev pub peaks_raised : Recordings → InUse → Recordings

@@ -72,7 +72,7 @@ is_look call = false
 abbrev pub Adds : ℕ → Holding LentBytes → Holding LentBytes → Result ℕ SbStatus → Type 0
 Adds size old new told =
     IfOk told (λ number. bytes_at new number ≡ replicate size 0) ×
-        IfOk told (KeepsBuffers old new) × (length new.buffers ≤ length old.buffers + 1)
+    IfOk told (KeepsBuffers old new) × (length new.buffers ≤ length old.buffers + 1)
     × (new ≡ record old { buffers = new.buffers }) × OnErr told (new ≡ old)
 
 -- a buffer leaves the bag, or the bag is as it was; the others have their bytes
@@ -126,8 +126,11 @@ pub record Begins (one other : Core) : Type 0 where
 -- this core, with the history of that one
 abbrev pub with_history : Core → Core → Core
 with_history core other =
-    record { limits = core.limits;
-    log = record { budgets = core.log.budgets; entries = other.log.entries }; notes = other.notes }
+    record {
+      limits = core.limits;
+      log = record { budgets = core.log.budgets; entries = other.log.entries };
+      notes = other.notes;
+    }
 
 -- one of the two histories begins the other, and the longer one is kept
 abbrev pub KeepsLongerOf : Core → Core → Core → Type 0

@@ -54,9 +54,12 @@ shape_of block = record { desc = block.desc; size = block.size; asked = length b
 abbrev pub buffer_due : List (List Buffer) → List BufferDesc → List ℕ → ℕ → ℕ → Option Shape
 buffer_due unsent descs sizes app number =
     option_map
-        (λ buffer.
-        record { desc = desc_of descs number; size = size_for sizes buffer.size;
-        asked = buffer.size }) (unsent_at unsent app number)
+    (λ buffer.
+    record {
+      desc = desc_of descs number;
+      size = size_for sizes buffer.size;
+      asked = buffer.size;
+    }) (unsent_at unsent app number)
 
 -- the bag of an application, which are numbered from 1, has the blocks of its unsent buffers, and
 -- no others

@@ -216,14 +216,14 @@ abbrev pub let_go : Buffers → Option ItemRow → Buffers
 let_go buffers None = buffers
 let_go buffers (Some item) =
     after_drop
-        (resealed buffers item.desc
-        (record (sealed_at buffers.slots item.desc)
-        { views = (sealed_at buffers.slots item.desc).views - 1 })) item.desc
+    (resealed buffers item.desc
+    (record (sealed_at buffers.slots item.desc)
+    { views = (sealed_at buffers.slots item.desc).views - 1 })) item.desc
 
 -- one more view of an item is out
 abbrev pub shown : Buffers → Option ItemRow → Buffers
 shown buffers None = buffers
 shown buffers (Some item) =
     resealed buffers item.desc
-        (record (sealed_at buffers.slots item.desc)
-        { views = (sealed_at buffers.slots item.desc).views + 1 })
+    (record (sealed_at buffers.slots item.desc)
+    { views = (sealed_at buffers.slots item.desc).views + 1 })

@@ -34,7 +34,7 @@ module _ {item : Type 0} where
   misses_by offer sub pipes =
       option_map_or (λ cause. record { pipe = sub.pipe; cause = cause } ∷ [])
       (option_and_then (λ pipe. cause_of (verdict offer.subscription_of pipe sub offer.sender))
-          (pipe_at pipes sub.pipe)) []
+      (pipe_at pipes sub.pipe)) []
 
   -- these pipes, in order of the subscriptions, each as its turn comes
   abbrev pub misses_of : Offer item → List Subscription → List (PipeOf item) → List Miss
@@ -47,9 +47,9 @@ module _ {item : Type 0} where
   abbrev pub drops_by : Offer item → Subscription → List (PipeOf item) → List item
   drops_by offer sub pipes =
       option_to_list
-          (option_and_then
-          (λ pipe. dropped_at (verdict offer.subscription_of pipe sub offer.sender) pipe.queue)
-          (pipe_at pipes sub.pipe))
+      (option_and_then
+      (λ pipe. dropped_at (verdict offer.subscription_of pipe sub offer.sender) pipe.queue)
+      (pipe_at pipes sub.pipe))
 
   -- the items that leave, in order of the subscriptions, each as its turn comes
   abbrev pub dropped_of : Offer item → List Subscription → List (PipeOf item) → List item

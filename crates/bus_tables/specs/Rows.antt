@@ -29,8 +29,11 @@ item_of message sub =
 -- a message, as pipes are offered it
 abbrev pub offer_of : Message → Offer ItemRow
 offer_of message =
-    record { sender = message.sender; subscription_of = λ item. item.subscription;
-    item_for = item_of message }
+    record {
+      sender = message.sender;
+      subscription_of = λ item. item.subscription;
+      item_for = item_of message;
+    }
 
 -- the verdict on a message of this sender for the subscription
 abbrev pub verdict_on : Row → Subscription → ℕ → Verdict
@@ -100,7 +103,7 @@ abbrev pub counted_on : List RouteRow → ℕ → List RouteRow
 counted_on [] id = []
 counted_on (route ∷ routes) id =
     if route.id == id then record route { counted = (route.counted + 1) % 16384 } ∷ routes
-        else route ∷ counted_on routes id
+    else route ∷ counted_on routes id
 
 -- the routes with one for the id
 abbrev pub with_route : List RouteRow → ℕ → List RouteRow

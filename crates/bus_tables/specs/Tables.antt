@@ -36,5 +36,11 @@ room_for limits = record {
 -- nothing was created yet
 abbrev pub opened : Limits → Tables
 opened limits =
-    record { pipes = []; pipes_created = 0; subscriptions = []; subscriptions_made = 0; routes = [];
-    room = room_for limits }
+    record {
+      pipes = [];
+      pipes_created = 0;
+      subscriptions = [];
+      subscriptions_made = 0;
+      routes = [];
+      room = room_for limits;
+    }

@@ -67,9 +67,10 @@ sub_alone a id limit =
 abbrev pub sent_alone : Alone → ℕ → ℕ → ℕ → List ℕ → Alone
 sent_alone a sender id number message =
     option_map_or
-        (λ sub. record a
-        { pipe = offered (record { sender = sender; number = number; asked = 0; message = message })
-        sub a.pipe }) (own_subscription a id) a
+    (λ sub. record a {
+      pipe = offered (record { sender = sender; number = number; asked = 0; message = message })
+          sub a.pipe;
+    }) (own_subscription a id) a
 
 -- what an input does
 abbrev pub input_alone : Alone → Input → Alone
@@ -149,16 +150,16 @@ inputs_of limits history s p e = of_call e.call e.answer
     of_call (Unsubscribe id pipe) Done = if_on p pipe (Unsub id)
     of_call (Transmit bytes inc) (Sent number reached) =
         if nat_le 1 number && was_made s p
-            then Send e.app (message_id bytes) number (delivered limits history bytes inc) ∷ []
-            else []
+        then Send e.app (message_id bytes) number (delivered limits history bytes inc) ∷ []
+        else []
     of_call Housekeeping (Sent number reached) =
         if nat_le 1 number && was_made s p
-            then Send e.app housekeeping_id number
-            (delivered limits history (packet_in limits s) true) ∷ [] else []
+        then Send e.app housekeeping_id number
+        (delivered limits history (packet_in limits s) true) ∷ [] else []
     of_call (TransmitBuffer buf bytes inc) (Sent number reached) =
         if nat_le 1 number && was_made s p
-            then Send e.app (message_id bytes) number
-            (delivered limits history (front_of bytes) inc) ∷ [] else []
+        then Send e.app (message_id bytes) number
+        (delivered limits history (front_of bytes) inc) ∷ [] else []
     of_call (Receive pipe) answer = if takes answer then if_on p pipe Take else []
     of_call (Pend pipe) answer = if takes answer then if_on p pipe Take else []
     of_call (Look pipe) answer = if takes answer then if_on p pipe Take else []
@@ -170,7 +171,7 @@ abbrev pub cut_from : Limits → List Entry → State → ℕ → List Entry →
 cut_from limits history s p [] = []
 cut_from limits history s p (e ∷ es) =
     inputs_of limits history s p e ++
-        cut_from limits (history ++ e ∷ []) ((step limits history s e.app e.call).1) p es
+    cut_from limits (history ++ e ∷ []) ((step limits history s e.app e.call).1) p es
 
 -- what a history of so many applications is to pipe p, from the entry on that made it
 abbrev pub cut : Limits → ℕ → ℕ → List Entry → List Input

@@ -145,14 +145,21 @@ pub record Sending : Type 0 where
 -- the item that a subscription queues
 abbrev pub item_for : Sending → Subscription → Item
 item_for sending sub =
-    record { number = sending.number; asked = sending.asked; subscription = sub.number;
-    message = sending.message }
+    record {
+      number = sending.number;
+      asked = sending.asked;
+      subscription = sub.number;
+      message = sending.message;
+    }
 
 -- what is sent, as pipes are offered it
 abbrev pub offer_of : Sending → Offer Item
 offer_of sending =
-    record { sender = sending.sender; subscription_of = λ item. item.subscription;
-    item_for = item_for sending }
+    record {
+      sender = sending.sender;
+      subscription_of = λ item. item.subscription;
+      item_for = item_for sending;
+    }
 
 -- how many messages of a subscription are queued in the pipe
 abbrev pub waiting_of : Pipe → ℕ → ℕ

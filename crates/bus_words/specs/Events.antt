@@ -42,15 +42,15 @@ verdict_events Full id pipe sender = PipeOverflow id pipe sender ∷ []
 abbrev pub destination_events : ℕ → Sending → Subscription → List Pipe → List ServiceEvent
 destination_events id sending sub pipes =
     option_map_or
-        (λ pipe. verdict_events (verdict pipe sub sending.sender) id sub.pipe sending.sender)
-        (pipe_at pipes sub.pipe) []
+    (λ pipe. verdict_events (verdict pipe sub sending.sender) id sub.pipe sending.sender)
+    (pipe_at pipes sub.pipe) []
 
 -- what is told of these destinations, in order, each as its turn comes
 abbrev pub delivery_events : ℕ → Sending → List Subscription → List Pipe → List ServiceEvent
 delivery_events id sending [] pipes = []
 delivery_events id sending (sub ∷ subs) pipes =
     destination_events id sending sub pipes ++
-        delivery_events id sending subs (with_pipe (offered sending sub) sub.pipe pipes)
+    delivery_events id sending subs (with_pipe (offered sending sub) sub.pipe pipes)
 
 -- what is told of a send of this id that isn't refused: that nobody subscribes to the id, or which
 -- pipes miss the message or dropped their oldest one for it
@@ -94,7 +94,7 @@ call_events limits reads s app (TransmitBuffer buf bytes inc) answer =
     unless_refused answer (sent_events s (message_id bytes) (sending_in reads s app buf bytes inc))
 call_events limits reads s app Housekeeping answer =
     unless_refused answer
-        (sent_events s housekeeping_id (sending_from reads s app (packet_in limits s) true))
+    (sent_events s housekeeping_id (sending_from reads s app (packet_in limits s) true))
 call_events limits reads s app call answer = []
 
 -- what the bus tells of an entry's call

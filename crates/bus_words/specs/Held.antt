@@ -63,7 +63,7 @@ size_in unsent number =
 abbrev pub asked_of : List Pipe → List (List Buffer) → ℕ → ℕ
 asked_of pipes unsent number =
     option_map_or (λ item. item.asked) (find (λ item. item.number == number) (items_of pipes))
-        (size_in unsent number)
+    (size_in unsent number)
 
 -- Blocks. --
 
@@ -81,7 +81,7 @@ each_below f (suc n) = f 0 ∷ each_below (λ i. f (suc i)) n
 abbrev pub blocks_held : List ℕ → List Pipe → List (List Buffer) → ℕ → List ℕ
 blocks_held sizes pipes unsent given =
     each_below (λ class. count_by (has_class pipes unsent sizes class) (held pipes unsent given))
-        (length sizes)
+    (length sizes)
 
 -- the size of the block for a number that is held; 0 where no size is large enough
 abbrev pub block_of : List ℕ → List Pipe → List (List Buffer) → ℕ → ℕ

@@ -43,8 +43,11 @@ call_in rows.End text = End
 -- the entry of a row
 abbrev pub entry_in : Stored Row → Entry
 entry_in stored =
-    record { app = stored.app; call = call_in stored.row.call stored.text;
-    answer = stored.row.answer }
+    record {
+      app = stored.app;
+      call = call_in stored.row.call stored.text;
+      answer = stored.row.answer;
+    }
 
 -- the entries of the rows
 abbrev pub entries_in : List (Stored Row) → List Entry

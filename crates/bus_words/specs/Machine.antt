@@ -64,8 +64,8 @@ refused_if test status others = if test then Some status else others
 abbrev pub create_cause : Limits → State → ℕ → List ℕ → Option SbStatus
 create_cause limits s depth name =
     refused_if
-        (depth == 0 || nat_lt limits.depth depth || length name == 0 || nat_lt 19 (length name))
-        BadArgument
+    (depth == 0 || nat_lt limits.depth depth || length name == 0 || nat_lt 19 (length name))
+    BadArgument
     (refused_if (nat_le limits.pipes (length s.pipes)) MaxPipesMet
     (refused_if (is_named s.pipes name) PipeCrErr None))
 
@@ -94,7 +94,7 @@ subscribe_cause limits s app id pipe =
     refused_if (not (is_valid_id id) || not (owns s.pipes app pipe)) BadArgument
     (if is_subscribed s.subscriptions id pipe then None
     else refused_if (not (has_route s.routed id) && nat_le limits.msgids (length s.routed))
-        MaxMsgsMet
+    MaxMsgsMet
     (refused_if (nat_le limits.dests (length (route s.subscriptions id))) MaxDestsMet None))
 
 -- where no message may have the id, or the pipe isn't a live one of the application's own
@@ -235,8 +235,13 @@ subscribed s id pipe limit scope = (
       else (record s {
         subscriptions =
             s.subscriptions ++
-            record { number = s.subscriptions_made + 1; id = id; pipe = pipe; limit = limit;
-            scope = scope } ∷ [];
+            record {
+              number = s.subscriptions_made + 1;
+              id = id;
+              pipe = pipe;
+              limit = limit;
+              scope = scope;
+            } ∷ [];
         subscriptions_made = s.subscriptions_made + 1;
         routed = (if has_route s.routed id then s.routed else s.routed ++ id ∷ []);
       })),
@@ -245,8 +250,10 @@ subscribed s id pipe limit scope = (
 -- the live subscription of the pair leaves, if there is one
 abbrev pub unsubscribed : State → ℕ → ℕ → State
 unsubscribed s id pipe =
-    record s { subscriptions = filter (λ sub. not (sub.id == id && sub.pipe == pipe))
-    s.subscriptions }
+    record s {
+      subscriptions = filter (λ sub. not (sub.id == id && sub.pipe == pipe))
+          s.subscriptions;
+    }
 
 -- without a live subscription of its id a message goes nowhere, and takes no number and no block
 abbrev pub sent_along : Limits → List Subscription → Sending → State → BusAnswer × State
@@ -265,7 +272,7 @@ sent_along limits (sub ∷ subs) sending s = (
 abbrev pub transmitted : Reads → Limits → State → ℕ → List ℕ → Bool → BusAnswer × State
 transmitted reads limits s app bytes inc =
     sent_along limits (route s.subscriptions (message_id bytes))
-        (sending_from reads s app bytes inc) s
+    (sending_from reads s app bytes inc) s
 
 -- a buffer, whose number is one more than were given; its block is drawn
 abbrev pub allocated : Limits → State → ℕ → ℕ → BusAnswer × State
@@ -287,15 +294,17 @@ buffer_gone s app buf = record s { unsent = without_unsent s.unsent app buf }
 -- subscription of its id it goes nowhere
 abbrev pub passed_along : List Subscription → Sending → State → BusAnswer × State
 passed_along [] sending s = (Sent 0 0, s)
-passed_along (sub ∷ subs) sending s =
-    (Sent sending.number (reached sending (sub ∷ subs) s.pipes), record s
-        { pipes = deliver sending (sub ∷ subs) s.pipes })
+passed_along (sub ∷ subs) sending s = (
+  Sent sending.number (reached sending (sub ∷ subs) s.pipes),
+  record s
+      { pipes = deliver sending (sub ∷ subs) s.pipes },
+)
 
 -- the buffer leaves, and the message that its bytes begin with is sent
 abbrev pub buffer_transmitted : Reads → State → ℕ → ℕ → List ℕ → Bool → BusAnswer × State
 buffer_transmitted reads s app buf bytes inc =
     passed_along (route s.subscriptions (message_id bytes)) (sending_in reads s app buf bytes inc)
-        (buffer_gone s app buf)
+    (buffer_gone s app buf)
 
 -- the number of the oldest message that is queued on the pipe
 abbrev pub oldest_number : List Pipe → ℕ → ℕ
@@ -319,7 +328,7 @@ pended_answer s app pipe =
 abbrev pub pended : State → ℕ → ℕ → State
 pended s app pipe =
     if is_empty s.pipes pipe && not (others_idle s app)
-        then with_standing (received s pipe) app (Waiting pipe)
+    then with_standing (received s pipe) app (Waiting pipe)
     else received s pipe
 
 -- the bus after a look: as after a receive, with the application active again; as before where it
@@ -418,8 +427,12 @@ decided limits history s app call why =
 -- a call so answered at its moment
 abbrev pub moment_of : Reads → State → ℕ → Call → BusAnswer × State → Moment
 moment_of reads s app call made =
-    record { reads = reads; before = s; entry = record { app = app; call = call; answer = made.0 };
-    after = made.1 }
+    record {
+      reads = reads;
+      before = s;
+      entry = record { app = app; call = call; answer = made.0 };
+      after = made.1;
+    }
 
 -- what a call so answered leaves, refused or not, with what the event desk is told and what is
 -- counted
@@ -497,7 +510,7 @@ moments_from limits history s [] = []
 moments_from limits history s (e ∷ es) =
     let after = (step limits history s e.app e.call).1 in
     record { reads = reads_after limits history; before = s; entry = e; after = after } ∷
-        moments_from limits (history ++ e ∷ []) after es
+    moments_from limits (history ++ e ∷ []) after es
 
 -- the entries of a history of so many applications, each at its moment
 abbrev pub moments : Limits → ℕ → List Entry → List Moment

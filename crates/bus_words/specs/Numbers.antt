@@ -37,6 +37,6 @@ NumbersInOrder =
 abbrev pub NumbersAreNew : Type 0
 NumbersAreNew =
     (limits : Limits) (apps : ℕ) (history : List Entry) (e : Entry) →
-        IsLegal limits apps (history ++ e ∷ []) →
+    IsLegal limits apps (history ++ e ∷ []) →
     All (λ number. All (λ before. before < number) (numbers_in history))
-        (number_given e.call e.answer)
+    (number_given e.call e.answer)

@@ -115,8 +115,15 @@ module _ {item : Type 0} where
   -- a pipe on which nothing waits
   abbrev pub new_pipe : ℕ → List ℕ → ℕ → ℕ → PipeOf item
   new_pipe number name owner depth =
-      record { number = number; name = name; owner = owner; depth = depth; bits = 0; queue = [];
-      last = None }
+      record {
+        number = number;
+        name = name;
+        owner = owner;
+        depth = depth;
+        bits = 0;
+        queue = [];
+        last = None;
+      }
 
   -- the pipe with these option bits
   abbrev pub with_bits : ℕ → PipeOf item → PipeOf item
@@ -208,8 +215,8 @@ module _ {item : Type 0} where
   abbrev pub counted_by : (Verdict → Bool) → Offer item → Subscription → List (PipeOf item) → ℕ
   counted_by test offer sub pipes =
       option_map_or
-          (λ pipe. if test (verdict offer.subscription_of pipe sub offer.sender) then 1 else 0)
-          (pipe_at pipes sub.pipe) 0
+      (λ pipe. if test (verdict offer.subscription_of pipe sub offer.sender) then 1 else 0)
+      (pipe_at pipes sub.pipe) 0
 
   -- how many of these subscriptions have such a verdict, each as its turn comes
   abbrev pub verdicts_of : (Verdict → Bool) → Offer item → List Subscription →
@@ -217,7 +224,7 @@ module _ {item : Type 0} where
   verdicts_of test offer [] pipes = 0
   verdicts_of test offer (sub ∷ subs) pipes =
       counted_by test offer sub pipes +
-          verdicts_of test offer subs (with_pipe (offered offer sub) sub.pipe pipes)
+      verdicts_of test offer subs (with_pipe (offered offer sub) sub.pipe pipes)
 
   -- how many of these subscriptions have the verdict In or Oldest, each as its turn comes
   abbrev pub reached : Offer item → List Subscription → List (PipeOf item) → ℕ

@@ -12,13 +12,13 @@ use Rattle.bus_words.specs.Bus.{State, owns, pipe_at}
 abbrev pub message_receipt : ℕ → ℕ → List ℕ → Receipt
 message_receipt pipe number message =
     Message pipe number (message_id message) (message_count message) (length message) (sum message)
-        (take HEAD_BYTES message)
+    (take HEAD_BYTES message)
 
 -- the receipt of the last message of an application's pipe, where the pipe is live and has one
 abbrev pub receipt_in : State → ℕ → ℕ → Option Receipt
 receipt_in s app pipe =
     if owns s.pipes app pipe
     then option_and_then
-        (λ found. option_map (λ item. message_receipt pipe item.number item.message) found.last)
-        (pipe_at s.pipes pipe)
+    (λ found. option_map (λ item. message_receipt pipe item.number item.message) found.last)
+    (pipe_at s.pipes pipe)
     else None

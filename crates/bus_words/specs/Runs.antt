@@ -19,9 +19,12 @@ abbrev pub stepped : Limits → List Entry → State → List (ℕ × Call) → 
 stepped limits history s [] = (history, s)
 stepped limits history s (made ∷ calls) =
     stepped limits
-        (history ++
-        record { app = made.0; call = made.1;
-        answer = (step limits history s made.0 made.1).0 } ∷ [])
+    (history ++
+    record {
+      app = made.0;
+      call = made.1;
+      answer = (step limits history s made.0 made.1).0;
+    } ∷ [])
     ((step limits history s made.0 made.1).1) calls
 
 -- the entry may follow the history: the longer history is legal, and its bus is the one that the

@@ -20,8 +20,12 @@ stamped reads bytes inc = if inc then with_count bytes (reads.next (message_id b
 -- the message's own
 abbrev pub sending_from : Reads → State → ℕ → List ℕ → Bool → Sending
 sending_from reads s app bytes inc =
-    record { sender = app; number = s.numbers_given + 1; asked = length bytes;
-    message = stamped reads bytes inc }
+    record {
+      sender = app;
+      number = s.numbers_given + 1;
+      asked = length bytes;
+      message = stamped reads bytes inc;
+    }
 
 -- the message that a buffer's bytes begin with: as many of them as its header says (CCSDS 133.0-B,
 -- 4.1.3.5)
@@ -32,8 +36,12 @@ front_of bytes = take (message_size bytes) bytes
 -- size first asked for is the buffer's
 abbrev pub sending_in : Reads → State → ℕ → ℕ → List ℕ → Bool → Sending
 sending_in reads s app buf bytes inc =
-    record { sender = app; number = buf; asked = unsent_size s.unsent app buf;
-        message = stamped reads (front_of bytes) inc }
+    record {
+      sender = app;
+      number = buf;
+      asked = unsent_size s.unsent app buf;
+      message = stamped reads (front_of bytes) inc;
+    }
 
 -- the housekeeping packet: the counters and what is in use, as they are before the call that sends
 -- it

@@ -41,8 +41,12 @@ message_size bytes = data_length bytes + 7
 -- the four fields that a reader of the header answers
 abbrev pub header_of : List ℕ → Header
 header_of bytes =
-    record { id = message_id bytes; flags = message_flags bytes; count = message_count bytes;
-        size = message_size bytes }
+    record {
+      id = message_id bytes;
+      flags = message_flags bytes;
+      count = message_count bytes;
+      size = message_size bytes;
+    }
 
 -- a valid message id is 1 to 0x1FFF, so that the version number is 0
 abbrev pub is_valid_id : ℕ → Bool

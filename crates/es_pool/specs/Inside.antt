@@ -9,8 +9,14 @@ use Rattle.es_pool.specs.declared.plain.PlainPool.TheInside as plain
 -- what a pool is
 abbrev pub state_of : pool.Inside → PoolState
 state_of a =
-    record { bytes = a.bytes; most = a.most; sizes = a.sizes; blocks = a.blocks.items;
-    requests = a.requests; errors = a.errors }
+    record {
+      bytes = a.bytes;
+      most = a.most;
+      sizes = a.sizes;
+      blocks = a.blocks.items;
+      requests = a.requests;
+      errors = a.errors;
+    }
 
 -- the count of the blocks that are out, and all else that a pool keeps beside its blocks
 pub record AreKept (a : pool.Inside) : Type 0 where
@@ -20,8 +26,14 @@ pub record AreKept (a : pool.Inside) : Type 0 where
 -- what a plain pool is
 abbrev pub account_of : plain.Inside → Account
 account_of a =
-    record { bytes = a.bytes; sizes = a.sizes; made = a.made.items; out = a.out.items;
-    requests = a.requests; errors = a.errors }
+    record {
+      bytes = a.bytes;
+      sizes = a.sizes;
+      made = a.made.items;
+      out = a.out.items;
+      requests = a.requests;
+      errors = a.errors;
+    }
 
 abbrev pub AreBalanced : plain.Inside → Type 0
 AreBalanced a = IsBalanced (account_of a)

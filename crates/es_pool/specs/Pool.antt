@@ -47,7 +47,7 @@ fits_class pool class count =
     nat_le
     (used_by pool.sizes pool.blocks
     + (slice_index pool.sizes class + overhead) *
-        (out_in pool.blocks class + count - made_in pool.blocks class))
+    (out_in pool.blocks class + count - made_in pool.blocks class))
     pool.bytes
 
 -- so many blocks for a size can be drawn: some block size is large enough, and that many of the
@@ -72,17 +72,19 @@ pub data Draws (old new : PoolState) (class number : ℕ) : Type 0 where
   Reuses :
       number < length old.blocks
       → slice_index_or old.blocks number (record { class = class; out = true }) ≡
-          record { class = class; out = false }
-      → new ≡ record old
-          { blocks = slice_set old.blocks number (record { class = class; out = true });
-          requests = counted old.requests }
+      record { class = class; out = false }
+      → new ≡ record old {
+        blocks = slice_set old.blocks number (record { class = class; out = true });
+        requests = counted old.requests;
+      }
       → Draws old new class number
   Cuts :
       free_in old.blocks class ≡ 0
       → number ≡ length old.blocks
-      → new ≡ record old
-          { blocks = old.blocks ++ record { class = class; out = true } ∷ [];
-          requests = counted old.requests }
+      → new ≡ record old {
+        blocks = old.blocks ++ record { class = class; out = true } ∷ [];
+        requests = counted old.requests;
+      }
       → Draws old new class number
 
 -- a draw for a size is one of the smallest class that is large enough

@@ -26,6 +26,6 @@ abbrev pub LeadTo : PoolState → Account → List PoolCall → PoolState → Ac
 LeadTo old account [] new after = (new ≡ old) × (after ≡ account)
 LeadTo old account (call ∷ calls) new after =
     (next : PoolState) ×
-        ((between : Account) ×
-        (Leaves old call next ×
-        ((between ≡ after_call old account call) × LeadTo next between calls new after)))
+    ((between : Account) ×
+    (Leaves old call next ×
+    ((between ≡ after_call old account call) × LeadTo next between calls new after)))

@@ -8,7 +8,7 @@ abbrev pub are_rising_from : ℕ → List ℕ → Bool
 are_rising_from least [] = true
 are_rising_from least (size ∷ sizes) =
     nat_le least size && (size % 8 == 0) && nat_le size MAX_BLOCK_SIZE &&
-        are_rising_from (size + 1) sizes
+    are_rising_from (size + 1) sizes
 
 -- one size or more, not too many, and rising
 abbrev pub are_block_sizes : List ℕ → Bool
@@ -19,7 +19,7 @@ are_block_sizes sizes =
 abbrev pub usual_sizes : List ℕ
 usual_sizes =
     8 ∷ 16 ∷ 32 ∷ 48 ∷ 64 ∷ 96 ∷ 128 ∷ 160 ∷ 256 ∷ 512 ∷ 1024 ∷ 2048 ∷ 4096 ∷ 8192 ∷ 16384 ∷ 32768 ∷
-        80000 ∷ []
+    80000 ∷ []
 
 -- the place of the first size that is large enough; sizes rise, so it is the smallest such size
 abbrev pub class_of : ℕ → List ℕ → Option ℕ

@@ -25,8 +25,15 @@ pub record Desk : Type 0 where
 -- a new desk: none of the 16 applications is registered, nothing is logged or counted
 abbrev pub new_desk : Desk
 new_desk =
-    record { registrations = replicate 16 None; log = empty_log; sent = 0; filtered = 0; cut = 0;
-    refused = 0; lost = 0 }
+    record {
+      registrations = replicate 16 None;
+      log = empty_log;
+      sent = 0;
+      filtered = 0;
+      cut = 0;
+      refused = 0;
+      lost = 0;
+    }
 
 -- one more, short of the last value of a count
 abbrev pub one_more : ℕ → ℕ
@@ -111,7 +118,7 @@ reset desk app id = by_filters (filters_of desk app)
     by_filters None = refused_once desk
     by_filters (Some filters) =
         if has_filter filters id then with_filters desk app (Some (restarted filters id))
-            else refused_once desk
+        else refused_once desk
 
 -- what a full log drops from now on; the lines stay
 abbrev pub with_mode : Desk → ℕ → Desk

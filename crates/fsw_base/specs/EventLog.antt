@@ -37,5 +37,5 @@ is_full log = length log.lines == 20
 abbrev pub kept : Log → Line → Log
 kept log line =
     if is_full log
-        then (if log.mode == 0 then record log { lines = drop 1 log.lines ++ line ∷ [] } else log)
+    then (if log.mode == 0 then record log { lines = drop 1 log.lines ++ line ∷ [] } else log)
     else (record log { lines = log.lines ++ line ∷ [] })

@@ -38,22 +38,22 @@ abbrev pub read_answer : Supply → ℕ → ReadAnswer
 read_answer s room =
     if is_listed (counted s.calls) s.fails then Failed
     else (if min s.piece (min room (length s.left)) == 0 then End
-        else (Got (min s.piece (min room (length s.left)))))
+    else (Got (min s.piece (min room (length s.left)))))
 
 -- what a read leaves
 abbrev pub after_read : Supply → ℕ → Supply
 after_read s room =
     if is_listed (counted s.calls) s.fails
-        then record s { calls = counted s.calls; faults = counted s.faults }
+    then record s { calls = counted s.calls; faults = counted s.faults }
     else (record s
-        { calls = counted s.calls; left = drop (min s.piece (min room (length s.left))) s.left })
+    { calls = counted s.calls; left = drop (min s.piece (min room (length s.left))) s.left })
 
 -- a listed call and one that finds no room fail; else it takes as much as a piece, the bytes given
 -- and the room allow
 abbrev pub write_answer : Store → ℕ → WriteAnswer
 write_answer s given =
     if is_listed (counted s.calls) s.fails || (min s.piece (min given s.room) == 0)
-        then writes.Failed
+    then writes.Failed
     else (writes.Took (min s.piece (min given s.room)))
 
 -- what a write leaves

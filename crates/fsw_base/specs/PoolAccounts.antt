@@ -39,7 +39,7 @@ has_room_for account class count =
     nat_le
     (cost_of account.made account.sizes
     + (slice_index account.sizes class + overhead) *
-        (slice_index account.out class + count - slice_index account.made class))
+    (slice_index account.out class + count - slice_index account.made class))
     account.bytes
 
 -- a block for a size fits: some block size is large enough, and one more of the smallest such size

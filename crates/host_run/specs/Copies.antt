@@ -31,7 +31,7 @@ no_copies budgets pairs = record { told = true; copies = []; room = pairs; budge
 abbrev pub has_room : List Allowance → ℕ → ℕ → Bool
 has_room left app bytes =
     nat_le app (length left) && nat_le 1 (allowance_of left app).entries &&
-        nat_le bytes (allowance_of left app).bytes
+    nat_le bytes (allowance_of left app).bytes
 
 -- each entry of the bus, after those before it, is within its application's budget
 abbrev pub fits : List Allowance → List Entry → Bool
@@ -44,7 +44,7 @@ abbrev pub table_fits : List Allowance → List TableEntry → Bool
 table_fits left [] = true
 table_fits left (e ∷ history) =
     has_room left e.app (table_call_bytes e.call) &&
-        table_fits (charged left e.app (table_call_bytes e.call)) history
+    table_fits (charged left e.app (table_call_bytes e.call)) history
 
 -- both histories are within these budgets, each by itself
 unfoldable pub are_within : List Budget → Histories → Bool
@@ -55,15 +55,15 @@ are_within budgets histories =
 abbrev pub CopiesEntry : Log → Log → List Entry → ℕ → Bool → Type 0
 CopiesEntry old new history i done =
     (e : Entry) → slice_get history i ≡ Some e →
-        (done ≡ has_room (left_of old) e.app (call_bytes e.call)) ×
-        (done ≡ true → new ≡ with_entry old e)
+    (done ≡ has_room (left_of old) e.app (call_bytes e.call)) ×
+    (done ≡ true → new ≡ with_entry old e)
 
 -- the tables' entry at a place, the same
 abbrev pub CopiesTableEntry : TableLog → TableLog → List TableEntry → ℕ → Bool → Type 0
 CopiesTableEntry old new history i done =
     (e : TableEntry) → slice_get history i ≡ Some e →
     (done ≡ has_room (table_left_of old) e.app (table_call_bytes e.call)) ×
-        (done ≡ true → new ≡ with_table_entry old e)
+    (done ≡ true → new ≡ with_table_entry old e)
 
 -- histories within the budgets are copied if there is room for one more run; else nothing is shown
 -- from now on

@@ -61,7 +61,7 @@ report script histories =
     report_text histories.bus histories.tables
     (map (receipts_told script histories) (range_with_len 1 (length script.apps)))
     (figures_after script.limits (length script.apps) histories.bus)
-        (table_figures_shown script.limits (length script.apps) histories.tables)
+    (table_figures_shown script.limits (length script.apps) histories.tables)
 
 -- the end of this report, from its line `counters` on
 abbrev pub report_ending : ScriptText → Histories → List ℕ
@@ -148,7 +148,7 @@ pub record ReportsFront (old new : Made) (histories : Histories) (text : List �
 abbrev pub EndsTelling : HostStatus → HostStatus → Made → Made → List ℕ → Type 0
 EndsTelling wanted result old new text =
     ((result ≡ wanted) × Tells old new text) ⊎
-        ((result ≡ status.WriteFault) × TellsFront old new text)
+    ((result ≡ status.WriteFault) × TellsFront old new text)
 
 -- the histories that a run of a script leaves: in rotation those of its rotation; on threads,
 -- whatever the interleaving, ones that both services can have and that merge the calls of its
@@ -161,13 +161,13 @@ IsLeftBy way.OnThreads script histories = IsRunOf script histories
 abbrev pub ReportsRun : Way → Part → ScriptText → Made → Made → Type 0
 ReportsRun how part script old new =
     (histories : Histories) × IsLeftBy how script histories ×
-        Reports old new histories (report_part part script histories)
+    Reports old new histories (report_part part script histories)
 
 -- the same, but that a front of the report was written, since the sink failed
 abbrev pub ReportsRunFront : Way → Part → ScriptText → Made → Made → Type 0
 ReportsRunFront how part script old new =
     (histories : Histories) × IsLeftBy how script histories ×
-        ReportsFront old new histories (report_part part script histories)
+    ReportsFront old new histories (report_part part script histories)
 
 -- what was made of a script that was run in a way, and of which this much is reported, by how it
 -- ended

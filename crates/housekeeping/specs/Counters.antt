@@ -32,8 +32,19 @@ pub record Counts : Type 0 where
 -- nothing was counted yet
 abbrev pub no_counts : Counts
 no_counts =
-    record { nosub = 0; send = 0; recv = 0; create = 0; sub = 0; opts = 0; find = 0; dup = 0;
-    limit = 0; overflow = 0; oldest = 0 }
+    record {
+      nosub = 0;
+      send = 0;
+      recv = 0;
+      create = 0;
+      sub = 0;
+      opts = 0;
+      find = 0;
+      dup = 0;
+      limit = 0;
+      overflow = 0;
+      oldest = 0;
+    }
 
 -- what the counter of a name shows
 abbrev pub count_of : Counts → CounterName → ℕ

@@ -16,7 +16,7 @@ housekeeping_id = 0x0803
 abbrev pub counts_told : Counts → List ℕ
 counts_told counts =
     counts.nosub ∷ counts.send ∷ counts.recv ∷ counts.create ∷ counts.sub ∷ counts.opts ∷
-        counts.find ∷ counts.dup ∷ counts.limit ∷ counts.overflow ∷ []
+    counts.find ∷ counts.dup ∷ counts.limit ∷ counts.overflow ∷ []
 
 -- the numbers in use that the packet has, in their order; it does not tell how many buffers are in
 -- use
@@ -28,4 +28,4 @@ uses_told now = now.msgids ∷ now.pipes ∷ now.subs ∷ now.bytes ∷ []
 unfoldable pub housekeeping_packet : Counts → InUse → List ℕ
 housekeeping_packet counts now =
     header_bytes housekeeping_id 0 64 ++ flat_map (big_bytes 4) (counts_told counts) ++
-        flat_map (big_bytes 4) (uses_told now) ++ 0 ∷ 0 ∷ []
+    flat_map (big_bytes 4) (uses_told now) ++ 0 ∷ 0 ∷ []

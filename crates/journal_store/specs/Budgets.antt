@@ -30,8 +30,10 @@ pub record HasRoom (left : List Allowance) (app bytes : ℕ) : Type 0 where
 abbrev pub charged : List Allowance → ℕ → ℕ → List Allowance
 charged left app bytes =
     slice_set left (app - 1)
-        (record { entries = (allowance_of left app).entries - 1;
-        bytes = (allowance_of left app).bytes - bytes })
+    (record {
+      entries = (allowance_of left app).entries - 1;
+      bytes = (allowance_of left app).bytes - bytes;
+    })
 
 -- What an entry takes: of which application, and its bytes.
 pub record Charge : Type 0 where

@@ -9,8 +9,11 @@ use Rattle.journal_store.specs.Store.{Stored, charge_of}
 -- a row with its bytes
 abbrev pub stored_of : {R : Type 0} → List ℕ → KeptRow R → Stored R
 stored_of bytes kept =
-    record { app = kept.app; row = kept.row;
-    text = slice_range bytes kept.start (kept.start + kept.len) }
+    record {
+      app = kept.app;
+      row = kept.row;
+      text = slice_range bytes kept.start (kept.start + kept.len);
+    }
 
 -- the rows with their bytes
 abbrev pub stored_in : {R : Type 0} → List ℕ → List (KeptRow R) → List (Stored R)

@@ -101,7 +101,7 @@ line_words Housekeeping = codes "hk" ∷ []
 line_words Figures = codes "stats" ∷ []
 line_words (TableRegister handle name size option rules) =
     codes "treg" ∷ table_word handle ∷ name_text name ∷ decimal size ∷ decimal option ∷
-        map rule_text rules
+    map rule_text rules
 line_words (TableShare handle name) = codes "tshare" ∷ table_word handle ∷ name_text name ∷ []
 line_words (TableUnregister handle) = codes "tunreg" ∷ table_word handle ∷ []
 line_words (Stage handle offset content) =

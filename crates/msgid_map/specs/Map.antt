@@ -13,4 +13,4 @@ pub record IdRoutes : Type 0 where
 abbrev pub routes_code : Coded IdRoutes
 routes_code =
     code_by (map.FinMap nat_cmp ℕ × ℕ) (coded× (map.code coded_ℕ coded_ℕ) coded_ℕ)
-        (λ r. (r.routes, r.room)) (λ p. record { routes = p.0; room = p.1 }) (λ _. refl)
+    (λ r. (r.routes, r.room)) (λ p. record { routes = p.0; room = p.1 }) (λ _. refl)

@@ -26,8 +26,14 @@ pub record PoolGrants : Type 0 where
 -- an account of which nothing was made
 abbrev pub new_account : List ℕ → ℕ → Account
 new_account sizes bytes =
-    record { bytes = bytes; sizes = sizes; made = replicate (length sizes) 0;
-    out = replicate (length sizes) 0; requests = 0; errors = 0 }
+    record {
+      bytes = bytes;
+      sizes = sizes;
+      made = replicate (length sizes) 0;
+      out = replicate (length sizes) 0;
+      requests = 0;
+      errors = 0;
+    }
 
 -- a pool of so many bytes that gave no grant
 abbrev pub new_pool : List ℕ → ℕ → PoolGrants
@@ -94,7 +100,7 @@ after_put pool number =
 abbrev pub put_answer : PoolGrants → ℕ → Result Unit EsStatus
 put_answer pool number =
     if not (was_given pool number) then Err BufferNotInPool
-        else (if not (is_among pool.out number) then Err PoolBlockInvalid else Ok tt)
+    else (if not (is_among pool.out number) then Err PoolBlockInvalid else Ok tt)
 
 -- the account once an application's grants came back
 abbrev pub account_without : ℕ → Account → List Grant → Account
@@ -105,8 +111,11 @@ account_without app account (grant ∷ out) =
 -- an application's end: all its grants come back
 abbrev pub after_end : ℕ → PoolGrants → PoolGrants
 after_end app pool =
-    record { account = account_without app pool.account pool.out; given = pool.given;
-    out = of_others app pool.out }
+    record {
+      account = account_without app pool.account pool.out;
+      given = pool.given;
+      out = of_others app pool.out;
+    }
 
 -- the figures of a pool: its bytes, the blocks drawn, the returns refused and the bytes never cut
 abbrev pub figures_of : PoolGrants → PoolStats

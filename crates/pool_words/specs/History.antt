@@ -83,8 +83,8 @@ told_put pool number =
 abbrev pub told_put_answer : ToldPool → ℕ → Result Unit EsStatus
 told_put_answer pool number =
     if not (nat_le 1 number && nat_le number (length pool.grants)) then Err BufferNotInPool
-        else (if not (list_any (is_out_under number) pool.grants) then Err PoolBlockInvalid
-        else Ok tt)
+    else (if not (list_any (is_out_under number) pool.grants) then Err PoolBlockInvalid
+    else Ok tt)
 
 -- the account once an application's grants that are out came back
 abbrev pub told_account : ℕ → Account → List ToldGrant → Account
@@ -96,8 +96,10 @@ told_account app account (grant ∷ grants) =
 -- an application's end
 abbrev pub told_end : ℕ → ToldPool → ToldPool
 told_end app pool =
-    record { account = told_account app pool.account pool.grants;
-    grants = map (back_from app) pool.grants }
+    record {
+      account = told_account app pool.account pool.grants;
+      grants = map (back_from app) pool.grants;
+    }
 
 -- whether a pool of this number was created
 abbrev pub is_told : ToldPools → ℕ → Bool

@@ -68,5 +68,5 @@ abbrev pub CountsGoByCalls : Type 0
 CountsGoByCalls =
     ((id : ℕ) → HasGiven (fresh_route id) 0)
     × ((starts : List (ℕ × ℕ)) (route : Route) (calls : ℕ) → HasGiven route calls →
-        next_of starts route ≡ (start_of starts route.id + calls + 1) % 16384)
+    next_of starts route ≡ (start_of starts route.id + calls + 1) % 16384)
     × ((route : Route) (calls : ℕ) → HasGiven route calls → HasGiven (counted_on route) (calls + 1))

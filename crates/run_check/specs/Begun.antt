@@ -50,4 +50,4 @@ pub record AreBegunTables (script : ScriptText) (history : List TableEntry) : Ty
 abbrev pub AreWholeTables : ScriptText → List TableEntry → Type 0
 AreWholeTables script history =
     (app : ℕ) → 1 ≤ app → app ≤ length script.apps →
-        AreAllTablesOf script app (own_table_entries app history)
+    AreAllTablesOf script app (own_table_entries app history)

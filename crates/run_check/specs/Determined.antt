@@ -14,7 +14,7 @@ abbrev pub ReportsTellRuns : Type 0
 ReportsTellRuns =
     (script : ScriptText) (one other : Histories) → IsScript script →
     IsRunOf script one → IsRunOf script other → report script one ≡ report script other →
-        one ≡ other
+    one ≡ other
 
 -- behind a history of the bus that is under way, an application has one next entry at the most
 abbrev pub NextEntriesAreOne : Type 0
@@ -27,4 +27,4 @@ abbrev pub NextTableEntriesAreOne : Type 0
 NextTableEntriesAreOne =
     (script : ScriptText) (history : List TableEntry) (e f : TableEntry) →
     AreBegunTables script (history ++ e ∷ []) → AreBegunTables script (history ++ f ∷ []) →
-        e.app ≡ f.app → e ≡ f
+    e.app ≡ f.app → e ≡ f

@@ -25,7 +25,7 @@ EndsLine text = (line : List ℕ) × (text ≡ line ++ 10 ∷ [])
 abbrev pub IsForced : ScriptText → List ℕ → List ℕ → Type 0
 IsForced script bytes text =
     (opening front others rest : List ℕ) → Beginning script opening → opening ≡ front ++ others →
-        bytes ≡ front ++ rest → EndsLine front →
+    bytes ≡ front ++ rest → EndsLine front →
     (more : List ℕ) × (text ≡ front ++ more)
 
 -- some run begins with this text
@@ -37,5 +37,5 @@ IsReached script text =
 abbrev pub WrongLinesAreFirst : Type 0
 WrongLinesAreFirst =
     (script : ScriptText) (bytes text : List ℕ) → IsForced script bytes text →
-        IsReached script text →
+    IsReached script text →
     IsFirstWrong script bytes (wrong_line bytes text)

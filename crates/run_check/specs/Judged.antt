@@ -36,53 +36,53 @@ pub data IsJudged (script : ScriptText) (bytes : List ℕ) (verdict : Verdict) :
   -- the lines of a history of the bus are followed by no line of any entry that may come next
   NobodysEntry :
       (history : List Entry) (rest : List ℕ) → IsBegun script history → ¬ IsWhole script history →
-          bytes ≡ bus_part script history ++ rest →
+      bytes ≡ bus_part script history ++ rest →
       ((e : Entry) → IsBegun script (history ++ e ∷ []) →
-          ¬ Begins rest (entry_head (length history + 1) e.app)) →
+      ¬ Begins rest (entry_head (length history + 1) e.app)) →
       verdict ≡ No (wrong_line bytes (bus_part script history)) → IsJudged script bytes verdict
   -- they are followed by a line that begins with an application's number, and isn't the line of
   -- this application's next entry
   WrongEntry :
       (history : List Entry) (e : Entry) (rest : List ℕ) → IsBegun script (history ++ e ∷ []) →
-          bytes ≡ bus_part script history ++ rest →
+      bytes ≡ bus_part script history ++ rest →
       Begins rest (entry_head (length history + 1) e.app) →
-          ¬ Begins rest (entry_text (length history + 1) e) →
+      ¬ Begins rest (entry_text (length history + 1) e) →
       verdict ≡ No (wrong_line bytes (bus_part script (history ++ e ∷ []))) →
-          IsJudged script bytes verdict
+      IsJudged script bytes verdict
   -- no entry of the bus is missing, and the heading of the tables doesn't follow
   NoTables :
       (history : List Entry) (rest : List ℕ) → IsBegun script history → IsWhole script history →
-          bytes ≡ bus_part script history ++ rest →
+      bytes ≡ bus_part script history ++ rest →
       ¬ Begins rest (codes "tables\n") →
-          verdict ≡ No (wrong_line bytes (bus_part script history ++ codes "tables\n")) →
-          IsJudged script bytes verdict
+      verdict ≡ No (wrong_line bytes (bus_part script history ++ codes "tables\n")) →
+      IsJudged script bytes verdict
   -- the same of the tables, where no entry of the bus is missing
   NobodysTableEntry :
       (histories : Histories) (rest : List ℕ) → IsBegun script histories.bus →
-          IsWhole script histories.bus →
+      IsWhole script histories.bus →
       AreBegunTables script histories.tables → ¬ AreWholeTables script histories.tables →
-          bytes ≡ entries_part script histories ++ rest →
+      bytes ≡ entries_part script histories ++ rest →
       ((e : TableEntry) → AreBegunTables script (histories.tables ++ e ∷ []) →
-          ¬ Begins rest (entry_head (length histories.tables + 1) e.app)) →
+      ¬ Begins rest (entry_head (length histories.tables + 1) e.app)) →
       verdict ≡ No (wrong_line bytes (entries_part script histories)) →
-          IsJudged script bytes verdict
+      IsJudged script bytes verdict
   WrongTableEntry :
       (histories : Histories) (e : TableEntry) (rest : List ℕ) → IsBegun script histories.bus →
-          IsWhole script histories.bus →
+      IsWhole script histories.bus →
       AreBegunTables script (histories.tables ++ e ∷ []) →
-          bytes ≡ entries_part script histories ++ rest →
+      bytes ≡ entries_part script histories ++ rest →
       Begins rest (entry_head (length histories.tables + 1) e.app) →
-          ¬ Begins rest (table_entry_text (length histories.tables + 1) e) →
+      ¬ Begins rest (table_entry_text (length histories.tables + 1) e) →
       verdict ≡
-          No (wrong_line bytes
-          (entries_part script (record histories { tables = histories.tables ++ e ∷ [] }))) →
-          IsJudged script bytes verdict
+      No (wrong_line bytes
+      (entries_part script (record histories { tables = histories.tables ++ e ∷ [] }))) →
+      IsJudged script bytes verdict
   -- no entry is missing, and what follows isn't the rest of the report
   WrongEnd :
       (histories : Histories) (rest : List ℕ) → IsRunOf script histories →
-          bytes ≡ entries_part script histories ++ rest →
+      bytes ≡ entries_part script histories ++ rest →
       ¬ (bytes ≡ report script histories) →
-          verdict ≡ No (wrong_line bytes (report script histories)) → IsJudged script bytes verdict
+      verdict ≡ No (wrong_line bytes (report script histories)) → IsJudged script bytes verdict
   -- they are the report of a run
   Right : (histories : Histories) → IsRunOf script histories → bytes ≡ report script histories →
       verdict ≡ Yes → IsJudged script bytes verdict
@@ -91,4 +91,4 @@ pub data IsJudged (script : ScriptText) (bytes : List ℕ) (verdict : Verdict) :
 abbrev pub JudgedIsAnswered : Type 0
 JudgedIsAnswered =
     (script : ScriptText) (bytes : List ℕ) (verdict : Verdict) → IsScript script →
-        IsJudged script bytes verdict → IsAnswer script bytes verdict
+    IsJudged script bytes verdict → IsAnswer script bytes verdict

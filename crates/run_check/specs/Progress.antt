@@ -44,7 +44,7 @@ standing_then call answer = Active
 abbrev pub behind_line : Running → Line → List Line → Call → BusAnswer → Running
 behind_line running line lines call answer =
     behind running lines (registers_after running.registers line answer)
-        (written_after running.written call answer)
+    (written_after running.written call answer)
 
 -- the bus can have the entry next
 pub record IsAnswered (script : ScriptText) (history : List Entry) (e : Entry) : Type 0 where
@@ -62,19 +62,19 @@ pub record IsAnswered (script : ScriptText) (history : List Entry) (e : Entry) :
 abbrev pub NextCallsAreKnown : Type 0
 NextCallsAreKnown =
     (script : ScriptText) (history : List Entry) (e : Entry) (standing : Standing)
-        (left : Option Running) (call : Call) →
+    (left : Option Running) (call : Call) →
     IsAt script e.app (own_entries e.app history) standing left →
-        next_call standing left ≡ Some call →
+    next_call standing left ≡ Some call →
     IsBegun script (history ++ e ∷ []) → (e.call ≡ call) × IsAnswered script history e
 
 -- And each entry with that call which the bus can have may come next.
 abbrev pub NextCallsMayCome : Type 0
 NextCallsMayCome =
     (script : ScriptText) (history : List Entry) (e : Entry) (standing : Standing)
-        (left : Option Running) →
+    (left : Option Running) →
     IsBegun script history → 1 ≤ e.app → e.app ≤ length script.apps →
     IsAt script e.app (own_entries e.app history) standing left →
-        next_call standing left ≡ Some e.call →
+    next_call standing left ≡ Some e.call →
     IsAnswered script history e → IsBegun script (history ++ e ∷ [])
 
 -- How an application goes on: before its first line, past a line that the bus doesn't see, behind a
@@ -84,21 +84,25 @@ pub record ProgressGoesOn (script : ScriptText) (app : ℕ) : Type 0 where
   pub first :
       (handles : List ℕ) →
       IsAt script app [] Active
-          (Some (record
-          { app = app; lines = (app_at script app).lines; registers = first_registers;
-          handles = handles; written = first_written }))
+      (Some (record {
+        app = app;
+        lines = (app_at script app).lines;
+        registers = first_registers;
+        handles = handles;
+        written = first_written;
+      }))
   pub silent :
       (own : List Entry) (r : Running) (line : Line) (lines : List Line) → r.lines ≡ line ∷ lines →
-          call_of r.registers r.written line ≡ None →
+      call_of r.registers r.written line ≡ None →
       IsAt script app own Active (Some r) →
-          IsAt script app own Active
-          (Some (behind r lines r.registers (written_by r.written r.registers.buffers line)))
+      IsAt script app own Active
+      (Some (behind r lines r.registers (written_by r.written r.registers.buffers line)))
   pub line :
       (own : List Entry) (r : Running) (line : Line) (lines : List Line) (e : Entry) →
-          r.lines ≡ line ∷ lines → call_of r.registers r.written line ≡ Some e.call →
+      r.lines ≡ line ∷ lines → call_of r.registers r.written line ≡ Some e.call →
       IsAt script app own Active (Some r) →
-          IsAt script app (own ++ e ∷ []) (standing_then e.call e.answer)
-          (Some (behind_line r line lines e.call e.answer))
+      IsAt script app (own ++ e ∷ []) (standing_then e.call e.answer)
+      (Some (behind_line r line lines e.call e.answer))
   pub look :
       (own : List Entry) (r : Running) (pipe : ℕ) (e : Entry) → e.call ≡ calls.Look pipe →
       IsAt script app own (Waiting pipe) (Some r) → IsAt script app (own ++ e ∷ []) Active (Some r)

@@ -42,7 +42,7 @@ abbrev pub NextTableCallsAreKnown : Type 0
 NextTableCallsAreKnown =
     (script : ScriptText) (history : List Entry) (e : Entry) (left : Option Running) (call : Call) →
     IsAtTables script e.app (own_table_entries e.app history) left →
-        next_table_call left ≡ Some call →
+    next_table_call left ≡ Some call →
     AreBegunTables script (history ++ e ∷ []) → (e.call ≡ call) × IsTableAnswered script history e
 
 -- and each entry with that call which the tables can have may come next
@@ -51,7 +51,7 @@ NextTableCallsMayCome =
     (script : ScriptText) (history : List Entry) (e : Entry) (left : Option Running) →
     AreBegunTables script history → 1 ≤ e.app → e.app ≤ length script.apps →
     IsAtTables script e.app (own_table_entries e.app history) left →
-        next_table_call left ≡ Some e.call →
+    next_table_call left ≡ Some e.call →
     IsTableAnswered script history e → AreBegunTables script (history ++ e ∷ [])
 
 -- how an application goes on: before its first line, past a line that the tables don't see, behind
@@ -61,20 +61,24 @@ pub record TableProgressGoesOn (script : ScriptText) (app : ℕ) : Type 0 where
   pub first :
       (registers : Registers) (written : Written) →
       IsAtTables script app []
-          (Some (record
-          { app = app; lines = (app_at script app).lines; registers = registers;
-          handles = first_handles; written = written }))
+      (Some (record {
+        app = app;
+        lines = (app_at script app).lines;
+        registers = registers;
+        handles = first_handles;
+        written = written;
+      }))
   pub unseen :
       (own : List Entry) (r : Running) (line : Line) (lines : List Line) → r.lines ≡ line ∷ lines →
-          table_call_of r.handles line ≡ None →
+      table_call_of r.handles line ≡ None →
       IsAtTables script app own (Some r) →
-          IsAtTables script app own (Some (behind_table r lines r.handles))
+      IsAtTables script app own (Some (behind_table r lines r.handles))
   pub line :
       (own : List Entry) (r : Running) (line : Line) (lines : List Line) (e : Entry) →
-          r.lines ≡ line ∷ lines → table_call_of r.handles line ≡ Some e.call →
+      r.lines ≡ line ∷ lines → table_call_of r.handles line ≡ Some e.call →
       IsAtTables script app own (Some r) →
-          IsAtTables script app (own ++ e ∷ [])
-          (Some (behind_table r lines (handles_after r.handles line e.answer)))
+      IsAtTables script app (own ++ e ∷ [])
+      (Some (behind_table r lines (handles_after r.handles line e.answer)))
   pub end :
       (own : List Entry) (r : Running) (e : Entry) → r.lines ≡ [] → e.call ≡ calls.End →
       IsAtTables script app own (Some r) → IsAtTables script app (own ++ e ∷ []) None

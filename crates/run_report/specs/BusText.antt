@@ -33,18 +33,18 @@ call_text (Find name) = codes "find " ++ name_text name
 call_text (PipeName pipe) = codes "pname " ++ decimal pipe
 call_text (Subscribe id pipe limit scope) =
     codes "sub " ++ hex_id id ++ codes " " ++ decimal pipe ++ codes " " ++ decimal limit ++
-        codes " " ++ scope_text scope
+    codes " " ++ scope_text scope
 call_text (Unsubscribe id pipe) = codes "unsub " ++ hex_id id ++ codes " " ++ decimal pipe
 call_text (Transmit bytes inc) =
     codes "send " ++ decimal (length bytes) ++ codes " " ++ decimal (sum bytes) ++ codes " " ++
-        mode_text inc
+    mode_text inc
 call_text (Receive pipe) = codes "recv " ++ decimal pipe
 call_text (Pend pipe) = codes "pend " ++ decimal pipe
 call_text (Look pipe) = codes "look " ++ decimal pipe
 call_text (Allocate size) = codes "alloc " ++ decimal size
 call_text (TransmitBuffer buf bytes inc) =
     codes "xmit " ++ decimal buf ++ codes " " ++ decimal (length bytes) ++ codes " " ++
-        decimal (sum bytes) ++ codes " " ++ mode_text inc
+    decimal (sum bytes) ++ codes " " ++ mode_text inc
 call_text (Release buf) = codes "release " ++ decimal buf
 call_text (PoolCreate bytes) = codes "pool " ++ decimal bytes
 call_text (PoolGet pool size) = codes "pget " ++ decimal pool ++ codes " " ++ decimal size
@@ -53,7 +53,7 @@ call_text (PoolFigures pool) = codes "pstats " ++ decimal pool
 call_text (Register filters) = codes "evreg " ++ decimal (length filters)
 call_text (SendEvent id kind text) =
     codes "event " ++ decimal id ++ codes " " ++ decimal (kind_number kind) ++ codes " " ++
-        decimal (length text)
+    decimal (length text)
 call_text (ResetFilter id) = codes "evreset " ++ decimal id
 call_text (LogMode mode) = codes "logmode " ++ decimal mode
 call_text ClearLog = codes "logclear"
@@ -66,14 +66,14 @@ call_text End = codes "end"
 abbrev pub figures_text : PoolStats → List ℕ
 figures_text figures =
     decimal figures.size ++ codes " " ++ decimal figures.requests ++ codes " " ++
-        decimal figures.errors ++ codes " " ++ decimal figures.free
+    decimal figures.errors ++ codes " " ++ decimal figures.free
 
 -- the figures of the bus: messages that nobody was subscribed to, that a limit kept from a pipe and
 -- that a full pipe kept out, the buffers in use and their bytes
 abbrev pub stats_text : BusStats → List ℕ
 stats_text stats =
     decimal stats.nosub ++ codes " " ++ decimal stats.limit ++ codes " " ++
-        decimal stats.overflow ++ codes " " ++ decimal stats.buffers
+    decimal stats.overflow ++ codes " " ++ decimal stats.buffers
     ++ codes " " ++ decimal stats.bytes
 
 -- an answer: the numbers or the name that it tells, that no message came or none is there yet, or
@@ -97,7 +97,7 @@ answer_text (Evs status) = evs_name status
 abbrev pub entry_text : ℕ → Entry → List ℕ
 entry_text n e =
     decimal n ++ codes " a" ++ decimal e.app ++ codes " " ++ call_text e.call ++ codes " -> " ++
-        answer_text e.answer ++ codes "\n"
+    answer_text e.answer ++ codes "\n"
 
 -- the lines of a history, whose entries are numbered from 1
 abbrev pub entries_text : List Entry → List ℕ

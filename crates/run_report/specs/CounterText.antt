@@ -49,20 +49,20 @@ oldest_text version counts = if version == 2 then field_text (codes "oldest") co
 abbrev pub counts_text : ℕ → Counts → List ℕ
 counts_text version counts =
     codes "bus" ++ field_text (codes "nosub") counts.nosub ++
-        field_text (codes "send") counts.send ++ field_text (codes "recv") counts.recv
+    field_text (codes "send") counts.send ++ field_text (codes "recv") counts.recv
     ++ field_text (codes "create") counts.create ++ field_text (codes "sub") counts.sub ++
-        field_text (codes "opts") counts.opts
+    field_text (codes "opts") counts.opts
     ++ field_text (codes "find") counts.find ++ field_text (codes "dup") counts.dup ++
-        field_text (codes "limit") counts.limit
+    field_text (codes "limit") counts.limit
     ++ field_text (codes "overflow") counts.overflow ++ oldest_text version counts ++ codes "\n"
 
 -- the five numbers in use, with their peaks
 abbrev pub uses_text : InUse → InUse → List ℕ
 uses_text now peak =
     codes "use" ++ use_text (codes "msgids") now.msgids peak.msgids ++
-        use_text (codes "pipes") now.pipes peak.pipes
+    use_text (codes "pipes") now.pipes peak.pipes
     ++ use_text (codes "subs") now.subs peak.subs ++
-        use_text (codes "buffers") now.buffers peak.buffers
+    use_text (codes "buffers") now.buffers peak.buffers
     ++ use_text (codes "bytes") now.bytes peak.bytes ++ codes "\n"
 
 -- Memory pools. --
@@ -96,9 +96,9 @@ class_head Tables = codes "tclass"
 abbrev pub pool_text : PoolName → Account → List ℕ
 pool_text name account =
     pool_head name ++ field_text (codes "size") account.bytes ++
-        field_text (codes "free") (account.bytes - cost_of account.made account.sizes)
+    field_text (codes "free") (account.bytes - cost_of account.made account.sizes)
     ++ field_text (codes "requests") account.requests ++
-        field_text (codes "errors") account.errors ++ codes "\n"
+    field_text (codes "errors") account.errors ++ codes "\n"
 
 -- a block size, by its place: how many blocks were cut, and how many of them are free; nothing
 -- where none was cut
@@ -106,9 +106,9 @@ abbrev pub class_text : PoolName → Account → ℕ → List ℕ
 class_text name account class =
     if slice_index account.made class == 0 then [] else
     class_head name ++ codes " " ++ decimal (slice_index account.sizes class) ++
-        field_text (codes "made") (slice_index account.made class)
+    field_text (codes "made") (slice_index account.made class)
     ++ field_text (codes "free") (slice_index account.made class - slice_index account.out class) ++
-        codes "\n"
+    codes "\n"
 
 -- a pool, and its block sizes, the smallest first
 abbrev pub account_text : PoolName → Account → List ℕ
@@ -128,9 +128,9 @@ accounts_text accounts =
 abbrev pub desk_text : Desk → List ℕ
 desk_text desk =
     codes "evs" ++ field_text (codes "sent") desk.sent ++
-        field_text (codes "filtered") desk.filtered ++ field_text (codes "cut") desk.cut
+    field_text (codes "filtered") desk.filtered ++ field_text (codes "cut") desk.cut
     ++ field_text (codes "refused") desk.refused ++
-        field_text (codes "logged") (length desk.log.lines) ++ field_text (codes "lost") desk.lost
+    field_text (codes "logged") (length desk.log.lines) ++ field_text (codes "lost") desk.lost
     ++ field_text (codes "mode") desk.log.mode ++ codes "\n"
 
 -- The tables. --
@@ -139,7 +139,7 @@ desk_text desk =
 abbrev pub table_uses_text : TblUse → TblUse → List ℕ
 table_uses_text now peak =
     codes "tbl" ++ use_text (codes "count") now.tables peak.tables ++
-        use_text (codes "handles") now.handles peak.handles
+    use_text (codes "handles") now.handles peak.handles
     ++ use_text (codes "bytes") now.bytes peak.bytes ++ codes "\n"
 
 -- All lines. --
@@ -147,6 +147,6 @@ table_uses_text now peak =
 abbrev pub counters_text : BusFigures → TableFigures → List ℕ
 counters_text figures tables =
     counts_text figures.version figures.statistics.counts ++
-        uses_text figures.now figures.statistics.peak ++ account_text Bus figures.pool
+    uses_text figures.now figures.statistics.peak ++ account_text Bus figures.pool
     ++ accounts_text figures.pools ++ desk_text figures.events ++
-        table_uses_text tables.now tables.peak ++ account_text Tables tables.pool
+    table_uses_text tables.now tables.peak ++ account_text Tables tables.pool

@@ -14,7 +14,7 @@ behind_blank (byte ∷ bytes) = codes " " ++ byte ∷ bytes
 abbrev pub log_line_text : Line → List ℕ
 log_line_text line =
     codes "a" ++ decimal line.app ++ codes " " ++ decimal line.id ++ codes " " ++
-        decimal (kind_number line.kind) ++ behind_blank line.text
+    decimal (kind_number line.kind) ++ behind_blank line.text
     ++ codes "\n"
 
 -- the lines of the log, the oldest first

@@ -107,7 +107,7 @@ are_short figures =
 abbrev pub are_short_stats : BusStats → Bool
 are_short_stats stats =
     list_all (λ number. nat_lt number (2 ^ 32))
-        (stats.nosub ∷ stats.limit ∷ stats.overflow ∷ stats.buffers ∷ stats.bytes ∷ [])
+    (stats.nosub ∷ stats.limit ∷ stats.overflow ∷ stats.buffers ∷ stats.bytes ∷ [])
 
 -- whether an answer's numbers have 32 bits
 abbrev pub has_short_numbers : BusAnswer → Bool

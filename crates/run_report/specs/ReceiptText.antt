@@ -12,12 +12,12 @@ abbrev pub seen_text : Receipt → List ℕ
 seen_text Nothing = codes "none"
 seen_text (Message pipe number id count size sum head) =
     codes "msg p" ++ decimal pipe ++ codes " n" ++ decimal number ++ codes " id=" ++ hex_id id ++
-        codes " seq=" ++ decimal count
+    codes " seq=" ++ decimal count
     ++ codes " size=" ++ decimal size ++ codes " sum=" ++ decimal sum ++ codes " head=" ++
-        hex_bytes head
+    hex_bytes head
 seen_text (Table handle version size sum head) =
     codes "tbl h" ++ decimal handle ++ codes " v" ++ decimal version ++ codes " size=" ++
-        decimal size ++ codes " sum=" ++ decimal sum
+    decimal size ++ codes " sum=" ++ decimal sum
     ++ codes " head=" ++ hex_bytes head
 
 -- the line of an application's receipt

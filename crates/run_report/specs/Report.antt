@@ -63,12 +63,12 @@ abbrev pub report_text : List Entry → List TableEntry → List (List Receipt) 
     TableFigures → List ℕ
 report_text entries table_entries receipts figures tables =
     codes "fsw " ++ decimal figures.version ++ codes "\nbus\n" ++ entries_text entries ++
-        codes "tables\n" ++ table_entries_text table_entries
+    codes "tables\n" ++ table_entries_text table_entries
     ++ codes "receipts\n" ++ receipts_text receipts ++ codes "events\n" ++
-        log_text figures.events.log ++ ending_text figures tables
+    log_text figures.events.log ++ ending_text figures tables
 
 -- the report of what was read off both services, and of the applications' lists of receipts
 abbrev pub report_of : BusReadings → TableReadings → List Receipts → List ℕ
 report_of bus tables lists =
     report_text bus.journal.now.entries tables.journal.now.entries
-        (map (λ list. list.receipts) lists) (figures_read bus) (table_figures_read tables)
+    (map (λ list. list.receipts) lists) (figures_read bus) (table_figures_read tables)

@@ -48,7 +48,7 @@ can_tables_answer call answer = false
 abbrev pub are_short_table_figures : TblState → Bool
 are_short_table_figures figures =
     nat_lt figures.version (2 ^ 32) && nat_lt figures.staged (2 ^ 32) &&
-        nat_lt figures.holds (2 ^ 32)
+    nat_lt figures.holds (2 ^ 32)
 
 -- whether the number of a rule that a value fails has 32 bits
 abbrev pub has_short_rule : TblStatus → Bool

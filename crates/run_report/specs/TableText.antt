@@ -17,13 +17,13 @@ use Rattle.text_page.specs.Texts.{name_text, numbered}
 abbrev pub load_text : List ℕ → ℕ → ℕ → List ℕ → List ℕ
 load_text word handle offset bytes =
     word ++ decimal handle ++ codes " " ++ decimal offset ++ codes " " ++ decimal (length bytes) ++
-        codes " " ++ decimal (sum bytes)
+    codes " " ++ decimal (sum bytes)
 
 -- a call; of a registration the name, the size, the option and how many rules it gives
 abbrev pub table_call_text : Call → List ℕ
 table_call_text (Register name size option rules) =
     codes "treg " ++ name_text name ++ codes " " ++ decimal size ++ codes " " ++ decimal option ++
-        codes " " ++ decimal (length rules)
+    codes " " ++ decimal (length rules)
 table_call_text (Share name) = codes "tshare " ++ name_text name
 table_call_text (Unregister handle) = codes "tunreg " ++ decimal handle
 table_call_text (Stage handle offset bytes) = load_text (codes "tstage ") handle offset bytes
@@ -53,7 +53,7 @@ flag_text false = codes "0"
 abbrev pub table_figures_text : TblState → List ℕ
 table_figures_text figures =
     decimal figures.version ++ codes " " ++ flag_text figures.loaded ++ codes " " ++
-        decimal figures.staged ++ codes " " ++ decimal figures.holds
+    decimal figures.staged ++ codes " " ++ decimal figures.holds
 
 -- the number of a rule that a value fails, behind a blank; nothing of any other refusal
 abbrev pub failed_rule_text : TblStatus → List ℕ
@@ -73,7 +73,7 @@ table_answer_text (Refused status) = tbl_name status ++ failed_rule_text status
 abbrev pub table_entry_text : ℕ → Entry → List ℕ
 table_entry_text n e =
     decimal n ++ codes " a" ++ decimal e.app ++ codes " " ++ table_call_text e.call ++
-        codes " -> " ++ table_answer_text e.answer ++ codes "\n"
+    codes " -> " ++ table_answer_text e.answer ++ codes "\n"
 
 -- the lines of a history, whose entries are numbered from 1
 abbrev pub table_entries_text : List Entry → List ℕ

@@ -55,7 +55,7 @@ last_message s app pipe =
 abbrev pub AreOneLoan : Core → Type 0
 AreOneLoan core =
     (pipe other : ℕ) (item its : Item) → last_on (state_of core).pipes pipe ≡ Some item →
-        last_on (state_of core).pipes other ≡ Some its → item.number ≡ its.number →
+    last_on (state_of core).pipes other ≡ Some its → item.number ≡ its.number →
     noted pipe core.log.entries core.notes ≡ noted other core.log.entries core.notes
 
 -- Only others called meanwhile: their entries, each with the note that is due, stand behind those
@@ -65,9 +65,12 @@ pub record CalledByOthers (old new : Core) (app : ℕ) : Type 0 where
   pub notes : List Note
   pub by_others : All (λ entry. entry.app ≢ app) entries
   pub grown : new ≡
-      record { limits = old.limits;
-      log = record { budgets = old.log.budgets; entries = old.log.entries ++ entries }; notes =
-      old.notes ++ notes }
+      record {
+        limits = old.limits;
+        log = record { budgets = old.log.budgets; entries = old.log.entries ++ entries };
+        notes =
+            old.notes ++ notes;
+      }
   pub legal : IsLegalCore new
   pub before : IsNoted old
   pub noted : AreDue entries notes

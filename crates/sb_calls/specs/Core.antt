@@ -72,7 +72,7 @@ pub record Does (old new : Core) (app : ℕ) (call : Call) (answer : BusAnswer) 
 abbrev pub Looks : Core → Core → ℕ → ℕ → Pended → Type 0
 Looks old new app pipe Pending =
     (new ≡ old) ×
-        ((step old.limits old.log.entries (state_of old) app (Look pipe)).0 ≡ waited Pending)
+    ((step old.limits old.log.entries (state_of old) app (Look pipe)).0 ≡ waited Pending)
 Looks old new app pipe answer = Does old new app (Look pipe) (waited answer)
 
 -- Isolation. --
@@ -83,11 +83,11 @@ abbrev pub GotAlone : Core → ℕ → ℕ → Call → ℕ → Holding LentByte
 GotAlone old app pipe call number bag =
     (message : Received) × (message.number ≡ number) × (bytes_seen bag pipe ≡ Some message.message)
     × Gives old.limits (apps_of old) pipe old.log.entries
-        (record { app = app; call = call; answer = Got number }) message
+    (record { app = app; call = call; answer = Got number }) message
 
 -- what each pipe gave so far is what the pipe alone gives, whatever befell the others
 abbrev pub StandAlone : Core → Type 0
 StandAlone core =
     (pipe : ℕ) →
-        receipts core.limits (apps_of core) pipe core.log.entries ≡
-        solo_receipts unmade (cut core.limits (apps_of core) pipe core.log.entries)
+    receipts core.limits (apps_of core) pipe core.log.entries ≡
+    solo_receipts unmade (cut core.limits (apps_of core) pipe core.log.entries)

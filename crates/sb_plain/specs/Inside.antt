@@ -41,8 +41,12 @@ means a = record {
 -- the core as its callers see it
 abbrev pub plain_of : Inside → Plain
 plain_of a =
-    record { limits = limits_of a.config; whole = means a; loans = a.store.loans;
-    descs = a.store.descs }
+    record {
+      limits = limits_of a.config;
+      whole = means a;
+      loans = a.store.loans;
+      descs = a.store.descs;
+    }
 
 -- the pool has the limits' bytes and block sizes, and no return was refused
 pub record IsPoolOf (limits : Limits) (account : Account) : Type 0 where

@@ -14,9 +14,11 @@ use Rattle.script_lines.specs.TableLines.{table_word, table_line_of, show_of}
 -- the first words of call lines
 unfoldable pub table_or_show : Word → Option CallWord
 table_or_show word =
-    elim (table_word word)
-    [ Some first ↦ Some (Table first) | None ↦
-    (if is_same word (codes "show") then Some Show else None) ]
+    elim (table_word word) [
+      | Some first ↦ Some (Table first)
+      | None ↦
+          (if is_same word (codes "show") then Some Show else None)
+    ]
 
 unfoldable pub event_or_table : Word → Option CallWord
 event_or_table word =

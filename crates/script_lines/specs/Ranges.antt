@@ -70,7 +70,7 @@ is_readable Housekeeping = true
 is_readable Figures = true
 is_readable (TableRegister handle name size option rules) =
     nat_lt handle 64 && is_name name && nat_le size 1000000 && nat_le option 7 &&
-        nat_le (length rules) 8 && list_all is_rule rules
+    nat_le (length rules) 8 && list_all is_rule rules
 is_readable (TableShare handle name) = nat_lt handle 64 && is_name name
 is_readable (TableUnregister handle) = nat_lt handle 64
 is_readable (Stage handle offset content) =

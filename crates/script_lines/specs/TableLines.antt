@@ -116,7 +116,7 @@ table_word word =
 unfoldable pub shown : Word → Result Line FaultKind
 shown word =
     if starts_with (λ a b. a == b) word (codes "p")
-        then (pipe_of word >>= λ pipe. Ok (lines.ShowPipe pipe))
+    then (pipe_of word >>= λ pipe. Ok (lines.ShowPipe pipe))
     else (table_of word >>= λ handle. Ok (lines.ShowTable handle))
 
 -- show pN, show tN

@@ -88,13 +88,17 @@ behind_table running lines handles = record running { lines = lines; handles = h
 -- a turn that runs a line which the bus doesn't see: its call of the tables, where these see it
 abbrev pub other_turn : Limits → SoFar → Running → Line → List Line → Option TableCall → SoFar ×
     List Running
-other_turn limits sofar running line lines None =
-    (sofar, behind running lines running.registers
-        (written_by running.written running.registers.buffers line) ∷ [])
+other_turn limits sofar running line lines None = (
+  sofar,
+  behind running lines running.registers
+      (written_by running.written running.registers.buffers line) ∷ [],
+)
 other_turn limits sofar running line lines (Some call) =
-    let answer = table_answer_to limits sofar running.app call in
-    (after_table_call limits sofar running.app call, behind_table running lines
-        (handles_after running.handles line answer) ∷ [])
+    let answer = table_answer_to limits sofar running.app call in (
+      after_table_call limits sofar running.app call,
+      behind_table running lines
+          (handles_after running.handles line answer) ∷ [],
+    )
 
 -- a turn that runs a line: its call of the bus, where the bus sees it
 abbrev pub line_turn : Limits → SoFar → Running → Line → List Line → Option Call → SoFar ×
@@ -121,9 +125,10 @@ active_turn limits sofar running (line ∷ lines) =
 
 -- One turn of an application in this standing; and the application, where it goes on.
 abbrev pub turn_in : Limits → SoFar → Running → Standing → SoFar × List Running
-turn_in limits sofar running (Waiting pipe) =
-    (after_look limits sofar running.app pipe (answer_to limits sofar running.app (Look pipe)),
-    running ∷ [])
+turn_in limits sofar running (Waiting pipe) = (
+  after_look limits sofar running.app pipe (answer_to limits sofar running.app (Look pipe)),
+  running ∷ [],
+)
 turn_in limits sofar running Active = active_turn limits sofar running running.lines
 turn_in limits sofar running Ended = (sofar, [])
 
@@ -149,15 +154,24 @@ rotations (suc n) limits now = rotations n limits (rotated limits now.0 now.1)
 abbrev pub starting : ℕ → List Application → List Running
 starting app [] = []
 starting app (a ∷ others) =
-    record { app = app; lines = a.lines; registers = first_registers; handles = first_handles;
-        written = first_written }
+    record {
+      app = app;
+      lines = a.lines;
+      registers = first_registers;
+      handles = first_handles;
+      written = first_written;
+    }
     ∷ starting (app + 1) others
 
 -- both services before the first call of so many applications
 abbrev pub opened : Limits → ℕ → SoFar
 opened limits apps =
-    record { history = []; state = opening limits apps; table_history = [];
-    tables = no_tables limits apps }
+    record {
+      history = [];
+      state = opening limits apps;
+      table_history = [];
+      tables = no_tables limits apps;
+    }
 
 -- enough rotations for each application to make its calls and end: one for each line, one more for
 -- one that waits, and one for its end

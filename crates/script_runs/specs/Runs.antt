@@ -39,7 +39,7 @@ pub record Guarantees (script : ScriptText) (histories : Histories) : Type 0 whe
   pub alone :
       (pipe : ℕ) →
       receipts script.limits (length script.apps) pipe histories.bus ≡
-          solo_receipts unmade (cut script.limits (length script.apps) pipe histories.bus)
+      solo_receipts unmade (cut script.limits (length script.apps) pipe histories.bus)
   pub numbers : numbers_in histories.bus ≡ numbers_to (length (numbers_in histories.bus))
   pub pool : (front rest : List Entry) → histories.bus ≡ front ++ rest → StaysInPool script front
   pub nothing : HoldsNothing script.limits

@@ -98,7 +98,7 @@ abbrev pub TableTrace : List ℕ → List Line → List Entry → Type 0
 TableTrace handles [] es = IsTableEnd es
 TableTrace handles (line ∷ lines) es =
     TableLineEntries (table_call_of handles line)
-        (λ answer rest. TableTrace (handles_after handles line answer) lines rest)
+    (λ answer rest. TableTrace (handles_after handles line answer) lines rest)
     (λ rest. TableTrace handles lines rest) es
 
 -- the entries of one application

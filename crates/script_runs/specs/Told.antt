@@ -49,7 +49,7 @@ seen_from limits history s app [] = []
 seen_from limits history s app (e ∷ es) =
     let after = (step limits history s e.app e.call).1 in
     (if e.app == app then record { entry = e; after = after } ∷ [] else []) ++
-        seen_from limits (history ++ e ∷ []) after app es
+    seen_from limits (history ++ e ∷ []) after app es
 
 -- the receipt that an entry makes: one where it got a message, which is then the pipe's last
 abbrev pub got_in : ℕ → State → Call → BusAnswer → List Receipt
@@ -85,7 +85,7 @@ table_seen_from limits t app [] = []
 table_seen_from limits t app (e ∷ es) =
     let after = (table_step limits t e.app e.call).1 in
     (if e.app == app then record { entry = e; after = after } ∷ [] else []) ++
-        table_seen_from limits after app es
+    table_seen_from limits after app es
 
 -- the receipt that an entry makes: one where it gave an address, of what the handle then holds
 abbrev pub addressed_in : ℕ → Tables → TableCall → TblAnswer → List Receipt
@@ -142,26 +142,31 @@ seen_told app line call [] at = ([], None)
 seen_told app line call (own ∷ others) at =
     let answer = own.entry.answer in
     let answered =
-        record at
-        { registers = registers_after at.registers line answer;
-        written = written_after at.written call answer } in
+    record at {
+      registers = registers_after at.registers line answer;
+      written = written_after at.written call answer;
+    } in
     settled_told app (settled_from answer own others) answered
 
 -- a line with a call of the tables: its entry answers it and makes the receipts
 abbrev pub table_seen_told : ℕ → Line → List TableSeen → Telling → List Receipt × Option Telling
 table_seen_told app line [] at = ([], None)
 table_seen_told app line (own ∷ others) at =
-    let handles = handles_after at.handles line own.entry.answer in
-    (table_receipts_of app own, Some
-        (record at { handles = handles; tables = own.after; table_seen = others }))
+    let handles = handles_after at.handles line own.entry.answer in (
+      table_receipts_of app own,
+      Some
+          (record at { handles = handles; tables = own.after; table_seen = others }),
+    )
 
 -- a line that the bus doesn't see: it makes its call of the tables, or shows what it shows and
 -- writes what it writes
 abbrev pub other_told : ℕ → Line → Option TableCall → Telling → List Receipt × Option Telling
 other_told app line None at =
-    let written = written_by at.written at.registers.buffers line in
-    (shown app at.state at.tables at.registers at.handles line, Some
-        (record at { written = written }))
+    let written = written_by at.written at.registers.buffers line in (
+      shown app at.state at.tables at.registers at.handles line,
+      Some
+          (record at { written = written }),
+    )
 other_told app line (Some call) at = table_seen_told app line at.table_seen at
 
 -- a line, with its call of the bus, where it makes one

@@ -23,8 +23,12 @@ pub record Registers : Type 0 where
 -- at first all are 0: 64 of pipes, 64 of buffers, 8 of pools and 64 of grants
 abbrev pub first_registers : Registers
 first_registers =
-    record { pipes = replicate 64 0; buffers = replicate 64 0; pools = replicate 8 0;
-    grants = replicate 64 0 }
+    record {
+      pipes = replicate 64 0;
+      buffers = replicate 64 0;
+      pools = replicate 8 0;
+      grants = replicate 64 0;
+    }
 
 -- The call of the bus that a line makes, its registers filled in; None for a line that the bus
 -- doesn't see. A buffer is sent with its bytes as they were written, and with none where the
@@ -53,7 +57,7 @@ call_of registers written (lines.Pend pipe) = Some (calls.Pend (slice_index regi
 call_of registers written (lines.Allocate buf size) = Some (calls.Allocate size)
 call_of registers written (lines.TransmitBuffer buf inc) =
     Some (calls.TransmitBuffer (slice_index registers.buffers buf)
-        (bytes_in written (slice_index registers.buffers buf)) inc)
+    (bytes_in written (slice_index registers.buffers buf)) inc)
 call_of registers written (lines.Release buf) =
     Some (calls.Release (slice_index registers.buffers buf))
 call_of registers written (lines.PoolCreate pool bytes) = Some (calls.PoolCreate bytes)
@@ -132,5 +136,5 @@ Trace registers written [] es = IsEnd es
 Trace registers written (line ∷ lines) es =
     LineEntries (call_of registers written line)
     (λ call answer rest. Trace (registers_after registers line answer)
-        (written_after written call answer) lines rest)
+    (written_after written call answer) lines rest)
     (λ rest. Trace registers (written_by written registers.buffers line) lines rest) es

@@ -44,7 +44,7 @@ written_after written call answer = written
 abbrev pub put_in : List ℕ → ℕ → List ℕ → List ℕ
 put_in old offset bytes =
     if nat_le (offset + length bytes) (length old) then take offset old ++
-        (bytes ++ drop (offset + length bytes) old) else old
+    (bytes ++ drop (offset + length bytes) old) else old
 
 -- What a line that no service sees writes, with the registers of buffers: `form` makes the whole
 -- buffer a message, with a payload that counts up; `put` writes bytes where they fit. Neither does

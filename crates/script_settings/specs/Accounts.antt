@@ -58,8 +58,11 @@ account_of lines = fold counted no_calls lines
 -- each that waits, and one for its end
 abbrev pub budget_in : Account → Budget
 budget_in account =
-    record { entries = account.calls + account.waits + 1; bytes = account.bytes;
-    buffers = account.buffers }
+    record {
+      entries = account.calls + account.waits + 1;
+      bytes = account.bytes;
+      buffers = account.buffers;
+    }
 
 unfoldable pub budget_of : List Line → Budget
 budget_of lines = budget_in (account_of lines)

@@ -43,7 +43,7 @@ scope_of (Some word) = scope_word word
 unfoldable pub filling_of : Word → Result (Option (ℕ × ℕ)) FaultKind
 filling_of word =
     if starts_with (λ a b. a == b) word (codes "fill:")
-        then (numbers_2 (parts_of (drop 5 word)) >>= λ fill. Ok (Some fill))
+    then (numbers_2 (parts_of (drop 5 word)) >>= λ fill. Ok (Some fill))
     else (if is_hex word then Ok None else Err BadWord)
 
 -- the content that the word spells, where its filling is in range

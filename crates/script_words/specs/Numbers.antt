@@ -56,7 +56,7 @@ unfoldable pub register_of : ℕ → ℕ → List ℕ → Result ℕ FaultKind
 register_of letter count [] = Err BadWord
 register_of letter count (first ∷ digits) =
     if (first == letter) && is_decimal digits && nat_lt (value_in 10 digits) count
-        then Ok (value_in 10 digits) else Err BadWord
+    then Ok (value_in 10 digits) else Err BadWord
 
 -- whether a number is in its range
 unfoldable pub within : ℕ → ℕ → ℕ → Result ℕ FaultKind

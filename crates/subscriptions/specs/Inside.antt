@@ -7,14 +7,28 @@ use Rattle.subscriptions.specs.Subs.{Subscription}
 -- the subscription that a slot holds
 abbrev pub held_in : ℕ → Place → Subscription
 held_in slot p =
-    record { slot = slot; number = p.number; id = p.id; pipe = p.pipe; place = p.place;
-    limit = p.limit; scope = p.scope; waiting = p.waiting }
+    record {
+      slot = slot;
+      number = p.number;
+      id = p.id;
+      pipe = p.pipe;
+      place = p.place;
+      limit = p.limit;
+      scope = p.scope;
+      waiting = p.waiting;
+    }
 
 -- what others are told of it
 abbrev pub row_in : Place → SubRow
 row_in p =
-    record { id = p.id; pipe = p.pipe; place = p.place; limit = p.limit; scope = p.scope;
-    waiting = p.waiting }
+    record {
+      id = p.id;
+      pipe = p.pipe;
+      place = p.place;
+      limit = p.limit;
+      scope = p.scope;
+      waiting = p.waiting;
+    }
 
 -- the subscription of this number, where one of these slots holds it; they are numbered on from the
 -- first
@@ -23,7 +37,7 @@ numbered number slot [] = []
 numbered number slot (None ∷ slots) = numbered number (slot + 1) slots
 numbered number slot (Some p ∷ slots) =
     if p.number == number then held_in slot p ∷ numbered number (slot + 1) slots
-        else numbered number (slot + 1) slots
+    else numbered number (slot + 1) slots
 
 -- the live subscriptions with numbers up to this one, in order of number
 abbrev pub live_upto : List (Option Place) → ℕ → List Subscription

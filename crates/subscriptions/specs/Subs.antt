@@ -44,8 +44,14 @@ live_at subs sub = find (goes_by sub) subs.live
 -- what a subscription was made with, and how many of its messages wait
 abbrev pub row_of : Subscription → SubRow
 row_of s =
-    record { id = s.id; pipe = s.pipe; place = s.place; limit = s.limit; scope = s.scope;
-    waiting = s.waiting }
+    record {
+      id = s.id;
+      pipe = s.pipe;
+      place = s.place;
+      limit = s.limit;
+      scope = s.scope;
+      waiting = s.waiting;
+    }
 
 -- what its limit says of one message more
 abbrev pub verdict_of : SubRow → Verdict

@@ -43,8 +43,10 @@ pub record Opens (old new : Stored) (key size option : ℕ) (c : Content) : Type
 -- a table was closed: its blocks are the pool's again
 abbrev pub closed : Stored → ℕ → Stored
 closed s key =
-    record s { pool = all_given_back s.pool (blocks_of (content_at s.tables key));
-    tables = slice_set s.tables key None }
+    record s {
+      pool = all_given_back s.pool (blocks_of (content_at s.tables key));
+      tables = slice_set s.tables key None;
+    }
 
 -- a value is staged: in the inactive block of a double-buffered table, else in a working buffer,
 -- which is then taken
@@ -52,9 +54,9 @@ abbrev pub after_stage : Stored → ℕ → ℕ → List ℕ → Stored
 after_stage s key offset bytes =
     if is_double (content_at s.tables key)
     then with_content s key
-        (staged_by (content_at s.tables key) offset bytes (content_at s.tables key).present.whole)
+    (staged_by (content_at s.tables key) offset bytes (content_at s.tables key).present.whole)
     else record (with_content s key (staged_by (content_at s.tables key) offset bytes s.most))
-        { free = s.free - 1 }
+    { free = s.free - 1 }
 
 -- how many working buffers are free once a table gave back the one it had
 abbrev pub free_after : Stored → ℕ → ℕ
@@ -70,8 +72,8 @@ after_abort s key loan =
 abbrev pub after_update : Stored → ℕ → ℕ → Stored
 after_update s key loan =
     record (with_content s key
-        (with_value (content_at s.tables key) loan
-        (staged_in (content_at s.tables key).next).bytes)) { free = free_after s key }
+    (with_value (content_at s.tables key) loan
+    (staged_in (content_at s.tables key).next).bytes)) { free = free_after s key }
 
 -- Where a table lies: its blocks are out of the pool and of the smallest size that is large enough,
 -- and a double-buffered table has two.

@@ -90,9 +90,14 @@ view_back c version =
 -- the present value with a range replaced, staged in so many bytes of memory, not validated
 abbrev pub staged_by : Content → ℕ → List ℕ → ℕ → Content
 staged_by c offset bytes whole =
-    record c { next = Staged
-        (record { bytes = with_range c.present.bytes offset bytes; validated = false;
-        whole = whole }) }
+    record c {
+      next = Staged
+          (record {
+            bytes = with_range c.present.bytes offset bytes;
+            validated = false;
+            whole = whole;
+          });
+    }
 
 -- a staged value that was validated
 abbrev pub validated : Content → Content
@@ -112,16 +117,26 @@ without_staged c loan =
 -- double-buffered table has the version before beside it, as it was
 abbrev pub with_value : Content → ℕ → List ℕ → Content
 with_value c loan value =
-    record c { version = c.version + 1; present = lent loan value c.present.whole;
-    next = beside c c.present }
+    record c {
+      version = c.version + 1;
+      present = lent loan value c.present.whole;
+      next = beside c c.present;
+    }
 
 -- All tables, by key. --
 
 -- what is kept under a key where no table is
 abbrev pub no_content : Content
 no_content =
-    record { size = 0; option = 0; version = 0; first = 0; second = 0; present = no_version;
-    next = Nothing }
+    record {
+      size = 0;
+      option = 0;
+      version = 0;
+      first = 0;
+      second = 0;
+      present = no_version;
+      next = Nothing;
+    }
 
 -- what is kept under a key
 abbrev pub kept_at : List (Option Content) → ℕ → Option Content

@@ -16,6 +16,7 @@ held_at held handle = option_map (λ entry. entry.1) (find (λ entry. entry.0 ==
 -- all but the view of a handle
 abbrev pub without : HeldViews → ℕ → HeldViews
 without held handle =
-    record held
-        { views = before_first (λ entry. entry.0 == handle) held.views ++
-        after_first (λ entry. entry.0 == handle) held.views }
+    record held {
+      views = before_first (λ entry. entry.0 == handle) held.views ++
+          after_first (λ entry. entry.0 == handle) held.views;
+    }

@@ -74,7 +74,7 @@ image_fault file =
 abbrev pub file_numbers : Image → List ℕ
 file_numbers image =
     content_id ∷ image.sub ∷ image.length ∷ image.spacecraft ∷ image.processor ∷ image.application ∷
-        image.seconds ∷ image.subseconds ∷ []
+    image.seconds ∷ image.subseconds ∷ []
 
 -- and of the table's header
 abbrev pub table_numbers : Image → List ℕ
@@ -88,5 +88,5 @@ name_field name = name ++ replicate (40 - length name) 0
 unfoldable pub image_file : Image → List ℕ
 image_file image =
     flat_map (big_bytes 4) (file_numbers image) ++ image.description.now ++
-        flat_map (big_bytes 4) (table_numbers image)
+    flat_map (big_bytes 4) (table_numbers image)
     ++ name_field image.name.now ++ image.bytes.now

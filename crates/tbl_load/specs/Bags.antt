@@ -42,14 +42,14 @@ bytes_seen bag number = option_map (λ view. view.bytes) (held_at bag number)
 abbrev pub held_bytes : State → ℕ → ℕ → Option (List ℕ)
 held_bytes s app number =
     option_and_then (λ h. if h.app == app then option_map (λ hold. hold.value) h.hold else None)
-        (handle_at s.handles number)
+    (handle_at s.handles number)
 
 -- handles that hold one version of one table have one loan noted, by which the bags of their
 -- applications have it
 abbrev pub AreOneLoan : Core → Type 0
 AreOneLoan core =
     (number other table version : ℕ) → HoldsVersion (state_of core).handles number table version →
-        HoldsVersion (state_of core).handles other table version →
+    HoldsVersion (state_of core).handles other table version →
     noted number core.log.entries core.notes ≡ noted other core.log.entries core.notes
 
 -- Only others called meanwhile: their entries, each with the note that is due, stand behind those
@@ -59,9 +59,12 @@ pub record CalledByOthers (old new : Core) (app : ℕ) : Type 0 where
   pub notes : List Note
   pub by_others : All (λ entry. entry.app ≢ app) entries
   pub grown : new ≡
-      record { limits = old.limits;
-      log = record { budgets = old.log.budgets; entries = old.log.entries ++ entries }; notes =
-      old.notes ++ notes }
+      record {
+        limits = old.limits;
+        log = record { budgets = old.log.budgets; entries = old.log.entries ++ entries };
+        notes =
+            old.notes ++ notes;
+      }
   pub legal : IsLegalCore new
   pub before : IsNoted old
   pub noted : AreDue entries notes

@@ -31,8 +31,12 @@ figures_told (Err status) = answers.Refused status
 -- the same of figures whose version has 64 bits
 abbrev pub state_of : PlainState → TblState
 state_of figures =
-    record { version = figures.version; loaded = figures.loaded; staged = figures.staged;
-    holds = figures.holds }
+    record {
+      version = figures.version;
+      loaded = figures.loaded;
+      staged = figures.staged;
+      holds = figures.holds;
+    }
 
 abbrev pub plain_figures_told : Result PlainState TblStatus → TblAnswer
 plain_figures_told (Ok figures) = answers.State (state_of figures)

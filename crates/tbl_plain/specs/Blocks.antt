@@ -58,7 +58,7 @@ pub record AreTableBlocks (b : Stored) (core : Plain) : Type 0 where
   pub own : (number other block : ℕ) (t its : Table) → table_at core.state.tables number ≡ Some t →
       table_at core.state.tables other ≡ Some its →
       has_block b.tables (key number) block ≡ true → has_block b.tables (key other) block ≡ true →
-          number ≡ other
+      number ≡ other
   pub others : (at : ℕ) → is_open b.tables at ≡ true → (number : ℕ) ×
       ((t : Table) × ((table_at core.state.tables number ≡ Some t) × (key number ≡ at)))
   pub lent : (number table version : ℕ) → HoldsVersion core.state.handles number table version →

@@ -58,13 +58,13 @@ pub record Holds (core : Plain) (app : ℕ) (bag : HeldViews) : Type 0 where
 abbrev pub HoldsVersion : List Handle → ℕ → ℕ → ℕ → Type 0
 HoldsVersion handles number table version =
     IsSomeAnd (handle_at handles number)
-        (λ h. (h.table ≡ table) × (option_map (λ hold. hold.version) h.hold ≡ Some version))
+    (λ h. (h.table ≡ table) × (option_map (λ hold. hold.version) h.hold ≡ Some version))
 
 -- handles that hold one version of one table are lent it by one loan
 abbrev pub AreOneLoan : Plain → Type 0
 AreOneLoan core =
     (number other table version : ℕ) → HoldsVersion core.state.handles number table version →
-        HoldsVersion core.state.handles other table version →
+    HoldsVersion core.state.handles other table version →
     loan_of core.lent number ≡ loan_of core.lent other
 
 -- Calls. --

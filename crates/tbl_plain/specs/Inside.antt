@@ -66,9 +66,11 @@ handle_in contents h = handle_with h (content_at contents h.key)
 -- what a handle was lent
 abbrev pub lent_in : List (Option Content) → Handle → Lent
 lent_in contents h =
-    record { handle = h.number;
-    loan = option_map_or (λ version. (version_at (content_at contents h.key) version).loan)
-    h.held 0 }
+    record {
+      handle = h.number;
+      loan = option_map_or (λ version. (version_at (content_at contents h.key) version).loan)
+          h.held 0;
+    }
 
 -- what is told of each place below so many
 abbrev pub each_below : (ℕ → ℕ) → ℕ → List ℕ
@@ -89,8 +91,11 @@ means a = record {
 -- the core as its callers see it
 abbrev pub plain_of : Inside → Plain
 plain_of a =
-    record { limits = limits_of a.config; state = means a;
-    lent = map (lent_in a.blocks.tables) a.registry.handles }
+    record {
+      limits = limits_of a.config;
+      state = means a;
+      lent = map (lent_in a.blocks.tables) a.registry.handles;
+    }
 
 -- What is always true. --
 

@@ -22,14 +22,28 @@ pub record TableFacts : Type 0 where
 -- what the state says of it
 abbrev pub facts_of : state.Table → TableFacts
 facts_of t =
-    record { number = t.number; name = t.name; owner = t.owner; registered = t.registered;
-    size = t.size; option = t.option; rules = t.rules }
+    record {
+      number = t.number;
+      name = t.name;
+      owner = t.owner;
+      registered = t.registered;
+      size = t.size;
+      option = t.option;
+      rules = t.rules;
+    }
 
 -- what the registry says of it
 abbrev pub facts_in : List Handle → Table → TableFacts
 facts_in handles t =
-    record { number = t.number; name = t.name; owner = t.owner;
-    registered = is_registered handles t; size = t.size; option = t.option; rules = t.rules }
+    record {
+      number = t.number;
+      name = t.name;
+      owner = t.owner;
+      registered = is_registered handles t;
+      size = t.size;
+      option = t.option;
+      rules = t.rules;
+    }
 
 -- what both know of a handle
 pub record HandleFacts : Type 0 where
@@ -60,8 +74,8 @@ pub record FindsAlike (s : state.State) (l : Listing) : Type 0 where
   pub shared : (table : ℕ) → state.has_handle s.handles table ≡ has_handle l.handles table
   pub tabled : (number : ℕ) →
       option_map facts_of (state.table_of s number) ≡
-          option_and_then (λ h. option_map (facts_in l.handles) (table_at l.tables h.key))
-          (handle_at l.handles number)
+      option_and_then (λ h. option_map (facts_in l.handles) (table_at l.tables h.key))
+      (handle_at l.handles number)
   pub named : (name : List ℕ) →
       option_map facts_of (state.table_named s.tables name) ≡
       option_map (facts_in l.handles) (table_named l name)
@@ -75,13 +89,13 @@ abbrev pub NewHandlesAreListed : Type 0
 NewHandlesAreListed =
     (s : state.State) (l : Listing) (app table key : ℕ) (marked : Bool) →
     IsTied l → IsListed s l →
-        IsListed (machine.with_new_handle s app table marked) (with_new_handle l app table key)
+    IsListed (machine.with_new_handle s app table marked) (with_new_handle l app table key)
 
 -- so is a new table, with its owner's handle
 abbrev pub NewTablesAreListed : Type 0
 NewTablesAreListed =
     (limits : Limits) (s : state.State) (old new : Listing) (app : ℕ) (name : List ℕ)
-        (size option : ℕ) (rules : List Rule) →
+    (size option : ℕ) (rules : List Rule) →
     IsTied old → IsListed s old → AddsTable old new app name size option rules →
     IsListed (machine.with_new_table limits s app name size option rules) new
 
@@ -96,7 +110,7 @@ abbrev pub LeavesAreListed : Type 0
 LeavesAreListed =
     (s : state.State) (l : Listing) (number : ℕ) →
     IsListed s l →
-        IsListed (machine.without_handles (λ h. h.number == number) s) (without_handle_of l number)
+    IsListed (machine.without_handles (λ h. h.number == number) s) (without_handle_of l number)
 
 -- each table has a handle
 abbrev pub AllHaveHandles : Listing → Type 0
@@ -117,7 +131,7 @@ DropsAreLeaves =
       handles = without_handle number l.handles;
       tables =
           if has_handle (without_handle number l.handles) (table_under l.handles number)
-              then l.tables
+          then l.tables
           else without_table (key_under l.handles number) l.tables;
     }
 

@@ -129,8 +129,15 @@ pub record AddsTable (old new : Listing) (app : ℕ) (name : List ℕ) (size opt
   pub within : key < old.table_room
   pub free : table_at old.tables key ≡ None
   pub tables : new.tables ≡ old.tables ++
-      record { number = old.made + 1; key = key; name = name; owner = app; size = size;
-      option = option; rules = rules } ∷ []
+      record {
+        number = old.made + 1;
+        key = key;
+        name = name;
+        owner = app;
+        size = size;
+        option = option;
+        rules = rules;
+      } ∷ []
   pub others : record new { tables = old.tables } ≡ with_new_handle old app (old.made + 1) key
 
 -- one handle more of the table with this key

@@ -63,8 +63,12 @@ ended_in e = (e.0, entries_in e.1)
 
 abbrev pub main_in : SeatView Fixed NotedCall → MainView
 main_in s =
-    record { lock = s.lock; seen = seen_in s; apps = (view_of s).apps;
-    ended = map ended_in (view_of s).ended }
+    record {
+      lock = s.lock;
+      seen = seen_in s;
+      apps = (view_of s).apps;
+      ended = map ended_in (view_of s).ended;
+    }
 
 -- it is the main seat, knows the budgets and how many handles there may be, has made a port of no
 -- application twice, and has seen entries of none but these

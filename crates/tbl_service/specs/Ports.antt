@@ -72,8 +72,11 @@ pub record Begins (one other : Core) : Type 0 where
 -- this core, with the history of that one
 abbrev pub with_history : Core → Core → Core
 with_history core other =
-    record { limits = core.limits;
-    log = record { budgets = core.log.budgets; entries = other.log.entries }; notes = other.notes }
+    record {
+      limits = core.limits;
+      log = record { budgets = core.log.budgets; entries = other.log.entries };
+      notes = other.notes;
+    }
 
 -- one of the two histories begins the other, and the longer one is kept
 abbrev pub KeepsLongerOf : Core → Core → Core → Type 0

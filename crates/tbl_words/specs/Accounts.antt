@@ -16,19 +16,19 @@ after_returns account class (suc count) = after_returns (after_return account cl
 abbrev pub RegistrationsDraw : Type 0
 RegistrationsDraw =
     (limits : Limits) (s : State) (app : ℕ) (name : List ℕ) (size option : ℕ) (rules : List Rule)
-        (class : ℕ) →
+    (class : ℕ) →
     IsTrue (are_block_sizes limits.sizes) →
     class_of size limits.sizes ≡ Some class →
     account_of limits (with_new_table limits s app name size option rules) ≡
-        after_draws (account_of limits s) class (blocks_for option)
+    after_draws (account_of limits s) class (blocks_for option)
 
 -- a table that leaves gives its blocks back
 abbrev pub LeavingReturns : Type 0
 LeavingReturns =
     (limits : Limits) (s : State) (before : List Table) (t : Table) (behind : List Table)
-        (class : ℕ) →
+    (class : ℕ) →
     IsTrue (are_block_sizes limits.sizes) →
     class_of t.size limits.sizes ≡ Some class →
     account_of limits (record s { tables = before ++ behind })
     ≡ after_returns (account_of limits (record s { tables = before ++ t ∷ behind })) class
-        (blocks_for t.option)
+    (blocks_for t.option)

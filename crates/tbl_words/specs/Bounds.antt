@@ -9,7 +9,7 @@ use Rattle.tbl_words.specs.Machine.{state_after}
 abbrev pub HandlesGoByEntries : Type 0
 HandlesGoByEntries =
     (limits : Limits) (apps : ℕ) (history : List Entry) →
-        (state_after limits apps history).handles_made ≤ length history
+    (state_after limits apps history).handles_made ≤ length history
 
 -- and no table has had more versions
 abbrev pub VersionsGoByEntries : Type 0

@@ -36,4 +36,4 @@ AddressesHold =
     table_of s handle ≡ Some t →
     cause limits s app (GetAddress handle) ≡ None →
     hold_of ((step limits s app (GetAddress handle)).1).handles handle ≡
-        Some (record { version = t.version; value = t.value })
+    Some (record { version = t.version; value = t.value })

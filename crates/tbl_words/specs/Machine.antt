@@ -55,7 +55,7 @@ register_cause limits s app name size option rules =
     (refused_if (size == 0 || nat_lt limits.tablemax size) ErrInvalidSize
     (refused_if (nat_lt 2 option || has_misfit size rules) ErrInvalidOptions
     (option_map_or (duplicate_cause app size) (table_named s.tables name)
-        (new_table_cause limits s size option))))
+    (new_table_cause limits s size option))))
 
 -- a share: a registered table has the name, and there may be one handle more
 abbrev pub share_cause : Limits → State → List ℕ → Option TblStatus
@@ -74,7 +74,7 @@ abbrev pub table_cause : State → ℕ → ℕ → (Table → Option TblStatus) 
 table_cause s app handle others =
     access_cause s app handle
     (option_map_or (λ t. refused_if (not t.registered) ErrUnregistered (others t))
-        (table_of s handle) None)
+    (table_of s handle) None)
 
 -- the range that a load gives isn't the whole table
 abbrev pub is_partial : Table → ℕ → List ℕ → Bool
@@ -92,7 +92,7 @@ stage_cause s offset bytes others t =
     (refused_if (is_some t.staged) ErrLoadInProgress
     (refused_if (is_double t && is_held_apart s.handles t.number t.version) InfoTableLocked
     (refused_if (not (is_double t) && nat_le 4 (buffers_taken s.tables)) ErrNoBufferAvail
-        others)))))
+    others)))))
 
 -- the value fails a rule; then what one that meets them all says
 abbrev pub rules_cause : List Rule → List ℕ → Option TblStatus → Option TblStatus
@@ -117,7 +117,7 @@ abbrev pub update_cause : State → Table → Option TblStatus
 update_cause s t =
     staged_cause InfoNoUpdatePending
     (λ staged. refused_if (not staged.validated) NotValidated
-        (refused_if (is_locked s t) InfoTableLocked None)) t
+    (refused_if (is_locked s t) InfoTableLocked None)) t
 
 -- an abort: something is staged
 abbrev pub abort_cause : Table → Option TblStatus
@@ -128,7 +128,7 @@ abbrev pub load_cause : State → ℕ → List ℕ → Table → Option TblStatu
 load_cause s offset bytes t =
     stage_cause s offset bytes
     (rules_cause t.rules (with_range t.value offset bytes)
-        (refused_if (is_locked s t) InfoTableLocked None)) t
+    (refused_if (is_locked s t) InfoTableLocked None)) t
 
 -- the first refusal whose condition holds
 abbrev pub cause : Limits → State → ℕ → Call → Option TblStatus
@@ -154,8 +154,13 @@ abbrev pub with_new_handle : State → ℕ → ℕ → Bool → State
 with_new_handle s app table marked = record s {
   handles =
       s.handles ++
-      record { number = s.handles_made + 1; app = app; table = table; marked = marked;
-      hold = None } ∷ [];
+      record {
+        number = s.handles_made + 1;
+        app = app;
+        table = table;
+        marked = marked;
+        hold = None;
+      } ∷ [];
   handles_made = s.handles_made + 1;
 }
 
@@ -189,7 +194,7 @@ with_new_table limits s app name size option rules =
     let given = with_blocks limits s size (blocks_for option) in
     with_new_handle
     (record given
-        { tables = s.tables ++ new_table (s.handles_made + 1) app name size option rules ∷ [] })
+    { tables = s.tables ++ new_table (s.handles_made + 1) app name size option rules ∷ [] })
     app (s.handles_made + 1) false
 
 -- a duplicate changes nothing and is told its owner's handle
@@ -215,8 +220,10 @@ after_leave left t =
 abbrev pub without_handles : (Handle → Bool) → State → State
 without_handles gone s =
     let left = filter (λ h. not (gone h)) s.handles in
-    record s { handles = left;
-        tables = filter (λ t. has_handle left t.number) (map (after_leave left) s.tables) }
+    record s {
+      handles = left;
+      tables = filter (λ t. has_handle left t.number) (map (after_leave left) s.tables);
+    }
 
 -- the table with this value staged; whether it was validated
 abbrev pub with_staged : List ℕ → Bool → Table → Table
@@ -249,7 +256,7 @@ with_update s value t = record s {
 abbrev pub after_update : State → ℕ → State
 after_update s handle =
     option_map_or (λ t. option_map_or (λ staged. with_update s staged.value t) t.staged s)
-        (table_of s handle) s
+    (table_of s handle) s
 
 -- the table of a handle updated to its value with this range replaced
 abbrev pub after_load : State → ℕ → ℕ → List ℕ → State
@@ -275,15 +282,15 @@ abbrev pub address_of : State → ℕ → TblAnswer
 address_of s handle =
     option_map_or
     (λ h. option_map_or (λ t. answers.Address (told_of t h) t.version) (table_of s handle)
-        (answers.Refused ErrInvalidHandle))
+    (answers.Refused ErrInvalidHandle))
     (handle_at s.handles handle) (answers.Refused ErrInvalidHandle)
 
 -- the handle holds the present version of its table
 abbrev pub after_address : State → ℕ → State
 after_address s handle =
     option_map_or
-        (λ t. record s { handles = with_handle (with_hold t.version t.value) handle s.handles })
-        (table_of s handle) s
+    (λ t. record s { handles = with_handle (with_hold t.version t.value) handle s.handles })
+    (table_of s handle) s
 
 -- 0 where nothing is staged, 1 where something is, 2 where it was validated
 abbrev pub staged_number : Option Staged → ℕ
@@ -317,9 +324,11 @@ accept limits s app (Register name size option rules) =
 accept limits s app (Share name) = (answers.Number (s.handles_made + 1), after_share s app name)
 accept limits s app (Unregister handle) =
     (answers.Done, without_handles (λ h. h.number == handle) s)
-accept limits s app (Stage handle offset bytes) =
-    (answers.Done, with_table_of s handle
-    (λ t. with_staged (with_range t.value offset bytes) false t))
+accept limits s app (Stage handle offset bytes) = (
+  answers.Done,
+  with_table_of s handle
+      (λ t. with_staged (with_range t.value offset bytes) false t),
+)
 accept limits s app (Validate handle) = (answers.Done, with_table_of s handle with_validated)
 accept limits s app (Update handle) = (answers.Done, after_update s handle)
 accept limits s app (Abort handle) =

@@ -16,20 +16,30 @@ pub record Receipt : Type 0 where
 -- a receipt with the bytes that it borrows
 abbrev pub receipt_of : TableReceipt → Receipt
 receipt_of r =
-    record { handle = r.handle; version = r.version; size = r.size; sum_of_bytes = r.sum;
-    head = r.head.now }
+    record {
+      handle = r.handle;
+      version = r.version;
+      size = r.size;
+      sum_of_bytes = r.sum;
+      head = r.head.now;
+    }
 
 -- the receipt of a version held by a handle
 abbrev pub table_receipt : ℕ → ℕ → List ℕ → Receipt
 table_receipt handle version value =
-    record { handle = handle; version = version; size = length value; sum_of_bytes = sum value;
-        head = take HEAD_BYTES value }
+    record {
+      handle = handle;
+      version = version;
+      size = length value;
+      sum_of_bytes = sum value;
+      head = take HEAD_BYTES value;
+    }
 
 -- the receipt of what an application's handle holds, where the handle is live and holds something
 abbrev pub receipt_in : State → ℕ → ℕ → Option Receipt
 receipt_in s app handle =
     if owns s.handles app handle
     then option_and_then
-        (λ h. option_map (λ held. table_receipt handle held.version held.value) h.hold)
-        (handle_at s.handles handle)
+    (λ h. option_map (λ held. table_receipt handle held.version held.value) h.hold)
+    (handle_at s.handles handle)
     else None

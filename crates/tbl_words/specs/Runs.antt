@@ -15,8 +15,8 @@ abbrev pub run_from : Limits → List Entry → State → List (ℕ × Call) →
 run_from limits history s [] = (history, s)
 run_from limits history s (made ∷ calls) =
     run_from limits
-        (history ++
-        record { app = made.0; call = made.1; answer = (step limits s made.0 made.1).0 } ∷ [])
+    (history ++
+    record { app = made.0; call = made.1; answer = (step limits s made.0 made.1).0 } ∷ [])
     ((step limits s made.0 made.1).1) calls
 
 -- the entry may follow the history: the longer history is legal, and its tables are those that the

@@ -27,21 +27,21 @@ abbrev pub TablesHaveHandles : Type 0
 TablesHaveHandles =
     (limits : Limits) (apps : ℕ) (history : List Entry) →
     All (λ t. has_handle (state_after limits apps history).handles t.number ≡ true)
-        (state_after limits apps history).tables
+    (state_after limits apps history).tables
 
 -- the live handles stand in order of number, so no two have one number
 abbrev pub HandlesRise : Type 0
 HandlesRise =
     (limits : Limits) (apps : ℕ) (history : List Entry) →
     AllPairs (λ earlier later. earlier.number < later.number)
-        (state_after limits apps history).handles
+    (state_after limits apps history).handles
 
 -- and no number is above the count of the handles that were made
 abbrev pub HandlesWereMade : Type 0
 HandlesWereMade =
     (limits : Limits) (apps : ℕ) (history : List Entry) →
     All (λ h. h.number ≤ (state_after limits apps history).handles_made)
-        (state_after limits apps history).handles
+    (state_after limits apps history).handles
 
 -- a number that is answered for a new handle is one more than were made before, and is counted
 abbrev pub NumbersAreNew : Type 0
@@ -54,4 +54,4 @@ NumbersAreNew =
 abbrev pub CountsNeverFall : Type 0
 CountsNeverFall =
     (limits : Limits) (s : State) (app : ℕ) (call : Call) →
-        s.handles_made ≤ ((step limits s app call).1).handles_made
+    s.handles_made ≤ ((step limits s app call).1).handles_made

@@ -10,8 +10,11 @@ use Rattle.tbl_words.specs.Machine.{step, state_after}
 -- blocks
 abbrev pub use_of : Limits → State → TblUse
 use_of limits s =
-    record { tables = length s.tables; handles = length s.handles;
-    bytes = bytes_in_use limits.sizes s.tables }
+    record {
+      tables = length s.tables;
+      handles = length s.handles;
+      bytes = bytes_in_use limits.sizes s.tables;
+    }
 
 -- of each number the greater one
 abbrev pub greater_of : TblUse → TblUse → TblUse
@@ -45,11 +48,11 @@ PeaksGoOn =
     (limits : Limits) (apps : ℕ) (history : List Entry) (e : Entry) →
     peak_after limits apps (history ++ e ∷ [])
     ≡ greater_of (peak_after limits apps history)
-        (use_of limits (state_after limits apps (history ++ e ∷ [])))
+    (use_of limits (state_after limits apps (history ++ e ∷ [])))
 
 -- what was in use after a beginning of a history is within its peak
 abbrev pub PeaksAreGreatest : Type 0
 PeaksAreGreatest =
     (limits : Limits) (apps : ℕ) (history more : List Entry) →
     IsWithin (use_of limits (state_after limits apps history))
-        (peak_after limits apps (history ++ more))
+    (peak_after limits apps (history ++ more))

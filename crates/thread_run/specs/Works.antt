@@ -55,8 +55,10 @@ pub record IsDone (script : ScriptText) (bus tables : TableId) (app : ℕ)
   pub told :
       (entries : Histories) →
       receipts_told script
-      (record { bus = done.port.seen.log.entries ++ entries.bus;
-          tables = done.tables_port.seen.log.entries ++ entries.tables }) app
+      (record {
+        bus = done.port.seen.log.entries ++ entries.bus;
+        tables = done.tables_port.seen.log.entries ++ entries.tables;
+      }) app
       ≡ done.receipts.receipts
 
 -- each of a list, by its application's number, from this one on

@@ -16,5 +16,12 @@ is_idle Spent = false
 -- what its seat knows
 abbrev pub known : {F E : Type 0} → View F E → Known F E
 known v =
-    record { fixed = v.fixed; main = is_main v.stage; app = v.app; seen = v.seen; mine = v.mine;
-    apps = v.apps; ended = v.ended }
+    record {
+      fixed = v.fixed;
+      main = is_main v.stage;
+      app = v.app;
+      seen = v.seen;
+      mine = v.mine;
+      apps = v.apps;
+      ended = v.ended;
+    }

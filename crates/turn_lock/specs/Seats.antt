@@ -45,14 +45,28 @@ module _ {F E : Type 0} where
   -- the main seat of a new lock, whose value has this fixed part and this history
   abbrev pub main_view : F → List (ℕ × E) → Known F E
   main_view fixed log =
-      record { fixed = Some fixed; main = true; app = 0; seen = log; mine = []; apps = [];
-      ended = [] }
+      record {
+        fixed = Some fixed;
+        main = true;
+        app = 0;
+        seen = log;
+        mine = [];
+        apps = [];
+        ended = [];
+      }
 
   -- a seat for an application, new from the main seat: it has seen as much, and made no entry
   abbrev pub seat_view : Known F E → ℕ → Known F E
   seat_view main app =
-      record { fixed = main.fixed; main = false; app = app; seen = main.seen; mine = []; apps = [];
-      ended = [] }
+      record {
+        fixed = main.fixed;
+        main = false;
+        app = app;
+        seen = main.seen;
+        mine = [];
+        apps = [];
+        ended = [];
+      }
 
   -- the main seat, with one application more split off
   abbrev pub with_app : Known F E → ℕ → Known F E

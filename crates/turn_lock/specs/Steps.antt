@@ -19,7 +19,7 @@ module _ {T F E : Type 0} (fixed : T → F) (history : T → List (ℕ × E)) wh
   abbrev pub IsServed : Me (Option T) (View F E) → Me (Option T) (View F E) → Type 0
   IsServed before now =
       (x : T) × (Some (fixed x) ≡ before.0.fixed) × IsPrefix before.0.seen (history x) ×
-          (entries_of before.0.app (history x) ≡ before.0.mine)
+      (entries_of before.0.app (history x) ≡ before.0.mine)
       × (now ≡ (served_place before.0 (history x), (0, Some x) ∷ []))
 
   -- the turn was free and is the seat's, or it was not and nothing changed
@@ -36,7 +36,7 @@ module _ {T F E : Type 0} where
   abbrev pub Meets : Me (Option T) (View F E) → Me (Option T) (View F E) → Type 0
   Meets before now =
       (now ≡ (record before.0 { seen = now.0.seen }, before.1)) ×
-          KeepsLonger before.0.seen before.0.joined now.0.seen
+      KeepsLonger before.0.seen before.0.joined now.0.seen
       × ((app : ℕ) → ¬ (Contains before.0.apps app) → entries_of app now.0.seen ≡ [])
 
 -- a place in the table stays the one that it was

@@ -40,14 +40,30 @@ module _ {F E : Type 0} where
   -- the main seat of a new lock, whose value has this fixed part and this history
   abbrev pub main_place : F → List (ℕ × E) → View F E
   main_place fixed log =
-      record { fixed = Some fixed; seen = log; app = 0; mine = []; stage = Main; apps = [];
-      ended = []; joined = [] }
+      record {
+        fixed = Some fixed;
+        seen = log;
+        app = 0;
+        mine = [];
+        stage = Main;
+        apps = [];
+        ended = [];
+        joined = [];
+      }
 
   -- a seat for an application, new from the main seat: it has seen as much, and made no entry
   abbrev pub seat_place : View F E → ℕ → View F E
   seat_place main app =
-      record { fixed = main.fixed; seen = main.seen; app = app; mine = []; stage = Away; apps = [];
-      ended = []; joined = [] }
+      record {
+        fixed = main.fixed;
+        seen = main.seen;
+        app = app;
+        mine = [];
+        stage = Away;
+        apps = [];
+        ended = [];
+        joined = [];
+      }
 
   -- the main seat, with one application more split off
   abbrev pub with_seat : View F E → ℕ → View F E
@@ -69,8 +85,16 @@ module _ {F E : Type 0} where
   -- what is left of an ended seat
   abbrev pub spent_place : View F E
   spent_place =
-      record { fixed = None; seen = []; app = 0; mine = []; stage = Spent; apps = []; ended = [];
-      joined = [] }
+      record {
+        fixed = None;
+        seen = [];
+        app = 0;
+        mine = [];
+        stage = Spent;
+        apps = [];
+        ended = [];
+        joined = [];
+      }
 
   -- the seat of each application that was split off was joined
   abbrev pub AreAllBack : View F E → Type 0
