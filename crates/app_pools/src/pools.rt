@@ -152,8 +152,8 @@ impl AppPools {
         end_all(&mut self.places, self.made, app, steps);
     }
 
-    /// Whether a pool, if there is one of this number, gave fewer than 18446744073709551615 grants,
-    /// so that a further one can be numbered.
+    /// Whether a pool, if there is one of this number, gave fewer than 2^64 - 1 grants, so that a
+    /// further one can be numbered.
     pub fn has_numbers(&self, pool: u32) -> bool
         ensures { result ≡ has_numbers self.now pool }
     {

@@ -46,9 +46,9 @@ impl<'r> PlainBus<'r> {
         self.is_open(app, call) && is_within(call)
     }
 
-    /// Whether the application may make each call of a buffer that it has or of a grant, whatever
-    /// its number, which may be past those that a [`BusCall`] has: the bus serves it, and it is
-    /// active.
+    /// Whether the application may make each call that names a buffer or a grant, whatever the
+    /// number, which may be past those that a [`BusCall`] has: the bus serves the application, and
+    /// it is active.
     pub fn may_name(&self, app: AppNo) -> bool
         ensures active { IsTrue result ↔ MayAct self.now app Figures }
         ensures transmit { IsTrue result → (buf : ℕ) (bytes : List ℕ) (inc : Bool) →

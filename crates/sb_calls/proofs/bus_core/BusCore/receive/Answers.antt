@@ -6,7 +6,7 @@ use Rattle.sb_plain.specs.Core.{Plain}
 use Rattle.sb_calls.proofs.CoreBags.{bag_in, bag_out}
 use Rattle.sb_calls.proofs.Made.{made_receive}
 use Rattle.sb_calls.proofs.OthersBags.{others_keep}
-use Rattle.sb_calls.proofs.Over.{bus_now, may_act, stands_over, does_over}
+use Rattle.sb_calls.proofs.Over.{bus_now, may_act, few_sends, stands_over, does_over}
 use Rattle.sb_calls.proofs.bus_core.BusCore.receive.Goals as goal
 
 pub receive-result-requires : goal.receive-result-requires
