@@ -1,7 +1,7 @@
 //! Two threads share one value through the lock.
-ghost use Rattle.std.specs.Prelude.{◌≡◌, ◌≤◌, ℕ, ◌++◌, List, [], ◌∷◌, true, false};
+ghost use Rattle.std.specs.Prelude.{◌≡◌, ◌≤◌, ◌&&◌, ℕ, ◌++◌, List, [], ◌∷◌, true, false, Some};
 ghost use Rattle.std.specs.Prelude.{if◌then◌else◌};
-ghost use Rattle.turn_lock.specs.Seats.{view_of, IsReady};
+ghost use Rattle.turn_lock.specs.Seats.{view_of, left_view, IsOut, IsReady, AddsOwn};
 
 mod sleeping;
 
@@ -12,26 +12,27 @@ use std::rt::HostRuntime;
 use std::sync::Wait;
 use std::thread;
 use std::thread::{Threads, join};
-use turn_lock::{Historied, LockName, Seat, TurnLock};
+use turn_lock::{Historied, LockName, Seat, Turn, TurnLock};
 
 const PAIRS: usize = 10;
 
 /// Pairs of an application and a number, beside a borrowed slice that has each pair's number at
-/// the pair's place. Contracts see the pairs, how many bytes the slice has, and whether somebody
-/// sleeps until a pair is added.
+/// the pair's place. Contracts see the pairs, how many bytes the slice has, whether a seat sleeps
+/// until there is a pair, and whether there is one.
 #[derive(Drop)]
 struct Pad<'r> {
     pairs: Vec<(u32, u8)>,
     bytes: &'r mut [u8],
     awaited: bool,
+    grown: bool,
 }
 
 impl<'r> Model for Pad<'r> {
     ghost use Rattle.std.specs.Prelude.{ℕ, Bool, List, length};
 
-    ghost Value = { List (ℕ × ℕ) × ℕ × Bool };
+    ghost Value = { List (ℕ × ℕ) × ℕ × Bool × Bool };
 
-    ghost view = { λ p. (p.pairs.items, length p.bytes.now, p.awaited) };
+    ghost view = { λ p. (p.pairs.items, length p.bytes.now, p.awaited, p.grown) };
 }
 
 impl<'r> Historied for Pad<'r> {
@@ -44,6 +45,8 @@ impl<'r> Historied for Pad<'r> {
     ghost history = { λ p. p.0 };
 
     ghost awaited = { λ p. p.2 };
+
+    ghost news = { λ p. p.3 };
 }
 
 impl<'r> Pad<'r> {
@@ -54,6 +57,7 @@ impl<'r> Pad<'r> {
               self.old.0 ++ (if result then (app, number) ∷ [] else []),
               self.old.1,
               self.old.2,
+              if result then true else self.old.3,
             ) }
     {
         let at = self.pairs.len();
@@ -62,28 +66,50 @@ impl<'r> Pad<'r> {
         }
         self.bytes[at] = number;
         self.pairs.push_reserved((app, number));
+        self.grown = true;
         true
     }
 
-    /// Notes that somebody is about to sleep until a pair is added.
+    /// Notes that a seat is about to sleep until there is a pair.
     fn note_sleeper(&mut self)
-        ensures { self.new ≡ (self.old.0, self.old.1, true) }
+        ensures { self.new ≡ (self.old.0, self.old.1, true, self.old.3) }
     {
         self.awaited = true;
     }
 
-    /// Whether somebody sleeps, who is to be woken; from then on nobody does.
+    /// Whether there are sleepers and a pair; the sleepers are woken then, and nobody sleeps any
+    /// more.
     fn take_sleepers(&mut self) -> bool
-        ensures told { result ≡ self.old.2 }
-        ensures taken { self.new ≡ (self.old.0, self.old.1, false) }
+        ensures told { result ≡ self.old.2 && self.old.3 }
+        ensures taken { self.new
+            ≡ (self.old.0, self.old.1, if result then false else self.old.2, self.old.3) }
     {
-        let awaited = self.awaited;
+        if !self.awaited || !self.grown {
+            return false;
+        }
         self.awaited = false;
-        awaited
+        true
     }
 }
 
-/// Lets other threads run for so long that who waits for a turn goes to sleep.
+/// Leaves a turn, and wakes the sleepers if there is a pair.
+fn finish<'r>(lock: &TurnLock<Pad<'r>>, seat: &mut Seat<usize, u8>, mut turn: Turn<Pad<'r>>)
+    requires out { IsOut seat.old }
+    requires lock { turn.lock ≡ lock.now.name }
+    requires opening { Some turn.value.1 ≡ turn.view.fixed }
+    requires own { AddsOwn turn.view turn.value.0 }
+    requires awaited { turn.value.2 ≡ turn.found.2 }
+    ensures ready { IsReady seat.new lock.now.name }
+    ensures view { view_of seat.new ≡ left_view turn.entry.view turn.entry.value.0 }
+{
+    if turn.value_mut().take_sleepers() {
+        lock.leave_and_wake(seat, turn);
+    } else {
+        lock.leave(seat, turn);
+    }
+}
+
+/// Lets other threads run for so long that a seat that waits for a turn goes to sleep.
 fn dawdle() {
     for _ in 0..200_u32 {
         thread::yield_now();
@@ -108,7 +134,7 @@ fn add_one<'r, R: Wait>(
     let mut turn = lock.enter(rt, seat);
     dawdle();
     let added = turn.value_mut().add(app, number);
-    lock.leave(seat, turn);
+    finish(lock, seat, turn);
     added
 }
 
@@ -169,6 +195,7 @@ fn pairs_of_two_threads<'r, R: Threads + Wait + Sync>(
         pairs: Vec::with_capacity(alloc, PAIRS)?,
         bytes,
         awaited: false,
+        grown: false,
     };
     let (lock, mut main) = TurnLock::new(alloc, pad, 2)?;
     let one = lock.split(&mut main, AppNo::try_new(1).unwrap());
@@ -180,6 +207,7 @@ fn pairs_of_two_threads<'r, R: Threads + Wait + Sync>(
         pairs,
         bytes: _,
         awaited: _,
+        grown: _,
     } = lock.close(main);
     Ok(pairs)
 }

@@ -2,7 +2,7 @@
 ghost use Rattle.std.specs.Prelude.{◌≡◌, IfOk};
 ghost use Rattle.turn_lock.specs.Seats.{view_of, IsIn, IsReady};
 
-use super::{PAIRS, Pad, add_one};
+use super::{PAIRS, Pad, add_one, finish};
 use fsw_base::AppNo;
 use std::alloc::{AllocError, Global};
 use std::marker::Brand;
@@ -28,6 +28,7 @@ fn open<'r>(alloc: Global, bytes: &'r mut [u8]) -> Result<Opened<'r>, AllocError
         pairs: Vec::with_capacity(alloc, PAIRS)?,
         bytes,
         awaited: false,
+        grown: false,
     };
     let (lock, mut main) = TurnLock::new(alloc, pad, 2)?;
     let one = lock.split(&mut main, AppNo::try_new(1).unwrap());
@@ -50,7 +51,7 @@ fn take_turn<'r, R: Wait>(
     for _ in 0..pauses {
         thread::yield_now();
     }
-    lock.leave(seat, turn);
+    finish(lock, seat, turn);
     looks
 }
 
@@ -97,7 +98,7 @@ fn linger<'r, B: LockName, R: Wait + Clock>(
 {
     let turn = lock.enter(rt, &mut seat);
     thread::sleep(rt, Duration::from_millis(5));
-    lock.leave(&mut seat, turn);
+    finish(lock, &mut seat, turn);
 }
 
 // Asks for a turn a little later, and answers how often it looked until the turn came.
@@ -164,7 +165,7 @@ fn finds_an_entry<'r, R: Wait>(rt: &R, lock: &TurnLock<Pad<'r>>, seat: &mut Seat
 {
     let mut turn = lock.enter(rt, seat);
     if !turn.value().pairs.is_empty() {
-        lock.leave(seat, turn);
+        finish(lock, seat, turn);
         return true;
     }
     turn.value_mut().note_sleeper();
@@ -172,23 +173,8 @@ fn finds_an_entry<'r, R: Wait>(rt: &R, lock: &TurnLock<Pad<'r>>, seat: &mut Seat
     false
 }
 
-// Adds a pair, and wakes who sleeps until then.
-fn add_and_wake<'r, R: Wait>(rt: &R, lock: &TurnLock<Pad<'r>>, seat: &mut Seat<usize, u8>, app: u32)
-    requires seat { IsReady seat.old lock.now.name }
-    requires app { (view_of seat.old).app ≡ app }
-    ensures seat { IsReady seat.new lock.now.name }
-{
-    let mut turn = lock.enter(rt, seat);
-    turn.value_mut().add(app, 7);
-    if turn.value_mut().take_sleepers() {
-        lock.leave_and_wake(seat, turn);
-    } else {
-        lock.leave(seat, turn);
-    }
-}
-
-// Adds a pair a little later, and wakes who sleeps until then.
-fn add_and_wake_later<'r, B: LockName, R: Wait + Clock>(
+// Adds a pair a little later, which wakes the sleepers.
+fn add_later<'r, B: LockName, R: Wait + Clock>(
     rt: &R,
     lock: &TurnLock<Pad<'r>>,
     mut seat: Seat<usize, u8>,
@@ -199,7 +185,7 @@ fn add_and_wake_later<'r, B: LockName, R: Wait + Clock>(
     requires app { (view_of seat).app ≡ app }
 {
     thread::sleep(rt, Duration::from_millis(5));
-    add_and_wake(rt, lock, &mut seat, app);
+    add_one(rt, lock, &mut seat, app, 7);
 }
 
 // One thread sleeps until the history has an entry, which another makes: how many turns it took.
@@ -220,7 +206,7 @@ fn turns_beside_an_entry<'r, B: LockName + Send + Sync, R: Threads + Wait + Cloc
         { turns_until_an_entry::<B, _>(rt, lock, one) },
         move ||
             requires { (lock.now.name ≡ B.name) × IsReady two B.name × ((view_of two).app ≡ 2) }
-        { add_and_wake_later::<B, _>(rt, lock, two, 2) },
+        { add_later::<B, _>(rt, lock, two, 2) },
     );
     turns
 }
@@ -260,7 +246,7 @@ fn nobody_sleeps_who_was_woken_before(rt: HostRuntime) -> Result<(), AllocError>
     let mut bytes = [0; PAIRS];
     let (lock, mut one, mut two) = open(rt.alloc(), &mut bytes)?;
     assert!(rt; !finds_an_entry(&rt, &lock, &mut one));
-    add_and_wake(&rt, &lock, &mut two, 2);
+    add_one(&rt, &lock, &mut two, 2, 7);
     lock.sleep(&rt, &mut one);
     Ok(())
 }

@@ -2,8 +2,8 @@ use Rattle.std.proofs.Common.{◌∙◌, ◌++◌, ◌∷◌, [], ap, sym, if◌
 use Rattle.turn_lock.proofs.Callers.{adds_where}
 use Rattle.test_memory.proofs.turn_lock_tests.add_one.Goals as goal
 
-pub leave-requires-clause-own : goal.leave-requires-clause-own
-leave-requires-clause-own g c =
+pub finish-requires-clause-own : goal.finish-requires-clause-own
+finish-requires-clause-own g c =
     let view = c.enter-turn.ensures.view in
     adds_where c.enter-turn.result.view c.add-added.new.self.0 c.args.app c.args.number c.add-added.result
     (ap (λ v. v.app) view ∙ c.requires.app)
