@@ -47,6 +47,8 @@
 //!   the numbers in use. `recall_loans`: handles that hold one version of one table are lent it by
 //!   one loan. A registration and a handle that is given back take at most 16 steps, an end 16 for
 //!   each handle.
+//! - Behind version 2^64 - 1 `update` and `load` change nothing (`spent`) and answer their refusal,
+//!   or `InfoTableLocked` if there is none (`behind_last`).
 //!
 //! By reading: only [`PlainTables::new`] takes memory; the numbers of `in_use` are kept and not
 //! counted anew. A load writes no working buffer, though it is refused if four are taken.

@@ -121,6 +121,7 @@ impl<'r> PlainTables<'r> {
             return Err(TblStatus::InfoTableLocked);
         }
         if !self.blocks.has_next_version(key) {
+            // Nothing refuses it; but versions have 64 bits.
             return Err(TblStatus::InfoTableLocked);
         }
         self.blocks.recall_table(key);
