@@ -28,6 +28,10 @@ class Case:
         is_same = sum_of(report) == self.sum if self.sum else report == self.report
         return status == self.status and is_same
 
+    def size(self):
+        """The size of the report in bytes."""
+        return int(self.sum.partition(" ")[0]) if self.sum else len(self.report)
+
     def difference(self, status, report):
         """The first thing in which this isn't the answer of the case."""
         if status != self.status:

@@ -75,15 +75,16 @@ def outputs_of(printed, count):
     return outputs
 
 
-def try_cases(cases, is_told=lambda count: None):
-    """Compiles the program once, without a proof, and makes these runs: of each the status, None
-    where it didn't end by itself, and what it printed. In place of them None where nothing was run.
-    Behind that what rt said. `is_told` is called with how many runs have ended."""
+def try_cases(cases, is_told=lambda count: None, crate=CRATE, flags=()):
+    """Compiles the program, or that of another crate, once, without a proof, and makes these runs:
+    of each the status, None where it didn't end by itself, and what it printed. In place of them
+    None where nothing was run. Behind that what rt said. `is_told` is called with how many runs have
+    ended."""
     ended, said = {}, []
     with tempfile.TemporaryDirectory(prefix="fsw-cases-") as folder, tempfile.TemporaryFile() as out:
         write_cases(folder, cases)
-        command = ["rt", "try", "--seconds", SECONDS, "--cases", folder]
-        how = dict(cwd=CRATE, stdin=subprocess.DEVNULL, stdout=out, stderr=subprocess.PIPE)
+        command = ["rt", "try", "--seconds", SECONDS, *flags, "--cases", folder]
+        how = dict(cwd=crate, stdin=subprocess.DEVNULL, stdout=out, stderr=subprocess.PIPE)
         with subprocess.Popen(command, **how) as rt:
             for line in rt.stderr:
                 line = line.decode(errors="replace").rstrip("\n")

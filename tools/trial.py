@@ -2,13 +2,14 @@
 
 The scripts of corpus/ and of examples/, each with the answer that is kept beside it, and the tests
 of all crates. Nothing of it proves anything: `./fsw build` does. With `--proved` the scripts go to
-the program that is built; otherwise it is compiled once for all of them. With `--crates` the words
-behind are crates, and of the tests only theirs are made.
+the program that is built; otherwise they are run over one compilation. All tests are compiled as one
+crate. With `--crates` the words behind are crates, and of the tests only theirs are made.
 """
 import os
 import re
 import subprocess
 import sys
+import tempfile
 import time
 from concurrent.futures import ThreadPoolExecutor
 from pathlib import Path
@@ -16,7 +17,9 @@ from pathlib import Path
 sys.dont_write_bytecode = True  # nothing is left beside the sources
 
 from build import free_memory
-from kit import PROGRAM, SECONDS, TOP, Case, stop_without_kit, tell, try_cases
+from gathered import lay_out
+from kit import PROGRAM, SECONDS, TOP, Case, stop_without_kit, tell
+from many import Script, try_scripts
 
 sys.path.insert(0, os.path.join(TOP, ".ci"))
 
@@ -26,24 +29,21 @@ from corpus_text import cases_of, files
 MEMORY = 2 << 30
 # How many faults are told.
 MOST_TOLD = 20
-# The scripts are run in so many parts side by side: compiling the program takes a minute of a
-# processor, and running them all on one takes four.
-PARTS = 3
 RESULT = re.compile(r"test result: \w+\. (\d+) passed; (\d+) failed")
 
 
 class Trial:
-    """A script that is run, and how its answer is judged."""
+    """A script that is run, how long its report should be, and how its answer is judged."""
 
-    def __init__(self, name, words, script, fault):
-        self.name, self.case, self.fault = name, Case(words, script), fault
+    def __init__(self, name, words, script, size, fault):
+        self.name, self.case, self.size, self.fault = name, Case(words, script), size, fault
 
 
 def corpus_trials():
     for path in files():
         for case in cases_of(path)[1]:
             fault = lambda status, report, case=case: None if case.is_answer(status, report) else case.difference(status, report)
-            yield Trial(f"{path.name}: {case.name}", case.words, case.script, fault)
+            yield Trial(f"{path.name}: {case.name}", case.words, case.script, case.size(), fault)
 
 
 def fault_of_example(status, report, wanted):
@@ -66,7 +66,7 @@ def example_trials():
         for word in ("lockstep", "run"):
             wanted = report if word == "lockstep" or is_alone else None
             fault = lambda status, report, wanted=wanted: fault_of_example(status, report, wanted)
-            yield Trial(f"examples/{path.name}, {word}", [word], script, fault)
+            yield Trial(f"examples/{path.name}, {word}", [word], script, len(report), fault)
 
 
 def crates_with_tests():
@@ -124,10 +124,10 @@ def try_built(progress, trials):
     progress.done(f"{len(trials)} scripts of corpus/ and examples/ were run")
 
 
-def try_compiled(progress, part, trials):
-    """Runs these scripts, a part of all, on a program that is compiled for them."""
-    show = lambda count: progress.show(part, f"{count} of {len(trials)} scripts")
-    answers, said = try_cases([trial.case for trial in trials], show)
+def try_compiled(progress, trials):
+    """Runs these scripts over one compilation."""
+    show = lambda count: progress.show("scripts", f"{count} of {len(trials)} scripts")
+    answers, said = try_scripts([Script(trial.case, trial.size) for trial in trials], show)
     if answers is None:
         progress.wrong.append(f"the program could not be compiled:\n{said}")
         return
@@ -135,22 +135,25 @@ def try_compiled(progress, part, trials):
     progress.done(f"{len(trials)} scripts of corpus/ and examples/ were run")
 
 
-def try_tests(progress, crate):
-    """Compiles a crate's tests and runs them; how many passed."""
+def try_tests(progress, crates):
+    """Compiles the tests of these crates as one crate and runs them; how many passed."""
+    if not crates:
+        return 0
     command = ["rt", "try", "--test", "--seconds", SECONDS]
-    how = dict(cwd=os.path.join(TOP, "crates", crate), stdin=subprocess.DEVNULL, capture_output=True)
-    run = subprocess.run(command, text=True, errors="replace", **how)
+    with tempfile.TemporaryDirectory(prefix="fsw-tests-") as folder:
+        how = dict(cwd=lay_out(folder, "all_tests", crates), stdin=subprocess.DEVNULL, capture_output=True)
+        run = subprocess.run(command, text=True, errors="replace", **how)
     found = RESULT.search(run.stdout + run.stderr)
     passed = int(found[1]) if found else 0
     if run.returncode or not found or found[2] != "0":
-        progress.wrong.append(f"tests of {crate}:\n{run.stdout}{run.stderr}".rstrip())
-    progress.done(f"{passed} tests of {crate} passed")
+        progress.wrong.append(f"tests of {' '.join(crates)}:\n{run.stdout}{run.stderr}".rstrip())
+    progress.done(f"{passed} tests of {len(crates)} crates passed")
     return passed
 
 
 def lanes():
-    """How many compilations are made at a time."""
-    return max(1, min(4, len(os.sched_getaffinity(0)), free_memory() // MEMORY))
+    """How many compilations are made at a time: that of the scripts, and that of the tests."""
+    return max(1, min(2, len(os.sched_getaffinity(0)), free_memory() // MEMORY))
 
 
 def main(words):
@@ -163,17 +166,12 @@ def main(words):
     crates = words[1:] if words else crates_with_tests()
     trials = [*corpus_trials(), *example_trials()]
     program = "the proved program" if is_proved else "the program compiled without a proof"
-    tell(f"{len(trials)} scripts on {program}, and the tests of {len(crates)} crates; three to five minutes on four processors")
+    tell(f"{len(trials)} scripts on {program}, and the tests of {len(crates)} crates; up to five minutes on four processors")
     progress = Progress()
     with ThreadPoolExecutor(lanes()) as pool:
-        if is_proved:
-            scripts = [pool.submit(try_built, progress, trials)]
-        else:
-            parts = [trials[at::PARTS] for at in range(PARTS)]
-            scripts = [pool.submit(try_compiled, progress, at, part) for at, part in enumerate(parts)]
-        passed = sum(pool.map(lambda crate: try_tests(progress, crate), crates))
-        for part in scripts:
-            part.result()
+        scripts = pool.submit(try_built if is_proved else try_compiled, progress, trials)
+        passed = pool.submit(try_tests, progress, crates).result()
+        scripts.result()
     for line in progress.wrong[:MOST_TOLD]:
         tell(line)
     found = f"{len(progress.wrong)} wrong, of which the first stand above" if progress.wrong else "all as it should be"
