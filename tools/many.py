@@ -66,7 +66,7 @@ def try_scripts(scripts, is_told=lambda count: None):
     of them None where nothing was run. Behind that what rt said."""
     groups = groups_of(scripts)
     ends = [sum(map(len, groups[:at])) for at in range(len(groups) + 1)]
-    main = Path(TOP, "tools", f"{NAME}.rt").read_text(encoding="utf-8")
+    main = Path(TOP, "tools", f"{NAME}.main").read_text(encoding="utf-8")
     with tempfile.TemporaryDirectory(prefix="fsw-scripts-") as folder:
         crate = lay_out(folder, NAME, [CRATE], main)
         told = lambda count: is_told(ends[count])
