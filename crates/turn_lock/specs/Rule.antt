@@ -60,7 +60,7 @@ module _ {T F E : Type 0} (fixed : T → F) (history : T → List (ℕ × E)) (o
   abbrev pub IsHome : List (ℕ × E) → List (home.Option (Option T)) → List (View F E) → Type 0
   IsHome log homes views = (x : T) × (get_elem? homes 0 ≡ some (some (Some x))) × (history x ≡ log) × (fixed x ≡ opening) × NoneServed views
 
-  -- where the turn's word is 0 the value is at home, and else it is out
+  -- if the turn's word is 0 the value is at home, and otherwise it is out
   abbrev pub IsHomeOrOut : List ℕ → List (ℕ × E) → List (home.Option (Option T)) → List (View F E) → Type 0
   IsHomeOrOut words log homes views = ((slice_index words 0 ≡ 0) × IsHome log homes views) ⊎ ((slice_index words 0 ≢ 0) × IsOutWithOne views)
 
