@@ -1,4 +1,4 @@
--- What a seat of the table stands for, and which ones stand for a seat.
+-- What a seat knows by its place in the table, and which places seats have between turns.
 use Rattle.std.specs.Prelude.{Bool, true, false}
 use Rattle.turn_lock.specs.declared.view.View.{View}
 use Rattle.turn_lock.specs.declared.view.Stage.{Stage}
@@ -6,7 +6,7 @@ use Rattle.turn_lock.specs.declared.view.Stage.TheVariants.{Main, Away, Has, Spe
 use Rattle.turn_lock.specs.Views.{is_main}
 use Rattle.turn_lock.specs.Seats.{Known}
 
--- whether it has no turn, as the main seat, and an application's between its turns
+-- whether it has no turn: it is the main seat, or an application's between its turns
 abbrev pub is_idle : Stage → Bool
 is_idle Main = true
 is_idle Away = true

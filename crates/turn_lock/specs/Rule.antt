@@ -69,7 +69,7 @@ module _ {T F E : Type 0} (fixed : T → F) (history : T → List (ℕ × E)) (o
       (x : T) × (get_elem? homes 0 ≡ some (some (Some x))) × (history x ≡ log) ×
       (fixed x ≡ opening) × NoneServed views
 
-  -- where the turn's word is 0 the value is at home, and else it is out
+  -- if the turn's word is 0 the value is at home, and otherwise it is out
   abbrev pub IsHomeOrOut : List ℕ → List (ℕ × E) → List (home.Option (Option T)) → List (View F E) →
       Type 0
   IsHomeOrOut words log homes views =
