@@ -154,7 +154,8 @@ fn receive<R: Wait>(rt: &R, app: App<'_, '_>, pipe: u32) -> Option<usize>
     Some(port.last(pipe)?.len())
 }
 
-// Looks again as long as the application waits. In between it sleeps until the bus took a call.
+// Looks again as long as the application waits. In between it sleeps until a waiting
+// application has news.
 fn look<'r, R: Wait>(rt: &R, bus: &Bus<'r>, port: &mut BusPort<'r>)
     requires { port.old.lock ≡ bus.now }
 {

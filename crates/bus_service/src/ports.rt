@@ -15,7 +15,7 @@ use crate::boxed::{NotedCall, Opening};
 use crate::bus::Bus;
 use crate::calls::PortCall;
 use crate::permits::Permits;
-use crate::turns::{begin, finish, pause};
+use crate::turns::{begin, begin_look, finish, pause};
 use crate::unsent::MessageView;
 use buf_desc::{Bag, Memory};
 use bus_words::Allowance;
@@ -184,9 +184,8 @@ impl<'r> BusPort<'r> {
     }
 
     /// Looks again for a message on the pipe that the application waits on, as [`BusCore::look`]
-    /// does at the application's turn. If its last look was in vain, it sleeps before, until a
-    /// waiting application would be answered, or a little less long; nothing is claimed of how
-    /// long.
+    /// does at the application's turn. If its last look was in vain, it first sleeps until a
+    /// waiting application has news. It may wake earlier; nothing is claimed of how long it sleeps.
     ///
     /// [`BusCore::look`]: sb_calls::BusCore::look
     pub fn look<R: Wait>(&mut self, bus: &Bus<'r>, rt: &R) -> Pended
@@ -198,7 +197,7 @@ impl<'r> BusPort<'r> {
         ensures still { result ≡ Pended.Pending → self.new.bag ≡ self.old.bag }
         ensures buffers { self.new.bag ≡ record self.old.bag { views = self.new.bag.views } }
     {
-        let mut turn = begin(bus, rt, &mut self.seat);
+        let mut turn = begin_look(bus, rt, &mut self.seat);
         let told = turn.value_mut().look(self.app, &mut self.bag);
         if told.is_pending() {
             self.permits = turn.value().permits(self.app);

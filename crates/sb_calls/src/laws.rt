@@ -1,4 +1,4 @@
-//! What holds of every bag, whoever has it, and of every history.
+//! What holds of every bag and of every history.
 ghost use Rattle.std.specs.Prelude.{◌≡◌, ◌≢◌, ℕ, List};
 ghost use Rattle.fsw_base.specs.Limits.{Limits};
 ghost use Rattle.lend_block.specs.Loan.{LentBytes};

@@ -37,9 +37,9 @@ pub bare_by : (limits : Limits) (w : Whole) (app : ℕ) (call : Call) (why : Opt
 bare_by limits w app call why is = ap (λ o. completed limits w call (decided_with (reads_in w) limits w.bus app call o)) is
 
 -- of a call that isn't refused
-pub accepted_by : (limits : Limits) (w : Whole) (app : ℕ) (call : Call) (cause : Option SbStatus) → cause limits w.bus app call ≡ by_bus cause → cause ≡ None →
+pub accepted_by : (limits : Limits) (w : Whole) (app : ℕ) (call : Call) (why : Option SbStatus) → cause limits w.bus app call ≡ by_bus why → why ≡ None →
     bare limits w app call ≡ completed limits w call (accept_with (reads_in w) limits w.bus app call)
-accepted_by limits w app call cause here none = bare_by limits w app call None (here ∙ ap by_bus none)
+accepted_by limits w app call why here none = bare_by limits w app call None (here ∙ ap by_bus none)
 
 -- With what is recorded. --
 
@@ -123,13 +123,13 @@ pub refused_acts : (old new : Plain) (app : ℕ) (call : Call) (status : SbStatu
     cause old.limits old.whole.bus app call ≡ Some (OfBus status) →
     completed old.limits old.whole call (Sb status, refused_state old.whole.bus call (OfBus status)) ≡ (Sb status, old.whole) →
     leaves_desk call ≡ true → refusal_counter call (Sb status) ≡ which ∷ [] → Acts old new app call (Sb status)
-refused_acts old new app call status which is covered cause still leaves counter =
+refused_acts old new app call status which is covered why still leaves counter =
     let s = old.whole.bus in
     let ticked = counter_ticked (recordings_of s) which in
     let P : Plain → Type 0 = λ n. Acts old n app call (Sb status) in
     subst P (sym is)
     (record {
-      made = acts_with old.limits old.whole app call (Some (OfBus status)) (Sb status) old.whole ticked cause still
+      made = acts_with old.limits old.whole app call (Some (OfBus status)) (Sb status) old.whole ticked why still
           (refused_left old.limits (reads_in old.whole) s app call status s which leaves counter covered);
       limits = refl;
     })

@@ -74,7 +74,8 @@ is_within Housekeeping = true
 is_within Figures = true
 is_within End = true
 
--- the application may make this call now
+-- the application may make this call now, if a number is left for the pipe or the subscription that
+-- it makes
 pub record MayAct (core : Plain) (app : ℕ) (call : Call) : Type 0 where
   pub known : app ≤ apps_in core
   pub standing : IsTrue (may_call (standing_of core.whole.bus app) call)

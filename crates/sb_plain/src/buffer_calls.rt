@@ -56,7 +56,8 @@ impl<'r> PlainBus<'r> {
     /// # Errors
     /// `BadArgument` for fewer than 7 bytes; `MsgTooBig` for more bytes than the configuration
     /// allows; `BufAlocErr` where the bus's pool has no block for so many. The first that applies;
-    /// it is counted. Where no send number is left, it is `BufAlocErr`.
+    /// it is counted. If no send number is left ([`PlainBus::has_send_number`]), every request is
+    /// refused with `BufAlocErr`, whatever its size.
     pub fn allocate<L: Ledger>(
         &mut self,
         app: AppNo,

@@ -33,8 +33,8 @@ pub struct Sent {
 
 impl<'r> PlainBus<'r> {
     /// Creates a pipe that holds up to `depth` messages, and answers its number. Pipes are numbered
-    /// 1, 2, 3 and so on, and no number is used again. One is left, as
-    /// [`PlainBus::has_pipe_number`] says.
+    /// 1, 2, 3 and so on, and no number is used again. The caller asks first whether
+    /// one is left ([`PlainBus::has_pipe_number`]).
     ///
     /// # Errors
     /// `BadArgument` for a depth of 0 or past the configuration's, and for a name that hasn't 1 to
@@ -60,8 +60,9 @@ impl<'r> PlainBus<'r> {
 
     /// Has messages of this id queued on the caller's pipe, up to `limit` of them at once. Where
     /// the pipe is subscribed to the id already, the bus tells and counts that, and nothing else
-    /// changes. A number is left for the subscription, as [`PlainBus::has_subscription_number`]
-    /// says. At most 2 steps for each subscription of the id, and 10 more.
+    /// changes. The caller asks first whether a number is left for the subscription
+    /// ([`PlainBus::has_subscription_number`]). At most 2 steps for each subscription of the id,
+    /// and 10 more.
     ///
     /// # Errors
     /// `BadArgument` for an id that isn't 1 to 0x1FFF, and for a pipe that isn't live or isn't the
@@ -147,8 +148,9 @@ impl<'r> PlainBus<'r> {
     /// # Errors
     /// `BadArgument` for bytes that are no message; `MsgTooBig` for more bytes than the
     /// configuration allows; `BufAlocErr` where somebody subscribes to the id, and the bus's pool
-    /// has no block for so many bytes. The first that applies; it is counted. Where no send number
-    /// is left ([`PlainBus::has_send_number`]), it is `BufAlocErr`.
+    /// has no block for so many bytes. The first that applies; it is counted. If no send number is
+    /// left ([`PlainBus::has_send_number`]), every send is refused with `BufAlocErr`, whatever its
+    /// bytes.
     pub fn transmit<L: Ledger>(
         &mut self,
         app: AppNo,

@@ -27,7 +27,8 @@ impl<'r> PlainBus<'r> {
     /// # Errors
     /// `MsgTooBig` where the configuration allows fewer bytes than the packet has; `BufAlocErr`
     /// where somebody subscribes to its id, and the bus's pool has no block for it. The first that
-    /// applies; it is counted. Where no send number is left, it is `BufAlocErr`.
+    /// applies; it is counted. If no send number is left ([`PlainBus::has_send_number`]), it is
+    /// refused with `BufAlocErr`.
     pub fn send_housekeeping<L: Ledger>(
         &mut self,
         app: AppNo,

@@ -3,8 +3,9 @@
 //! events and counters, of applications and of the bus itself.
 //!
 //! Each call answers and changes what the bus of the definitions does by its state alone, with no
-//! history. A send's steps grow with the subscriptions of its id alone. Pipes, subscriptions,
-//! messages and grants are numbered as long as their numbers have 32 bits.
+//! history. A send's steps grow with the subscriptions of its id alone. Pipes and
+//! subscriptions are numbered in 32 bits, messages, buffers and grants in 64; no number is used
+//! twice.
 //!
 //! A message is in one block of the bus's pool for all its receivers, and the block goes back once
 //! no pipe names the message. An application reads its pipes' last messages by views in its bag:
@@ -47,8 +48,10 @@
 //!   `act` of `bus_words` says of the state (`Acts`). The five calls that only ask have no
 //!   condition. A send with a subscriber is refused with `BufAlocErr` if the pool has no block,
 //!   after its other refusals (`transmit_cause`).
-//! - No call has a condition on the numbers of sends, buffers and grants. Behind the last of them
-//!   sends and buffers are refused with `BufAlocErr`, grants with `ErrMemBlockSize` (`spent`).
+//! - No call has a condition on the numbers of sends, buffers and grants. Once the last is given,
+//!   each further send and each request for a buffer is refused with `BufAlocErr`, each request for
+//!   a grant with `ErrMemBlockSize` (`spent`). A buffer given before can still be sent.
+//! - `has_news`: whether a waiting application would be answered if it looked now.
 //! - The caller's bag is left with the views of its pipes' last messages, the blocks of its unsent
 //!   buffers, and nothing else (`HasBag`; `bag_refused`, `bag_still`, `empty`). The bags of all
 //!   others are unchanged (`other_bags`, `bags`), and each call says which loans and descriptors

@@ -30,13 +30,12 @@ impl<'r> PlainBus<'r> {
         is_open(activity_of(&self.activities, app), call)
     }
 
-    /// Whether the application may make this call now, which is the condition of the call, beside
-    /// those on its bag where it takes one along (that the bag is its own and, for an allocation,
-    /// that it has room for a buffer more), and that a number is left for a pipe
-    /// ([`PlainBus::has_pipe_number`]) or a subscription ([`PlainBus::has_subscription_number`])
-    /// where the call makes one: the bus serves it, it is active (for a look, it waits on that
-    /// pipe; for its end, it hasn't ended), and a name has at most 64 bytes, a message at most
-    /// 65542, an event's text at most 200, and a log mode is 0 or 1.
+    /// Whether the application may make this call now. The bus serves it; it is active (for a look,
+    /// it waits on that pipe; for its end, it hasn't ended); a name has at most 64 bytes, a message
+    /// at most 65542, an event's text at most 200; a log mode is 0 or 1.
+    ///
+    /// The call may have further conditions: on the caller's bag, and that a number is left
+    /// ([`PlainBus::has_pipe_number`], [`PlainBus::has_subscription_number`]).
     pub fn may_make(&self, app: AppNo, call: &BusCall<'_>) -> bool
         ensures { IsTrue result ↔ MayAct self.now app (call_of call.now) }
     {
@@ -46,9 +45,8 @@ impl<'r> PlainBus<'r> {
         self.is_open(app, call) && is_within(call)
     }
 
-    /// Whether the application may make each call that names a buffer or a grant, whatever the
-    /// number, which may be past those that a [`BusCall`] has: the bus serves the application, and
-    /// it is active.
+    /// Whether the bus serves the application and it is active. Then it may make each call that
+    /// names a buffer or a grant, also by a number too large for a [`BusCall`].
     pub fn may_name(&self, app: AppNo) -> bool
         ensures active { IsTrue result ↔ MayAct self.now app Figures }
         ensures transmit { IsTrue result → (buf : ℕ) (bytes : List ℕ) (inc : Bool) →

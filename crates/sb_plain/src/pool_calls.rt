@@ -38,7 +38,7 @@ impl<'r> PlainBus<'r> {
     /// # Errors
     /// `NoPool` where no pool of this number was created; `ErrMemBlockSize` where no block size is
     /// large enough, or the pool has no room for one more block of the smallest that is. The first
-    /// that applies. Where the pool has no number left, it is `ErrMemBlockSize`.
+    /// that applies. If the pool has no number left, every request is refused so.
     pub fn pool_get<L: Ledger>(
         &mut self,
         app: AppNo,

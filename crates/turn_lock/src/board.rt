@@ -162,7 +162,7 @@ impl<T: Historied> Board<T> {
         ensures place { Stays place.old place.new }
         ensures served { IsServed T.fixed T.history place.old.me place.new.me }
     {
-        let mut looks = LOOKS;
+        let mut looks = LOOKS - 1;
         for _ in rt.forever() {
             looks = looks.saturating_add(1);
             if self.seize_or_await(place) == FREE {

@@ -39,16 +39,18 @@
 //! # Implementation
 //!
 //! Two words and a slot. The first word is the turn; the seat that finds it free has the turn, and
-//! the slot with it. It looks a hundred times, and only reads while a turn is out, before it sleeps
-//! at the word. The second word is the bell, at which seats sleep that wait for news.
+//! the slot with it. It looks a hundred times before it sleeps at the word; all looks but the first
+//! and the last only read while a turn is out. The second word is the bell, at which seats sleep
+//! that wait for news.
 //!
 //! ```text
 //! turn word   0 free         compare and exchange by 1: if it was 0 the slot is out with the seat
 //!             1 taken        exchange by 2: the same, and otherwise the seat sleeps while it is 2
 //!             2 and awaited  exchange by 0, with the value back in the slot: the history is
 //!                            published, and one sleeper is woken if the word was 2
-//! bell word   rings so far   read in the turn that is left to sleep, which lasts while it is that
-//!                            + 1 once a turn was passed on that wakes; then all are woken
+//! bell word   rings so far   read in the turn that is left to sleep; the sleep lasts while the
+//!                            word is unchanged; + 1 once a turn was passed on that wakes, and then
+//!                            all are woken
 //! slot        the value      taken after the turn word, and given back before it
 //! ```
 //!
@@ -59,12 +61,13 @@
 //! seat's application behind it. `join` keeps the longer of two histories, in which only
 //! applications that were split off have entries. `close` gives a history that has of each
 //! application just its seat's entries, in order, and no others (`specs/Rule.antt`). A seat that
-//! left its turn to sleep begins no turn before it slept. A turn that is left with news while there
-//! are sleepers wakes them, after it was given back, and no other turn does.
+//! left its turn to sleep begins no turn before it slept or said that it stays awake. A turn that
+//! isn't left to sleep wakes the sleepers, after it was given back, if and only if there are some
+//! and the value has news.
 //!
 //! Tested: two threads get through turns of all lengths around the one at which the other goes to
-//! sleep; a thread that waits for long sleeps; an entry wakes the sleepers, and they sleep until
-//! one is made; a lock can be dropped. Not claimed: progress, that a turn comes, that a sleeper
+//! sleep; a thread that waits for long sleeps; news wakes the sleepers, and they sleep until
+//! there is some; a lock can be dropped. Not claimed: progress, that a turn comes, that a sleeper
 //! wakes or how long it sleeps, fairness, order in time between callers that never met.
 #![tactic(auto)]
 

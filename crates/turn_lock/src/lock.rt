@@ -91,8 +91,8 @@ impl<T: Historied> TurnLock<T> {
 
     /// Waits until no other seat has a turn, and answers one with the value. The value's history
     /// extends all that the seat had seen, and of the seat's application it has just the seat's
-    /// own entries, in order. A seat that left its last turn to sleep sleeps before, by
-    /// [`TurnLock::sleep`].
+    /// own entries, in order. A seat that left its last turn to sleep calls
+    /// [`TurnLock::sleep`] or [`TurnLock::stay_awake`] first.
     pub fn enter<R: Wait>(&self, rt: &R, seat: &mut Seat<T::Fixed, T::Event>) -> Turn<T>
         requires ready { IsReady seat.old self.now.name }
         ensures out { IsOut seat.new }
@@ -188,17 +188,27 @@ impl<T: Historied> TurnLock<T> {
         self.board.wake(self.board.pass::<Brand>(place, &told))
     }
 
-    /// Sleeps if the seat left its last turn to sleep, until another seat leaves the lock by
+    /// Sleeps if the seat left its last turn to sleep, until another seat leaves its turn by
     /// [`TurnLock::leave_and_wake`], and returns at once if one did since. It may return early, and
     /// nothing is claimed of how long it sleeps. From then on the seat may begin a turn.
     pub fn sleep<R: Wait>(&self, rt: &R, seat: &mut Seat<T::Fixed, T::Event>)
-        requires ready { IsIn seat.old self.now.name }
+        requires seat { IsIn seat.old self.now.name }
         ensures ready { IsReady seat.new self.now.name }
         ensures view { view_of seat.new ≡ view_of seat.old }
     {
         if let Some(rang) = seat.take_rest() {
             self.board.sleep_at_bell(rt, rang);
         }
+    }
+
+    /// Lets a seat that left its last turn to sleep begin a turn without sleeping: for a call that
+    /// isn't a further look, as an application's last one.
+    pub fn stay_awake(&self, seat: &mut Seat<T::Fixed, T::Event>)
+        requires seat { IsIn seat.old self.now.name }
+        ensures ready { IsReady seat.new self.now.name }
+        ensures view { view_of seat.new ≡ view_of seat.old }
+    {
+        let _ = seat.take_rest();
     }
 
     /// Takes a seat that ends into the main one, which keeps its entries and the longer of what

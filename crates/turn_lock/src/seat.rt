@@ -55,7 +55,8 @@ impl<F, E> Seat<F, E> {
         }
     }
 
-    /// The same, and it sleeps next: until the bell has rung oftener than so often, modulo 2^32.
+    /// The same, of a seat that sleeps next, until the bell rings again: it rang `rang` times so
+    /// far, modulo 2^32.
     pub(crate) fn sleeper<S>(place: Place<S, View<F, E>>, rang: u32) -> Seat<F, E>
         requires empty { place.me.1 ≡ [] }
         requires idle { is_idle place.me.0.stage ≡ true }

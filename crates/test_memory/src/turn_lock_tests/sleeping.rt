@@ -1,4 +1,4 @@
-//! Threads that must sleep: until their turn comes, and until the history has grown.
+//! Threads that must sleep: until their turn comes, and until there is a pair.
 ghost use Rattle.std.specs.Prelude.{◌≡◌, IfOk};
 ghost use Rattle.turn_lock.specs.Seats.{view_of, IsIn, IsReady};
 
