@@ -1,5 +1,5 @@
 -- Lists with an element for each application, in order of number.
-use Rattle.std.proofs.Common.{◌≡◌, ℕ, zero, suc, ◌+◌, ◌≤◌, List, [], ◌∷◌, ◌++◌, length, subst, ap, sym, ◌∙◌, refl, ⊎_elim, Contains, arith}
+use Rattle.std.proofs.Common.{◌≡◌, ℕ, zero, suc, ◌+◌, ◌≤◌, List, [], ◌∷◌, ◌++◌, length, Option, Some, None, IfSome, option_to_list, subst, ap, sym, ◌∙◌, refl, ⊎_elim, Contains, arith}
 use Rattle.std.proofs.lemmas.List.Elements.{Contains-push_cases}
 use Rattle.thread_run.specs.Mains.{numbers}
 use Rattle.thread_run.specs.Works.{Numbered}
@@ -14,6 +14,12 @@ numbered-pop P app [] x all = (tt, subst (λ n. P n x) (let e : app ≡ app + 0 
 numbered-pop P app (y ∷ ys) x all =
     let rest = numbered-pop P (app + 1) ys x all.1 in
     ((all.0, rest.0), subst (λ n. P n x) (let e : app + 1 + length ys ≡ app + length (y ∷ ys) = omega arith in e) rest.1)
+
+-- the same, by what taking the last answers
+pub numbered-taken : {X : Type 0} (P : ℕ → X → Type 0) (app : ℕ) (old new : List X) (r : Option X) → old ≡ new ++ option_to_list r → Numbered P app old →
+    IfSome r (λ x. Numbered P app new × P (app + length new) x)
+numbered-taken P app old new None is all = tt
+numbered-taken P app old new (Some x) is all = numbered-pop P app new x (subst (Numbered P app) is all)
 
 pub in-numbers : (n app : ℕ) → Contains (numbers n) app → (1 ≤ app) × (app ≤ n)
 in-numbers zero app there = let l = there.1 in absurd (omega (arith, l))

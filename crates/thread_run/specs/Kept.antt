@@ -1,8 +1,13 @@
 -- What a thread promises of its application.
-use Rattle.std.specs.Prelude.{◌≡◌, ℕ, Result, Ok, Err}
+use Rattle.std.specs.Prelude.{◌≡◌, ℕ, ◌≤◌, [], Result, Ok, Err, vec_capacity}
 use Rattle.std.specs.declared.thread.PromisedHandle.{PromisedHandle}
+use Rattle.std.specs.declared.thread.SpawnError.{SpawnError}
 use Rattle.atomic_table.specs.Seated.{TableId}
 use Rattle.app_script.specs.Script.{ScriptText}
+use Rattle.thread_run.specs.declared.starting.Lists.{Lists}
+use Rattle.thread_run.specs.declared.starts.Begun.{Begun}
+use Rattle.thread_run.specs.declared.starts.Place.{Place}
+use Rattle.thread_run.specs.declared.starts.Place.TheVariants.{OnThread, Here}
 use Rattle.thread_run.specs.declared.works.Done.{Done}
 use Rattle.thread_run.specs.declared.works.Ends.{Ends}
 use Rattle.thread_run.specs.Works.{IsDone}
@@ -18,12 +23,30 @@ pub record EndsFor (script : ScriptText) (bus tables : TableId) (app : ℕ) (end
   pub tables_is : ends.shared.tables.now ≡ tables
   pub app_is : ends.app ≡ app
 
--- what comes of an application that was begun: what its thread promised, or what it left here
-abbrev pub Comes : Result (PromisedHandle Done Ends) Done → Done → Type 0
-Comes (Ok handle) done = KeptBy handle.promise done
-Comes (Err left) done = done ≡ left
+-- what comes of an application that was begun: what its thread promised, or what it left in the caller's place
+abbrev pub Comes : Place → Done → Type 0
+Comes (OnThread handle) done = KeptBy handle.promise done
+Comes (Here left) done = done ≡ left
 
--- the application runs on a thread with this promise, or is through
-abbrev pub IsBegun : ScriptText → TableId → TableId → ℕ → Result (PromisedHandle Done Ends) Done → Type 0
-IsBegun script bus tables app (Ok handle) = EndsFor script bus tables app handle.promise
-IsBegun script bus tables app (Err done) = IsDone script bus tables app done
+-- an application's start and where it runs: on the thread that was started, or in the caller's place, by what was handed back
+abbrev pub BeginsAs : {F : Type 0} → (F → Done → Type 0) → Result (PromisedHandle Done Ends) (SpawnError F) → Place → Type 0
+BeginsAs gives (Ok handle) (OnThread same) = same ≡ handle
+BeginsAs gives (Ok handle) (Here done) = ⊥
+BeginsAs gives (Err refused) (OnThread handle) = ⊥
+BeginsAs gives (Err refused) (Here done) = gives refused.value done
+
+-- the application runs in a place where it is this one of this run: on a thread with its promise, or it is through
+abbrev pub RunsIn : ScriptText → TableId → TableId → ℕ → Place → Type 0
+RunsIn script bus tables app (OnThread handle) = EndsFor script bus tables app handle.promise
+RunsIn script bus tables app (Here done) = IsDone script bus tables app done
+
+-- the application of this number was begun
+abbrev pub IsBegun : ScriptText → TableId → TableId → ℕ → Begun → Type 0
+IsBegun script bus tables app begun = RunsIn script bus tables app begun.place
+
+-- both lists are empty, and have room for so many applications
+pub record HaveRoomFor (apps : ℕ) (lists : Lists) : Type 0 where
+  pub none_begun : lists.begun.items ≡ []
+  pub none_done : lists.dones.items ≡ []
+  pub room : apps ≤ vec_capacity lists.begun
+  pub done_room : apps ≤ vec_capacity lists.dones

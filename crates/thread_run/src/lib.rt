@@ -53,6 +53,7 @@ mod lists;
 mod opening;
 mod run;
 mod starting;
+mod starts;
 mod works;
 
 pub use run::run_threads;

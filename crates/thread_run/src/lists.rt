@@ -5,13 +5,9 @@ ghost use Rattle.std.specs.Prelude.{◌≡◌, ◌+◌, ◌<◌, ◌++◌, ◌�
 ghost use Rattle.thread_run.specs.Kept.{IsBegun};
 ghost use Rattle.thread_run.specs.Works.{IsDone, MayWork, Numbered};
 
-use crate::works::{Done, Ends, RunParts, Work};
+use crate::starts::Begun;
+use crate::works::{Done, RunParts, Work};
 use fsw_base::AppNo;
-use std::thread::PromisedHandle;
-
-/// An application that runs on a thread; or that is through, since its thread couldn't be started
-/// and the caller ran it.
-pub(crate) type Begun<'e, 'r> = Result<PromisedHandle<Done, Ends<'e, 'r>>, Done>;
 
 /// Takes the application of the greatest number; None where none is left.
 pub(crate) fn take_last<'s, 'r>(
@@ -31,11 +27,9 @@ pub(crate) fn take_last<'s, 'r>(
         (λ work. Numbered (MayWork _shared.entry.script.now _shared.entry.bus.now
         _shared.entry.tables.now) 1 works.new.items) }
     ensures none { IfNone result (length works.old.items ≡ 0) }
+    ensures left { IfNone result (works.new.items ≡ []) }
 {
-    match works.pop() {
-        Some(work) => Some(work),
-        None => None,
-    }
+    works.pop()
 }
 
 /// Puts an application that was begun behind those of smaller numbers.
@@ -75,10 +69,7 @@ pub(crate) fn take_last_begun<'e, 'r>(
         _shared.entry.tables.now) 1 begun.new.items) }
     ensures none { IfNone result (length begun.old.items ≡ 0) }
 {
-    match begun.pop() {
-        Some(one) => Some(one),
-        None => None,
-    }
+    begun.pop()
 }
 
 /// Puts an application that is through behind those of smaller numbers.
@@ -110,8 +101,5 @@ pub(crate) fn take_last_done(dones: &mut Vec<Done>, _shared: RunParts<'_, '_>) -
         _shared.entry.tables.now) 1 dones.new.items) }
     ensures none { IfNone result (dones.old.items ≡ []) }
 {
-    match dones.pop() {
-        Some(done) => Some(done),
-        None => None,
-    }
+    dones.pop()
 }

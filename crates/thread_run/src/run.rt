@@ -10,7 +10,7 @@ ghost use Rattle.tbl_load.specs.Core.{apps_of as table_apps_of};
 
 use crate::joining::close_all;
 use crate::opening::{OpenServices, open_services, open_works};
-use crate::starting::run_all;
+use crate::starting::{Lists, run_all};
 use crate::works::RunParts;
 use app_run::{Finished, Regions};
 use app_script::Script;
@@ -23,8 +23,8 @@ use std::thread::Threads;
 /// Runs a script: each application on a thread of its own, which runs its lines and makes its end,
 /// at the tables first and then at the bus. Messages and tables lie in the regions, which are at
 /// least as large as the script's configuration says. The gate's calls stand round each line,
-/// outside every lock. By the code, all memory is taken before the first call, but for what each
-/// thread takes when it is started.
+/// outside every lock. All memory is taken before the first call, but for what each thread takes
+/// when it is started: what runs the applications has no allocator.
 ///
 /// The call may wait, and returns once all applications have ended. Where an application's thread
 /// can't be started the caller runs the application, once all others were started; one that waits
@@ -74,7 +74,9 @@ pub fn run_threads<'r, R: Threads + Wait + Sync, G: Gate>(
         tables: &tables,
     };
     let works = open_works(alloc, shared, &mut bus_main, &mut tables_main)?;
-    let dones = run_all(rt, alloc, gate, shared, works)?;
+    let lists = Lists::new(alloc, works.len())?;
+    // From here on nothing has an allocator.
+    let dones = run_all(rt, gate, shared, works, lists);
     let opened = OpenServices {
         bus,
         bus_main,

@@ -1,9 +1,10 @@
 //! Starts all applications, each on a thread of its own, and waits for their ends.
 ghost use Rattle.std.specs.Prelude.{◌≡◌, ◌≤◌, [], length, IfOk, vec_len, vec_capacity};
-ghost use Rattle.thread_run.specs.Kept.{Comes, IsBegun};
+ghost use Rattle.thread_run.specs.Kept.{Comes, HaveRoomFor, IsBegun};
 ghost use Rattle.thread_run.specs.Works.{IsDone, MayWork, Numbered};
 
-use crate::lists::{Begun, note_begun, note_done, take_last, take_last_begun};
+use crate::lists::{note_begun, note_done, take_last, take_last_begun};
+use crate::starts::{AllStarted, Begun, start_one};
 use crate::works::{Done, Ends, Job, RunParts, Work, run_one};
 use fsw_base::Gate;
 use std::alloc::{AllocError, Global};
@@ -11,42 +12,64 @@ use std::sync::Wait;
 use std::thread;
 use std::thread::{Scope, Threads};
 
-/// Runs all applications to their ends, and answers what is left of each, in order of number.
-///
-/// # Errors
-/// Where memory runs out; by the code, no application ran then.
-pub(crate) fn run_all<'r, R: Threads + Wait + Sync, G: Gate>(
-    rt: &R,
-    alloc: Global,
-    gate: &G,
-    shared: RunParts<'_, 'r>,
-    works: Vec<Work<'_, 'r>>,
-) -> Result<Vec<Done>, AllocError>
-    requires { Numbered (MayWork shared.script.now shared.bus.now shared.tables.now) 1
+/// The lists of the applications that were begun, and of those that are through, each with room for
+/// all of a run: they are made before the first thread is started.
+#[derive(Drop)]
+pub(crate) struct Lists<'e, 'r> {
+    /// Those that were begun.
+    pub(crate) begun: Vec<Begun<'e, 'r>>,
+    /// What is left of those that are through.
+    pub(crate) dones: Vec<Done>,
+}
+
+impl<'e, 'r> Lists<'e, 'r> {
+    /// Lists of so many applications, with none yet.
+    ///
+    /// # Errors
+    /// Where memory runs out.
+    pub(crate) fn new(alloc: Global, apps: usize) -> Result<Lists<'e, 'r>, AllocError>
+        ensures { IfOk result (λ lists. HaveRoomFor apps lists) }
+    {
+        Ok(Lists {
+            begun: Vec::with_capacity(alloc, apps)?,
+            dones: Vec::with_capacity(alloc, apps)?,
+        })
+    }
+}
+
+/// Runs all applications to their ends, and answers what is left of each, in order of number. It
+/// has no allocator: all that it fills was made before.
+pub(crate) fn run_all<'e, 'r, R: Threads + Wait + Sync, G: Gate>(
+    rt: &'e R,
+    gate: &'e G,
+    shared: RunParts<'e, 'r>,
+    works: Vec<Work<'e, 'r>>,
+    lists: Lists<'e, 'r>,
+) -> Vec<Done>
+    requires works { Numbered (MayWork shared.script.now shared.bus.now shared.tables.now) 1
         works.items }
-    ensures done { IfOk result
-        (λ dones. Numbered (IsDone shared.entry.script.now shared.entry.bus.now
-        shared.entry.tables.now) 1 dones.items) }
-    ensures all { IfOk result (λ dones. length dones.items ≡ length works.entry.items) }
+    requires room { HaveRoomFor (length works.items) lists }
+    ensures done { Numbered (IsDone shared.entry.script.now shared.entry.bus.now
+        shared.entry.tables.now) 1 result.items }
+    ensures all { length result.items ≡ length works.entry.items }
 {
     let jobs = Jobs {
         rt,
-        alloc,
         gate,
         shared,
         works,
+        lists,
     };
     thread::scope(
         thread::scope_env(),
         rt,
-        move |scope| -> Result<Vec<Done>, AllocError>
-            requires { Numbered (MayWork jobs.shared.script.now jobs.shared.bus.now
+        move |scope| -> Vec<Done>
+            requires works { Numbered (MayWork jobs.shared.script.now jobs.shared.bus.now
                 jobs.shared.tables.now) 1 jobs.works.items }
-            ensures done { IfOk result
-                (λ dones. Numbered (IsDone jobs.entry.shared.script.now jobs.entry.shared.bus.now
-                jobs.entry.shared.tables.now) 1 dones.items) }
-            ensures all { IfOk result
-                (λ dones. length dones.items ≡ length jobs.entry.works.items) }
+            requires room { HaveRoomFor (length jobs.works.items) jobs.lists }
+            ensures done { Numbered (IsDone jobs.entry.shared.script.now jobs.entry.shared.bus.now
+                jobs.entry.shared.tables.now) 1 result.items }
+            ensures all { length result.items ≡ length jobs.entry.works.items }
         { run_in(scope, jobs) },
     )
 }
@@ -57,40 +80,42 @@ pub(crate) fn run_all<'r, R: Threads + Wait + Sync, G: Gate>(
 struct Jobs<'e, 'r, R: Threads + Wait + Sync, G: Gate> {
     // By what they wait, and what starts their threads.
     rt: &'e R,
-    // For the lists of those that were begun and that are through.
-    alloc: Global,
     // What is called round their lines.
     gate: &'e G,
     // What they share.
     shared: RunParts<'e, 'r>,
     // What each takes along, in order of number.
     works: Vec<Work<'e, 'r>>,
+    // Those that were begun and that are through.
+    lists: Lists<'e, 'r>,
 }
 
-// The same, in a scope of threads. Both lists are made before the first thread is started.
+// The same, in a scope of threads.
 fn run_in<'s, 'e, 'r, R: Threads + Wait + Sync, G: Gate>(
     scope: &'s Scope<'s, &'e ()>,
     jobs: Jobs<'e, 'r, R, G>,
-) -> Result<Vec<Done>, AllocError>
-    requires { Numbered (MayWork jobs.shared.script.now jobs.shared.bus.now
+) -> Vec<Done>
+    requires works { Numbered (MayWork jobs.shared.script.now jobs.shared.bus.now
         jobs.shared.tables.now) 1 jobs.works.items }
-    ensures done { IfOk result
-        (λ dones. Numbered (IsDone jobs.entry.shared.script.now jobs.entry.shared.bus.now
-        jobs.entry.shared.tables.now) 1 dones.items) }
-    ensures all { IfOk result (λ dones. length dones.items ≡ length jobs.entry.works.items) }
+    requires room { HaveRoomFor (length jobs.works.items) jobs.lists }
+    ensures done { Numbered (IsDone jobs.entry.shared.script.now jobs.entry.shared.bus.now
+        jobs.entry.shared.tables.now) 1 result.items }
+    ensures all { length result.items ≡ length jobs.entry.works.items }
 {
     let Jobs {
         rt,
-        alloc,
         gate,
         shared,
         mut works,
+        lists,
     } = jobs;
-    let mut begun = Vec::with_capacity(alloc, works.len())?;
-    let mut dones = Vec::with_capacity(alloc, works.len())?;
-    begin_rest(scope, rt, gate, shared, &mut works, &mut begun);
-    end_rest(rt, shared, &mut begun, &mut dones);
-    Ok(dones)
+    let Lists {
+        mut begun,
+        mut dones,
+    } = lists;
+    let all = begin_rest(scope, rt, gate, shared, &mut works, &mut begun);
+    end_rest(rt, shared, &mut begun, &mut dones, &all);
+    dones
 }
 
 // Starts the applications that are left, that of the greatest number first; and once all are
@@ -102,7 +127,7 @@ fn begin_rest<'s, 'e, 'r, R: Threads + Wait + Sync, G: Gate>(
     shared: RunParts<'e, 'r>,
     works: &mut Vec<Work<'e, 'r>>,
     begun: &mut Vec<Begun<'e, 'r>>,
-)
+) -> AllStarted
     requires works { Numbered (MayWork shared.script.now shared.bus.now shared.tables.now) 1
         works.old.items }
     requires empty { begun.old.items ≡ [] }
@@ -113,23 +138,23 @@ fn begin_rest<'s, 'e, 'r, R: Threads + Wait + Sync, G: Gate>(
     ensures room { vec_capacity begun.new ≡ vec_capacity begun.old }
 {
     let Some(one) = take_last(works, shared) else {
-        return;
+        return AllStarted::none_left(works.as_slice());
     };
     let app = one.runner.app();
     let ends = Ends { shared, app };
     let job = Job { shared, work: one };
-    let start: Result<_, _> = scope.spawn_with(
+    let start = start_one(
+        scope,
         ends,
         move || -> Done
             requires { MayWork job.shared.script.now job.shared.bus.now job.shared.tables.now
                 job.work.runner.running.app job.work }
         { run_one(rt, gate, job) },
     );
-    begin_rest(scope, rt, gate, shared, works, begun);
-    match start {
-        Ok(handle) => note_begun(begun, shared, app, Ok(handle)),
-        Err(refused) => note_begun(begun, shared, app, Err((refused.value)())),
-    }
+    let all = begin_rest(scope, rt, gate, shared, works, begun);
+    let one = start.begin(&all);
+    note_begun(begun, shared, app, one);
+    all
 }
 
 // Waits for the ends of those that are left, in order of number.
@@ -138,6 +163,7 @@ fn end_rest<'e, 'r, R: Threads>(
     shared: RunParts<'_, 'r>,
     begun: &mut Vec<Begun<'e, 'r>>,
     dones: &mut Vec<Done>,
+    all: &AllStarted,
 )
     requires begun { Numbered (IsBegun shared.script.now shared.bus.now shared.tables.now) 1
         begun.old.items }
@@ -151,17 +177,7 @@ fn end_rest<'e, 'r, R: Threads>(
     let Some(one) = take_last_begun(begun, shared) else {
         return;
     };
-    end_rest(rt, shared, begun, dones);
-    let done = end_of(rt, one);
+    end_rest(rt, shared, begun, dones, all);
+    let done = one.end(rt, all);
     note_done(dones, shared, done);
-}
-
-// Waits for an application's end.
-fn end_of<R: Threads>(rt: &R, one: Begun<'_, '_>) -> Done
-    ensures { Comes one.entry result }
-{
-    match one {
-        Ok(handle) => handle.join(rt),
-        Err(done) => done,
-    }
 }

@@ -1,0 +1,97 @@
+//! Applications that were started: each runs on a thread of its own, or in the caller's place if
+//! no thread could be started.
+//!
+//! The parts of these types are private. So outside of this file no thread is waited for, and
+//! nothing runs in the caller's place, before a thread was asked for of each application; and what
+//! a thread returned can't stand in the place of what the caller ran.
+ghost use Rattle.std.specs.Prelude.{◌≡◌, [], IfOk, IfErr};
+ghost use Rattle.thread_run.specs.Kept.{BeginsAs, Comes, KeptBy};
+
+use crate::works::{Done, Ends, Work};
+use std::thread::{PromisedHandle, Scope, SpawnError, Threads};
+
+/// A thread was asked for of each application of a run.
+#[derive(Drop)]
+pub(crate) struct AllStarted {
+    // Private, so that only this file makes one.
+    _none_left: (),
+}
+
+/// The start of an application: its thread, or what was handed back since none could be started.
+#[derive(Drop)]
+pub(crate) struct Start<'e, 'r, F> {
+    // Private, so that only this file waits for the thread, or runs what was handed back.
+    start: Result<PromisedHandle<Done, Ends<'e, 'r>>, SpawnError<F>>,
+}
+
+/// An application that was begun, once all were started.
+#[derive(Drop)]
+pub(crate) struct Begun<'e, 'r> {
+    // Private, so that only this file makes one.
+    place: Place<'e, 'r>,
+}
+
+// Where an application runs.
+#[derive(Drop)]
+enum Place<'e, 'r> {
+    // On a thread.
+    OnThread(PromisedHandle<Done, Ends<'e, 'r>>),
+    // In the caller's place, where it is through.
+    Here(Done),
+}
+
+impl AllStarted {
+    /// No application is left to start.
+    pub(crate) fn none_left(_works: &[Work<'_, '_>]) -> AllStarted
+        requires { _works.now ≡ [] }
+    {
+        AllStarted { _none_left: () }
+    }
+}
+
+/// Asks for a thread of the scope for an application's run. It has no runtime, so it waits for no
+/// thread.
+pub(crate) fn start_one<'s, 'e, 'r, E, F: FnOnce() -> Done + Send + 's>(
+    scope: &Scope<'s, E>,
+    ends: Ends<'e, 'r>,
+    run: F,
+) -> Start<'e, 'r, F>
+    requires runs { F.pre run }
+    requires keeps { (done : Done) → F.post run done → KeptBy ends done }
+    ensures thread { IfOk result.start (λ handle. handle.promise ≡ ends.entry) }
+    ensures handed_back { IfErr result.start (λ refused. refused.value ≡ run) }
+{
+    Start {
+        start: scope.spawn_with(ends, run),
+    }
+}
+
+impl<'e, 'r, F: FnOnce() -> Done> Start<'e, 'r, F> {
+    /// The application as it was begun, once all were started: if no thread could be started, it
+    /// is run here.
+    pub(crate) fn begin(self, _all: &AllStarted) -> Begun<'e, 'r>
+        requires { IfErr self.start (λ refused. F.pre refused.value) }
+        ensures { BeginsAs F.post self.entry.start result.place }
+    {
+        match self.start {
+            Ok(handle) => Begun {
+                place: Place::OnThread(handle),
+            },
+            Err(refused) => Begun {
+                place: Place::Here((refused.value)()),
+            },
+        }
+    }
+}
+
+impl<'e, 'r> Begun<'e, 'r> {
+    /// Waits for the application's end, once all were started.
+    pub(crate) fn end<R: Threads>(self, rt: &R, _all: &AllStarted) -> Done
+        ensures { Comes self.entry.place result }
+    {
+        match self.place {
+            Place::OnThread(handle) => handle.join(rt),
+            Place::Here(done) => done,
+        }
+    }
+}
