@@ -13,3 +13,4 @@ pub mod ToldLaws
 pub mod RoundLaws
 pub mod BagLaws
 pub mod OpenLaws
+pub mod UnderWay

@@ -36,8 +36,9 @@ use Rattle.app_run.specs.Openings.{budgets_for, empty_bag, empty_bags, empty_hel
 use Rattle.app_run.specs.Rounds.{all_beginning, all_going, equipped, telling_now, AreNumbered, AllStand, AllTold, HasTold, Rotates, RotatesTimes, told_on}
 use Rattle.app_run.specs.Runners.{Progress, Equipped, Services, beginning, running_of, standing_for}
 use Rattle.app_run.specs.TableLines.{table_bytes_due, table_line_bytes}
-use Rattle.app_run.specs.Turns.{so_far, Stands, StandsAtBus, StandsAtTables}
-use Rattle.app_run.proofs.RoundLaws.{length-equipped, same-more, same-none, the_histories}
+use Rattle.app_run.specs.Turns.{so_far, AreOpened, HasCome, AtBeginning, ByTurn, OtherTurn, OthersAtBus, OthersAtTables, IsUnderWay, Stands, StandsAtBus, StandsAtTables}
+use Rattle.app_run.proofs.OthersLaws.{stands-others, stands-others_at_tables}
+use Rattle.app_run.proofs.RoundLaws.{length-equipped, moved-stands, same-more, same-none, the_histories}
 use Rattle.app_run.proofs.TurnLaws.{both, so}
 
 -- Rotations one after another. --
@@ -244,6 +245,50 @@ pub stands-opened : (script : ScriptText) (k : ℕ) → script.limits.msgmax ≤
 stands-opened script k small small_tables first last =
     record { bus = stands-opened_bus script k small first last; tables = stands-opened_tables script k small_tables first last; limits = refl }
 
+-- However the application came so far, its number counts from 1.
+come-some : (script : ScriptText) (one : Equipped) (services : Services) → HasCome script one services → 1 ≤ one.progress.running.app
+come-some script one services (AtBeginning _ _ opened) = opened.some
+come-some script one services (ByTurn old _ before _ come t) = omega (arith, come-some script old before come, t.same_app)
+come-some script one services (OtherTurn _ before _ other come another moved tables_moved) = come-some script one before come
+come-some script one services (OthersAtBus _ before bus come others) = come-some script one before come
+come-some script one services (OthersAtTables _ before tables come others) = come-some script one before come
+
+-- And both services know it as it is.
+come-stands : (script : ScriptText) (one : Equipped) (services : Services) → HasCome script one services → Stands one services
+come-stands script one services (AtBeginning _ _ opened) =
+    let equipped : one ≡ first_equipped script one.progress.running.app = λ i. record { progress = opened.progress i; bag = opened.bag i; held = opened.held i } in
+    let both_are : services ≡ opened_both script = λ i. record { bus = opened.bus i; tables = opened.tables i } in
+    subst (λ e. Stands e services) (sym equipped)
+    (subst (λ s. Stands (first_equipped script one.progress.running.app) s) (sym both_are)
+    (stands-opened script one.progress.running.app opened.small opened.small_tables opened.some opened.known))
+come-stands script one services (ByTurn old _ before _ come t) = t.stands
+come-stands script one services (OtherTurn _ before _ other come another moved tables_moved) =
+    moved-stands one before services other (record { moved = moved; tables_moved = tables_moved }) another (come-some script one before come) (come-stands script one before come)
+come-stands script one services (OthersAtBus _ before bus come others) =
+    let s = come-stands script one before come in
+    record {
+      bus = stands-others one before.bus bus others (come-some script one before come) s.bus;
+      tables = s.tables;
+      limits = s.limits ∙ sym (ap (λ (core : Core). core.limits) others.grown);
+    }
+come-stands script one services (OthersAtTables _ before tables come others) =
+    let s = come-stands script one before come in
+    record {
+      bus = s.bus;
+      tables = stands-others_at_tables one before.tables tables others (come-some script one before come) s.tables;
+      limits = ap (λ (core : TableCore). core.limits) others.grown ∙ s.limits;
+    }
+
+pub way-stands : (one : Equipped) (services : Services) → IsUnderWay one services → Stands one services
+way-stands one services way = come-stands way.0 one services way.1
+
+-- an application before its first line has come so far
+pub come-opened : (script : ScriptText) (k : ℕ) → script.limits.msgmax ≤ 65542 → script.limits.tablemax ≤ 65536 → 1 ≤ k → k ≤ length script.apps →
+    HasCome script (first_equipped script k) (opened_both script)
+come-opened script k small small_tables first last =
+    AtBeginning (first_equipped script k) (opened_both script)
+    (record { bus = refl; tables = refl; some = first; known = last; progress = refl; bag = refl; held = refl; small = small; small_tables = small_tables })
+
 -- before the first line, with so many applications
 abbrev telling_first : ScriptText → ℕ → ℕ → Histories → Telling
 telling_first script k m entries = record {
@@ -326,7 +371,7 @@ all-from script = λ i below. ap (λ k. slice_index_or script.apps k (record { n
 pub all-stand : (script : ScriptText) → script.limits.msgmax ≤ 65542 → script.limits.tablemax ≤ 65536 → AllStand (opened_both script) (all_equipped script)
 all-stand script small small_tables = record {
   numbered = numbered-beginning script 1 script.apps;
-  each = each-beginning (λ p. Stands p (opened_both script)) script 1 script.apps (all-from script) (λ k from to. stands-opened script k small small_tables from (omega (arith, to)));
+  each = each-beginning (λ p. IsUnderWay p (opened_both script)) script 1 script.apps (all-from script) (λ k from to. (script, come-opened script k small small_tables from (omega (arith, to))));
 }
 
 pub all-told : (script : ScriptText) → AllTold script (opened_both script) (all_equipped script)
@@ -390,14 +435,14 @@ all-receipts f a (p ∷ ps) numbered each =
     ap (λ r. r ∷ map (λ (one : Equipped). one.progress.receipts) ps) (All-head (IsToldAs f) p ps each ∙ ap f numbered.0)
     ∙ ap (λ rest. f a ∷ rest) (all-receipts f (a + 1) ps numbered.1 (All-tail (IsToldAs f) p ps each))
 
-each-ended : (script : ScriptText) (services : Services) (all : List Equipped) → All (λ p. Stands p services) all → All (λ p. HasTold script services p) all →
+each-ended : (script : ScriptText) (services : Services) (all : List Equipped) → All (λ p. IsUnderWay p services) all → All (λ p. HasTold script services p) all →
     All (λ one. one.progress.ended ≡ true) all → All (IsToldAs (receipts_told script (histories_of services))) all
-each-ended script services [] stands told ended = All-nil (IsToldAs (receipts_told script (histories_of services)))
-each-ended script services (p ∷ ps) stands told ended =
+each-ended script services [] ways told ended = All-nil (IsToldAs (receipts_told script (histories_of services)))
+each-ended script services (p ∷ ps) ways told ended =
     All-cons (IsToldAs (receipts_told script (histories_of services))) p ps
-    (told-ended script services p (All-head (λ p. Stands p services) p ps stands) (All-head (λ p. HasTold script services p) p ps told)
+    (told-ended script services p (way-stands p services (All-head (λ p. IsUnderWay p services) p ps ways)) (All-head (λ p. HasTold script services p) p ps told)
     (All-head (λ (one : Equipped). one.progress.ended ≡ true) p ps ended))
-    (each-ended script services ps (All-tail (λ p. Stands p services) p ps stands) (All-tail (λ p. HasTold script services p) p ps told)
+    (each-ended script services ps (All-tail (λ p. IsUnderWay p services) p ps ways) (All-tail (λ p. HasTold script services p) p ps told)
     (All-tail (λ (one : Equipped). one.progress.ended ≡ true) p ps ended))
 
 -- Applications without their bags. --

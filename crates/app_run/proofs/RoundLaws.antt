@@ -29,7 +29,7 @@ use Rattle.script_runs.specs.Told.{Seen, TableSeen, Telling, receipts_told, seen
 use Rattle.script_runs.proofs.LastMessages.{receipt-other}
 use Rattle.app_run.specs.Rounds.{all_going, equipped, histories_with, AreNumbered, AreSame, AllStand, AllTold, AreTurned, HasTold, Rotates, MovesOn, StepsIf, to_come, told_on}
 use Rattle.app_run.specs.Runners.{Progress, Equipped, Services, running_of, going}
-use Rattle.app_run.specs.Turns.{so_far, Stands, StandsAtBus, StandsAtTables, TakesTurn, Moved, TablesMoved, tells}
+use Rattle.app_run.specs.Turns.{so_far, Stands, StandsAtBus, StandsAtTables, TakesTurn, Moved, TablesMoved, HasCome, AtBeginning, ByTurn, OtherTurn, OthersAtBus, OthersAtTables, IsUnderWay, tells}
 use Rattle.script_runs.proofs.HeldReceipts.{held-other}
 use Rattle.app_run.proofs.OthersLaws.{Called, CalledAtTables, stands-called, stands-called_at_tables}
 use Rattle.app_run.proofs.TableTurns.{left-table_does, table_apps-does}
@@ -204,13 +204,26 @@ moved-same before after who moves = record {
   table_apps = moved-table_apps before.tables after.tables who moves.tables_moved;
 }
 
-moved-stands : (one : Equipped) (before after : Services) (who : ℕ) → MovesBoth before after who → (who ≡ one.progress.running.app → ⊥) → 1 ≤ one.progress.running.app →
+pub moved-stands : (one : Equipped) (before after : Services) (who : ℕ) → MovesBoth before after who → (who ≡ one.progress.running.app → ⊥) → 1 ≤ one.progress.running.app →
     Stands one before → Stands one after
 moved-stands one before after who moves other some stands = record {
   bus = moved-stands_at_bus one before.bus after.bus who moves.moved other some stands.bus;
   tables = moved-stands_at_tables one before.tables after.tables who moves.tables_moved other some stands.tables;
   limits = moved-table_limits before.tables after.tables who moves.tables_moved ∙ stands.limits ∙ sym (moved-limits before.bus after.bus who moves.moved);
 }
+
+-- the services are under one application's limits, however it came so far
+come-limits : (script : ScriptText) (one : Equipped) (services : Services) → HasCome script one services → services.tables.limits ≡ services.bus.limits
+come-limits script one services (AtBeginning _ _ opened) = ap (λ (tables : TableCore). tables.limits) opened.tables ∙ sym (ap (λ (bus : Core). bus.limits) opened.bus)
+come-limits script one services (ByTurn old _ before _ come t) = t.stands.limits
+come-limits script one services (OtherTurn _ before _ other come another moved tables_moved) =
+    moved-table_limits before.tables services.tables other tables_moved ∙ come-limits script one before come ∙ sym (moved-limits before.bus services.bus other moved)
+come-limits script one services (OthersAtBus _ before bus come others) = come-limits script one before come ∙ sym (ap (λ (core : Core). core.limits) others.grown)
+come-limits script one services (OthersAtTables _ before tables come others) = ap (λ (core : TableCore). core.limits) others.grown ∙ come-limits script one before come
+
+-- an application is on its way also behind another's turn
+moved-way : (one : Equipped) (before after : Services) (who : ℕ) → MovesBoth before after who → (who ≡ one.progress.running.app → ⊥) → IsUnderWay one before → IsUnderWay one after
+moved-way one before after who moves other way = (way.0, OtherTurn one before after who way.1 other moves.moved moves.tables_moved)
 
 moved-told : (script : ScriptText) (one : Equipped) (before after : Services) (who : ℕ) → MovesBoth before after who → before.tables.limits ≡ before.bus.limits →
     (who ≡ one.progress.running.app → ⊥) → HasTold script before one → HasTold script after one
@@ -251,20 +264,20 @@ told-own script old new before after t told = λ entries.
 record Stepped (old new : Equipped) (before after : Services) : Type 0 where
   moves : MovesBoth before after old.progress.running.app
   same_app : new.progress.running.app ≡ old.progress.running.app
-  stands : Stands new after
+  way : IsUnderWay new after
   told : (script : ScriptText) → HasTold script before old → HasTold script after new
 
-stepped : (ended : Bool) (old new : Equipped) (before after : Services) → Stands old before → StepsIf ended old new before after → Stepped old new before after
-stepped true old new before after stands step = record {
+stepped : (ended : Bool) (old new : Equipped) (before after : Services) → IsUnderWay old before → StepsIf ended old new before after → Stepped old new before after
+stepped true old new before after way step = record {
   moves = record { moved = inl (ap (λ (s : Services). s.bus) step.1); tables_moved = inl (ap (λ (s : Services). s.tables) step.1) };
   same_app = ap (λ (p : Equipped). p.progress.running.app) step.0;
-  stands = subst (λ p. Stands p after) (sym step.0) (subst (λ services. Stands old services) (sym step.1) stands);
+  way = subst (λ p. IsUnderWay p after) (sym step.0) (subst (λ services. IsUnderWay old services) (sym step.1) way);
   told = λ script told. subst (λ p. HasTold script after p) (sym step.0) (subst (λ services. HasTold script services old) (sym step.1) told);
 }
-stepped false old new before after stands step = record {
+stepped false old new before after way step = record {
   moves = record { moved = step.moved; tables_moved = step.tables_moved };
   same_app = step.same_app;
-  stands = step.stands;
+  way = (way.0, ByTurn old new before after way.1 step);
   told = λ script told. told-own script old new before after step told;
 }
 
@@ -375,22 +388,22 @@ record TakesOne (all : List Equipped) (i : ℕ) (new : Equipped) (before after :
 takes-one : (all : List Equipped) (i : ℕ) (new old : Equipped) (before after : Services) → AllStand before all → i < length all → old ≡ get_or all i old →
     MovesOn old new before after → TakesOne all i new before after
 takes-one all i new old before after stand within at step =
-    let stands : Stands old before = subst (λ p. Stands p before) (sym at) (All-get_or (λ p. Stands p before) all i old within stand.each) in
-    let s = stepped old.progress.ended old new before after stands step in
+    let way : IsUnderWay old before = subst (λ p. IsUnderWay p before) (sym at) (All-get_or (λ p. IsUnderWay p before) all i old within stand.each) in
+    let s = stepped old.progress.ended old new before after way step in
     let number : old.progress.running.app ≡ 1 + i = ap (λ (p : Equipped). p.progress.running.app) at ∙ numbered-at 1 i all old stand.numbered within in
     let same = moved-same before after old.progress.running.app s.moves in
     record {
       stand = record {
         numbered = numbered-set 1 i all new stand.numbered (s.same_app ∙ number);
-        each = each-set (λ p. Stands p before) (λ p. Stands p after) 1 old.progress.running.app i all new number (omega arith) stand.numbered within stand.each
-            (λ p other some stands. moved-stands p before after old.progress.running.app s.moves other some stands) s.stands;
+        each = each-set (λ p. IsUnderWay p before) (λ p. IsUnderWay p after) 1 old.progress.running.app i all new number (omega arith) stand.numbered within stand.each
+            (λ p other some way. moved-way p before after old.progress.running.app s.moves other way) s.way;
       };
       told = λ script told. record {
         limits = same.limits ∙ told.limits;
         apps = same.apps ∙ told.apps;
         table_apps = same.table_apps ∙ told.table_apps;
         each = each-set (λ p. HasTold script before p) (λ p. HasTold script after p) 1 old.progress.running.app i all new number (omega arith) stand.numbered within told.each
-            (λ p other some told. moved-told script p before after old.progress.running.app s.moves stands.limits other told)
+            (λ p other some told. moved-told script p before after old.progress.running.app s.moves (come-limits way.0 old before way.1) other told)
             (s.told script (subst (λ p. HasTold script before p) (sym at) (All-get_or (λ p. HasTold script before p) all i old within told.each)));
       };
       same = same;

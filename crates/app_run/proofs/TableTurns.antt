@@ -55,7 +55,7 @@ use Rattle.app_run.specs.Lines.{IsRun, bytes_due, entries_due}
 use Rattle.app_run.specs.Received.{Remember, RememberHeld, taken_at_tables}
 use Rattle.app_run.specs.Runners.{Progress, Equipped, running_of, standing_for}
 use Rattle.app_run.specs.TableLines.{IsRunAtTables, MayRunAtTables, most_table_receipts, table_bytes_due, table_line_bytes}
-use Rattle.app_run.specs.Turns.{MayTurn, Stands, TakesTurn, TakesTurnBy, active_tells, so_far, tells_in, with_bags}
+use Rattle.app_run.specs.Turns.{IsReady, Stands, TakesTurn, TakesTurnBy, active_tells, so_far, tells_in, with_bags}
 use Rattle.app_run.proofs.AskedLaws.{asked-fewer}
 use Rattle.app_run.proofs.Newest.{remember-addressed}
 use Rattle.app_run.proofs.NewestHeld.{remember_held-step}
@@ -218,7 +218,7 @@ allowed-table_line handles (Status handle) range = record { bytes = omega arith;
 allowed-table_line handles line range = tt
 
 -- the application may make a call of the tables, for which it has an entry and the bytes
-may-call_tables : (progress : Progress) (caller : Caller) (call : TableCall) → MayTurn progress caller →
+may-call_tables : (progress : Progress) (caller : Caller) (call : TableCall) → IsReady progress caller →
     1 ≤ (allowance_of (tables_left_of caller.tables.log) progress.running.app).entries →
     table_call_bytes call ≤ (allowance_of (tables_left_of caller.tables.log) progress.running.app).bytes → is_within call ≡ true → MayCallTables caller call
 may-call_tables progress caller call may entry bytes within =
@@ -235,7 +235,7 @@ may-call_tables progress caller call may entry bytes within =
     }
 
 -- the application may run its next line at the tables, once it made no call of the bus
-pub may-run_tables : (progress : Progress) (caller mid : Caller) (line : Line) (lines : List Line) (o : Option Call) (t : Option TableCall) → MayTurn progress caller →
+pub may-run_tables : (progress : Progress) (caller mid : Caller) (line : Line) (lines : List Line) (o : Option Call) (t : Option TableCall) → IsReady progress caller →
     progress.running.lines ≡ line ∷ lines → IsRun caller mid o None → AllowedTableLine line t → MayRunAtTables mid t
 may-run_tables progress caller mid line lines o None may next run allowed = tt
 may-run_tables progress caller mid line lines o (Some call) may next run allowed =
@@ -294,7 +294,7 @@ takes-table_line old new held bus before after line lines call answer stands goe
     })
 
 -- the tables that the calls meet know the application as those last seen did
-met-tables : (old : Progress) (before : Caller) (now : TableCore) → MayTurn old before → MeetsTables before now → Stands (with_bags old before) (both before.core now)
+met-tables : (old : Progress) (before : Caller) (now : TableCore) → IsReady old before → MeetsTables before now → Stands (with_bags old before) (both before.core now)
 met-tables old before now may meets = record {
   bus = may.stands.bus;
   tables = stands-met_at_tables old before now meets may.own (number-known old before may) may.stands.tables;
@@ -303,7 +303,7 @@ met-tables old before now may meets = record {
 
 -- the application's turn, where the tables answered its line
 table_line-exact : (p old : Progress) (before after : Caller) (line : Line) (lines : List Line) (answer : TblAnswer) (handles : List ℕ) (r : List Receipt) (call : TableCall) →
-    p ≡ old → MayTurn old before → old.waits_on ≡ None → p.running.lines ≡ line ∷ lines → IsLineInRange line →
+    p ≡ old → IsReady old before → old.waits_on ≡ None → p.running.lines ≡ line ∷ lines → IsLineInRange line →
     call_of p.running.registers (written_in before.bag) line ≡ None → table_call_of p.running.handles line ≡ Some call → TablesAnswer before after call answer →
     r ≡ p.receipts ++ taken_at_tables after (Some call) answer → handles ≡ handles_after p.running.handles line answer →
     TakesTurnBy old (the_progress (the_place p.running.app (p.running.begun + 1) lines p.running.registers handles) p.waits_on p.ended r) before after
@@ -335,7 +335,7 @@ table_line-exact p old before after line lines answer handles r call is may acti
 
 -- a line that the tables answered, once it made no call of the bus
 pub ran-table_line : (p old : Progress) (before mid after : Caller) (line : Line) (lines : List Line) (answer : TblAnswer) (handles : List ℕ) (r : List Receipt) (o : Option Call) (t : Option TableCall) →
-    p ≡ old → MayTurn old before → old.waits_on ≡ None → p.running.lines ≡ line ∷ lines → IsLineInRange line →
+    p ≡ old → IsReady old before → old.waits_on ≡ None → p.running.lines ≡ line ∷ lines → IsLineInRange line →
     call_of p.running.registers (written_in before.bag) line ≡ o → IsRun before mid o None →
     table_call_of p.running.handles line ≡ t → IsRunAtTables mid after t (Some answer) →
     r ≡ p.receipts ++ taken_at_tables after t answer → handles ≡ handles_after p.running.handles line answer →
@@ -357,7 +357,7 @@ table_run-held mid after None answer table_run = absurd table_run
 table_run-held mid after (Some call) answer table_run = table_run.bag
 
 -- no table of theirs has more than 65536 bytes
-pub table_run-small : (old : Progress) (before mid after : Caller) (o : Option Call) (t : Option TableCall) (answer : TblAnswer) → MayTurn old before → IsRun before mid o None →
+pub table_run-small : (old : Progress) (before mid after : Caller) (o : Option Call) (t : Option TableCall) (answer : TblAnswer) → IsReady old before → IsRun before mid o None →
     IsRunAtTables mid after t (Some answer) → after.tables.limits.tablemax ≤ 65536
 table_run-small old before mid after o None answer may run table_run = absurd table_run
 table_run-small old before mid after o (Some call) answer may run table_run =
@@ -377,12 +377,12 @@ abbrev pub ended_on : Progress → Progress
 ended_on old = the_progress old.running old.waits_on true old.receipts
 
 -- the application may end at the tables
-pub may-end_tables : (progress : Progress) (caller : Caller) → MayTurn progress caller → MayCallTables caller table_calls.End
+pub may-end_tables : (progress : Progress) (caller : Caller) → IsReady progress caller → MayCallTables caller table_calls.End
 may-end_tables progress caller may =
     may-call_tables progress caller table_calls.End may (omega (arith, table_entries-going (with_bags progress caller) caller.tables may.stands.tables may.goes_on)) (omega arith) refl
 
 -- and then at the bus
-pub may-end : (progress : Progress) (caller mid : Caller) → MayTurn progress caller → progress.waits_on ≡ None → TablesAnswer caller mid table_calls.End answers.Done → MayCallBus mid calls.End
+pub may-end : (progress : Progress) (caller mid : Caller) → IsReady progress caller → progress.waits_on ≡ None → TablesAnswer caller mid table_calls.End answers.Done → MayCallBus mid calls.End
 may-end progress caller mid may active answered =
     let stands = may.stands.bus in
     let app = progress.running.app in
@@ -470,7 +470,7 @@ meets-through before mid now keeps same (inr others) =
     inr (sym same.alone ∙ others.0, subst (λ core. CalledByOthers core now before.app) keeps.core (subst (λ app. CalledByOthers mid.core now app) same.app others.1))
 
 -- both services, as an end meets them
-met-both : (old : Progress) (before : Caller) (now : Core) (tables : TableCore) → MayTurn old before → Meets before now → MeetsTables before tables → Stands (with_bags old before) (both now tables)
+met-both : (old : Progress) (before : Caller) (now : Core) (tables : TableCore) → IsReady old before → Meets before now → MeetsTables before tables → Stands (with_bags old before) (both now tables)
 met-both old before now tables may meets meets_tables = record {
   bus = stands-met old before now meets may.own (number-known old before may) may.stands.bus;
   tables = stands-met_at_tables old before tables meets_tables may.own (number-known old before may) may.stands.tables;
@@ -478,7 +478,7 @@ met-both old before now tables may meets meets_tables = record {
 }
 
 -- the application's last calls
-pub ran-end : (p old : Progress) (before mid after : Caller) → p ≡ old → MayTurn old before → old.waits_on ≡ None → old.running.lines ≡ [] →
+pub ran-end : (p old : Progress) (before mid after : Caller) → p ≡ old → IsReady old before → old.waits_on ≡ None → old.running.lines ≡ [] →
     TablesAnswer before mid table_calls.End answers.Done → Answers mid after calls.End Done →
     TakesTurnBy old (the_progress p.running p.waits_on true p.receipts) before after
 ran-end p old before mid after is may active through table_answered answered =

@@ -16,7 +16,7 @@ use Rattle.app_calls.specs.Callers.{AnswersLook, HasOwnBag, KeepsTables, LeavesB
 use Rattle.app_calls.specs.TableCallers.{HasOwnTables, KeepsBus}
 use Rattle.app_run.specs.Lines.{IsRun, most_receipts}
 use Rattle.app_run.specs.Received.{Remember, RememberHeld, taken_from, taken_by}
-use Rattle.app_run.specs.Turns.{MayTurn, TakesTurnBy, services_of, with_bags}
+use Rattle.app_run.specs.Turns.{IsReady, TakesTurnBy, services_of, with_bags}
 use Rattle.app_run.specs.TableLines.{IsRunAtTables, table_line_bytes, table_bytes_due}
 use Rattle.app_run.proofs.AskedLaws.{AskedLine, asked-fewer, asked-line, asked-more, given-step}
 use Rattle.app_calls.proofs.Wrote.{alike-long, alike-none}
@@ -344,7 +344,7 @@ finds-room bag (calls.Allocate size) more asks room = omega (arith, asks, room)
 finds-room bag call more asks room = tt
 
 -- the application may run its next line
-pub may-run : (progress : Progress) (caller : Caller) (line : Line) (lines : List Line) (o : Option Call) (may : MayTurn progress caller) →
+pub may-run : (progress : Progress) (caller : Caller) (line : Line) (lines : List Line) (o : Option Call) (may : IsReady progress caller) →
     progress.waits_on ≡ None → progress.running.lines ≡ line ∷ lines → AllowedLine may.stands.bus.asked line o → MayRun caller o
 may-run progress caller line lines None may active next allowed = tt
 may-run progress caller line lines (Some call) may active next allowed =
@@ -581,20 +581,20 @@ takes-local old new bag core tables line lines stands goes active next none no_t
 -- What the code did, as the progress has it. --
 
 -- the pipe that the calls' application waits on
-pipe-own : (old : Progress) (before : Caller) (pipe : ℕ) → MayTurn old before → old.waits_on ≡ Some pipe → pipe_waited_on before ≡ pipe
+pipe-own : (old : Progress) (before : Caller) (pipe : ℕ) → IsReady old before → old.waits_on ≡ Some pipe → pipe_waited_on before ≡ pipe
 pipe-own old before pipe may waits =
     ap (λ app. waited_on (standing_of (state_of before.core) app)) may.own
     ∙ ap waited_on (standing-going (with_bags old before) before.core may.stands.bus may.goes_on ∙ ap standing_for waits)
 
 -- the look's call is the application's, on the pipe that it waits on
-looks-own : (old : Progress) (before : Caller) (now after : Core) (pipe : ℕ) (answer : BusAnswer) → MayTurn old before → old.waits_on ≡ Some pipe →
+looks-own : (old : Progress) (before : Caller) (now after : Core) (pipe : ℕ) (answer : BusAnswer) → IsReady old before → old.waits_on ≡ Some pipe →
     Does now after before.app (calls.Look (pipe_waited_on before)) answer → Does now after old.running.app (calls.Look pipe) answer
 looks-own old before now after pipe answer may waits does =
     subst (λ app. Does now after app (calls.Look pipe) answer) may.own
     (subst (λ p. Does now after before.app (calls.Look p) answer) (pipe-own old before pipe may waits) does)
 
 -- and so is what it leaves of the buffers
-leaves-own : (old : Progress) (before : Caller) (bag : Holding LentBytes) (pipe : ℕ) (answer : BusAnswer) → MayTurn old before → old.waits_on ≡ Some pipe →
+leaves-own : (old : Progress) (before : Caller) (bag : Holding LentBytes) (pipe : ℕ) (answer : BusAnswer) → IsReady old before → old.waits_on ≡ Some pipe →
     LeavesBuffers before.bag bag (calls.Look (pipe_waited_on before)) answer → LeavesBuffers before.bag bag (calls.Look pipe) answer
 leaves-own old before bag pipe answer may waits leaves =
     subst (λ p. LeavesBuffers before.bag bag (calls.Look p) answer) (pipe-own old before pipe may waits) leaves
@@ -649,12 +649,12 @@ bag-kept before after keeps same has =
     subst (λ app. HasBag after.core app after.bag) (sym same) (bus-kept (λ core bag. HasBag core before.app bag) before after keeps has)
 
 -- the application has a number
-pub number-known : (old : Progress) (before : Caller) → MayTurn old before → 1 ≤ old.running.app
+pub number-known : (old : Progress) (before : Caller) → IsReady old before → 1 ≤ old.running.app
 number-known old before may =
     first-known (state_of before.core) old.running.app (standing_for old.waits_on) (standing-going (with_bags old before) before.core may.stands.bus may.goes_on) (going_lives old.waits_on)
 
 -- the bus that the calls meet knows the application as the one last seen did
-met : (old : Progress) (before : Caller) (now : Core) → MayTurn old before → Meets before now → Stands (with_bags old before) (both now before.tables)
+met : (old : Progress) (before : Caller) (now : Core) → IsReady old before → Meets before now → Stands (with_bags old before) (both now before.tables)
 met old before now may meets = record {
   bus = stands-met old before now meets may.own (number-known old before may) may.stands.bus;
   tables = may.stands.tables;
@@ -664,7 +664,7 @@ met old before now may meets = record {
 -- Looks that were answered. --
 
 -- a look that found a message
-pub looked-got : (p old : Progress) (before after : Caller) (pipe n : ℕ) (r : List Receipt) → p ≡ old → MayTurn old before → old.waits_on ≡ Some pipe →
+pub looked-got : (p old : Progress) (before after : Caller) (pipe n : ℕ) (r : List Receipt) → p ≡ old → IsReady old before → old.waits_on ≡ Some pipe →
     AnswersLook before after (pipe_waited_on before) (waits.Got n) → r ≡ p.receipts ++ taken_from after pipe n →
     TakesTurnBy old (record { running = p.running; waits_on = None; ended = p.ended; receipts = r }) before after
 looked-got p old before after pipe n r is may waits answered got =
@@ -688,7 +688,7 @@ looked-got p old before after pipe n r is may waits answered got =
     }
 
 -- a look to which no message can come any more
-pub looked-time_out : (p old : Progress) (before after : Caller) (pipe : ℕ) → p ≡ old → MayTurn old before → old.waits_on ≡ Some pipe →
+pub looked-time_out : (p old : Progress) (before after : Caller) (pipe : ℕ) → p ≡ old → IsReady old before → old.waits_on ≡ Some pipe →
     AnswersLook before after (pipe_waited_on before) waits.TimeOut →
     TakesTurnBy old (record { running = p.running; waits_on = None; ended = p.ended; receipts = p.receipts }) before after
 looked-time_out p old before after pipe is may waits answered =
@@ -754,7 +754,7 @@ takes-pending old bag now tables pipe stands goes waits leaves pending =
       tables_moved = inl refl;
     }
 
-pub looked-pending : (old : Progress) (before after : Caller) (pipe : ℕ) → MayTurn old before → old.waits_on ≡ Some pipe →
+pub looked-pending : (old : Progress) (before after : Caller) (pipe : ℕ) → IsReady old before → old.waits_on ≡ Some pipe →
     AnswersLook before after (pipe_waited_on before) waits.Pending → TakesTurnBy old old before after
 looked-pending old before after pipe may waits answered =
     let now = answered.now in
@@ -787,7 +787,7 @@ get_at P xs i x there all = subst P (get_or_from_slice_get xs i x x there) (All-
 
 -- a line that the bus answered
 pub ran-line : (p old : Progress) (before after : Caller) (line : Line) (lines : List Line) (answer : BusAnswer) (registers : Registers) (waits_on : Option ℕ) (r : List Receipt) (o : Option Call) →
-    p ≡ old → MayTurn old before → old.waits_on ≡ None → p.running.lines ≡ line ∷ lines → IsLineInRange line →
+    p ≡ old → IsReady old before → old.waits_on ≡ None → p.running.lines ≡ line ∷ lines → IsLineInRange line →
     call_of p.running.registers (written_in before.bag) line ≡ o → IsRun before after o (Some answer) →
     r ≡ p.receipts ++ taken_by after o answer → registers ≡ registers_after p.running.registers line answer →
     waits_on ≡ pipe_waited_for p.running.registers line answer →
@@ -837,7 +837,7 @@ table_called-none before after None run = refl
 table_called-none before after (Some call) run = absurd run
 
 -- what a line that no service sees left in the bag of the calls
-wrote-local : (old : Progress) (before after : Caller) (line : Line) → MayTurn old before → Writes before after (written_by (written_in before.bag) old.running.registers.buffers line) →
+wrote-local : (old : Progress) (before after : Caller) (line : Line) → IsReady old before → Writes before after (written_by (written_in before.bag) old.running.registers.buffers line) →
     WroteLocal (with_bags old before) after.bag before.core line
 wrote-local old before after line may writes = record {
   written = writes.written;
@@ -849,7 +849,7 @@ wrote-local old before after line may writes = record {
 
 -- the application's turn, where its line makes no call, and wrote so
 local-exact : (p old : Progress) (before after : Caller) (line : Line) (lines : List Line) (r : List Receipt) →
-    p ≡ old → MayTurn old before → old.waits_on ≡ None → p.running.lines ≡ line ∷ lines →
+    p ≡ old → IsReady old before → old.waits_on ≡ None → p.running.lines ≡ line ∷ lines →
     call_of p.running.registers (written_in before.bag) line ≡ None → table_call_of p.running.handles line ≡ None →
     Writes before after (written_by (written_in before.bag) p.running.registers.buffers line) →
     r ≡ p.receipts ++ shown after.app (state_of after.core) (tables_of after.tables) p.running.registers p.running.handles line →
@@ -883,7 +883,7 @@ local-exact p old before after line lines r is may active next calls no_table wr
 
 -- a line that no service sees
 pub ran-local : (p old : Progress) (before mid late after : Caller) (line : Line) (lines : List Line) (r : List Receipt) (o : Option Call) (t : Option TableCall) →
-    p ≡ old → MayTurn old before → old.waits_on ≡ None → p.running.lines ≡ line ∷ lines →
+    p ≡ old → IsReady old before → old.waits_on ≡ None → p.running.lines ≡ line ∷ lines →
     call_of p.running.registers (written_in before.bag) line ≡ o → IsRun before mid o None →
     table_call_of p.running.handles line ≡ t → IsRunAtTables mid late t None →
     Writes late after (written_by (written_in late.bag) p.running.registers.buffers line) →
@@ -908,7 +908,7 @@ run-bag before after (Some call) None run bag = absurd run
 run-bag before after (Some call) (Some answer) run bag = run.bag
 
 -- behind a line that no service sees the application may write into its buffers
-pub run-write : (old : Progress) (before mid late : Caller) (o : Option Call) (t : Option TableCall) → MayTurn old before → IsRun before mid o None → IsRunAtTables mid late t None → MayWrite late
+pub run-write : (old : Progress) (before mid late : Caller) (o : Option Call) (t : Option TableCall) → IsReady old before → IsRun before mid o None → IsRunAtTables mid late t None → MayWrite late
 run-write old before mid late o t may run table_run =
     subst (λ caller. MayWrite caller) (sym (table_run-none mid late t table_run ∙ run-none before mid o run)) (record { bag = may.bag; small = may.stands.bus.small })
 
@@ -919,21 +919,21 @@ wrote-same before mid late after o t written run table_run writes =
     subst (λ caller. SameServices caller after) (table_run-none mid late t table_run ∙ run-none before mid o run) writes.same
 
 -- the bag of the tables is still the application's
-pub wrote-held : (old : Progress) (before mid late after : Caller) (o : Option Call) (t : Option TableCall) (written : Written) → MayTurn old before → IsRun before mid o None →
+pub wrote-held : (old : Progress) (before mid late after : Caller) (o : Option Call) (t : Option TableCall) (written : Written) → IsReady old before → IsRun before mid o None →
     IsRunAtTables mid late t None → Writes late after written → HasOwnTables after
 wrote-held old before mid late after o t written may run table_run writes =
     let same : late ≡ before = table_run-none mid late t table_run ∙ run-none before mid o run in
     held-kept late after writes.others writes.same.app (subst (λ caller. HasOwnTables caller) (sym same) may.held)
 
 -- and no table is larger than it was
-pub wrote-small : (old : Progress) (before mid late after : Caller) (o : Option Call) (t : Option TableCall) (written : Written) → MayTurn old before → IsRun before mid o None →
+pub wrote-small : (old : Progress) (before mid late after : Caller) (o : Option Call) (t : Option TableCall) (written : Written) → IsReady old before → IsRun before mid o None →
     IsRunAtTables mid late t None → Writes late after written → after.tables.limits.tablemax ≤ 65536
 wrote-small old before mid late after o t written may run table_run writes =
     let same : late ≡ before = table_run-none mid late t table_run ∙ run-none before mid o run in
     subst (λ (core : TableCore). core.limits.tablemax ≤ 65536) (sym (writes.others.tables ∙ ap (λ (caller : Caller). caller.tables) same)) may.stands.tables.small
 
 -- and the receipts still tell what was received last
-pub run-remember : (p old : Progress) (before mid late after : Caller) (o : Option Call) (t : Option TableCall) (written : Written) → p ≡ old → MayTurn old before → IsRun before mid o None →
+pub run-remember : (p old : Progress) (before mid late after : Caller) (o : Option Call) (t : Option TableCall) (written : Written) → p ≡ old → IsReady old before → IsRun before mid o None →
     IsRunAtTables mid late t None → Writes late after written → Remember p.receipts (state_of after.core) after.app
 run-remember p old before mid late after o t written is may run table_run writes =
     let same : late ≡ before = table_run-none mid late t table_run ∙ run-none before mid o run in
@@ -942,7 +942,7 @@ run-remember p old before mid late after o t written is may run table_run writes
     (subst (λ (q : Progress). Remember q.receipts (state_of before.core) old.running.app) (sym is) may.stands.bus.remember))
 
 -- and which versions are held
-pub run-remember_held : (p old : Progress) (before mid late after : Caller) (o : Option Call) (t : Option TableCall) (written : Written) → p ≡ old → MayTurn old before → IsRun before mid o None →
+pub run-remember_held : (p old : Progress) (before mid late after : Caller) (o : Option Call) (t : Option TableCall) (written : Written) → p ≡ old → IsReady old before → IsRun before mid o None →
     IsRunAtTables mid late t None → Writes late after written → RememberHeld p.receipts (tables_of after.tables) after.app
 run-remember_held p old before mid late after o t written is may run table_run writes =
     let same : late ≡ before = table_run-none mid late t table_run ∙ run-none before mid o run in

@@ -17,7 +17,7 @@ use Rattle.script_runs.specs.Rotation.{Running, SoFar, rotated, rotations}
 use Rattle.app_script.specs.Script.{ScriptText}
 use Rattle.script_runs.specs.Told.{Seen, Telling, seen_from, table_seen_from, receipts_of, receipts_told, told}
 use Rattle.app_run.specs.Runners.{Services, Progress, Equipped, beginning, running_of, going}
-use Rattle.app_run.specs.Turns.{so_far, Stands, TakesTurn}
+use Rattle.app_run.specs.Turns.{so_far, IsUnderWay, TakesTurn}
 
 -- the applications before the first rotation
 abbrev pub all_beginning : ScriptText → List Progress
@@ -40,10 +40,10 @@ abbrev pub AreNumbered : ℕ → List Equipped → Type 0
 AreNumbered number [] = Unit {0}
 AreNumbered number (one ∷ others) = (one.progress.running.app ≡ number) × AreNumbered (number + 1) others
 
--- both services know each application as it is
+-- each application came so far by its own turns
 pub record AllStand (services : Services) (all : List Equipped) : Type 0 where
   pub numbered : AreNumbered 1 all
-  pub each : All (λ one. Stands one services) all
+  pub each : All (λ one. IsUnderWay one services) all
 
 -- the bags of the bus are those of the applications, from this number on
 abbrev pub AllHold : Core → ℕ → List (Holding LentBytes) → Type 0

@@ -1,5 +1,5 @@
 -- One turn of an application.
-use Rattle.std.specs.Prelude.{◌≡◌, ℕ, ◌+◌, ◌≤◌, ◌++◌, length, sum_by, ◌⊎◌, false, List, [], ◌∷◌, Option, Some, None, is_some, if◌then◌else◌}
+use Rattle.std.specs.Prelude.{◌≡◌, ◌≢◌, ℕ, ◌+◌, ◌≤◌, ◌++◌, length, sum_by, ◌⊎◌, false, List, [], ◌∷◌, Option, Some, None, is_some, if◌then◌else◌}
 use Rattle.fsw_base.specs.Limits.{Limits}
 use Rattle.bus_words.specs.declared.calls.BusAnswer.{BusAnswer}
 use Rattle.bus_words.specs.declared.history.Call.{Call}
@@ -8,11 +8,13 @@ use Rattle.bus_words.specs.declared.receipts.Receipt.{Receipt}
 use Rattle.bus_words.specs.Bus.{Standing, Active, Waiting, Ended, standing_of}
 use Rattle.journal_store.specs.Budgets.{allowance_of}
 use Rattle.bus_words.specs.Log.{left_of}
+use Rattle.sb_calls.specs.Bags.{CalledByOthers}
 use Rattle.sb_calls.specs.Core.{Core, Does, apps_of, state_of}
 use Rattle.tbl_words.specs.declared.calls.TblAnswer.{TblAnswer}
 use Rattle.tbl_words.specs.declared.history.Call.{Call as TableCall}
 use Rattle.tbl_words.specs.Log.{left_of as tables_left_of}
 use Rattle.tbl_words.specs.Tables.{has_ended as has_ended_at_tables}
+use Rattle.tbl_load.specs.Bags.{CalledByOthers as CalledByOthersAtTables}
 use Rattle.tbl_load.specs.Core.{Core as TableCore, Does as TablesDo, apps_of as table_apps_of, state_of as tables_of}
 use Rattle.script_lines.specs.declared.line.Line.{Line}
 use Rattle.script_runs.specs.TableTrace.{table_call_of}
@@ -21,12 +23,14 @@ use Rattle.script_runs.specs.Rotation.{Running, SoFar, after_call, after_look, a
 use Rattle.script_runs.specs.Told.{addressed_in, got_in, shown}
 use Rattle.app_run.specs.declared.runner.Turned.{Turned}
 use Rattle.app_run.specs.declared.runner.Turned.TheVariants as turned
-use Rattle.script_settings.specs.Accounts.{buffers_of}
+use Rattle.script_settings.specs.Accounts.{budget_of, buffers_of}
+use Rattle.app_script.specs.Script.{ScriptText, app_at}
 use Rattle.app_calls.specs.Callers.{Caller, Meets, SameServices, HasOwnBag, written_in}
 use Rattle.app_calls.specs.TableCallers.{MeetsTables, HasOwnTables}
+use Rattle.app_run.specs.Openings.{empty_bag, opened, opened_tables}
 use Rattle.app_run.specs.Lines.{entries_due, bytes_due, AreAsked}
 use Rattle.app_run.specs.Received.{Remember, RememberHeld}
-use Rattle.app_run.specs.Runners.{Services, Progress, Equipped, standing_in, running_of, going}
+use Rattle.app_run.specs.Runners.{Services, Progress, Equipped, beginning, standing_in, running_of, going}
 use Rattle.app_run.specs.TableLines.{table_bytes_due}
 
 -- both services so far
@@ -113,8 +117,8 @@ services_of caller = record { bus = caller.core; tables = caller.tables }
 abbrev pub with_bags : Progress → Caller → Equipped
 with_bags progress caller = record { progress = progress; bag = caller.bag; held = caller.held }
 
--- the application may take a turn by these calls: they are its own, with its own bags, and it has not ended
-pub record MayTurn (progress : Progress) (caller : Caller) : Type 0 where
+-- The calls are the application's own, with its own bags, it has not ended, and both services know it as it is.
+pub record IsReady (progress : Progress) (caller : Caller) : Type 0 where
   pub own : caller.app ≡ progress.running.app
   pub goes_on : progress.ended ≡ false
   pub stands : Stands (with_bags progress caller) (services_of caller)
@@ -140,6 +144,58 @@ pub record TakesTurn (old new : Equipped) (before after : Services) : Type 0 whe
   pub moved : Moved before.bus after.bus old.progress.running.app
   pub tables_moved : TablesMoved before.tables after.tables old.progress.running.app
 
+-- How an application came to its turns. --
+
+-- The services are as they open for the script, under its limits and with each application's budget, and the application is before its
+-- first line, with empty bags.
+pub record AreOpened (script : ScriptText) (one : Equipped) (services : Services) : Type 0 where
+  pub bus : services.bus ≡ opened script
+  pub tables : services.tables ≡ opened_tables script
+  pub some : 1 ≤ one.progress.running.app
+  pub known : one.progress.running.app ≤ length script.apps
+  pub progress : one.progress ≡ beginning script one.progress.running.app
+  pub bag : one.bag ≡ empty_bag script.limits.pipes (budget_of (app_at script one.progress.running.app).lines).buffers
+  pub held : one.held ≡ record { views = []; room = script.limits.handles }
+  pub small : script.limits.msgmax ≤ 65542
+  pub small_tables : script.limits.tablemax ≤ 65536
+
+-- The services were opened for the script; all entries of the application are those that its turns so far made, each by the services as
+-- they were then, and its bags are as these turns left them; in between others alone called.
+pub data HasCome (script : ScriptText) : Equipped → Services → Type 0 where
+  -- before the first turn
+  AtBeginning : (one : Equipped) (services : Services) → AreOpened script one services → HasCome script one services
+  -- the application took a turn
+  ByTurn : (old new : Equipped) (before after : Services) → HasCome script old before → TakesTurn old new before after → HasCome script new after
+  -- another application took a turn: of the bus and of the tables one entry or none
+  OtherTurn : (one : Equipped) (before after : Services) (other : ℕ) → HasCome script one before → other ≢ one.progress.running.app →
+      Moved before.bus after.bus other → TablesMoved before.tables after.tables other → HasCome script one after
+  -- others called the bus
+  OthersAtBus : (one : Equipped) (before : Services) (bus : Core) → HasCome script one before → CalledByOthers before.bus bus one.progress.running.app →
+      HasCome script one (record { bus = bus; tables = before.tables })
+  -- others called the tables
+  OthersAtTables : (one : Equipped) (before : Services) (tables : TableCore) → HasCome script one before →
+      CalledByOthersAtTables before.tables tables one.progress.running.app → HasCome script one (record { bus = before.bus; tables = tables })
+
+-- the same, of a script that the application is one of
+abbrev pub IsUnderWay : Equipped → Services → Type 0
+IsUnderWay one services = (script : ScriptText) × HasCome script one services
+
+-- The application may take a turn by these calls: they are its own, with its own bags, on services that were opened for its script and
+-- have of it just the entries that its turns so far made; and it has not ended.
+pub record MayTurn (progress : Progress) (caller : Caller) : Type 0 where
+  pub own : caller.app ≡ progress.running.app
+  pub goes_on : progress.ended ≡ false
+  pub way : IsUnderWay (with_bags progress caller) (services_of caller)
+  pub bag : HasOwnBag caller
+  pub held : HasOwnTables caller
+
+-- the calls are the application's before its first line, with its own bags, on services that were just opened for the script
+pub record AreFirst (script : ScriptText) (progress : Progress) (caller : Caller) : Type 0 where
+  pub own : caller.app ≡ progress.running.app
+  pub opened : AreOpened script (with_bags progress caller) (services_of caller)
+  pub bag : HasOwnBag caller
+  pub held : HasOwnTables caller
+
 -- how an application stands after its turn
 abbrev pub turned_of : Progress → Turned
 turned_of progress = if progress.ended then turned.Ended else if is_some progress.waits_on then turned.Waits else turned.Went
@@ -158,3 +214,4 @@ pub record Turns (old new : Progress) (before after : Caller) (now : Turned) : T
   pub turn : TakesTurnBy old new before after
   pub told : now ≡ turned_of new
   pub same : SameServices before after
+  pub may_again : new.ended ≡ false → MayTurn new after

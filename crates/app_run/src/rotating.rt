@@ -10,7 +10,7 @@ ghost use Rattle.script_runs.specs.Rotation.{rotation, rotations, enough};
 ghost use Rattle.script_runs.specs.Told.{receipts_told};
 ghost use Rattle.app_script.specs.Script.{ScriptText};
 ghost use Rattle.app_run.specs.Openings.{opened, opened_tables, empty_bags, empty_held, HaveRoom};
-ghost use Rattle.app_run.specs.Turns.{so_far, Stands};
+ghost use Rattle.app_run.specs.Turns.{so_far, IsUnderWay};
 ghost use Rattle.app_run.specs.Rounds.{all_beginning, all_going, equipped, AllStand, AllTold, AllEquipped, MovesOn, Rotates, RotatesTimes};
 
 use crate::regions::{Blocks, Regions};
@@ -372,7 +372,7 @@ fn take_turn<'r, L: Ledger>(
     held: &mut HeldTables<'r>,
     steps: &mut Steps<L>,
 )
-    requires stands { Stands (record { progress = runner.old; bag = bag.old; held = held.old })
+    requires way { IsUnderWay (record { progress = runner.old; bag = bag.old; held = held.old })
         (record { bus = bus.old; tables = tables.old }) }
     requires bag { HasBag bus.old runner.old.running.app bag.old }
     requires held { HasTableBag tables.old runner.old.running.app held.old }

@@ -66,8 +66,8 @@ impl<'s> Model for Runner<'s> {
 }
 
 impl<'s> Runner<'s> {
-    ghost use Rattle.app_run.specs.Turns.{MayTurn, TakesTurnBy, Turns, turned_of};
-    ghost use Rattle.app_calls.specs.Callers.{SameServices};
+    ghost use Rattle.app_run.specs.Turns.{AreFirst, IsReady, MayTurn, TakesTurnBy, Turns, turned_of};
+    ghost use Rattle.app_calls.specs.Callers.{Caller, SameServices};
 
     /// The application before its first line: its registers are 0, and it has no receipt. By
     /// the code, all memory that its run takes is taken here.
@@ -76,7 +76,10 @@ impl<'s> Runner<'s> {
     /// Where memory runs out.
     pub fn new(alloc: Global, script: &'s Script, app: AppNo) -> Result<Runner<'s>, AllocError>
         requires { app ≤ length script.now.apps }
-        ensures { IfOk result (λ runner. runner ≡ beginning script.now app) }
+        ensures beginning { IfOk result (λ runner. runner ≡ beginning script.now app) }
+        ensures may_turn { IfOk result
+            (λ runner. (caller : Caller) → AreFirst script.now runner caller →
+            MayTurn runner caller) }
     {
         script.recall_ranges();
         let size = largest_made(script, app);
@@ -95,18 +98,15 @@ impl<'s> Runner<'s> {
 
     /// One turn: the next line; or one look, while the application waits; or its end, once its
     /// lines are through, at the tables first and then at the bus.
+    ///
+    /// The application has not ended. The calls are its own, on services that were opened for its
+    /// script, and have of the application just what its turns so far called; others may have
+    /// called in between.
     pub fn turn<C: Calls>(&mut self, calls: &mut C) -> Turned
         requires { MayTurn self.old (C.caller calls.old) }
         ensures { Turns self.old self.new (C.caller calls.old) (C.caller calls.new) result }
     {
-        if let Some(pipe) = self.waits_on {
-            self.look(calls, pipe);
-        } else if self.next < self.script.lines(self.app) {
-            self.run_next(calls);
-        } else {
-            self.end(calls);
-        }
-        self.turned()
+        self.make_turn(calls)
     }
 
     /// Whether the application has ended.
@@ -147,9 +147,26 @@ impl<'s> Runner<'s> {
         self.receipts
     }
 
+    // One turn, by services that know the application as it is.
+    fn make_turn<C: Calls>(&mut self, calls: &mut C) -> Turned
+        requires { IsReady self.old (C.caller calls.old) }
+        ensures turn { TakesTurnBy self.old self.new (C.caller calls.old) (C.caller calls.new) }
+        ensures told { result ≡ turned_of self.new }
+        ensures same { SameServices (C.caller calls.old) (C.caller calls.new) }
+    {
+        if let Some(pipe) = self.waits_on {
+            self.look(calls, pipe);
+        } else if self.next < self.script.lines(self.app) {
+            self.run_next(calls);
+        } else {
+            self.end(calls);
+        }
+        self.turned()
+    }
+
     // Looks again for a message on the pipe that it waits on.
     fn look<C: Calls>(&mut self, calls: &mut C, pipe: u32)
-        requires may { MayTurn self.old (C.caller calls.old) }
+        requires may { IsReady self.old (C.caller calls.old) }
         requires waits { self.old.waits_on ≡ Some pipe }
         ensures turn { TakesTurnBy self.old self.new (C.caller calls.old) (C.caller calls.new) }
         ensures same { SameServices (C.caller calls.old) (C.caller calls.new) }
@@ -166,7 +183,7 @@ impl<'s> Runner<'s> {
 
     // Runs the next line.
     fn run_next<C: Calls>(&mut self, calls: &mut C)
-        requires may { MayTurn self.old (C.caller calls.old) }
+        requires may { IsReady self.old (C.caller calls.old) }
         requires active { self.old.waits_on ≡ None }
         requires left { 1 ≤ length self.old.running.lines }
         ensures turn { TakesTurnBy self.old self.new (C.caller calls.old) (C.caller calls.new) }
@@ -201,7 +218,7 @@ impl<'s> Runner<'s> {
 
     // Makes the application's last calls: at the tables first, then at the bus.
     fn end<C: Calls>(&mut self, calls: &mut C)
-        requires may { MayTurn self.old (C.caller calls.old) }
+        requires may { IsReady self.old (C.caller calls.old) }
         requires active { self.old.waits_on ≡ None }
         requires through { self.old.running.lines ≡ [] }
         ensures turn { TakesTurnBy self.old self.new (C.caller calls.old) (C.caller calls.new) }

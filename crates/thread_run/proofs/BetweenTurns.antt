@@ -35,7 +35,7 @@ module _ (script : ScriptText) (app : ℕ) (p : Progress) (caller : Caller) (b :
   may-turn goes_on = record {
     own = its_app;
     goes_on = goes_on;
-    stands = b.way.stands;
+    way = (script, b.way.come);
     bag = subst (λ k. HasBag caller.core k caller.bag) (sym its_app) b.way.bag;
     held = subst (λ k. HasTableBag caller.tables k caller.held) (sym its_app) b.way.held;
   }

@@ -16,7 +16,7 @@ use Rattle.app_script.specs.Script.{Application, ScriptText}
 use Rattle.script_settings.specs.Accounts.{budget_of}
 use Rattle.app_run.specs.Openings.{empty_bag, opened, opened_tables}
 use Rattle.app_run.specs.Runners.{Progress, beginning}
-use Rattle.app_run.proofs.OpenLaws.{apps-opened, first_bag, first_held, first_equipped, map-at, opened_both, stands-opened, told-opened}
+use Rattle.app_run.proofs.OpenLaws.{apps-opened, first_bag, first_held, first_equipped, come-opened, map-at, opened_both, stands-opened, told-opened}
 use Rattle.app_run.proofs.RoundLaws.{the_equipped}
 use Rattle.app_run.specs.Turns.{with_bags}
 use Rattle.app_run.proofs.TurnLaws.{both}
@@ -54,6 +54,7 @@ pub way-opened : (script : ScriptText) (app : ℕ) → script.limits.msgmax ≤ 
     IsOnItsWay script (opened_both script) (first_equipped script app)
 way-opened script app small small_tables first last bag held = record {
   script_is = record { limits = refl; apps = apps-opened script; table_apps = apps-opened script; legal = tt; legal_tables = tt };
+  come = come-opened script app small small_tables first last;
   stands = stands-opened script app small small_tables first last;
   bag = bag;
   held = held;

@@ -28,7 +28,7 @@ use Rattle.script_runs.proofs.TableTurn.{IsTableTurn, table-turn-in}
 use Rattle.app_calls.proofs.Wrote.{bag-written}
 use Rattle.app_run.specs.Rounds.{HasTold, histories_with, telling_now, told_on}
 use Rattle.app_run.specs.Runners.{Services, Progress, Equipped, running_of, standing_for, standing_in, going}
-use Rattle.app_run.specs.Turns.{Stands, TakesTurn, so_far}
+use Rattle.app_run.specs.Turns.{ByTurn, OthersAtBus, OthersAtTables, Stands, TakesTurn, so_far}
 use Rattle.app_run.proofs.OthersLaws.{with_entries, with_table_entries, called-front, called-front_at_tables, stands-others, stands-others_at_tables}
 use Rattle.app_run.proofs.RoundLaws.{moved-same, told-called, told-called_at_tables, told-own}
 use Rattle.app_run.proofs.TurnLaws.{both}
@@ -141,6 +141,7 @@ way-bus stay script old new tables one others some way =
         legal = others.legal;
         legal_tables = way.script_is.legal_tables;
       };
+      come = OthersAtBus one (both old tables) new way.come others;
       stands = record { bus = stands-others one old new others some way.stands.bus; tables = way.stands.tables; limits = way.stands.limits ∙ sym limits };
       bag = stay old new app one.bag others way.bag;
       held = way.held;
@@ -164,6 +165,7 @@ way-tables stay script bus old new one others some way =
         legal = way.script_is.legal;
         legal_tables = others.legal;
       };
+      come = OthersAtTables one (both bus old) new way.come others;
       stands = record {
         bus = way.stands.bus;
         tables = stands-others_at_tables one old new others some way.stands.tables;
@@ -259,6 +261,7 @@ module _ (script : ScriptText) (before after : Services) (old new : Equipped) (w
       let app = old.progress.running.app in
       record {
         script_is = turn-script;
+        come = ByTurn old new before after way.come turns;
         stands = turns.stands;
         bag = bag;
         held = held;

@@ -14,7 +14,7 @@ use Rattle.script_runs.specs.Trace.{Trace, first_registers, own_entries}
 use Rattle.script_runs.specs.Written.{first_written}
 use Rattle.app_run.specs.Rounds.{HasTold}
 use Rattle.app_run.specs.Runners.{Services, Equipped, going, standing_in}
-use Rattle.app_run.specs.Turns.{Stands}
+use Rattle.app_run.specs.Turns.{HasCome, Stands}
 
 -- the application, where it goes on
 abbrev pub still_going : Equipped → Option Running
@@ -28,10 +28,11 @@ pub record AreForScript (script : ScriptText) (services : Services) : Type 0 whe
   pub legal : IsLegalCore services.bus
   pub legal_tables : AreLegalTables services.tables
 
--- The application has come so far, by services as it saw them last: they know it as it is, and it has its bags; its entries so far, with
+-- The application has come so far by its own turns, and services as it saw them last know it as it is; it has its bags; its entries so far, with
 -- those that it has still to make, are those of its lines, at each of the two; and its receipts so far are what it has told.
 pub record IsOnItsWay (script : ScriptText) (services : Services) (one : Equipped) : Type 0 where
   pub script_is : AreForScript script services
+  pub come : HasCome script one services
   pub stands : Stands one services
   pub bag : HasBag services.bus one.progress.running.app one.bag
   pub held : HasTableBag services.tables one.progress.running.app one.held

@@ -5,7 +5,7 @@ use Rattle.sb_calls.specs.Bags.{HasBag}
 use Rattle.tbl_load.specs.Bags.{HasBag as HasTableBag}
 use Rattle.app_run.specs.Rounds.{AreTurned, equipped}
 use Rattle.app_run.specs.Runners.{Equipped}
-use Rattle.app_run.specs.Turns.{Stands}
+use Rattle.app_run.specs.Turns.{IsUnderWay}
 use Rattle.app_run.proofs.BagLaws.{hold-at, hold-set, steps-bags, held-at, held-set, steps-helds}
 use Rattle.app_run.proofs.RoundLaws.{turned-none, turned-one, turned-all, numbered-at, equipped-at, equipped-set, length-equipped, the_equipped}
 use Rattle.app_run.proofs.TurnLaws.{both}
@@ -20,8 +20,8 @@ loop-i-init g c = (
   refl,
 )
 
-pub take_turn-requires-clause-stands : goal.take_turn-requires-clause-stands
-take_turn-requires-clause-stands g c =
+pub take_turn-requires-clause-way : goal.take_turn-requires-clause-way
+take_turn-requires-clause-way g c =
     let runners = c.loop-i.runners.items in
     let bags = c.loop-i.bags.items in
     let helds = c.loop-i.held.items in
@@ -31,10 +31,10 @@ take_turn-requires-clause-stands g c =
     let as_many : length bags ≡ length runners = c.loop-i.invariant.2 ∙ c.requires.as_many ∙ sym c.loop-i.invariant.4 in
     let as_many_held : length helds ≡ length runners = c.loop-i.invariant.3 ∙ c.requires.as_many_held ∙ sym c.loop-i.invariant.4 in
     let one = the_equipped c.index_mut.result.now c.index_mut-in-loop-i.result.now c.index_mut-in-loop-i-2.result.now in
-    subst (λ p. Stands p services)
+    subst (λ p. IsUnderWay p services)
     (sym (equipped-at runners bags helds c.loop-i.i c.index_mut.result.now c.index_mut-in-loop-i.result.now c.index_mut-in-loop-i-2.result.now one within as_many as_many_held
     c.index_mut.ensures.value c.index_mut-in-loop-i.ensures.value c.index_mut-in-loop-i-2.ensures.value))
-    (All-get_or (λ p. Stands p services) (equipped runners bags helds) c.loop-i.i one (omega (arith, within, length-equipped runners bags helds as_many as_many_held)) c.loop-i.invariant.0.stand.each)
+    (All-get_or (λ p. IsUnderWay p services) (equipped runners bags helds) c.loop-i.i one (omega (arith, within, length-equipped runners bags helds as_many as_many_held)) c.loop-i.invariant.0.stand.each)
 
 pub take_turn-requires-clause-bag : goal.take_turn-requires-clause-bag
 take_turn-requires-clause-bag g c =

@@ -30,4 +30,4 @@ returns-clause-work c =
     work-opened c.args.shared.script.now c.args.shared.bus.now c.args.shared.tables.now c.args.app (c.args.app - 1) c.args.bus_main.now c.args.tables_main.now
     (record { runner = c.in_ok-runner.runner; port = c.in_ok-port.port; tables_port = c.in_ok-tables_port.tables_port })
     c.recall_limits.ensures.small c.recall_limits.ensures.small_tables c.requires.some c.requires.known c.requires.bus c.requires.tables
-    c.in_ok-runner.ensures c.in_ok-port.ensures.port c.in_ok-tables_port.ensures.port c.recall.ensures.bag c.recall-2.ensures.bag
+    c.in_ok-runner.ensures.beginning c.in_ok-port.ensures.port c.in_ok-tables_port.ensures.port c.recall.ensures.bag c.recall-2.ensures.bag
