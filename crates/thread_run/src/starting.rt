@@ -17,7 +17,7 @@ use std::thread::{Scope, Threads};
 #[derive(Drop)]
 pub(crate) struct Lists<'e, 'r> {
     /// Those that were begun.
-    pub(crate) begun: Vec<Begun<'e, 'r>>,
+    pub(crate) begun: Vec<Begun<Ends<'e, 'r>>>,
     /// What is left of those that are through.
     pub(crate) dones: Vec<Done>,
 }
@@ -91,8 +91,8 @@ struct Jobs<'e, 'r, R: Threads + Wait + Sync, G: Gate> {
 }
 
 // The same, in a scope of threads.
-fn run_in<'s, 'e, 'r, R: Threads + Wait + Sync, G: Gate>(
-    scope: &'s Scope<'s, &'e ()>,
+fn run_in<'s, 'x, 'e: 's, 'r: 's, R: Threads + Wait + Sync, G: Gate>(
+    scope: &'s Scope<'s, &'x ()>,
     jobs: Jobs<'e, 'r, R, G>,
 ) -> Vec<Done>
     requires works { Numbered (MayWork jobs.shared.script.now jobs.shared.bus.now
@@ -120,13 +120,13 @@ fn run_in<'s, 'e, 'r, R: Threads + Wait + Sync, G: Gate>(
 
 // Starts the applications that are left, that of the greatest number first; and once all are
 // started, runs here those whose thread couldn't be started, in order of number.
-fn begin_rest<'s, 'e, 'r, R: Threads + Wait + Sync, G: Gate>(
-    scope: &'s Scope<'s, &'e ()>,
+fn begin_rest<'s, 'x, 'e: 's, 'r: 's, R: Threads + Wait + Sync, G: Gate>(
+    scope: &'s Scope<'s, &'x ()>,
     rt: &'e R,
     gate: &'e G,
     shared: RunParts<'e, 'r>,
     works: &mut Vec<Work<'e, 'r>>,
-    begun: &mut Vec<Begun<'e, 'r>>,
+    begun: &mut Vec<Begun<Ends<'e, 'r>>>,
 ) -> AllStarted
     requires works { Numbered (MayWork shared.script.now shared.bus.now shared.tables.now) 1
         works.old.items }
@@ -161,7 +161,7 @@ fn begin_rest<'s, 'e, 'r, R: Threads + Wait + Sync, G: Gate>(
 fn end_rest<'e, 'r, R: Threads>(
     rt: &R,
     shared: RunParts<'_, 'r>,
-    begun: &mut Vec<Begun<'e, 'r>>,
+    begun: &mut Vec<Begun<Ends<'e, 'r>>>,
     dones: &mut Vec<Done>,
     all: &AllStarted,
 )

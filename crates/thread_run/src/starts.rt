@@ -5,10 +5,10 @@
 //! nothing runs in the caller's place, before a thread was asked for of each application; and what
 //! a thread returned can't stand in the place of what the caller ran.
 ghost use Rattle.std.specs.Prelude.{◌≡◌, [], IfOk, IfErr};
-ghost use Rattle.thread_run.specs.Kept.{BeginsAs, Comes, KeptBy};
+ghost use Rattle.thread_run.specs.Kept.{BeginsAs, Comes};
 
-use crate::works::{Done, Ends, Work};
-use std::thread::{PromisedHandle, Scope, SpawnError, Threads};
+use crate::works::{Done, Work};
+use std::thread::{Promise, PromisedHandle, Scope, SpawnError, Threads};
 
 /// A thread was asked for of each application of a run.
 #[derive(Drop)]
@@ -19,23 +19,23 @@ pub(crate) struct AllStarted {
 
 /// The start of an application: its thread, or what was handed back since none could be started.
 #[derive(Drop)]
-pub(crate) struct Start<'e, 'r, F> {
+pub(crate) struct Start<P: Promise<Done>, F> {
     // Private, so that only this file waits for the thread, or runs what was handed back.
-    start: Result<PromisedHandle<Done, Ends<'e, 'r>>, SpawnError<F>>,
+    start: Result<PromisedHandle<Done, P>, SpawnError<F>>,
 }
 
 /// An application that was begun, once all were started.
 #[derive(Drop)]
-pub(crate) struct Begun<'e, 'r> {
+pub(crate) struct Begun<P: Promise<Done>> {
     // Private, so that only this file makes one.
-    place: Place<'e, 'r>,
+    place: Place<P>,
 }
 
 // Where an application runs.
 #[derive(Drop)]
-enum Place<'e, 'r> {
+enum Place<P: Promise<Done>> {
     // On a thread.
-    OnThread(PromisedHandle<Done, Ends<'e, 'r>>),
+    OnThread(PromisedHandle<Done, P>),
     // In the caller's place, where it is through.
     Here(Done),
 }
@@ -51,27 +51,27 @@ impl AllStarted {
 
 /// Asks for a thread of the scope for an application's run. It has no runtime, so it waits for no
 /// thread.
-pub(crate) fn start_one<'s, 'e, 'r, E, F: FnOnce() -> Done + Send + 's>(
+pub(crate) fn start_one<'s, E, P: Promise<Done> + Drop, F: FnOnce() -> Done + Send + 's>(
     scope: &Scope<'s, E>,
-    ends: Ends<'e, 'r>,
+    promise: P,
     run: F,
-) -> Start<'e, 'r, F>
+) -> Start<P, F>
     requires runs { F.pre run }
-    requires keeps { (done : Done) → F.post run done → KeptBy ends done }
-    ensures thread { IfOk result.start (λ handle. handle.promise ≡ ends.entry) }
+    requires keeps { (done : Done) → F.post run done → P.kept_by promise done }
+    ensures thread { IfOk result.start (λ handle. handle.promise ≡ promise) }
     ensures handed_back { IfErr result.start (λ refused. refused.value ≡ run) }
 {
     Start {
-        start: scope.spawn_with(ends, run),
+        start: scope.spawn_with(promise, run),
     }
 }
 
-impl<'e, 'r, F: FnOnce() -> Done> Start<'e, 'r, F> {
+impl<P: Promise<Done>, F: FnOnce() -> Done> Start<P, F> {
     /// The application as it was begun, once all were started: if no thread could be started, it
     /// is run here.
-    pub(crate) fn begin(self, _all: &AllStarted) -> Begun<'e, 'r>
+    pub(crate) fn begin(self, _all: &AllStarted) -> Begun<P>
         requires { IfErr self.start (λ refused. F.pre refused.value) }
-        ensures { BeginsAs F.post self.entry.start result.place }
+        ensures { BeginsAs F.post self.start result.place }
     {
         match self.start {
             Ok(handle) => Begun {
@@ -84,10 +84,10 @@ impl<'e, 'r, F: FnOnce() -> Done> Start<'e, 'r, F> {
     }
 }
 
-impl<'e, 'r> Begun<'e, 'r> {
+impl<P: Promise<Done>> Begun<P> {
     /// Waits for the application's end, once all were started.
     pub(crate) fn end<R: Threads>(self, rt: &R, _all: &AllStarted) -> Done
-        ensures { Comes self.entry.place result }
+        ensures { Comes P.kept_by self.place result }
     {
         match self.place {
             Place::OnThread(handle) => handle.join(rt),
