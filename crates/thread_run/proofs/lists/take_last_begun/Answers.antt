@@ -5,7 +5,7 @@ use Rattle.thread_run.specs.Works.{Numbered}
 use Rattle.thread_run.proofs.Numbers.{numbered-taken}
 use Rattle.thread_run.proofs.lists.take_last_begun.Goals as goal
 
-taken : (c : goal.Returns) → IfSome c.pop.result (λ x. Numbered (IsBegun c.args._shared.script.now c.args._shared.bus.now c.args._shared.tables.now) 1 c.pop.new.self.items
+taken : (c : goal.After-pop) → IfSome c.pop.result (λ x. Numbered (IsBegun c.args._shared.script.now c.args._shared.bus.now c.args._shared.tables.now) 1 c.pop.new.self.items
     × IsBegun c.args._shared.script.now c.args._shared.bus.now c.args._shared.tables.now (1 + length c.pop.new.self.items) x)
 taken c =
     numbered-taken (IsBegun c.args._shared.script.now c.args._shared.bus.now c.args._shared.tables.now) 1 c.args.begun.now.items c.pop.new.self.items c.pop.result c.pop.ensures.items c.requires.begun
