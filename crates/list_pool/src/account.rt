@@ -9,7 +9,7 @@ use fsw_base::BlockSizes;
 use std::alloc::{AllocError, Global};
 use std::marker::Model;
 
-// What cutting a block costs beyond its size, in bytes.
+/// What cutting a block costs beyond its size, in bytes.
 pub(crate) const OVERHEAD: u32 = 16;
 
 /// A memory pool by numbers alone: of each block size how many blocks were made, which is the

@@ -51,7 +51,7 @@ impl Model for GrantPool {
 }
 
 impl GrantPool {
-    // A pool of so many bytes with these block sizes, that gave no grant.
+    /// A pool of so many bytes with these block sizes, that gave no grant.
     pub(crate) fn new(
         alloc: Global,
         bytes: u32,
@@ -67,7 +67,7 @@ impl GrantPool {
         })
     }
 
-    // Gives an application a grant of a block for `size` bytes.
+    /// Gives an application a grant of a block for `size` bytes.
     pub(crate) fn get(&mut self, app: AppNo, size: u32) -> Result<Result<u32, EsStatus>, AllocError>
         requires numbers_left { self.old.given < 2 ^ 32 - 1 }
         ensures answer { IfOk result (λ answer. answer ≡ get_answer self.old size) }
@@ -99,7 +99,7 @@ impl GrantPool {
         Ok(Ok(number))
     }
 
-    // Takes a grant back, whoever has it. A refused return is counted.
+    /// Takes a grant back, whoever has it. A refused return is counted.
     pub(crate) fn put(&mut self, grant: u32) -> Result<(), EsStatus>
         ensures answer { result ≡ put_answer self.old grant }
         ensures after { self.new ≡ after_put self.old grant }
@@ -131,7 +131,7 @@ impl GrantPool {
         }
     }
 
-    // Takes back all grants of an application.
+    /// Takes back all grants of an application.
     pub(crate) fn end(&mut self, app: AppNo)
         ensures { self.new ≡ after_end app self.old }
     {
@@ -139,14 +139,14 @@ impl GrantPool {
         leave_others(&mut self.out, app);
     }
 
-    // Whether a further grant can be numbered.
+    /// Whether a further grant can be numbered.
     pub(crate) fn has_numbers(&self) -> bool
         ensures { result ≡ nat_lt self.now.given (2 ^ 32 - 1) }
     {
         self.given < u32::MAX
     }
 
-    // Its figures.
+    /// Its figures.
     pub(crate) fn figures(&self) -> PoolStats
         ensures { result ≡ figures_of self.now }
     {
