@@ -1,7 +1,8 @@
-//! Table Services as a machine of plain lists: tables with their values, and handles.
+//! Table Services as a machine of plain lists: the tables with their values, and the handles with
+//! what they hold. It has no pool of blocks, no registry and no links; values are shared and never
+//! changed.
 //!
-//! It answers a call and changes as the definitions of the tables say. Of what a handle holds it
-//! keeps what a receipt says of it, and not the bytes.
+//! A call answers and leaves exactly what the step of `tbl_words` says.
 //!
 //! ```text
 //! let mut tables = ListTables::new(alloc, &config, 2)?;
@@ -9,9 +10,16 @@
 //! ```
 #![tactic(auto)]
 
+mod access;
 mod handles;
+mod holds;
+mod leaving;
 mod loads;
-mod registrations;
+mod machine;
+mod registering;
+mod room;
+mod rows;
 mod tables;
+mod values;
 
-pub use tables::ListTables;
+pub use machine::ListTables;

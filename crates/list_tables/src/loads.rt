@@ -1,6 +1,16 @@
 //! Loads, validation and updates.
+ghost use Rattle.std.specs.Prelude.{◌≡◌, ◌-◌, ◌<◌, ◌^◌, All, None, IfOk};
+ghost use Rattle.std.specs.Result.{OnOk};
+ghost use Rattle.tbl_words.specs.declared.history.Call.TheVariants.{Stage, Validate, Update, Abort, Load};
+ghost use Rattle.tbl_words.specs.Machine.{step, refused_if, with_range, rules_cause, stage_cause, validate_cause, update_cause, abort_cause, load_cause, is_locked, is_partial};
+ghost use Rattle.list_tables.specs.Kept.{leaves, updated};
 
-use crate::tables::{ListStaged, ListTable, ListTables};
+use crate::access::Access;
+use crate::handles::{is_held, is_held_apart, mark_all};
+use crate::machine::ListTables;
+use crate::rows::ListTable;
+use crate::tables::{abort, buffers_taken, set_value, stage, validate};
+use crate::values::{Value, again, failed_rule, with_range};
 use fsw_base::AppNo;
 use std::alloc::{AllocError, Global};
 use tbl_words::{TblAnswer, TblStatus};
@@ -8,77 +18,135 @@ use tbl_words::{TblAnswer, TblStatus};
 // How many single-buffered tables may have something staged at once.
 const WORKING_BUFFERS: usize = 4;
 
-// The value with these bytes in place of those from an offset on.
-fn with_range(
-    alloc: Global,
-    value: &[u8],
-    offset: u32,
-    bytes: &[u8],
-) -> Result<Vec<u8>, AllocError> {
-    let mut changed = Vec::from_slice(alloc, value)?;
-    let start = offset as usize;
-    changed[start..start + bytes.len()].copy_from_slice(bytes);
-    Ok(changed)
+// Whether these bytes aren't the whole table.
+fn is_partial(table: &ListTable, offset: u32, bytes: &[u8]) -> bool
+    ensures { result ≡ is_partial table.now offset bytes.now }
+{
+    !(offset == 0 && bytes.len() == table.size as usize)
 }
 
-// The number, from 1, of the first rule of the table that a value fails.
-fn failed_rule(table: &ListTable, value: &[u8]) -> Option<u32> {
-    let failed = table.rules.as_slice().iter().position(|rule| {
-        let byte = value[rule.offset as usize];
-        byte < rule.low || byte > rule.high
-    });
-    failed.map(|place| place as u32 + 1)
+// Why a value can't be the table's by its rules, if it can't.
+fn rules_cause(table: &ListTable, value: &[u8]) -> Option<TblStatus>
+    ensures { result ≡ rules_cause table.now.rules value.now None }
+{
+    match failed_rule(table.rules.as_slice(), value) {
+        Some(number) => Some(TblStatus::Validation(number)),
+        None => None,
+    }
+}
+
+// Why what is staged can't be validated, if it can't.
+fn validate_cause(table: &ListTable) -> Option<TblStatus>
+    ensures { result ≡ validate_cause table.now }
+{
+    match &table.staged {
+        None => Some(TblStatus::NoLoad),
+        Some(staged) => rules_cause(table, &staged.value),
+    }
+}
+
+// Why what is staged can't be dropped, if it can't.
+fn abort_cause(table: &ListTable) -> Option<TblStatus>
+    ensures { result ≡ abort_cause table.now }
+{
+    match &table.staged {
+        None => Some(TblStatus::NoLoad),
+        Some(_) => None,
+    }
 }
 
 impl ListTables {
-    // Why these bytes can't be staged, if they can't.
-    fn stage_cause(&self, table: &ListTable, offset: u32, bytes: &[u8]) -> Option<TblStatus> {
-        let end = u64::from(offset) + bytes.len() as u64;
-        let is_partial = offset != 0 || bytes.len() != table.size as usize;
+    // Whether a table is single buffered and held.
+    fn is_locked(&self, table: &ListTable) -> bool
+        ensures { result ≡ is_locked self.now.state table.now }
+    {
+        !table.is_double() && is_held(&self.handles, table.number)
+    }
+
+    // Why these bytes can't be staged for a table, if they can't.
+    fn stage_cause(&self, table: &ListTable, offset: u32, bytes: &[u8]) -> Option<TblStatus>
+        ensures { result ≡ stage_cause self.now.state offset bytes.now None table.now }
+    {
+        let end = (offset as usize).saturating_add(bytes.len());
         if table.option == 2 {
             Some(TblStatus::ErrDumpOnly)
-        } else if end > u64::from(table.size) {
+        } else if end > table.size as usize {
             Some(TblStatus::ErrFileTooLarge)
-        } else if !table.loaded && is_partial {
+        } else if !table.loaded && is_partial(table, offset, bytes) {
             Some(TblStatus::ErrPartialLoad)
         } else if table.staged.is_some() {
             Some(TblStatus::ErrLoadInProgress)
-        } else if table.is_double() && self.is_held_apart(table.number, table.version) {
+        } else if table.is_double() && is_held_apart(&self.handles, table.number, table.version) {
             Some(TblStatus::InfoTableLocked)
-        } else if !table.is_double() && self.buffers_taken() >= WORKING_BUFFERS {
+        } else if !table.is_double() && buffers_taken(&self.tables) >= WORKING_BUFFERS {
             Some(TblStatus::ErrNoBufferAvail)
         } else {
             None
         }
     }
 
-    // How many single-buffered tables have something staged.
-    fn buffers_taken(&self) -> usize {
-        self.tables
-            .iter()
-            .filter(|t| !t.is_double() && t.staged.is_some())
-            .count()
+    // Why these bytes, which would make this value, can't be loaded in one, if they can't.
+    fn load_cause(
+        &self,
+        table: &ListTable,
+        offset: u32,
+        bytes: &[u8],
+        value: &[u8],
+    ) -> Option<TblStatus>
+        requires { value.now ≡ with_range table.now.value offset bytes.now }
+        ensures { result ≡ load_cause self.now.state offset bytes.now table.now }
+    {
+        match self.stage_cause(table, offset, bytes) {
+            Some(why) => Some(why),
+            None => match rules_cause(table, value) {
+                Some(why) => Some(why),
+                None => self.lock_cause(table),
+            },
+        }
     }
 
-    // Whether a table is single buffered and held.
-    fn is_locked(&self, found: usize) -> bool {
-        let table = &self.tables[found];
-        !table.is_double() && self.is_held(table.number)
+    // That a table is locked, if it is.
+    fn lock_cause(&self, table: &ListTable) -> Option<TblStatus>
+        ensures { result ≡
+            refused_if (is_locked self.now.state table.now) TblStatus.InfoTableLocked None }
+    {
+        if self.is_locked(table) {
+            Some(TblStatus::InfoTableLocked)
+        } else {
+            None
+        }
     }
 
-    // The table's value is this one, and all its handles are to be told.
-    fn set_value(&mut self, found: usize, value: Vec<u8>) {
-        let table = &mut self.tables[found];
-        table.version += 1;
-        table.value = value;
-        table.loaded = true;
-        table.staged = None;
-        let number = table.number;
-        for handle in self.handles.iter_mut() {
-            if handle.table == number {
-                handle.marked = true;
+    // Why what is staged can't be the table's value, if it can't.
+    fn update_cause(&self, table: &ListTable) -> Option<TblStatus>
+        ensures { result ≡ update_cause self.now.state table.now }
+    {
+        match &table.staged {
+            None => Some(TblStatus::InfoNoUpdatePending),
+            Some(staged) => {
+                if !staged.validated {
+                    Some(TblStatus::NotValidated)
+                } else if self.is_locked(table) {
+                    Some(TblStatus::InfoTableLocked)
+                } else {
+                    None
+                }
             }
         }
+    }
+
+    // The table of this number has this value, and all its handles are to be told.
+    fn set_value(&mut self, number: u32, value: &Value) -> Result<(), AllocError>
+        requires { All (λ t. t.version < 2 ^ 32 - 1) self.old.state.tables }
+        ensures { OnOk result
+            (self.new ≡
+            record self.old {
+              state = updated self.old.state number value.now.value.items;
+            }) }
+    {
+        set_value(&mut self.tables, number, value)?;
+        mark_all(&mut self.handles, number);
+        Ok(())
     }
 
     // Stages a load.
@@ -89,71 +157,95 @@ impl ListTables {
         handle: u32,
         offset: u32,
         bytes: &[u8],
-    ) -> Result<Result<TblAnswer, TblStatus>, AllocError> {
-        let found = match self.registered(app, handle) {
-            Ok((_, found)) => found,
-            Err(why) => return Ok(Err(why)),
-        };
-        let table = &self.tables[found];
-        if let Some(why) = self.stage_cause(table, offset, bytes) {
-            return Ok(Err(why));
+    ) -> Result<TblAnswer, AllocError>
+        ensures answer { IfOk result
+            (λ answer. answer ≡
+            (step self.old.limits self.old.state app (Stage handle offset bytes.now)).0) }
+        ensures after { OnOk result
+            (self.new ≡
+            leaves self.old
+            (step self.old.limits self.old.state app (Stage handle offset bytes.now))) }
+    {
+        match self.access(app, handle) {
+            Access::Refused(why) => Ok(TblAnswer::Refused(why)),
+            Access::Reached(table) => {
+                if let Some(why) = self.stage_cause(table, offset, bytes) {
+                    return Ok(TblAnswer::Refused(why));
+                }
+                let number = table.number;
+                stage(alloc, &mut self.tables, number, offset, bytes)?;
+                Ok(TblAnswer::Done)
+            }
+            Access::Nowhere => Ok(TblAnswer::Done),
         }
-        let value = with_range(alloc, table.value.as_slice(), offset, bytes)?;
-        self.tables[found].staged = Some(ListStaged {
-            value,
-            validated: false,
-        });
-        Ok(Ok(TblAnswer::Done))
     }
 
     // Tries what is staged by the table's rules.
-    pub(crate) fn validate(&mut self, app: AppNo, handle: u32) -> Result<TblAnswer, TblStatus> {
-        let (_, found) = self.registered(app, handle)?;
-        let table = &self.tables[found];
-        let staged = match &table.staged {
-            Some(staged) => staged,
-            None => return Err(TblStatus::NoLoad),
-        };
-        if let Some(rule) = failed_rule(table, staged.value.as_slice()) {
-            return Err(TblStatus::Validation(rule));
-        }
-        if let Some(staged) = &mut self.tables[found].staged {
-            staged.validated = true;
-        }
-        Ok(TblAnswer::Done)
-    }
-
-    // Why what is staged can't be the table's value, if it can't.
-    fn update_cause(&self, found: usize) -> Option<TblStatus> {
-        match &self.tables[found].staged {
-            None => Some(TblStatus::InfoNoUpdatePending),
-            Some(staged) if !staged.validated => Some(TblStatus::NotValidated),
-            Some(_) if self.is_locked(found) => Some(TblStatus::InfoTableLocked),
-            Some(_) => None,
+    pub(crate) fn validate(&mut self, app: AppNo, handle: u32) -> TblAnswer
+        ensures answer { result ≡
+            (step self.old.limits self.old.state app (Validate handle)).0 }
+        ensures after { self.new ≡
+            leaves self.old (step self.old.limits self.old.state app (Validate handle)) }
+    {
+        match self.access(app, handle) {
+            Access::Refused(why) => TblAnswer::Refused(why),
+            Access::Reached(table) => {
+                if let Some(why) = validate_cause(table) {
+                    return TblAnswer::Refused(why);
+                }
+                let number = table.number;
+                validate(&mut self.tables, number);
+                TblAnswer::Done
+            }
+            Access::Nowhere => TblAnswer::Done,
         }
     }
 
     // Makes what is staged the table's value.
-    pub(crate) fn update(&mut self, app: AppNo, handle: u32) -> Result<TblAnswer, TblStatus> {
-        let (_, found) = self.registered(app, handle)?;
-        if let Some(why) = self.update_cause(found) {
-            return Err(why);
+    pub(crate) fn update(&mut self, app: AppNo, handle: u32) -> Result<TblAnswer, AllocError>
+        requires { All (λ t. t.version < 2 ^ 32 - 1) self.old.state.tables }
+        ensures answer { IfOk result
+            (λ answer. answer ≡
+            (step self.old.limits self.old.state app (Update handle)).0) }
+        ensures after { OnOk result
+            (self.new ≡
+            leaves self.old (step self.old.limits self.old.state app (Update handle))) }
+    {
+        match self.access(app, handle) {
+            Access::Refused(why) => Ok(TblAnswer::Refused(why)),
+            Access::Reached(table) => {
+                if let Some(why) = self.update_cause(table) {
+                    return Ok(TblAnswer::Refused(why));
+                }
+                let number = table.number;
+                if let Some(staged) = &table.staged {
+                    let value = again(&staged.value)?;
+                    self.set_value(number, &value)?;
+                }
+                Ok(TblAnswer::Done)
+            }
+            Access::Nowhere => Ok(TblAnswer::Done),
         }
-        if let Some(staged) = self.tables[found].staged.take() {
-            self.set_value(found, staged.value);
-        }
-        Ok(TblAnswer::Done)
     }
 
     // Drops what is staged.
-    pub(crate) fn abort(&mut self, app: AppNo, handle: u32) -> Result<TblAnswer, TblStatus> {
-        let (_, found) = self.registered(app, handle)?;
-        let table = &mut self.tables[found];
-        if table.staged.is_none() {
-            return Err(TblStatus::NoLoad);
+    pub(crate) fn abort(&mut self, app: AppNo, handle: u32) -> TblAnswer
+        ensures answer { result ≡ (step self.old.limits self.old.state app (Abort handle)).0 }
+        ensures after { self.new ≡
+            leaves self.old (step self.old.limits self.old.state app (Abort handle)) }
+    {
+        match self.access(app, handle) {
+            Access::Refused(why) => TblAnswer::Refused(why),
+            Access::Reached(table) => {
+                if let Some(why) = abort_cause(table) {
+                    return TblAnswer::Refused(why);
+                }
+                let number = table.number;
+                abort(&mut self.tables, number);
+                TblAnswer::Done
+            }
+            Access::Nowhere => TblAnswer::Done,
         }
-        table.staged = None;
-        Ok(TblAnswer::Done)
     }
 
     // Stages, validates and updates in one.
@@ -164,23 +256,28 @@ impl ListTables {
         handle: u32,
         offset: u32,
         bytes: &[u8],
-    ) -> Result<Result<TblAnswer, TblStatus>, AllocError> {
-        let found = match self.registered(app, handle) {
-            Ok((_, found)) => found,
-            Err(why) => return Ok(Err(why)),
-        };
-        let table = &self.tables[found];
-        if let Some(why) = self.stage_cause(table, offset, bytes) {
-            return Ok(Err(why));
+    ) -> Result<TblAnswer, AllocError>
+        requires { All (λ t. t.version < 2 ^ 32 - 1) self.old.state.tables }
+        ensures answer { IfOk result
+            (λ answer. answer ≡
+            (step self.old.limits self.old.state app (Load handle offset bytes.now)).0) }
+        ensures after { OnOk result
+            (self.new ≡
+            leaves self.old
+            (step self.old.limits self.old.state app (Load handle offset bytes.now))) }
+    {
+        match self.access(app, handle) {
+            Access::Refused(why) => Ok(TblAnswer::Refused(why)),
+            Access::Reached(table) => {
+                let value = with_range(alloc, &table.value, offset, bytes)?;
+                if let Some(why) = self.load_cause(table, offset, bytes, &value) {
+                    return Ok(TblAnswer::Refused(why));
+                }
+                let number = table.number;
+                self.set_value(number, &value)?;
+                Ok(TblAnswer::Done)
+            }
+            Access::Nowhere => Ok(TblAnswer::Done),
         }
-        let value = with_range(alloc, table.value.as_slice(), offset, bytes)?;
-        if let Some(rule) = failed_rule(table, value.as_slice()) {
-            return Ok(Err(TblStatus::Validation(rule)));
-        }
-        if self.is_locked(found) {
-            return Ok(Err(TblStatus::InfoTableLocked));
-        }
-        self.set_value(found, value);
-        Ok(Ok(TblAnswer::Done))
     }
 }
