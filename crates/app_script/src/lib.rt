@@ -42,5 +42,6 @@ pub use app::App;
 pub use fail::ReadFail;
 pub use forms::Form;
 pub use laws::{read_scripts_are_in_range, texts_are_scripts};
-pub use script::{Script, read_script};
+pub use reading::Reading;
+pub use script::{Script, located_failure, read_script};
 pub use script_lines::{BoxedRules, ByteText, Content, Line, MAX_RULES, Rule, RuleList};

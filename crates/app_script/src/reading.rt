@@ -30,9 +30,10 @@ const MAX_CALLS: u32 = 20000;
 // How many bytes the charges of a script may come to.
 const MAX_CHARGE: usize = 16_777_216;
 
-/// What was read of a script so far.
+/// What was read of a script so far, line by line. [`crate::read_script`] reads a whole one; this
+/// is for an input of which a script is a part.
 #[derive(Drop)]
-pub(crate) struct Reading {
+pub struct Reading {
     // A line that isn't skipped came before.
     begun: bool,
     // The version and the limits, without the counts at which ids start.
@@ -99,7 +100,7 @@ impl Reading {
 
     /// Nothing was read yet.
     #[tactic(auto, unfolding(script_settings::specs::Accounts::account_of))]
-    pub(crate) fn new(alloc: Global, name: ByteText) -> Reading
+    pub fn new(alloc: Global, name: ByteText) -> Reading
         requires { name ≡ [] }
         ensures { result ≡ opening }
     {
@@ -179,8 +180,8 @@ impl Reading {
             || (self.started && is_same(self.present.name(), name))
     }
 
-    // How many applications there are so far.
-    fn app_count(&self) -> usize
+    /// How many applications there are so far, at most 16.
+    pub fn app_count(&self) -> usize
         ensures { result ≡ length (apps_of self.now) }
     {
         if self.started {
@@ -292,8 +293,11 @@ impl Reading {
     }
 
     /// The next line; `plain` says that its bytes are known to be text.
+    ///
+    /// # Errors
+    /// The line's first fault; after it nothing is told of what was read.
     #[tactic(auto, unfolding(crate::specs::Grammar::after_line))]
-    pub(crate) fn line(&mut self, alloc: Global, line: &[u8], plain: bool) -> Result<(), LineFail>
+    pub fn line(&mut self, alloc: Global, line: &[u8], plain: bool) -> Result<(), LineFail>
         requires { IsTrue plain → IsTrue (list_all is_text line.now) }
         ensures { Moves result self.new (after_line self.old line.now) }
     {
@@ -307,14 +311,14 @@ impl Reading {
     }
 
     /// Whether an application has begun.
-    pub(crate) fn has_started(&self) -> bool
+    pub fn has_started(&self) -> bool
         ensures { result ≡ self.now.started }
     {
         self.started
     }
 
     /// The script that was read, where an application has begun.
-    pub(crate) fn into_script(self) -> Result<Script, AllocError>
+    pub fn into_script(self) -> Result<Script, AllocError>
         requires text { IsScript (record { limits = self.limits; apps = apps_of self }) }
         requires started { IsTrue self.started }
         ensures { IfOk result

@@ -124,8 +124,8 @@ impl Script {
     }
 }
 
-// A line's failure, with the line's number.
-fn located_failure(number: u32, failure: LineFail) -> ReadFail
+/// A line's failure, with the line's number.
+pub fn located_failure(number: u32, failure: LineFail) -> ReadFail
     ensures { result ≡ located number failure }
 {
     match failure {

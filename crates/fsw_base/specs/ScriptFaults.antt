@@ -1,7 +1,7 @@
 -- The names that the program prints for faults of a script.
 use Rattle.std.specs.Prelude.{ℕ, List, codes}
 use Rattle.fsw_base.specs.declared.script_faults.FaultKind.{FaultKind}
-use Rattle.fsw_base.specs.declared.script_faults.FaultKind.TheVariants.{LineTooLong, BadByte, UnknownWord, Misplaced, WrongCount, BadWord, OutOfRange, Repeated, TooManyApps, TooManyCalls, TooManyBytes, TooLarge, NoApp}
+use Rattle.fsw_base.specs.declared.script_faults.FaultKind.TheVariants.{LineTooLong, BadByte, UnknownWord, Misplaced, WrongCount, BadWord, OutOfRange, Repeated, TooManyApps, TooManyCalls, TooManyBytes, TooLarge, MissingPart, NoApp}
 
 abbrev pub fault_name : FaultKind → List ℕ
 fault_name LineTooLong = codes "LineTooLong"
@@ -16,4 +16,5 @@ fault_name TooManyApps = codes "TooManyApps"
 fault_name TooManyCalls = codes "TooManyCalls"
 fault_name TooManyBytes = codes "TooManyBytes"
 fault_name TooLarge = codes "TooLarge"
+fault_name MissingPart = codes "MissingPart"
 fault_name NoApp = codes "NoApp"

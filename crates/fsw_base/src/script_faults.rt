@@ -42,6 +42,8 @@ pub enum FaultKind {
     TooManyBytes,
     /// The input has more bytes than a script may have.
     TooLarge,
+    /// A part of an input of several parts is missing.
+    MissingPart,
     /// No application is there.
     NoApp,
 }
@@ -64,6 +66,7 @@ impl FaultKind {
             FaultKind::TooManyCalls => "TooManyCalls",
             FaultKind::TooManyBytes => "TooManyBytes",
             FaultKind::TooLarge => "TooLarge",
+            FaultKind::MissingPart => "MissingPart",
             FaultKind::NoApp => "NoApp",
         }
     }

@@ -92,12 +92,12 @@ text-done WriteFault text old new ends = λ clean. absurd (clean ends.cause)
 text-done NoMemory text old new ends = λ clean. inr refl
 
 -- the input that was read whole is the one that was told
-whole-told : (bytes input : List ℕ) (left left' : Option (List ℕ)) → IsWhole bytes left left' → left ≡ Some input → bytes ≡ input
+whole-told : (bytes input : List ℕ) (left left' : Option (List ℕ)) → IsWhole most_input bytes left left' → left ≡ Some input → bytes ≡ input
 whole-told bytes input left left' whole told =
     sym (subst (λ l. IfSome l (λ i. i ≡ bytes)) told whole.exactly)
 
 -- an input of which too much was read is longer than any script
-large-long : (input : List ℕ) (left left' : Option (List ℕ)) → IsTooLarge left left' → left ≡ Some input → most_input < length input
+large-long : (input : List ℕ) (left left' : Option (List ℕ)) → IsTooLarge most_input left left' → left ≡ Some input → most_input < length input
 large-long input left (Some rest) large told =
     let is : Some (large.0 ++ rest) ≡ Some input = sym large.2 ∙ told in
     omega (arith, large.1, length-append large.0 rest, ap (λ o. option_length o) is)
@@ -143,7 +143,7 @@ run-left way.OnThreads script histories run = run
 
 -- where all was done the headline holds
 headline-input : (how : Way) (found : Result ScriptText ScriptFault) (bytes : List ℕ) (fed fed' : Fed) (old new : Made) → grammar bytes ≡ found →
-    IsWhole bytes fed.left fed'.left → EndsInput Done how found old new → Headline Done fed fed' old new
+    IsWhole most_input bytes fed.left fed'.left → EndsInput Done how found old new → Headline Done fed fed' old new
 headline-input how (Err fault) bytes fed fed' old new built whole ends = absurd ends
 headline-input how (Ok script) bytes fed fed' old new built whole ends =
     let run = run-left how script ends.0 ends.1 in

@@ -1,4 +1,5 @@
 pub mod Audit
+pub mod Bridging
 pub mod Copies
 pub mod Input
 pub mod Serve

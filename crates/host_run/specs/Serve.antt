@@ -25,7 +25,7 @@ use Rattle.script_generate.specs.Generated.{generated}
 use Rattle.script_printing.specs.ScriptSpelling.{spelled_script}
 use Rattle.host_run.specs.Audit.{IsShown, GuardedAudit}
 use Rattle.app_run.specs.Runners.{histories_of}
-use Rattle.host_run.specs.Input.{IsWhole, IsTooLarge, IsPartRead}
+use Rattle.host_run.specs.Input.{most_input, IsWhole, IsTooLarge, IsPartRead}
 use Rattle.host_run.specs.declared.reporting.Part.{Part}
 use Rattle.host_run.specs.declared.reporting.Part.TheVariants.{Whole, Ending}
 use Rattle.host_run.specs.declared.running.Way.{Way}
@@ -39,7 +39,7 @@ use Rattle.host_run.specs.declared.status.HostStatus.TheVariants as status
 
 -- the line that tells which words the program knows
 abbrev pub usage_text : List ℕ
-usage_text = codes "usage: run | lockstep | gen N | soak N\n"
+usage_text = codes "usage: run | lockstep | gen N | soak N | bridge\n"
 
 -- the line that tells a fault
 abbrev pub fault_text : ScriptFault → List ℕ
@@ -214,14 +214,14 @@ EndsInput result how (Err fault) old new = EndsRefused result fault old new
 -- On a word that has a script read and run in this way, one of these happened.
 pub data Runs (how : Way) (result : HostStatus) (fed fed' : Fed) (old new : Made) : Type 0 where
   -- the whole input was read, and made what it is worth
-  Read : (bytes : List ℕ) → IsWhole bytes fed.left fed'.left →
+  Read : (bytes : List ℕ) → IsWhole most_input bytes fed.left fed'.left →
       EndsInput result how (grammar bytes) old new → Runs how result fed fed' old new
   -- the input is longer than any script
-  TooLong : IsTooLarge fed.left fed'.left → EndsRefused result too_large old new →
+  TooLong : IsTooLarge most_input fed.left fed'.left → EndsRefused result too_large old new →
       Runs how result fed fed' old new
   -- the source failed
   SourceFailed : result ≡ status.ReadFault → Rose fed.faults fed'.faults →
-      IsPartRead fed.left fed'.left → MakesNothing old new → Runs how result fed fed' old new
+      IsPartRead most_input fed.left fed'.left → MakesNothing old new → Runs how result fed fed' old new
   -- no memory for the input, of which nothing was read
   NoRoom : result ≡ status.NoMemory → fed' ≡ fed → MakesNothing old new →
       Runs how result fed fed' old new
@@ -293,7 +293,7 @@ CompletesUnread result old new =
 abbrev pub Headline : HostStatus → Fed → Fed → Made → Made → Type 0
 Headline result fed fed' old new =
     result ≡ status.Done → (bytes : List ℕ) × (script : ScriptText) × (histories : Histories)
-    × IsWhole bytes fed.left fed'.left
+    × IsWhole most_input bytes fed.left fed'.left
     × (grammar bytes ≡ Ok script)
     × IsRunOf script histories
     × Guarantees script histories

@@ -4,7 +4,7 @@ use Rattle.std.specs.Option.{option_map}
 use Rattle.std.specs.Str.{bytes_eq}
 use Rattle.script_words.specs.Numbers.{is_decimal, value_in}
 use Rattle.host_run.specs.declared.words.Task.{Task}
-use Rattle.host_run.specs.declared.words.Task.TheVariants.{Run, Lockstep, Generate, Soak}
+use Rattle.host_run.specs.declared.words.Task.TheVariants.{Run, Lockstep, Bridge, Generate, Soak}
 
 -- the words with the first 64 bytes of one more, where there are fewer than five
 abbrev pub with_word : List (List ℕ) → List ℕ → List (List ℕ)
@@ -16,11 +16,12 @@ decimal_number word =
     if is_decimal word && nat_le (value_in 10 word) 4294967295 then Some (value_in 10 word)
     else None
 
--- what one word asks for: `run` or `lockstep`
+-- what one word asks for: `run`, `lockstep` or `bridge`
 abbrev pub task_alone : List ℕ → Option Task
 task_alone word =
     if bytes_eq word (codes "run") then Some Run
-    else (if bytes_eq word (codes "lockstep") then Some Lockstep else None)
+    else (if bytes_eq word (codes "lockstep") then Some Lockstep
+    else (if bytes_eq word (codes "bridge") then Some Bridge else None))
 
 -- what a word asks for with a number behind it: `gen N` or `soak N`
 abbrev pub task_with : List ℕ → List ℕ → Option Task

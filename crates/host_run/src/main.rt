@@ -3,6 +3,8 @@
 #![tactic(auto)]
 
 mod audit;
+#[cfg(test)]
+mod bridge_tests;
 mod fault_line;
 mod mem_audit;
 #[cfg(test)]

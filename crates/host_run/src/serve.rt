@@ -7,20 +7,25 @@ ghost use Rattle.script_generate.specs.Generated.{generated};
 ghost use Rattle.script_printing.specs.ScriptSpelling.{spelled_script};
 ghost use Rattle.host_run.specs.Audit.{GuardedAudit};
 ghost use Rattle.host_run.specs.Serve.{Headline, Runs, Generates, Soaks, OtherWords, Serves, HasCauses, Completes, CompletesUnread, fed_by, made_by, fed_through, made_through, EndsInput, EndsScript, EndsRun, EndsText, EndsRefused, EndsTelling, part_shown, usage_text};
+ghost use Rattle.host_run.specs.Bridging.{Bridges, EndsPlanInput, EndsPlan};
+ghost use Rattle.sb_bridge.specs.Grammar.{plan_of};
 ghost use Rattle.host_run.specs.Status.{is_read_fault, is_write_fault};
 ghost use Rattle.host_run.specs.Words.{task_of};
 
 use crate::audit::{Audit, AuditGuard};
 use crate::fault_line::write_fault;
 use crate::reading::{Reading, read_all};
-use crate::reporting::{Part, write_part};
+use crate::reporting::{Part, write_both, write_part};
 use crate::running::{Way, run_script_by};
 use crate::status::HostStatus;
 use crate::words::{Task, Words};
 use app_run::{Finished, Regions};
 use app_script::{ReadFail, Script, read_script};
 use bus_words::ReceiptList;
-use fsw_base::{FaultKind, Gate, ScriptFault, Sink, SinkGuard, Source, SourceGuard, WriteFault};
+use fsw_base::{
+    FaultKind, Gate, MAX_SCRIPT_BYTES, ScriptFault, Sink, SinkGuard, Source, SourceGuard, WriteFault,
+};
+use sb_bridge::{BridgePlan, Bridged, MAX_PLAN_BYTES, read_plan, run_bridge};
 use sb_calls::BusCore;
 use script_generate::generate;
 use script_printing::print_script;
@@ -51,7 +56,10 @@ struct Means<'a, R, G> {
 /// threads and without the gate. On `gen N` it reads nothing, and writes the generated script of
 /// number N. On `soak N` it reads nothing, runs that script as `lockstep` would, shows both to the
 /// audit, and writes the end of the report, from its line `counters` on. N is in decimal, with no
-/// needless 0 before it, at most 4294967295.
+/// needless 0 before it, at most 4294967295. On `bridge` it reads a plan from the source to its end,
+/// runs the scripts of both sides, each application on a thread of its own, with a bridge between
+/// the two buses, shows the services of side 1 and then those of side 2 to the audit, and writes
+/// `side 1`, the report of side 1, `side 2` and the report of side 2; this may wait.
 ///
 /// - `Usage`, on all other words: nothing is read, and the usage line is written.
 /// - `Script`, where the input is no script, or is longer than 1,048,576 bytes; at most one byte
@@ -183,6 +191,7 @@ fn serve_words<R: Threads + Wait + Sync, G: Gate, S: Source, K: Sink, A: Audit>(
     match words.task() {
         Some(Task::Run) => serve_source(means, Way::OnThreads, source, sink, audit),
         Some(Task::Lockstep) => serve_source(means, Way::Rotating, source, sink, audit),
+        Some(Task::Bridge) => serve_bridge(means, source, sink, audit),
         Some(Task::Generate(number)) => write_generated(means.alloc, number, sink),
         Some(Task::Soak(number)) => soak(means, number, sink, audit),
         None => tell_usage(sink),
@@ -208,7 +217,7 @@ fn serve_source<R: Threads + Wait + Sync, G: Gate, S: Source, K: Sink, A: Audit>
     ensures same_sink { sink.new.sink ≡ sink.old.sink }
     ensures same_audit { audit.new.audit ≡ audit.old.audit }
 {
-    match read_all(means.alloc, source) {
+    match read_all(means.alloc, source, MAX_SCRIPT_BYTES) {
         Reading::Whole(text) => serve_text(means, way, &text, sink, audit),
         Reading::TooLarge => refuse(sink, TOO_LARGE),
         Reading::Fault => HostStatus::ReadFault,
@@ -237,6 +246,105 @@ fn serve_text<R: Threads + Wait + Sync, G: Gate, K: Sink, A: Audit>(
         Ok(script) => serve_script(means, way, &script, Part::Whole, sink, audit),
         Err(ReadFail::Fault(fault)) => refuse(sink, fault),
         Err(ReadFail::Memory(_)) => HostStatus::NoMemory,
+    }
+}
+
+// Runs the plan that the source gives: two buses and a bridge.
+fn serve_bridge<R: Threads + Wait + Sync, G: Gate, S: Source, K: Sink, A: Audit>(
+    means: &Means<'_, R, G>,
+    source: &mut SourceGuard<'_, S>,
+    sink: &mut SinkGuard<'_, K>,
+    audit: &mut AuditGuard<'_, A>,
+) -> HostStatus
+    requires no_read_failed { source.old.failed ≡ false }
+    requires no_write_failed { sink.old.failed ≡ false }
+    requires untouched { sink.old.untouched ≡ true }
+    ensures end { Bridges result (fed_through source.old) (fed_through source.new)
+        (made_through sink.old audit.old) (made_through sink.new audit.new) }
+    ensures read_failed { source.new.failed ≡ is_read_fault result }
+    ensures write_failed { sink.new.failed ≡ is_write_fault result }
+    ensures same_source { source.new.source ≡ source.old.source }
+    ensures same_sink { sink.new.sink ≡ sink.old.sink }
+    ensures same_audit { audit.new.audit ≡ audit.old.audit }
+{
+    match read_all(means.alloc, source, MAX_PLAN_BYTES) {
+        Reading::Whole(text) => serve_plan_text(means, &text, sink, audit),
+        Reading::TooLarge => refuse(sink, TOO_LARGE),
+        Reading::Fault => HostStatus::ReadFault,
+        Reading::NoMemory => HostStatus::NoMemory,
+    }
+}
+
+// Runs the text, where it is a plan.
+fn serve_plan_text<R: Threads + Wait + Sync, G: Gate, K: Sink, A: Audit>(
+    means: &Means<'_, R, G>,
+    text: &[u8],
+    sink: &mut SinkGuard<'_, K>,
+    audit: &mut AuditGuard<'_, A>,
+) -> HostStatus
+    requires none_failed { sink.old.failed ≡ false }
+    requires untouched { sink.old.untouched ≡ true }
+    ensures end { EndsPlanInput result (plan_of text.now) (made_through sink.old audit.old)
+        (made_through sink.new audit.new) }
+    ensures failed { sink.new.failed ≡ is_write_fault result }
+    ensures no_read_fault { is_read_fault result ≡ false }
+    ensures same_sink { sink.new.sink ≡ sink.old.sink }
+    ensures same_audit { audit.new.audit ≡ audit.old.audit }
+{
+    match read_plan(means.alloc, text) {
+        Ok(plan) => serve_plan(means, &plan, sink, audit),
+        Err(ReadFail::Fault(fault)) => refuse(sink, fault),
+        Err(ReadFail::Memory(_)) => HostStatus::NoMemory,
+    }
+}
+
+// Runs the plan, shows the services of both sides to the audit, and writes both reports.
+fn serve_plan<R: Threads + Wait + Sync, G: Gate, K: Sink, A: Audit>(
+    means: &Means<'_, R, G>,
+    plan: &BridgePlan,
+    sink: &mut SinkGuard<'_, K>,
+    audit: &mut AuditGuard<'_, A>,
+) -> HostStatus
+    requires none_failed { sink.old.failed ≡ false }
+    requires untouched { sink.old.untouched ≡ true }
+    ensures end { EndsPlan result plan.now (made_through sink.old audit.old)
+        (made_through sink.new audit.new) }
+    ensures failed { sink.new.failed ≡ is_write_fault result }
+    ensures no_read_fault { is_read_fault result ≡ false }
+    ensures same_sink { sink.new.sink ≡ sink.old.sink }
+    ensures same_audit { audit.new.audit ≡ audit.old.audit }
+{
+    let Ok(mut one) = Regions::new(means.alloc, plan.script(1).config()) else {
+        return HostStatus::NoMemory;
+    };
+    let Ok(mut two) = Regions::new(means.alloc, plan.script(2).config()) else {
+        return HostStatus::NoMemory;
+    };
+    let Ok(bridged) = run_bridge(means.rt, means.alloc, plan, &mut one, &mut two, means.gate)
+    else {
+        return HostStatus::NoMemory;
+    };
+    tell_bridged(&bridged, sink, audit)
+}
+
+// Shows the services of both sides to the audit, those of side 1 first, and writes both reports.
+fn tell_bridged<K: Sink, A: Audit>(
+    bridged: &Bridged<'_>,
+    sink: &mut SinkGuard<'_, K>,
+    audit: &mut AuditGuard<'_, A>,
+) -> HostStatus
+    requires none_failed { sink.old.failed ≡ false }
+    requires untouched { sink.old.untouched ≡ true }
+    ensures failed { sink.new.failed ≡ is_write_fault result }
+    ensures no_read_fault { is_read_fault result ≡ false }
+    ensures same_sink { sink.new.sink ≡ sink.old.sink }
+    ensures same_audit { audit.new.audit ≡ audit.old.audit }
+{
+    audit.closed(&bridged.one.bus, &bridged.one.tables, sink);
+    audit.closed(&bridged.two.bus, &bridged.two.tables, sink);
+    match write_both(&bridged.one, &bridged.two, sink) {
+        Ok(()) => HostStatus::Done,
+        Err(WriteFault) => HostStatus::WriteFault,
     }
 }
 
@@ -389,7 +497,7 @@ fn tell_usage<K: Sink>(sink: &mut SinkGuard<'_, K>) -> HostStatus
     ensures no_read_fault { is_read_fault result ≡ false }
     ensures same_sink { sink.new.sink ≡ sink.old.sink }
 {
-    match write_text(sink, b"usage: run | lockstep | gen N | soak N\n") {
+    match write_text(sink, b"usage: run | lockstep | gen N | soak N | bridge\n") {
         Ok(()) => HostStatus::Usage,
         Err(WriteFault) => HostStatus::WriteFault,
     }

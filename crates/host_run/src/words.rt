@@ -20,6 +20,9 @@ pub enum Task {
     Run,
     /// `lockstep`: to run the script that is read in rotation, and to write its report.
     Lockstep,
+    /// `bridge`: to run two scripts, each on a bus of its own with a bridge between them, and to
+    /// write both reports.
+    Bridge,
     /// `gen N`: to write the generated script of this number.
     Generate(u32),
     /// `soak N`: to run the generated script of this number, and to write the end of its report.
@@ -110,6 +113,8 @@ fn task_alone(word: &[u8]) -> Option<Task>
         Some(Task::Run)
     } else if word == b"lockstep".as_slice() {
         Some(Task::Lockstep)
+    } else if word == b"bridge".as_slice() {
+        Some(Task::Bridge)
     } else {
         None
     }

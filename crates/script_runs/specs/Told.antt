@@ -182,11 +182,12 @@ told app (line ∷ lines) at =
     let first = line_told app line (call_of at.registers at.written line) at in
     first.0 ++ option_map_or (λ now. told app lines now) first.1 []
 
--- before the first line of an application, where a script's run has these histories
-abbrev pub telling_from : ScriptText → Histories → ℕ → Telling
-telling_from script histories app =
-    let s = opening script.limits (length script.apps) in
-    let t = no_tables script.limits (length script.apps) in
+-- before the first line of an application of a script, where the services have these histories and
+-- are for so many applications: the script's, and perhaps others that run beside them
+abbrev pub telling_among : ScriptText → ℕ → Histories → ℕ → Telling
+telling_among script apps histories app =
+    let s = opening script.limits apps in
+    let t = no_tables script.limits apps in
     record {
       registers = first_registers;
       handles = first_handles;
@@ -196,6 +197,15 @@ telling_from script histories app =
       seen = seen_from script.limits [] s app histories.bus;
       table_seen = table_seen_from script.limits t app histories.tables;
     }
+
+-- before the first line of an application, where a script's run has these histories
+abbrev pub telling_from : ScriptText → Histories → ℕ → Telling
+telling_from script histories app = telling_among script (length script.apps) histories app
+
+-- the receipts of one application of a script in these histories, beside others
+abbrev pub receipts_among : ScriptText → ℕ → Histories → ℕ → List Receipt
+receipts_among script apps histories app =
+    told app (app_at script app).lines (telling_among script apps histories app)
 
 -- the receipts of one application of a script in these histories
 abbrev pub receipts_told : ScriptText → Histories → ℕ → List Receipt

@@ -14,8 +14,15 @@ use Rattle.script_runs.specs.Written.{first_written}
 use Rattle.app_run.specs.Runners.{Progress}
 use Rattle.app_run.specs.Turns.{services_of, with_bags}
 use Rattle.thread_run.specs.declared.works.Done.{Done}
+use Rattle.thread_run.specs.declared.works.Side.{Side}
+use Rattle.thread_run.specs.declared.works.Side.TheVariants.{First, Second}
 use Rattle.thread_run.specs.declared.works.Work.{Work}
 use Rattle.thread_run.specs.Ways.{IsOnItsWay}
+
+-- the number under which the gate knows an application: 16 more beside those of another bus
+abbrev pub gate_number : Side → ℕ → ℕ
+gate_number First app = app
+gate_number Second app = app + 16
 
 -- the ports are the application's, and of these two locks
 pub record AreItsPorts (bus tables : TableId) (app : ℕ) (port : PortView)

@@ -11,7 +11,7 @@ ghost use Rattle.thread_run.specs.Works.{IsDone, Numbered};
 
 use crate::lists::take_last_done;
 use crate::opening::OpenServices;
-use crate::works::{Done, RunParts};
+use crate::works::{Done, RunParts, Side};
 use app_run::Finished;
 use app_script::Script;
 use bus_service::{Bus, BusMain};
@@ -53,8 +53,9 @@ pub(crate) fn close_all<'r>(
         script,
         bus: &bus,
         tables: &tables,
+        side: Side::First,
     };
-    join_rest(
+    join_all(
         shared,
         &mut bus_main,
         &mut tables_main,
@@ -68,8 +69,8 @@ pub(crate) fn close_all<'r>(
     }
 }
 
-// Joins those that are left, in order of number, and keeps their receipts.
-fn join_rest<'r>(
+/// Joins those that are left, in order of number, and keeps their receipts.
+pub fn join_all<'r>(
     shared: RunParts<'_, 'r>,
     bus_main: &mut BusMain,
     tables_main: &mut TblMain,
@@ -94,7 +95,7 @@ fn join_rest<'r>(
     let Some(done) = take_last_done(dones, shared) else {
         return;
     };
-    join_rest(shared, bus_main, tables_main, dones, receipts);
+    join_all(shared, bus_main, tables_main, dones, receipts);
     let Done {
         port,
         tables_port,

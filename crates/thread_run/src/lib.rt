@@ -55,4 +55,9 @@ mod run;
 mod starting;
 mod works;
 
+pub use joining::join_all;
+pub use lists::Begun;
+pub use opening::{OpenServices, open_services, open_works};
 pub use run::run_threads;
+pub use starting::{begin_all, end_all};
+pub use works::{Done, Ends, RunParts, Side, Work};

@@ -11,7 +11,7 @@ use std::thread::PromisedHandle;
 
 /// An application that runs on a thread; or that is through, since its thread couldn't be started
 /// and the caller ran it.
-pub(crate) type Begun<'e, 'r> = Result<PromisedHandle<Done, Ends<'e, 'r>>, Done>;
+pub type Begun<'e, 'r> = Result<PromisedHandle<Done, Ends<'e, 'r>>, Done>;
 
 /// Takes the application of the greatest number; None where none is left.
 pub(crate) fn take_last<'s, 'r>(

@@ -11,7 +11,7 @@ ghost use Rattle.tbl_load.specs.Core.{apps_of as table_apps_of};
 use crate::joining::close_all;
 use crate::opening::{OpenServices, open_services, open_works};
 use crate::starting::run_all;
-use crate::works::RunParts;
+use crate::works::{RunParts, Side};
 use app_run::{Finished, Regions};
 use app_script::Script;
 use fsw_base::Gate;
@@ -66,12 +66,13 @@ pub fn run_threads<'r, R: Threads + Wait + Sync, G: Gate>(
         mut bus_main,
         tables,
         mut tables_main,
-    } = open_services(alloc, script, regions)?;
+    } = open_services(alloc, script, &[], regions)?;
     let receipts = Vec::with_capacity(alloc, script.apps() as usize)?;
     let shared = RunParts {
         script,
         bus: &bus,
         tables: &tables,
+        side: Side::First,
     };
     let works = open_works(alloc, shared, &mut bus_main, &mut tables_main)?;
     let dones = run_all(rt, alloc, gate, shared, works)?;

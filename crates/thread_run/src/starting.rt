@@ -88,14 +88,15 @@ fn run_in<'s, 'e, 'r, R: Threads + Wait + Sync, G: Gate>(
     } = jobs;
     let mut begun = Vec::with_capacity(alloc, works.len())?;
     let mut dones = Vec::with_capacity(alloc, works.len())?;
-    begin_rest(scope, rt, gate, shared, &mut works, &mut begun);
-    end_rest(rt, shared, &mut begun, &mut dones);
+    begin_all(scope, rt, gate, shared, &mut works, &mut begun);
+    end_all(rt, shared, &mut begun, &mut dones);
     Ok(dones)
 }
 
-// Starts the applications that are left, that of the greatest number first; and once all are
-// started, runs here those whose thread couldn't be started, in order of number.
-fn begin_rest<'s, 'e, 'r, R: Threads + Wait + Sync, G: Gate>(
+/// Starts the applications that are left, each on a thread of the scope, that of the greatest number
+/// first; and once all are started, runs here those whose thread couldn't be started, in order of
+/// number.
+pub fn begin_all<'s, 'e, 'r, R: Threads + Wait + Sync, G: Gate>(
     scope: &'s Scope<'s, &'e ()>,
     rt: &'e R,
     gate: &'e G,
@@ -125,15 +126,15 @@ fn begin_rest<'s, 'e, 'r, R: Threads + Wait + Sync, G: Gate>(
                 job.work.runner.running.app job.work }
         { run_one(rt, gate, job) },
     );
-    begin_rest(scope, rt, gate, shared, works, begun);
+    begin_all(scope, rt, gate, shared, works, begun);
     match start {
         Ok(handle) => note_begun(begun, shared, app, Ok(handle)),
         Err(refused) => note_begun(begun, shared, app, Err((refused.value)())),
     }
 }
 
-// Waits for the ends of those that are left, in order of number.
-fn end_rest<'e, 'r, R: Threads>(
+/// Waits for the ends of those that are left, in order of number.
+pub fn end_all<'e, 'r, R: Threads>(
     rt: &R,
     shared: RunParts<'_, 'r>,
     begun: &mut Vec<Begun<'e, 'r>>,
@@ -151,7 +152,7 @@ fn end_rest<'e, 'r, R: Threads>(
     let Some(one) = take_last_begun(begun, shared) else {
         return;
     };
-    end_rest(rt, shared, begun, dones);
+    end_all(rt, shared, begun, dones);
     let done = end_of(rt, one);
     note_done(dones, shared, done);
 }

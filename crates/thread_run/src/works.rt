@@ -8,7 +8,7 @@ ghost use Rattle.script_runs.specs.TableTrace.{own_table_entries};
 ghost use Rattle.bus_words.specs.Runs.{own_entries};
 ghost use Rattle.app_calls.specs.Callers.{SameServices};
 ghost use Rattle.app_run.specs.Turns.{MayTurn, TakesTurnBy};
-ghost use Rattle.thread_run.specs.Works.{MayWork, IsDone};
+ghost use Rattle.thread_run.specs.Works.{MayWork, IsDone, gate_number};
 
 use app_calls::Calls;
 use app_run::{Runner, Turned};
@@ -24,47 +24,70 @@ use std::thread::Promise;
 use tbl_load::bags_stay as table_bags_stay;
 use tbl_service::{Tables, TblDone, TblPort};
 
-/// What all applications of a run share: the script, and both services.
+/// Under which numbers the gate knows the applications of a run.
 #[derive(Clone, Copy)]
-pub(crate) struct RunParts<'e, 'r> {
+pub enum Side {
+    /// Under their own.
+    First,
+    /// Under their own and 16 more: they run beside those of another bus.
+    Second,
+}
+
+impl Side {
+    // The number under which the gate knows an application.
+    fn number(self, app: AppNo) -> u32
+        ensures { result ≡ gate_number self app }
+    {
+        match self {
+            Side::First => app.get(),
+            Side::Second => app.get() + 16,
+        }
+    }
+}
+
+/// What all applications of a run share: the script, both services, and how the gate knows them.
+#[derive(Clone, Copy)]
+pub struct RunParts<'e, 'r> {
     /// The script.
-    pub(crate) script: &'e Script,
+    pub script: &'e Script,
     /// The software bus.
-    pub(crate) bus: &'e Bus<'r>,
+    pub bus: &'e Bus<'r>,
     /// Table Services.
-    pub(crate) tables: &'e Tables<'r>,
+    pub tables: &'e Tables<'r>,
+    /// How the gate knows them.
+    pub side: Side,
 }
 
 /// What an application takes along to its thread.
 #[derive(Drop)]
-pub(crate) struct Work<'s, 'r> {
+pub struct Work<'s, 'r> {
     /// How far it has come.
-    pub(crate) runner: Runner<'s>,
+    pub runner: Runner<'s>,
     /// Its port of the bus.
-    pub(crate) port: BusPort<'r>,
+    pub port: BusPort<'r>,
     /// Its port of the tables.
-    pub(crate) tables_port: TblPort<'r>,
+    pub tables_port: TblPort<'r>,
 }
 
 /// What is left of an application that is through. It names no lifetime, so a thread may promise
 /// it.
 #[derive(Drop)]
-pub(crate) struct Done {
+pub struct Done {
     /// Its port of the bus, finished.
-    pub(crate) port: BusDone,
+    pub port: BusDone,
     /// Its port of the tables, finished.
-    pub(crate) tables_port: TblDone,
+    pub tables_port: TblDone,
     /// Its receipts.
-    pub(crate) receipts: ReceiptList,
+    pub receipts: ReceiptList,
 }
 
 /// A thread's promise: the application ends, and its entries and receipts are those of its lines.
 #[derive(Clone, Copy)]
-pub(crate) struct Ends<'e, 'r> {
+pub struct Ends<'e, 'r> {
     /// What it shares with the others.
-    pub(crate) shared: RunParts<'e, 'r>,
+    pub shared: RunParts<'e, 'r>,
     /// The application.
-    pub(crate) app: AppNo,
+    pub app: AppNo,
 }
 
 impl<'e, 'r> Promise<Done> for Ends<'e, 'r> {
@@ -120,7 +143,7 @@ fn run_by<'r, L: Locks, R: Wait, G: Gate>(
     table_bags_stay();
     let mut calls = PortCalls::<_, L>::new(port, shared.bus, tables_port, shared.tables, rt);
     for _ in rt.forever() {
-        take_turn(gate, &mut runner, &mut calls);
+        take_turn(gate, shared.side, &mut runner, &mut calls);
         if runner.has_ended() {
             let (port, tables_port) = calls.into_ports();
             return let_go(runner, port, tables_port);
@@ -131,12 +154,12 @@ fn run_by<'r, L: Locks, R: Wait, G: Gate>(
 
 // One turn, and the gate's calls round a line: before its turn, and once it is answered, which for
 // a line that waits is a later turn. No lock is held at either.
-fn take_turn<C: Calls, G: Gate>(gate: &G, runner: &mut Runner<'_>, calls: &mut C)
+fn take_turn<C: Calls, G: Gate>(gate: &G, side: Side, runner: &mut Runner<'_>, calls: &mut C)
     requires { MayTurn runner.old (C.caller calls.old) }
     ensures turn { TakesTurnBy runner.old runner.new (C.caller calls.old) (C.caller calls.new) }
     ensures same { SameServices (C.caller calls.old) (C.caller calls.new) }
 {
-    let app = runner.app().get();
+    let app = side.number(runner.app());
     if runner.begins_line() {
         gate.before(app, runner.lines_begun() + 1);
     }
