@@ -1,11 +1,14 @@
 -- What the program does on `bridge`: what it reads, what it writes and what it shows an audit.
-use Rattle.std.specs.Prelude.{◌≡◌, ◌⊎◌, ¬◌, ℕ, List, [], ◌∷◌, ◌++◌, length, map, codes, Option, Some, None, Result, Ok, Err}
+use Rattle.std.specs.Prelude.{◌≡◌, ◌⊎◌, ℕ, List, [], ◌∷◌, ◌++◌, length, map, codes, Option, Some, None, Result, Ok, Err}
 use Rattle.std.specs.List.{range_with_len}
 use Rattle.std.specs.Option.{option_map}
 use Rattle.fsw_base.specs.declared.script_faults.ScriptFault.{ScriptFault}
 use Rattle.fsw_base.specs.Outside.{Rose}
 use Rattle.text_page.specs.Pieces.{Grew, CutShort}
 use Rattle.run_report.specs.Report.{report_text, table_figures_shown}
+use Rattle.bus_words.specs.ReceiptLists.{Receipts}
+use Rattle.sb_calls.specs.Core.{Core}
+use Rattle.tbl_load.specs.Core.{Core as TableCore}
 use Rattle.app_script.specs.Script.{ScriptText}
 use Rattle.script_runs.specs.Histories.{Histories}
 use Rattle.script_runs.specs.Told.{receipts_among}
@@ -13,7 +16,8 @@ use Rattle.sb_bridge.specs.Bridged.{IsBridged, apps_with_bridge}
 use Rattle.sb_bridge.specs.Grammar.{plan_of}
 use Rattle.sb_bridge.specs.Plan.{PlanText}
 use Rattle.host_run.specs.Input.{most_plan, IsWhole, IsTooLarge, IsPartRead}
-use Rattle.host_run.specs.Serve.{Fed, Made, MakesNothing, EndsRefused, figures_after, too_large}
+use Rattle.host_run.specs.Serve.{Fed, Made, MakesNothing, EndsRefused, figures_after, part_shown, too_large}
+use Rattle.host_run.specs.declared.reporting.Part.TheVariants.{Whole}
 use Rattle.host_run.specs.declared.status.HostStatus.{HostStatus}
 use Rattle.host_run.specs.declared.status.HostStatus.TheVariants as status
 
@@ -31,6 +35,12 @@ side_report script histories =
 abbrev pub both_reports : PlanText → Histories → Histories → List ℕ
 both_reports plan one two =
     codes "side 1\n" ++ side_report plan.one one ++ codes "side 2\n" ++ side_report plan.two two
+
+-- both reports of the services as they are, and of the applications' lists of receipts
+abbrev pub both_shown : Core → TableCore → List Receipts → Core → TableCore → List Receipts → List ℕ
+both_shown bus tables lists other_bus other_tables other_lists =
+    codes "side 1\n" ++ part_shown Whole bus tables lists ++ codes "side 2\n" ++
+    part_shown Whole other_bus other_tables other_lists
 
 -- The histories of side 1 and then those of side 2 were put behind those shown before, or nothing
 -- is shown from now on.
@@ -55,6 +65,19 @@ pub record ReportsBothFront (plan : PlanText) (old new : Made) : Type 0 where
   pub shown : AreShown old.shown new.shown one two
   pub front : CutShort old.written new.written (both_reports plan one two)
   pub cause : Rose old.faults new.faults
+
+-- what was made of a run of a plan that went through: both pairs of histories were shown, and a text
+-- written
+abbrev pub EndsBridged : HostStatus → Histories → Histories → List ℕ → Made → Made → Type 0
+EndsBridged status.Done one two text old new =
+    Grew old.written new.written text × AreShown old.shown new.shown one two
+EndsBridged status.WriteFault one two text old new =
+    CutShort old.written new.written text × Rose old.faults new.faults ×
+    AreShown old.shown new.shown one two
+EndsBridged status.NoMemory one two text old new = ⊥
+EndsBridged status.Usage one two text old new = ⊥
+EndsBridged (status.Script fault) one two text old new = ⊥
+EndsBridged status.ReadFault one two text old new = ⊥
 
 -- what was made of a plan that was run, by how it ended
 abbrev pub EndsPlan : HostStatus → PlanText → Made → Made → Type 0

@@ -5,6 +5,7 @@ ghost use Rattle.text_page.specs.Pieces.{Grew, CutShort};
 ghost use Rattle.run_report.specs.Report.{figures_read, figures_shown, table_figures_read, table_figures_shown};
 ghost use Rattle.sb_calls.specs.Core.{state_of};
 ghost use Rattle.tbl_load.specs.Core.{apps_of as table_apps_of};
+ghost use Rattle.host_run.specs.Bridging.{both_shown};
 ghost use Rattle.host_run.specs.Serve.{part_shown};
 
 use app_run::Finished;
@@ -69,6 +70,17 @@ pub fn write_both<K: Sink>(
     sink: &mut SinkGuard<'_, K>,
 ) -> Result<(), WriteFault>
     requires { sink.old.failed ≡ false }
+    ensures ok { OnOk result (Grew sink.old.written sink.new.written
+        (both_shown one.now.bus one.now.tables one.now.receipts.items two.now.bus two.now.tables
+        two.now.receipts.items)) }
+    ensures none_failed { OnOk result (sink.new.failed ≡ false) }
+    ensures err { OnErr result (CutShort sink.old.written sink.new.written
+        (both_shown one.now.bus one.now.tables one.now.receipts.items two.now.bus two.now.tables
+        two.now.receipts.items)) }
+    ensures failed { OnErr result (sink.new.failed ≡ true) }
+    ensures cause { OnErr result (Rose sink.old.faults sink.new.faults) }
+    ensures never_falls { sink.old.faults ≤ sink.new.faults }
+    ensures same_sink { sink.new.sink ≡ sink.old.sink }
 {
     write_text(sink, b"side 1\n")?;
     write_part(&one.bus, &one.tables, one.receipts.as_slice(), Part::Whole, sink)?;

@@ -7,7 +7,7 @@ ghost use Rattle.script_generate.specs.Generated.{generated};
 ghost use Rattle.script_printing.specs.ScriptSpelling.{spelled_script};
 ghost use Rattle.host_run.specs.Audit.{GuardedAudit};
 ghost use Rattle.host_run.specs.Serve.{Headline, Runs, Generates, Soaks, OtherWords, Serves, HasCauses, Completes, CompletesUnread, fed_by, made_by, fed_through, made_through, EndsInput, EndsScript, EndsRun, EndsText, EndsRefused, EndsTelling, part_shown, usage_text};
-ghost use Rattle.host_run.specs.Bridging.{Bridges, EndsPlanInput, EndsPlan};
+ghost use Rattle.host_run.specs.Bridging.{BridgeOrder, Bridges, CompletesPlan, EndsBridged, EndsPlanInput, EndsPlan, both_shown};
 ghost use Rattle.sb_bridge.specs.Grammar.{plan_of};
 ghost use Rattle.host_run.specs.Status.{is_read_fault, is_write_fault};
 ghost use Rattle.host_run.specs.Words.{task_of};
@@ -91,6 +91,11 @@ pub fn serve<R: Threads + Wait + Sync, S: Source, K: Sink, G: Gate, A: Audit>(
         (fed_by S.left S.faults source.old) (fed_by S.left S.faults source.new)
         (made_by K.written K.faults A.shown sink.old audit.old)
         (made_by K.written K.faults A.shown sink.new audit.new) }
+    // And the bridge's order: each message of a route went to the second bus once and in order.
+    ensures bridge_order { task_of words.now ≡ Some Task.Bridge → BridgeOrder result
+        (fed_by S.left S.faults source.old) (fed_by S.left S.faults source.new)
+        (made_by K.written K.faults A.shown sink.old audit.old)
+        (made_by K.written K.faults A.shown sink.new audit.new) }
 
     // What was read, written and shown, by how it ended.
     ensures on_threads { task_of words.now ≡ Some Task.Run → Runs Way.OnThreads result
@@ -98,6 +103,10 @@ pub fn serve<R: Threads + Wait + Sync, S: Source, K: Sink, G: Gate, A: Audit>(
         (made_by K.written K.faults A.shown sink.old audit.old)
         (made_by K.written K.faults A.shown sink.new audit.new) }
     ensures lockstep { task_of words.now ≡ Some Task.Lockstep → Runs Way.Rotating result
+        (fed_by S.left S.faults source.old) (fed_by S.left S.faults source.new)
+        (made_by K.written K.faults A.shown sink.old audit.old)
+        (made_by K.written K.faults A.shown sink.new audit.new) }
+    ensures bridges { task_of words.now ≡ Some Task.Bridge → Bridges result
         (fed_by S.left S.faults source.old) (fed_by S.left S.faults source.new)
         (made_by K.written K.faults A.shown sink.old audit.old)
         (made_by K.written K.faults A.shown sink.new audit.new) }
@@ -131,6 +140,10 @@ pub fn serve<R: Threads + Wait + Sync, S: Source, K: Sink, G: Gate, A: Audit>(
         (fed_by S.left S.faults source.old) (fed_by S.left S.faults source.new)
         (made_by K.written K.faults A.shown sink.old audit.old)
         (made_by K.written K.faults A.shown sink.new audit.new) }
+    ensures complete_on_bridge { task_of words.now ≡ Some Task.Bridge → CompletesPlan result
+        (fed_by S.left S.faults source.old) (fed_by S.left S.faults source.new)
+        (made_by K.written K.faults A.shown sink.old audit.old)
+        (made_by K.written K.faults A.shown sink.new audit.new) }
     ensures complete_generates { (number : ℕ) → task_of words.now ≡ Some (Task.Generate number) →
         CompletesUnread result
         (made_by K.written K.faults A.shown sink.old audit.old)
@@ -153,7 +166,11 @@ fn serve_guarded<R: Threads + Wait + Sync, G: Gate, S: Source, K: Sink, A: Audit
     sink: &mut K,
     audit: &mut A,
 ) -> HostStatus
-    ensures { Serves (task_of words.now) result
+    ensures serves { Serves (task_of words.now) result
+        (fed_by S.left S.faults source.old) (fed_by S.left S.faults source.new)
+        (made_by K.written K.faults A.shown sink.old audit.old)
+        (made_by K.written K.faults A.shown sink.new audit.new) }
+    ensures bridges { task_of words.now ≡ Some Task.Bridge → Bridges result
         (fed_by S.left S.faults source.old) (fed_by S.left S.faults source.new)
         (made_by K.written K.faults A.shown sink.old audit.old)
         (made_by K.written K.faults A.shown sink.new audit.new) }
@@ -180,6 +197,9 @@ fn serve_words<R: Threads + Wait + Sync, G: Gate, S: Source, K: Sink, A: Audit>(
     requires no_write_failed { sink.old.failed ≡ false }
     requires untouched { sink.old.untouched ≡ true }
     ensures serves { Serves (task_of words.now) result
+        (fed_through source.old) (fed_through source.new)
+        (made_through sink.old audit.old) (made_through sink.new audit.new) }
+    ensures bridges { task_of words.now ≡ Some Task.Bridge → Bridges result
         (fed_through source.old) (fed_through source.new)
         (made_through sink.old audit.old) (made_through sink.new audit.new) }
     ensures read_failed { source.new.failed ≡ is_read_fault result }
@@ -335,6 +355,12 @@ fn tell_bridged<K: Sink, A: Audit>(
 ) -> HostStatus
     requires none_failed { sink.old.failed ≡ false }
     requires untouched { sink.old.untouched ≡ true }
+    ensures end { EndsBridged result
+        (histories_of bridged.now.one.bus bridged.now.one.tables)
+        (histories_of bridged.now.two.bus bridged.now.two.tables)
+        (both_shown bridged.now.one.bus bridged.now.one.tables bridged.now.one.receipts.items
+        bridged.now.two.bus bridged.now.two.tables bridged.now.two.receipts.items)
+        (made_through sink.old audit.old) (made_through sink.new audit.new) }
     ensures failed { sink.new.failed ≡ is_write_fault result }
     ensures no_read_fault { is_read_fault result ≡ false }
     ensures same_sink { sink.new.sink ≡ sink.old.sink }

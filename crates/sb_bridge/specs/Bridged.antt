@@ -1,6 +1,6 @@
 -- What a run of two buses and a bridge leaves: each message of a route goes from the first bus to
 -- the second, once and in order.
-use Rattle.std.specs.Prelude.{◌≡◌, ◌→◌, ¬◌, ℕ, ◌+◌, ◌≤◌, Bool, true, false, List, [], ◌∷◌, ◌++◌, length, map, All, codes}
+use Rattle.std.specs.Prelude.{◌≡◌, ℕ, ◌+◌, ◌≤◌, Bool, true, false, List, [], ◌∷◌, ◌++◌, length, map, All, codes}
 use Rattle.fsw_base.specs.declared.config.Scope.TheVariants.{Global}
 use Rattle.bus_words.specs.declared.calls.BusAnswer.{BusAnswer}
 use Rattle.bus_words.specs.declared.calls.BusAnswer.TheVariants.{Number, TimeOut, Pending}

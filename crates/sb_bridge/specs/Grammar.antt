@@ -1,6 +1,6 @@
 -- What a plan's text is, and what is wrong with one: routes, a line `---`, the script of side 1, a
 -- line `---`, and the script of side 2, in the lines and words of scripts.
-use Rattle.std.specs.Prelude.{◌≡◌, ℕ, ◌+◌, ◌==◌, ◌&&◌, nat_le, nat_lt, Bool, true, false, List, [], ◌∷◌, ◌++◌, length, count_by, Result, Ok, Err, codes, if◌then◌else◌}
+use Rattle.std.specs.Prelude.{◌≡◌, ℕ, ◌+◌, ◌≤◌, ◌==◌, ◌&&◌, nat_le, nat_lt, Bool, List, [], ◌∷◌, ◌++◌, length, count_by, Result, Ok, Err, codes, if◌then◌else◌}
 use Rattle.std.specs.List.{list_all, list_any, starts_with}
 use Rattle.fsw_base.specs.declared.script_faults.FaultKind.{FaultKind}
 use Rattle.fsw_base.specs.declared.script_faults.FaultKind.TheVariants.{LineTooLong, BadByte, UnknownWord, OutOfRange, Repeated, TooManyApps, TooLarge, MissingPart, NoApp}
@@ -144,7 +144,7 @@ AddsRoutes (Err kind) new reading = reading ≡ Err kind
 
 -- lines that are cut at their first mark: so many before it, and those behind it
 pub record IsCut (lines front : List (List ℕ)) (count : ℕ) (behind : List (List ℕ)) : Type 0 where
-  pub some : nat_le 1 (marks_in lines) ≡ true
+  pub some : 1 ≤ marks_in lines
   pub front_is : front ≡ front_of lines
   pub count_is : count ≡ length front
   pub behind_is : behind ≡ behind_mark lines
@@ -152,7 +152,7 @@ pub record IsCut (lines front : List (List ℕ)) (count : ℕ) (behind : List (L
 -- lines of which two at least are marks, in three parts with the numbers of their first lines
 pub record ArePartsOf (lines routes : List (List ℕ)) (one_from : ℕ) (one : List (List ℕ))
     (two_from : ℕ) (two : List (List ℕ)) : Type 0 where
-  pub marks : nat_le 2 (marks_in lines) ≡ true
+  pub marks : 2 ≤ marks_in lines
   pub routes_are : routes ≡ front_of lines
   pub one_is : one ≡ front_of (behind_mark lines)
   pub two_is : two ≡ behind_mark (behind_mark lines)

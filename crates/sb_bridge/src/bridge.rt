@@ -1,6 +1,6 @@
 //! The bridge, on its thread.
-ghost use Rattle.std.specs.Prelude.{◌≡◌};
-ghost use Rattle.sb_bridge.specs.Works.{MayForward, HasForwarded};
+ghost use Rattle.std.specs.Prelude.{◌≡◌, ◌&&◌, nat_le};
+ghost use Rattle.sb_bridge.specs.Works.{entries_left};
 
 use bus_service::{Bus, BusDone, BusPort};
 use sb_calls::Pended;
@@ -79,7 +79,10 @@ pub(crate) fn run_one<'e, 'r, R: Wait>(rt: &R, job: BridgeJob<'e, 'r>) -> Bridge
         mut to_tables,
     } = work;
     for _ in rt.forever() {
-        if !take_next(rt, one.bus, &mut from, pipe) {
+        let goes_on = has_entries(&from, &to)
+            && take_next(rt, one.bus, &mut from, pipe)
+            && forward(rt, &from, pipe, two.bus, &mut to);
+        if !goes_on {
             from_tables.end(one.tables, rt);
             from.end(one.bus, rt);
             to_tables.end(two.tables, rt);
@@ -91,9 +94,17 @@ pub(crate) fn run_one<'e, 'r, R: Wait>(rt: &R, job: BridgeJob<'e, 'r>) -> Bridge
                 to_tables: to_tables.finish(),
             };
         }
-        forward(rt, &from, pipe, two.bus, &mut to);
     }
     unreachable!()
+}
+
+// Whether the budgets have entries for a wait, a look and the end on side 1, and for a send and the
+// end on side 2. They do: there are no more messages than the lines of side 1 send. A port can't
+// know that, since it sees what others may add and not what their lines do.
+fn has_entries(from: &BusPort<'_>, to: &BusPort<'_>) -> bool
+    ensures { result ≡ (nat_le 3 (entries_left from.now) && nat_le 2 (entries_left to.now)) }
+{
+    3 <= from.entries_left() && 2 <= to.entries_left()
 }
 
 // Takes the next message from the bridge's pipe, which is then the pipe's last, and waits for it;
@@ -121,17 +132,22 @@ fn look_on<'r, R: Wait>(rt: &R, bus: &Bus<'r>, from: &mut BusPort<'r>) -> bool {
 }
 
 // Sends the pipe's last message on side 2, with the count that it has. A refusal stands in the
-// history there, and the message is not sent again.
+// history there, and the message is not sent again. False where the budget has not so many bytes,
+// and nothing is sent; it has them, for the same reason.
 fn forward<'r, R: Wait>(
     rt: &R,
     from: &BusPort<'r>,
     pipe: u32,
     bus: &Bus<'r>,
     to: &mut BusPort<'r>,
-) {
+) -> bool {
     match from.last(pipe) {
         Some(message) => {
-            let _ = to.transmit(bus, rt, message, false);
+            let fits = message.len() <= to.bytes_left() as usize;
+            if fits {
+                let _ = to.transmit(bus, rt, message, false);
+            }
+            fits
         }
         // A message was taken, and is the last.
         None => unreachable!(),

@@ -1,7 +1,7 @@
 //! The three parts of a plan's text.
-ghost use Rattle.std.specs.Prelude.{◌≡◌, ◌+◌, ◌∷◌, ◌++◌, length, IfSome, IfNone};
+ghost use Rattle.std.specs.Prelude.{◌≡◌, ◌<◌, IfSome, IfNone};
 ghost use Rattle.script_words.specs.Text.{lines_of};
-ghost use Rattle.sb_bridge.specs.Grammar.{front_of, behind_mark, marks_in, IsCut, ArePartsOf};
+ghost use Rattle.sb_bridge.specs.Grammar.{marks_in, IsCut, ArePartsOf};
 
 use script_words::text::{first_line, is_same};
 
@@ -64,7 +64,7 @@ pub(crate) fn parts_of(bytes: &[u8]) -> Option<Parts<'_>>
     ensures parts { IfSome result (λ parts. ArePartsOf (lines_of bytes.now)
         (lines_of parts.routes.now) parts.one_from (lines_of parts.one.now) parts.two_from
         (lines_of parts.two.now)) }
-    ensures none { IfNone result (marks_in (lines_of bytes.now) ≡ 0) }
+    ensures none { IfNone result (marks_in (lines_of bytes.now) < 2) }
 {
     let first = cut_at_mark(bytes)?;
     let second = cut_at_mark(first.behind)?;

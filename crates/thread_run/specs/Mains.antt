@@ -5,9 +5,31 @@ use Rattle.bus_words.specs.declared.history.Entry.{Entry}
 use Rattle.bus_service.specs.Ports.{MainView, Begins}
 use Rattle.tbl_words.specs.declared.history.Entry.{Entry as TableEntry}
 use Rattle.tbl_service.specs.Ports.{MainView as TablesMainView, Begins as BeginsAtTables}
+use Rattle.fsw_base.specs.declared.config.Budget.{Budget}
+use Rattle.sb_calls.specs.Core.{Core}
+use Rattle.tbl_load.specs.Core.{Core as TableCore}
 use Rattle.app_script.specs.Script.{ScriptText}
 use Rattle.app_run.specs.Openings.{budgets_for, opened, opened_tables}
 use Rattle.thread_run.specs.declared.works.Done.{Done}
+
+-- the bus before the first call, for the script's applications and for those beside them that have
+-- these budgets
+abbrev pub opened_beside : ScriptText → List Budget → Core
+opened_beside script beside =
+    record {
+      limits = script.limits;
+      log = record { budgets = budgets_for script ++ beside; entries = [] };
+      notes = [];
+    }
+
+-- and the tables
+abbrev pub opened_tables_beside : ScriptText → List Budget → TableCore
+opened_tables_beside script beside =
+    record {
+      limits = script.limits;
+      log = record { budgets = budgets_for script ++ beside; entries = [] };
+      notes = [];
+    }
 
 -- the numbers of so many applications
 abbrev pub numbers : ℕ → List ℕ

@@ -1,7 +1,8 @@
 //! Opens both services for a script, and makes the ports of its applications.
-ghost use Rattle.std.specs.Prelude.{◌≡◌, ◌+◌, ◌-◌, ◌≤◌, [], length, IfOk, vec_capacity};
-ghost use Rattle.app_run.specs.Openings.{HaveRoom};
-ghost use Rattle.thread_run.specs.Mains.{IsOpen, AreOpen};
+ghost use Rattle.std.specs.Prelude.{◌≡◌, ◌+◌, ◌++◌, ◌-◌, ◌≤◌, [], length, IfOk, vec_capacity};
+ghost use Rattle.app_run.specs.Openings.{HaveRoom, budgets_for};
+ghost use Rattle.journal_store.specs.Budgets.{AreBudgets};
+ghost use Rattle.thread_run.specs.Mains.{IsOpen, AreOpen, opened_beside, opened_tables_beside};
 ghost use Rattle.thread_run.specs.Works.{MayWork, Numbered};
 
 use crate::works::{RunParts, Work};
@@ -37,9 +38,21 @@ pub fn open_services<'r>(
     regions: &'r mut Regions,
 ) -> Result<OpenServices<'r>, AllocError>
     requires { HaveRoom regions.old script.now.limits }
-    ensures bus { IfOk result (λ opened. IsOpen script.now opened.bus 0 opened.bus_main) }
-    ensures tables { IfOk result
-        (λ opened. AreOpen script.now opened.tables 0 opened.tables_main) }
+    requires budgets { AreBudgets (budgets_for script.now ++ beside.now) }
+    ensures bus { IfOk result (λ opened. opened.bus_main ≡
+        record {
+          lock = opened.bus;
+          seen = opened_beside script.now beside.now;
+          apps = [];
+          ended = [];
+        }) }
+    ensures tables { IfOk result (λ opened. opened.tables_main ≡
+        record {
+          lock = opened.tables;
+          seen = opened_tables_beside script.now beside.now;
+          apps = [];
+          ended = [];
+        }) }
 {
     script.recall_ranges();
     let mut budgets = budgets_of(alloc, script)?;
