@@ -10,7 +10,7 @@ use std::marker::Model;
 pub const MAX_ROUTES: usize = 16;
 
 /// A route: which messages go over the bridge, and how many of them may wait for it at once.
-#[derive(Clone, Copy, Debug)]
+#[derive(Clone, Copy, Debug, Default)]
 pub struct Route {
     /// The message id, 1 to 0x1FFF.
     pub id: u16,
