@@ -1,13 +1,17 @@
 -- What the bridge takes along to its thread, and what it leaves there.
-use Rattle.std.specs.Prelude.{◌≡◌, ◌<◌, ◌⊎◌, ℕ, List, ◌++◌, length, map, Contains}
+use Rattle.std.specs.Prelude.{◌≡◌, ◌<◌, ◌⊎◌, ℕ, false, List, [], ◌∷◌, ◌++◌, length, map, All, Contains, Some, IsTrue}
 use Rattle.journal_store.specs.Budgets.{allowance_of}
+use Rattle.bus_words.specs.declared.calls.BusAnswer.TheVariants.{TimeOut}
 use Rattle.bus_words.specs.declared.history.Call.{Call}
+use Rattle.bus_words.specs.declared.history.Call.TheVariants.{Transmit}
 use Rattle.bus_words.specs.declared.history.Entry.{Entry}
 use Rattle.bus_words.specs.Alone.{receipts}
+use Rattle.bus_words.specs.Bus.{Active, owns, standing_of}
 use Rattle.bus_words.specs.Log.{left_of}
-use Rattle.bus_service.specs.Ports.{DoneView, PortView}
-use Rattle.sb_calls.specs.Core.{Core, apps_of}
-use Rattle.sb_bridge.specs.Bridged.{WaitsAndEnds, forwarding}
+use Rattle.bus_service.specs.Ports.{Begins, DoneView, PortView}
+use Rattle.sb_calls.specs.Bags.{last_message}
+use Rattle.sb_calls.specs.Core.{Core, apps_of, state_of}
+use Rattle.sb_bridge.specs.Bridged.{Waits, WaitsAndEnds, forwarding}
 use Rattle.sb_bridge.specs.declared.bridge.BridgeDone.{BridgeDone}
 use Rattle.sb_bridge.specs.declared.bridge.BridgeEnds.{BridgeEnds}
 
@@ -23,6 +27,43 @@ given_in core p =
 -- the calls of these entries
 abbrev pub calls_in : List Entry → List Call
 calls_in entries = map (λ e. e.call) entries
+
+-- the application of a port is active, and pipe p is its own
+pub record MayWait (p : ℕ) (port : PortView) : Type 0 where
+  pub active : standing_of (state_of port.seen) port.app ≡ Active
+  pub own : IsTrue (owns (state_of port.seen).pipes port.app p)
+
+-- One wait of a port on pipe p: these entries are its latest, and what it had seen stays.
+pub record WaitsOnce (p : ℕ) (old new : PortView) (entries : List Entry) : Type 0 where
+  pub mine : new.mine ≡ old.mine ++ entries
+  pub waits : Waits p false entries
+  pub seen : Begins old.seen new.seen
+  pub lock : new.lock ≡ old.lock
+  pub app : new.app ≡ old.app
+
+-- It gave one message, which is now the pipe's last.
+pub record TakesOne (p : ℕ) (old new : PortView) : Type 0 where
+  pub entries : List Entry
+  pub wait : WaitsOnce p old new entries
+  pub in_time : All (λ e. ¬ (e.answer ≡ TimeOut)) entries
+  pub message : List ℕ
+  pub given : given_in new.seen p ≡ given_in old.seen p ++ message ∷ []
+  pub last : last_message (state_of new.seen) new.app p ≡ Some message
+  pub on : MayWait p new
+
+-- It timed out, and gave none.
+pub record TimesOut (p : ℕ) (old new : PortView) : Type 0 where
+  pub before : List Entry
+  pub last : Entry
+  pub wait : WaitsOnce p old new (before ++ last ∷ [])
+  pub in_time : All (λ e. ¬ (e.answer ≡ TimeOut)) before
+  pub timed_out : last.answer ≡ TimeOut
+  pub given : given_in new.seen p ≡ given_in old.seen p
+  pub on : MayWait p new
+
+-- a port sent a message, keeping its count, and made no other call
+abbrev pub Sends : List ℕ → PortView → PortView → Type 0
+Sends message old new = calls_in new.mine ≡ calls_in old.mine ++ Transmit message false ∷ []
 
 -- The bridge is through: on side 1 its own entries behind its first ones are waits on its pipe, the
 -- last of which timed out, and its end; on side 2 they send what the pipe gave, each once and in

@@ -1,6 +1,9 @@
 //! The bridge, on its thread.
-ghost use Rattle.std.specs.Prelude.{◌≡◌, ◌&&◌, nat_le};
-ghost use Rattle.sb_bridge.specs.Works.{entries_left};
+ghost use Rattle.std.specs.Prelude.{◌≡◌, ℕ, ◌≤◌, ◌&&◌, nat_le, true, false, List, Some, is_some, IsTrue};
+ghost use Rattle.bus_words.specs.Bus.{Active, standing_of};
+ghost use Rattle.sb_calls.specs.Bags.{last_message};
+ghost use Rattle.sb_calls.specs.Core.{state_of};
+ghost use Rattle.sb_bridge.specs.Works.{entries_left, MayWait, TakesOne, TimesOut, Sends};
 
 use bus_service::{Bus, BusDone, BusPort};
 use sb_calls::Pended;
@@ -109,7 +112,13 @@ fn has_entries(from: &BusPort<'_>, to: &BusPort<'_>) -> bool
 
 // Takes the next message from the bridge's pipe, which is then the pipe's last, and waits for it;
 // false at a time-out.
-fn take_next<'r, R: Wait>(rt: &R, bus: &Bus<'r>, from: &mut BusPort<'r>, pipe: u32) -> bool {
+fn take_next<'r, R: Wait>(rt: &R, bus: &Bus<'r>, from: &mut BusPort<'r>, pipe: u32) -> bool
+    requires bus { from.old.lock ≡ bus.now }
+    requires may { MayWait pipe from.old }
+    requires entries { 3 ≤ entries_left from.old }
+    ensures took { IsTrue result → TakesOne pipe from.old from.new }
+    ensures timed_out { result ≡ false → TimesOut pipe from.old from.new }
+{
     match from.pend(bus, rt, pipe) {
         Ok(Pended::Got(_)) => true,
         Ok(Pended::TimeOut) => false,
@@ -140,7 +149,16 @@ fn forward<'r, R: Wait>(
     pipe: u32,
     bus: &Bus<'r>,
     to: &mut BusPort<'r>,
-) -> bool {
+) -> bool
+    requires bus { to.old.lock ≡ bus.now }
+    requires active { standing_of (state_of to.old.seen) to.old.app ≡ Active }
+    requires entries { 2 ≤ entries_left to.old }
+    requires some { is_some (last_message (state_of from.now.seen) from.now.app pipe) ≡ true }
+    ensures sent { IsTrue result → (message : List ℕ) →
+        last_message (state_of from.now.seen) from.now.app pipe ≡ Some message →
+        Sends message to.old to.new }
+    ensures no_room { result ≡ false → to.new ≡ to.old }
+{
     match from.last(pipe) {
         Some(message) => {
             let fits = message.len() <= to.bytes_left() as usize;

@@ -37,7 +37,7 @@ pub fn open_services<'r>(
     beside: &[Budget],
     regions: &'r mut Regions,
 ) -> Result<OpenServices<'r>, AllocError>
-    requires { HaveRoom regions.old script.now.limits }
+    requires room { HaveRoom regions.old script.now.limits }
     requires budgets { AreBudgets (budgets_for script.now ++ beside.now) }
     ensures bus { IfOk result (λ opened. opened.bus_main ≡
         record {
