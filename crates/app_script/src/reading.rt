@@ -318,6 +318,9 @@ impl Reading {
     }
 
     /// The script that was read, where an application has begun.
+    ///
+    /// # Errors
+    /// Where memory runs out.
     pub fn into_script(self) -> Result<Script, AllocError>
         requires text { IsScript (record { limits = self.limits; apps = apps_of self }) }
         requires started { IsTrue self.started }

@@ -37,7 +37,8 @@ both_reports plan one two =
     codes "side 1\n" ++ side_report plan.one one ++ codes "side 2\n" ++ side_report plan.two two
 
 -- both reports of the services as they are, and of the applications' lists of receipts
-abbrev pub both_shown : Core → TableCore → List Receipts → Core → TableCore → List Receipts → List ℕ
+abbrev pub both_shown : Core → TableCore → List Receipts → Core → TableCore → List Receipts →
+    List ℕ
 both_shown bus tables lists other_bus other_tables other_lists =
     codes "side 1\n" ++ part_shown Whole bus tables lists ++ codes "side 2\n" ++
     part_shown Whole other_bus other_tables other_lists

@@ -221,7 +221,8 @@ pub data Runs (how : Way) (result : HostStatus) (fed fed' : Fed) (old new : Made
       Runs how result fed fed' old new
   -- the source failed
   SourceFailed : result ≡ status.ReadFault → Rose fed.faults fed'.faults →
-      IsPartRead most_input fed.left fed'.left → MakesNothing old new → Runs how result fed fed' old new
+      IsPartRead most_input fed.left fed'.left → MakesNothing old new →
+      Runs how result fed fed' old new
   -- no memory for the input, of which nothing was read
   NoRoom : result ≡ status.NoMemory → fed' ≡ fed → MakesNothing old new →
       Runs how result fed fed' old new

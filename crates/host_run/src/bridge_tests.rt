@@ -1,5 +1,5 @@
-//! The top call on `bridge`: a message that goes over, at a gate that holds both sides to one order;
-//! a plan without routes; and plans that are none.
+//! The top call on `bridge`: a message that goes over, at a gate that holds both sides to one
+//! order; a plan without routes; and plans that are none.
 
 use crate::audit::NoAudit;
 use crate::mem_audit::MemAudit;

@@ -23,7 +23,8 @@ use app_run::{Finished, Regions};
 use app_script::{ReadFail, Script, read_script};
 use bus_words::ReceiptList;
 use fsw_base::{
-    FaultKind, Gate, MAX_SCRIPT_BYTES, ScriptFault, Sink, SinkGuard, Source, SourceGuard, WriteFault,
+    FaultKind, Gate, MAX_SCRIPT_BYTES, ScriptFault, Sink, SinkGuard, Source, SourceGuard,
+    WriteFault,
 };
 use sb_bridge::{BridgePlan, Bridged, MAX_PLAN_BYTES, read_plan, run_bridge};
 use sb_calls::BusCore;
@@ -56,10 +57,10 @@ struct Means<'a, R, G> {
 /// threads and without the gate. On `gen N` it reads nothing, and writes the generated script of
 /// number N. On `soak N` it reads nothing, runs that script as `lockstep` would, shows both to the
 /// audit, and writes the end of the report, from its line `counters` on. N is in decimal, with no
-/// needless 0 before it, at most 4294967295. On `bridge` it reads a plan from the source to its end,
-/// runs the scripts of both sides, each application on a thread of its own, with a bridge between
-/// the two buses, shows the services of side 1 and then those of side 2 to the audit, and writes
-/// `side 1`, the report of side 1, `side 2` and the report of side 2; this may wait.
+/// needless 0 before it, at most 4294967295. On `bridge` it reads a plan from the source to its
+/// end, runs the scripts of both sides, each application on a thread of its own, with a bridge
+/// between the two buses, shows the services of side 1 and then those of side 2 to the audit, and
+/// writes `side 1`, the report of side 1, `side 2` and the report of side 2; this may wait.
 ///
 /// - `Usage`, on all other words: nothing is read, and the usage line is written.
 /// - `Script`, where the input is no script, or is longer than 1,048,576 bytes; at most one byte

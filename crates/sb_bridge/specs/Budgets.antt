@@ -35,7 +35,8 @@ count_line c line = record {
 
 -- what the lines of one application more send
 abbrev pub count_app : Sends → Application → Sends
-count_app sends app = (fold count_line (record { account = no_calls; sends = sends }) app.lines).sends
+count_app sends app =
+    (fold count_line (record { account = no_calls; sends = sends }) app.lines).sends
 
 -- what a script's lines send: each of them may go over the bridge
 abbrev pub sends_of : ScriptText → Sends

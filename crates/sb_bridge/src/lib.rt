@@ -16,8 +16,8 @@
 //!     let plan = read_plan(alloc, text).ok()?;
 //!     let mut one = Regions::new(alloc, plan.script(1).config()).ok()?;
 //!     let mut two = Regions::new(alloc, plan.script(2).config()).ok()?;
-//!     let Bridged { one, two } = run_bridge(rt, alloc, &plan, &mut one, &mut two, &OpenGate).ok()?;
-//!     let entries = two.bus.journal().len();   // 7, with one send of the bridge and its end
+//!     let bridged = run_bridge(rt, alloc, &plan, &mut one, &mut two, &OpenGate).ok()?;
+//!     let entries = bridged.two.bus.journal().len();   // 6 or 7, with one send of the bridge and its end
 //!     Some(())
 //! }
 //! ```

@@ -31,14 +31,14 @@ pub struct BridgePlan {
 }
 
 impl Model for BridgePlan {
-    ghost use Rattle.sb_bridge.specs.Plan.{PlanText, IsPlan};
-    ghost use Rattle.sb_bridge.specs.Inside.{plan_in};
+    ghost use Rattle.sb_bridge.specs.Plan.{PlanText};
+    ghost use Rattle.sb_bridge.specs.Inside.{plan_in, KeepsPlan};
 
     ghost Value = { PlanText };
 
     ghost view = { plan_in };
 
-    ghost invariant = { λ p. IsPlan (plan_in p) };
+    ghost invariant = { KeepsPlan };
 }
 
 impl BridgePlan {

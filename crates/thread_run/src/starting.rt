@@ -93,9 +93,9 @@ fn run_in<'s, 'e, 'r, R: Threads + Wait + Sync, G: Gate>(
     Ok(dones)
 }
 
-/// Starts the applications that are left, each on a thread of the scope, that of the greatest number
-/// first; and once all are started, runs here those whose thread couldn't be started, in order of
-/// number.
+/// Starts the applications that are left, each on a thread of the scope, that of the greatest
+/// number first; and once all are started, runs here those whose thread couldn't be started, in
+/// order of number.
 pub fn begin_all<'s, 'e, 'r, R: Threads + Wait + Sync, G: Gate>(
     scope: &'s Scope<'s, &'e ()>,
     rt: &'e R,
