@@ -67,8 +67,8 @@ pub record ReportsBothFront (plan : PlanText) (old new : Made) : Type 0 where
   pub front : CutShort old.written new.written (both_reports plan one two)
   pub cause : Rose old.faults new.faults
 
--- what was made of a run of a plan that went through: both pairs of histories were shown, and a text
--- written
+-- what was made of a run of a plan that went through: both pairs of histories were shown, and a
+-- text written
 abbrev pub EndsBridged : HostStatus → Histories → Histories → List ℕ → Made → Made → Type 0
 EndsBridged status.Done one two text old new =
     Grew old.written new.written text × AreShown old.shown new.shown one two

@@ -19,6 +19,10 @@ use Rattle.sb_bridge.specs.declared.bridge.BridgeEnds.{BridgeEnds}
 abbrev pub entries_left : PortView → ℕ
 entries_left port = (allowance_of (left_of port.seen.log) port.app).entries
 
+-- how many bytes
+abbrev pub bytes_left : PortView → ℕ
+bytes_left port = (allowance_of (left_of port.seen.log) port.app).bytes
+
 -- the messages that pipe p gave in the history that a port has seen
 abbrev pub given_in : Core → ℕ → List (List ℕ)
 given_in core p =

@@ -1,9 +1,9 @@
 //! The bridge, on its thread.
-ghost use Rattle.std.specs.Prelude.{◌≡◌, ℕ, ◌≤◌, ◌&&◌, nat_le, true, false, List, Some, is_some, IsTrue};
+ghost use Rattle.std.specs.Prelude.{◌≡◌, ℕ, ◌≤◌, ◌&&◌, nat_le, true, false, List, length, Some, is_some, IsTrue};
 ghost use Rattle.bus_words.specs.Bus.{Active, standing_of};
 ghost use Rattle.sb_calls.specs.Bags.{last_message};
 ghost use Rattle.sb_calls.specs.Core.{state_of};
-ghost use Rattle.sb_bridge.specs.Works.{entries_left, MayWait, TakesOne, TimesOut, Sends};
+ghost use Rattle.sb_bridge.specs.Works.{bytes_left, entries_left, MayWait, TakesOne, TimesOut, Sends};
 
 use bus_service::{Bus, BusDone, BusPort};
 use sb_calls::Pended;
@@ -82,7 +82,7 @@ pub(crate) fn run_one<'e, 'r, R: Wait>(rt: &R, job: BridgeJob<'e, 'r>) -> Bridge
         mut to_tables,
     } = work;
     for _ in rt.forever() {
-        let goes_on = has_entries(&from, &to)
+        let goes_on = has_entries(&from)
             && take_next(rt, one.bus, &mut from, pipe)
             && forward(rt, &from, pipe, two.bus, &mut to);
         if !goes_on {
@@ -101,13 +101,22 @@ pub(crate) fn run_one<'e, 'r, R: Wait>(rt: &R, job: BridgeJob<'e, 'r>) -> Bridge
     unreachable!()
 }
 
-// Whether the budgets have entries for a wait, a look and the end on side 1, and for a send and the
-// end on side 2. They do: there are no more messages than the lines of side 1 send. A port can't
-// know that, since it sees what others may add and not what their lines do.
-fn has_entries(from: &BusPort<'_>, to: &BusPort<'_>) -> bool
-    ensures { result ≡ (nat_le 3 (entries_left from.now) && nat_le 2 (entries_left to.now)) }
+// Whether the budget of side 1 has entries for a wait, a look and the end. It has: there are no more
+// messages than the lines of side 1 send. A port can't know that, since it sees what others may add
+// and not what their lines do.
+fn has_entries(from: &BusPort<'_>) -> bool
+    ensures { result ≡ nat_le 3 (entries_left from.now) }
 {
-    3 <= from.entries_left() && 2 <= to.entries_left()
+    3 <= from.entries_left()
+}
+
+// Whether the budget of side 2 has entries for a send and the end, and the message's bytes. It has,
+// for the same reason.
+fn has_room(to: &BusPort<'_>, message: &[u8]) -> bool
+    ensures { result ≡ (nat_le 2 (entries_left to.now) &&
+        nat_le (length message.now) (bytes_left to.now)) }
+{
+    2 <= to.entries_left() && message.len() <= to.bytes_left() as usize
 }
 
 // Takes the next message from the bridge's pipe, which is then the pipe's last, and waits for it;
@@ -141,8 +150,8 @@ fn look_on<'r, R: Wait>(rt: &R, bus: &Bus<'r>, from: &mut BusPort<'r>) -> bool {
 }
 
 // Sends the pipe's last message on side 2, with the count that it has. A refusal stands in the
-// history there, and the message is not sent again. False where the budget has not so many bytes,
-// and nothing is sent; it has them, for the same reason.
+// history there, and the message is not sent again. False where the budget has no room for it, and
+// nothing is sent.
 fn forward<'r, R: Wait>(
     rt: &R,
     from: &BusPort<'r>,
@@ -152,7 +161,6 @@ fn forward<'r, R: Wait>(
 ) -> bool
     requires bus { to.old.lock ≡ bus.now }
     requires active { standing_of (state_of to.old.seen) to.old.app ≡ Active }
-    requires entries { 2 ≤ entries_left to.old }
     requires some { is_some (last_message (state_of from.now.seen) from.now.app pipe) ≡ true }
     ensures sent { IsTrue result → (message : List ℕ) →
         last_message (state_of from.now.seen) from.now.app pipe ≡ Some message →
@@ -161,7 +169,7 @@ fn forward<'r, R: Wait>(
 {
     match from.last(pipe) {
         Some(message) => {
-            let fits = message.len() <= to.bytes_left() as usize;
+            let fits = has_room(to, message);
             if fits {
                 let _ = to.transmit(bus, rt, message, false);
             }

@@ -17,7 +17,7 @@
 //!     let mut one = Regions::new(alloc, plan.script(1).config()).ok()?;
 //!     let mut two = Regions::new(alloc, plan.script(2).config()).ok()?;
 //!     let bridged = run_bridge(rt, alloc, &plan, &mut one, &mut two, &OpenGate).ok()?;
-//!     let entries = bridged.two.bus.journal().len();   // 6 or 7, with one send of the bridge and its end
+//!     let entries = bridged.two.bus.journal().len();   // 6 or 7: B waits, or the message does
 //!     Some(())
 //! }
 //! ```
