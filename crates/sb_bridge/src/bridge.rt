@@ -101,9 +101,9 @@ pub(crate) fn run_one<'e, 'r, R: Wait>(rt: &R, job: BridgeJob<'e, 'r>) -> Bridge
     unreachable!()
 }
 
-// Whether the budget of side 1 has entries for a wait, a look and the end. It has: there are no more
-// messages than the lines of side 1 send. A port can't know that, since it sees what others may add
-// and not what their lines do.
+// Whether the budget of side 1 has entries for a wait, a look and the end. It has: there are no
+// more messages than the lines of side 1 send. A port can't know that, since it sees what others
+// may add and not what their lines do.
 fn has_entries(from: &BusPort<'_>) -> bool
     ensures { result ≡ nat_le 3 (entries_left from.now) }
 {
