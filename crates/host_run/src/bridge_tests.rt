@@ -90,8 +90,13 @@ fn message_goes_over_the_bridge(rt: HostRuntime) -> Result<(), Fail> {
     assert!(rt; text.starts_with(b"side 1\nfsw 1\nbus\n1 a2 create 256 BRIDGE -> CFE_SUCCESS 1\n"));
     assert!(rt; has(text, b" a1 send 8 235 inc -> CFE_SUCCESS 1 1\n"));
     assert!(rt; has(text, b" a2 send 8 236 keep -> CFE_SUCCESS 1 1\n"));
-    assert!(rt; has(text, b"\nreceipts\n\
-        a1 msg p1 n1 id=0x0801 seq=1 size=8 sum=236 head=0801c00100011011\nevents\n"));
+    assert!(rt;
+        has(
+            text,
+            b"\nreceipts\n\
+        a1 msg p1 n1 id=0x0801 seq=1 size=8 sum=236 head=0801c00100011011\nevents\n"
+        )
+    );
     Ok(())
 }
 
@@ -143,7 +148,11 @@ fn plans_are_refused_by_their_first_fault(rt: HostRuntime) -> Result<(), Fail> {
         (b"---\n---\napp B\n", 0, FaultKind::NoApp),
         (b"---\nroute 1 1\n---\napp B\n", 2, FaultKind::UnknownWord),
         (b"---\napp A\n---\napp B\n---\n", 5, FaultKind::UnknownWord),
-        (b"route 0 1\n---\napp A\n---\napp B\n", 1, FaultKind::OutOfRange),
+        (
+            b"route 0 1\n---\napp A\n---\napp B\n",
+            1,
+            FaultKind::OutOfRange,
+        ),
     ];
     for (input, line, kind) in &cases {
         let mut source = MemSource::new(input, 1000, &[]);

@@ -28,11 +28,7 @@ pub enum Reading {
 ///
 /// By the code, memory is taken once, before the first read. No read through this guard may have
 /// failed before.
-pub fn read_all<S: Source>(
-    alloc: Global,
-    source: &mut SourceGuard<'_, S>,
-    most: usize,
-) -> Reading
+pub fn read_all<S: Source>(alloc: Global, source: &mut SourceGuard<'_, S>, most: usize) -> Reading
     requires none_failed { source.old.failed ≡ false }
     requires few { most < 2 ^ 32 }
     ensures bytes { ReadsAll most result source.old.left source.new.left }

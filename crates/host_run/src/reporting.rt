@@ -83,9 +83,21 @@ pub fn write_both<K: Sink>(
     ensures same_sink { sink.new.sink ≡ sink.old.sink }
 {
     write_text(sink, b"side 1\n")?;
-    write_part(&one.bus, &one.tables, one.receipts.as_slice(), Part::Whole, sink)?;
+    write_part(
+        &one.bus,
+        &one.tables,
+        one.receipts.as_slice(),
+        Part::Whole,
+        sink,
+    )?;
     write_text(sink, b"side 2\n")?;
-    write_part(&two.bus, &two.tables, two.receipts.as_slice(), Part::Whole, sink)
+    write_part(
+        &two.bus,
+        &two.tables,
+        two.receipts.as_slice(),
+        Part::Whole,
+        sink,
+    )
 }
 
 // What a report shows of a bus.

@@ -341,8 +341,7 @@ fn serve_plan<R: Threads + Wait + Sync, G: Gate, K: Sink, A: Audit>(
     let Ok(mut two) = Regions::new(means.alloc, plan.script(2).config()) else {
         return HostStatus::NoMemory;
     };
-    let Ok(bridged) = run_bridge(means.rt, means.alloc, plan, &mut one, &mut two, means.gate)
-    else {
+    let Ok(bridged) = run_bridge(means.rt, means.alloc, plan, &mut one, &mut two, means.gate) else {
         return HostStatus::NoMemory;
     };
     tell_bridged(&bridged, sink, audit)

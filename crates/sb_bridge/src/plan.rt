@@ -45,11 +45,7 @@ impl BridgePlan {
     ghost use Rattle.sb_bridge.specs.Plan.{IsPlan};
 
     /// The plan of these routes and scripts.
-    pub(crate) fn new(
-        routes: ArrayVec<Route, MAX_ROUTES>,
-        one: Script,
-        two: Script,
-    ) -> BridgePlan
+    pub(crate) fn new(routes: ArrayVec<Route, MAX_ROUTES>, one: Script, two: Script) -> BridgePlan
         requires { IsPlan (record { routes = routes.items; one = one; two = two }) }
         ensures { result ≡ record { routes = routes.items; one = one.entry; two = two.entry } }
     {

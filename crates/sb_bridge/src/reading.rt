@@ -12,10 +12,10 @@ use crate::plan::{BridgePlan, MAX_ROUTES, Route};
 use app_script::{ByteText, ReadFail, Reading, located_failure};
 use arrayvec::ArrayVec;
 use fsw_base::{FaultKind, MAX_SCRIPT_BYTES, ScriptFault};
+use script_words::LineFail;
 use script_words::counts::two;
 use script_words::numbers::{number, short_within, within};
 use script_words::text::{are_plain, first_line, first_word, is_same, is_text};
-use script_words::LineFail;
 use std::alloc::Global;
 
 /// How many bytes a plan's text may have.
@@ -57,10 +57,7 @@ fn has_route(routes: &[Route], id: u16) -> bool
 }
 
 // One route more.
-fn add_route(
-    routes: &mut ArrayVec<Route, MAX_ROUTES>,
-    route: Route,
-) -> Result<(), FaultKind>
+fn add_route(routes: &mut ArrayVec<Route, MAX_ROUTES>, route: Route) -> Result<(), FaultKind>
     ensures { AddsRoutes result routes.new.items (after_route routes.old.items route) }
 {
     if routes.len() >= MAX_ROUTES {
@@ -126,12 +123,7 @@ fn read_routes(
 }
 
 // The next line of a side's script.
-fn side_line(
-    alloc: Global,
-    reading: &mut Reading,
-    line: &[u8],
-    plain: bool,
-) -> Result<(), LineFail>
+fn side_line(alloc: Global, reading: &mut Reading, line: &[u8], plain: bool) -> Result<(), LineFail>
     requires { IsTrue plain → IsTrue (list_all is_text line.now) }
     ensures { Moves result reading.new (after_side_line reading.old line.now) }
 {

@@ -248,15 +248,10 @@ fn run_open<'r, R: Threads + Wait + Sync, G: Gate>(
 }
 
 // Runs all to their ends.
-fn run_all<'e, 'r, R: Threads + Wait + Sync, G: Gate>(
-    rt: &R,
-    jobs: Jobs<'e, 'r, R, G>,
-) -> Through {
-    thread::scope(
-        thread::scope_env(),
-        rt,
-        move |scope| -> Through { run_in(scope, jobs) },
-    )
+fn run_all<'e, 'r, R: Threads + Wait + Sync, G: Gate>(rt: &R, jobs: Jobs<'e, 'r, R, G>) -> Through {
+    thread::scope(thread::scope_env(), rt, move |scope| -> Through {
+        run_in(scope, jobs)
+    })
 }
 
 // The same, in a scope of threads: the bridge is started first, then side 1, then side 2.
@@ -276,8 +271,7 @@ fn run_in<'s, 'e, 'r, R: Threads + Wait + Sync, G: Gate>(
         two: bridge.two,
         pipe: bridge.work.pipe,
     };
-    let start: Result<_, _> =
-        scope.spawn_with(ends, move || -> BridgeDone { run_one(rt, bridge) });
+    let start: Result<_, _> = scope.spawn_with(ends, move || -> BridgeDone { run_one(rt, bridge) });
     begin_all(scope, rt, gate, one.shared, &mut one.works, &mut one.begun);
     begin_all(scope, rt, gate, two.shared, &mut two.works, &mut two.begun);
     let bridge = match start {
