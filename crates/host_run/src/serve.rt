@@ -1,17 +1,18 @@
 //! The top call: all that the program does.
-ghost use Rattle.std.specs.Prelude.{◌≡◌, ◌≤◌, ◌⊎◌, ℕ, Some, None, true, false};
+ghost use Rattle.std.specs.Prelude.{◌≡◌, ◌≤◌, ◌⊎◌, ℕ, List, length, Some, None, true, false};
 ghost use Rattle.app_run.specs.Openings.{HaveRoom};
 ghost use Rattle.app_run.specs.Runners.{histories_of};
 ghost use Rattle.app_script.specs.Grammar.{grammar};
 ghost use Rattle.script_generate.specs.Generated.{generated};
 ghost use Rattle.script_printing.specs.ScriptSpelling.{spelled_script};
 ghost use Rattle.host_run.specs.Audit.{GuardedAudit};
-ghost use Rattle.host_run.specs.Serve.{Headline, Runs, Generates, Soaks, OtherWords, Serves, HasCauses, Completes, CompletesUnread, fed_by, made_by, fed_through, made_through, EndsInput, EndsScript, EndsRun, EndsText, EndsRefused, EndsTelling, part_shown, usage_text};
+ghost use Rattle.host_run.specs.Serve.{Headline, Runs, Generates, Soaks, Shows, Packs, OtherWords, Serves, HasCauses, Completes, CompletesImage, CompletesPack, CompletesUnread, fed_by, made_by, fed_through, made_through, EndsInput, EndsScript, EndsRun, EndsText, EndsRefused, EndsTelling, part_shown, usage_text};
 ghost use Rattle.host_run.specs.Status.{is_read_fault, is_write_fault};
 ghost use Rattle.host_run.specs.Words.{task_of};
 
 use crate::audit::{Audit, AuditGuard};
 use crate::fault_line::write_fault;
+use crate::images::{Head, pack, show_image};
 use crate::reading::{Reading, read_all};
 use crate::reporting::{Part, write_part};
 use crate::running::{Way, run_script_by};
@@ -20,7 +21,7 @@ use crate::words::{Task, Words};
 use app_run::{Finished, Regions};
 use app_script::{ReadFail, Script, read_script};
 use bus_words::ReceiptList;
-use fsw_base::{FaultKind, Gate, ScriptFault, Sink, SinkGuard, Source, SourceGuard, WriteFault};
+use fsw_base::{FaultKind, Gate, MAX_SCRIPT_BYTES, ScriptFault, Sink, SinkGuard, Source, SourceGuard, WriteFault};
 use sb_calls::BusCore;
 use script_generate::generate;
 use script_printing::print_script;
@@ -51,7 +52,10 @@ struct Means<'a, R, G> {
 /// threads and without the gate. On `gen N` it reads nothing, and writes the generated script of
 /// number N. On `soak N` it reads nothing, runs that script as `lockstep` would, shows both to the
 /// audit, and writes the end of the report, from its line `counters` on. N is in decimal, with no
-/// needless 0 before it, at most 4294967295.
+/// needless 0 before it, at most 4294967295. On `image` it reads a table image to its end, and writes
+/// `name=NAME offset=N size=N sum=N sub=N`. On `pack NAME OFFSET SUB` it reads a table's bytes, and
+/// writes the image of them with this name, of 1 to 39 visible ASCII characters, and with these
+/// numbers, which are spelled like N.
 ///
 /// - `Usage`, on all other words: nothing is read, and the usage line is written.
 /// - `Script`, where the input is no script, or is longer than 1,048,576 bytes; at most one byte
@@ -62,6 +66,9 @@ struct Means<'a, R, G> {
 /// - `WriteFault`, only where the sink's count of faults rose, or stands at its last value: a front
 ///   of the text due is written.
 /// - `NoMemory`, never on other words: nothing is written; by the code, no application ran.
+///
+/// - `Image`, on `image` where the input is no table image, and on `pack` where it has no byte; on
+///   both where it has more than 1,048,576 bytes of a table. The line of the fault is written.
 ///
 /// On `gen N` and `soak N` no answer but `Done`, `WriteFault` and `NoMemory` comes.
 pub fn serve<R: Threads + Wait + Sync, S: Source, K: Sink, G: Gate, A: Audit>(
@@ -103,6 +110,15 @@ pub fn serve<R: Threads + Wait + Sync, S: Source, K: Sink, G: Gate, A: Audit>(
         (fed_by S.left S.faults source.old) (fed_by S.left S.faults source.new)
         (made_by K.written K.faults A.shown sink.old audit.old)
         (made_by K.written K.faults A.shown sink.new audit.new) }
+    ensures shows { task_of words.now ≡ Some Task.ShowImage → Shows result
+        (fed_by S.left S.faults source.old) (fed_by S.left S.faults source.new)
+        (made_by K.written K.faults A.shown sink.old audit.old)
+        (made_by K.written K.faults A.shown sink.new audit.new) }
+    ensures packs { (name : List ℕ) (offset sub : ℕ) →
+        task_of words.now ≡ Some (Task.Pack name offset sub) → Packs result name offset sub
+        (fed_by S.left S.faults source.old) (fed_by S.left S.faults source.new)
+        (made_by K.written K.faults A.shown sink.old audit.old)
+        (made_by K.written K.faults A.shown sink.new audit.new) }
     ensures other_words { task_of words.now ≡ None → OtherWords result
         (fed_by S.left S.faults source.old) (fed_by S.left S.faults source.new)
         (made_by K.written K.faults A.shown sink.old audit.old)
@@ -129,6 +145,15 @@ pub fn serve<R: Threads + Wait + Sync, S: Source, K: Sink, G: Gate, A: Audit>(
         (made_by K.written K.faults A.shown sink.new audit.new) }
     ensures complete_soaks { (number : ℕ) → task_of words.now ≡ Some (Task.Soak number) →
         CompletesUnread result
+        (made_by K.written K.faults A.shown sink.old audit.old)
+        (made_by K.written K.faults A.shown sink.new audit.new) }
+    ensures complete_shows { task_of words.now ≡ Some Task.ShowImage → CompletesImage result
+        (fed_by S.left S.faults source.old) (fed_by S.left S.faults source.new)
+        (made_by K.written K.faults A.shown sink.old audit.old)
+        (made_by K.written K.faults A.shown sink.new audit.new) }
+    ensures complete_packs { (name : List ℕ) (offset sub : ℕ) →
+        task_of words.now ≡ Some (Task.Pack name offset sub) → CompletesPack result
+        (fed_by S.left S.faults source.old) (fed_by S.left S.faults source.new)
         (made_by K.written K.faults A.shown sink.old audit.old)
         (made_by K.written K.faults A.shown sink.new audit.new) }
 {
@@ -185,6 +210,15 @@ fn serve_words<R: Threads + Wait + Sync, G: Gate, S: Source, K: Sink, A: Audit>(
         Some(Task::Lockstep) => serve_source(means, Way::Rotating, source, sink, audit),
         Some(Task::Generate(number)) => write_generated(means.alloc, number, sink),
         Some(Task::Soak(number)) => soak(means, number, sink, audit),
+        Some(Task::ShowImage) => show_image(means.alloc, source, sink),
+        Some(Task::Pack { name, offset, sub }) => {
+            let head = Head {
+                name: name.as_slice(),
+                offset,
+                sub,
+            };
+            pack(means.alloc, &head, source, sink)
+        }
         None => tell_usage(sink),
     }
 }
@@ -208,7 +242,7 @@ fn serve_source<R: Threads + Wait + Sync, G: Gate, S: Source, K: Sink, A: Audit>
     ensures same_sink { sink.new.sink ≡ sink.old.sink }
     ensures same_audit { audit.new.audit ≡ audit.old.audit }
 {
-    match read_all(means.alloc, source) {
+    match read_all(means.alloc, MAX_SCRIPT_BYTES, source) {
         Reading::Whole(text) => serve_text(means, way, &text, sink, audit),
         Reading::TooLarge => refuse(sink, TOO_LARGE),
         Reading::Fault => HostStatus::ReadFault,
@@ -389,7 +423,7 @@ fn tell_usage<K: Sink>(sink: &mut SinkGuard<'_, K>) -> HostStatus
     ensures no_read_fault { is_read_fault result ≡ false }
     ensures same_sink { sink.new.sink ≡ sink.old.sink }
 {
-    match write_text(sink, b"usage: run | lockstep | gen N | soak N\n") {
+    match write_text(sink, b"usage: run | lockstep | gen N | soak N | image | pack NAME OFFSET SUB\n") {
         Ok(()) => HostStatus::Usage,
         Err(WriteFault) => HostStatus::WriteFault,
     }

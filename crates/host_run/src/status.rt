@@ -3,6 +3,7 @@ ghost use Rattle.std.specs.Prelude.{◌≡◌};
 ghost use Rattle.host_run.specs.Status.{exit_status};
 
 use fsw_base::ScriptFault;
+use tbl_file::ImageFault;
 
 /// How a run ended.
 #[derive(Clone, Copy, Debug, PartialEq, Eq)]
@@ -19,6 +20,8 @@ pub enum HostStatus {
     WriteFault,
     /// There was no memory; nothing was written, and, by the code, no application ran.
     NoMemory,
+    /// The input is no table image, or no table that one can have; the fault was written.
+    Image(ImageFault),
 }
 
 impl HostStatus {
@@ -33,6 +36,7 @@ impl HostStatus {
             HostStatus::ReadFault => 4,
             HostStatus::WriteFault => 5,
             HostStatus::NoMemory => 6,
+            HostStatus::Image(_) => 8,
         }
     }
 }

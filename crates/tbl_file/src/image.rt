@@ -1,4 +1,6 @@
 //! An image, and why bytes are none.
+ghost use Rattle.std.specs.Prelude.{◌≡◌};
+ghost use Rattle.tbl_file.specs.FaultNames.{image_fault_name};
 
 /// The bytes of both headers, behind which the table's bytes follow.
 pub const HEADER_BYTES: usize = 116;
@@ -77,4 +79,20 @@ pub enum ImageFault {
         /// The number of bytes that there are.
         given: u32,
     },
+}
+
+impl ImageFault {
+    /// Its name, without its numbers.
+    pub fn name(self) -> &'static str
+        ensures { result.now ≡ image_fault_name self }
+    {
+        match self {
+            ImageFault::TooLarge => "TooLarge",
+            ImageFault::Short => "Short",
+            ImageFault::NotCfe(_) => "NotCfe",
+            ImageFault::BadName => "BadName",
+            ImageFault::Empty => "Empty",
+            ImageFault::Size { .. } => "Size",
+        }
+    }
 }

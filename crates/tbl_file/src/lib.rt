@@ -21,5 +21,5 @@ mod writing;
 
 pub use image::{HEADER_BYTES, Image, ImageFault};
 pub use laws::images_have_no_fault;
-pub use reading::read_image;
+pub use reading::{is_table_name, read_image};
 pub use writing::write_image;
