@@ -6,6 +6,8 @@
 mod audit;
 mod fault_line;
 mod images;
+#[cfg(test)]
+mod image_tests;
 mod mem_audit;
 #[cfg(test)]
 mod pool_tests;

@@ -37,6 +37,9 @@ const TOO_LARGE: ScriptFault = ScriptFault {
     kind: FaultKind::TooLarge,
 };
 
+// Which words the program knows: each of their forms, as `Words::task` reads them.
+const USAGE: &[u8] = b"usage: run | lockstep | gen N | soak N | image | pack NAME OFFSET SUB\n";
+
 // By what the program runs: its runtime, its memory and the gate round the lines of scripts.
 #[derive(Drop)]
 struct Means<'a, R, G> {
@@ -423,7 +426,7 @@ fn tell_usage<K: Sink>(sink: &mut SinkGuard<'_, K>) -> HostStatus
     ensures no_read_fault { is_read_fault result ≡ false }
     ensures same_sink { sink.new.sink ≡ sink.old.sink }
 {
-    match write_text(sink, b"usage: run | lockstep | gen N | soak N | image | pack NAME OFFSET SUB\n") {
+    match write_text(sink, USAGE) {
         Ok(()) => HostStatus::Usage,
         Err(WriteFault) => HostStatus::WriteFault,
     }
