@@ -1,4 +1,4 @@
-use Rattle.host_run.proofs.Ends.{causes-task, completes-runs, ends-other, headline-runs, script-done, text-done}
+use Rattle.host_run.proofs.Ends.{causes-task, completes-runs, completes-shows, completes-packs, ends-other, headline-runs, script-done, text-done}
 use Rattle.host_run.proofs.serve.serve.Goals as goal
 
 pub returns-clause-on_threads : goal.returns-clause-on_threads
@@ -12,6 +12,18 @@ returns-clause-generates g c = c.serve_guarded.ensures.generates
 
 pub returns-clause-soaks : goal.returns-clause-soaks
 returns-clause-soaks g c = c.serve_guarded.ensures.soaks
+
+pub returns-clause-shows : goal.returns-clause-shows
+returns-clause-shows g c = c.serve_guarded.ensures.shows
+
+pub returns-clause-packs : goal.returns-clause-packs
+returns-clause-packs g c = c.serve_guarded.ensures.packs
+
+pub returns-clause-complete_shows : goal.returns-clause-complete_shows
+returns-clause-complete_shows g c = λ words. completes-shows _ _ _ _ _ (c.serve_guarded.ensures.shows words)
+
+pub returns-clause-complete_packs : goal.returns-clause-complete_packs
+returns-clause-complete_packs g c = λ name offset sub words. completes-packs _ name offset sub _ _ _ _ (c.serve_guarded.ensures.packs name offset sub words)
 
 pub returns-clause-other_words : goal.returns-clause-other_words
 returns-clause-other_words g c = c.serve_guarded.ensures.other_words
