@@ -86,8 +86,8 @@ pub record IsText (text : List ℕ) (script : ScriptText) : Type 0 where
   -- a text of plain lines
   pub size : length text ≤ 1048576
   pub plain : IsTrue (list_all is_plain (lines_of text))
-  -- its lines, without those that are skipped, tell a script in this order; the line of a table file
-  -- tells two calls, and counts as them
+  -- its lines, without those that are skipped, tell a script in this order; the line of a table
+  -- file tells two calls, and counts as them
   pub version : Option ℕ
   pub settings : List Setting
   pub order : told_by (version_in version) (told_among (lines_of text)) ≡

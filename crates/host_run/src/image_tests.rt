@@ -23,7 +23,7 @@ const PACKED: [u8; 120] = [
 ];
 
 // How the program ends on these words over this input, and what it writes.
-fn ended<R: Threads + Wait + Sync>(
+fn end_on<R: Threads + Wait + Sync>(
     rt: &R,
     alloc: Global,
     words: &[&str],
@@ -37,7 +37,7 @@ fn ended<R: Threads + Wait + Sync>(
 
 #[test]
 fn an_image_is_shown(rt: HostRuntime) -> Result<(), Fail> {
-    let (status, sink) = ended(&rt, rt.alloc(), &["image"], &PACKED)?;
+    let (status, sink) = end_on(&rt, rt.alloc(), &["image"], &PACKED)?;
     assert_eq!(rt; status, HostStatus::Done);
     let line = b"name=A.T offset=0 size=4 sum=10 sub=8\n";
     assert_eq!(rt; sink.written(), line.as_slice());
@@ -46,7 +46,7 @@ fn an_image_is_shown(rt: HostRuntime) -> Result<(), Fail> {
 
 #[test]
 fn an_image_is_packed(rt: HostRuntime) -> Result<(), Fail> {
-    let (status, sink) = ended(&rt, rt.alloc(), &["pack", "A.T", "0", "8"], &[1, 2, 3, 4])?;
+    let (status, sink) = end_on(&rt, rt.alloc(), &["pack", "A.T", "0", "8"], &[1, 2, 3, 4])?;
     assert_eq!(rt; status, HostStatus::Done);
     assert_eq!(rt; sink.written(), PACKED.as_slice());
     Ok(())
@@ -64,12 +64,12 @@ fn faults_of_images_are_told(rt: HostRuntime) -> Result<(), Fail> {
         ),
     ];
     for (len, fault, line) in &cases {
-        let (status, sink) = ended(&rt, rt.alloc(), &["image"], &PACKED[..*len])?;
+        let (status, sink) = end_on(&rt, rt.alloc(), &["image"], &PACKED[..*len])?;
         assert_eq!(rt; status, HostStatus::Image(*fault));
         assert_eq!(rt; status.exit_status(), 8);
         assert_eq!(rt; sink.written(), *line);
     }
-    let (status, sink) = ended(&rt, rt.alloc(), &["pack", "A.T", "0", "8"], &[])?;
+    let (status, sink) = end_on(&rt, rt.alloc(), &["pack", "A.T", "0", "8"], &[])?;
     assert_eq!(rt; status, HostStatus::Image(ImageFault::Empty));
     assert_eq!(rt; sink.written(), b"image:Empty\n".as_slice());
     Ok(())
@@ -78,13 +78,13 @@ fn faults_of_images_are_told(rt: HostRuntime) -> Result<(), Fail> {
 #[test]
 fn inputs_past_the_limit_are_refused(rt: HostRuntime) -> Result<(), Fail> {
     let long = vec![in rt.alloc(); 0; 1_048_693]?;
-    let (status, sink) = ended(&rt, rt.alloc(), &["image"], &long)?;
+    let (status, sink) = end_on(&rt, rt.alloc(), &["image"], &long)?;
     assert_eq!(rt; status, HostStatus::Image(ImageFault::TooLarge));
     assert_eq!(rt; sink.written(), b"image:TooLarge\n".as_slice());
-    let (status, _) = ended(&rt, rt.alloc(), &["image"], &long[..1_048_692])?;
+    let (status, _) = end_on(&rt, rt.alloc(), &["image"], &long[..1_048_692])?;
     assert_eq!(rt; status, HostStatus::Image(ImageFault::NotCfe(0)));
     let packing = ["pack", "A.T", "0", "8"];
-    let (status, _) = ended(&rt, rt.alloc(), &packing, &long[..1_048_577])?;
+    let (status, _) = end_on(&rt, rt.alloc(), &packing, &long[..1_048_577])?;
     assert_eq!(rt; status, HostStatus::Image(ImageFault::TooLarge));
     Ok(())
 }

@@ -12,7 +12,7 @@ use crate::reading::{Reading, read_all};
 use crate::status::HostStatus;
 use fsw_base::{Sink, SinkGuard, Source, SourceGuard, WriteFault, sum_of};
 use std::alloc::Global;
-use tbl_file::{HEADER_BYTES, Image, ImageFault, read_image, write_image};
+use tbl_file::{FILE_HEADER_BYTES, HEADER_BYTES, Image, ImageFault, read_image, write_image};
 use text_page::{Page, finish, put, put_number, write_text};
 
 // The most bytes of a table that `pack` takes: as many as a script has at most.
@@ -20,9 +20,6 @@ const MAX_TABLE: usize = fsw_base::MAX_SCRIPT_BYTES;
 
 // The most bytes of an image that `image` takes.
 const MAX_IMAGE: usize = MAX_TABLE + HEADER_BYTES;
-
-// The bytes of cFE's file header, which it says itself.
-const FILE_HEADER_BYTES: u32 = 64;
 
 /// What `pack` puts into the headers of an image, beside how many bytes the table has.
 #[derive(Drop)]
@@ -38,8 +35,8 @@ pub(crate) struct Head<'a> {
 /// Reads a table image of at most 1,048,692 bytes, and writes what it is:
 /// `name=NAME offset=N size=N sum=N sub=N`. By the code, memory is taken for the input alone.
 ///
-/// - `Image`, where the input is none; the fault's line is written. `TooLarge` is that it is longer;
-///   at most one byte more is read.
+/// - `Image`, where the input is none; the fault's line is written. `TooLarge` is that it is
+///   longer; at most one byte more is read.
 /// - `ReadFault`, `WriteFault` and `NoMemory` as in `serve`.
 pub(crate) fn show_image<S: Source, K: Sink>(
     alloc: Global,
@@ -124,9 +121,9 @@ fn write_shown<K: Sink>(
     finish(sink, &mut page)
 }
 
-/// Reads a table's bytes, at most 1,048,576, and writes the image of them with this name, offset and
-/// sub. Its length is 64, and all else is zero. By the code, memory is taken for the input, and for
-/// the image after it was read.
+/// Reads a table's bytes, at most 1,048,576, and writes the image of them with this name, offset
+/// and sub. Its length is 64, and all else is zero. By the code, memory is taken for the input, and
+/// for the image after it was read.
 ///
 /// - `Image`, where there is no byte (`Empty`) or more than these (`TooLarge`); the fault's line is
 ///   written.
@@ -195,7 +192,7 @@ fn fill_packed(head: &Head<'_>, bytes: &[u8], file: &mut [u8])
 {
     let image = Image {
         sub: head.sub,
-        length: FILE_HEADER_BYTES,
+        length: FILE_HEADER_BYTES as u32,
         spacecraft: 0,
         processor: 0,
         application: 0,

@@ -21,7 +21,9 @@ use crate::words::{Task, Words};
 use app_run::{Finished, Regions};
 use app_script::{ReadFail, Script, read_script};
 use bus_words::ReceiptList;
-use fsw_base::{FaultKind, Gate, MAX_SCRIPT_BYTES, ScriptFault, Sink, SinkGuard, Source, SourceGuard, WriteFault};
+use
+fsw_base::{FaultKind, Gate, MAX_SCRIPT_BYTES, ScriptFault, Sink, SinkGuard, Source, SourceGuard,
+WriteFault};
 use sb_calls::BusCore;
 use script_generate::generate;
 use script_printing::print_script;
@@ -55,10 +57,10 @@ struct Means<'a, R, G> {
 /// threads and without the gate. On `gen N` it reads nothing, and writes the generated script of
 /// number N. On `soak N` it reads nothing, runs that script as `lockstep` would, shows both to the
 /// audit, and writes the end of the report, from its line `counters` on. N is in decimal, with no
-/// needless 0 before it, at most 4294967295. On `image` it reads a table image to its end, and writes
-/// `name=NAME offset=N size=N sum=N sub=N`. On `pack NAME OFFSET SUB` it reads a table's bytes, and
-/// writes the image of them with this name, of 1 to 39 visible ASCII characters, and with these
-/// numbers, which are spelled like N.
+/// needless 0 before it, at most 4294967295. On `image` it reads a table image to its end, and
+/// writes `name=NAME offset=N size=N sum=N sub=N`. On `pack NAME OFFSET SUB` it reads a table's
+/// bytes, and writes the image of them with this name, of 1 to 39 visible ASCII characters, and
+/// with these numbers, which are spelled like N.
 ///
 /// - `Usage`, on all other words: nothing is read, and the usage line is written.
 /// - `Script`, where the input is no script, or is longer than 1,048,576 bytes; at most one byte

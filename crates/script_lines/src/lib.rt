@@ -22,8 +22,8 @@
 //! line (`call_line_of`), and then as that line; otherwise the answer is its first fault, unless
 //! memory runs out. `table_file`: the line of a table file is read as two call lines if and only if
 //! its words are those of one, with an image that a script can load (`tfile_of`).
-//! `read_lines_are_readable`, `read_files_are_readable`: each line that is read is one that a script
-//! can have, all within its ranges (`is_readable`).
+//! `read_lines_are_readable`, `read_files_are_readable`: each line that is read is one that a
+//! script can have, all within its ranges (`is_readable`).
 //!
 //! Tested: a `Line` takes at most 64 bytes; one line read.
 #![tactic(auto)]

@@ -14,8 +14,11 @@ pub(crate) const DESCRIPTION_AT: usize = 32;
 // The bytes of a description.
 const DESCRIPTION_BYTES: usize = 32;
 
+/// The bytes of the file header, which cFE writes into the field `length`.
+pub const FILE_HEADER_BYTES: usize = DESCRIPTION_AT + DESCRIPTION_BYTES;
+
 /// Where the header of the table begins.
-pub(crate) const TABLE_AT: usize = DESCRIPTION_AT + DESCRIPTION_BYTES;
+pub(crate) const TABLE_AT: usize = FILE_HEADER_BYTES;
 
 /// Where this header has the offset.
 pub(crate) const OFFSET_AT: usize = TABLE_AT + 4;
