@@ -21,9 +21,7 @@ use crate::words::{Task, Words};
 use app_run::{Finished, Regions};
 use app_script::{ReadFail, Script, read_script};
 use bus_words::ReceiptList;
-use
-fsw_base::{FaultKind, Gate, MAX_SCRIPT_BYTES, ScriptFault, Sink, SinkGuard, Source, SourceGuard,
-WriteFault};
+use fsw_base::{FaultKind, Gate, ScriptFault, Sink, SinkGuard, Source, SourceGuard, WriteFault};
 use sb_calls::BusCore;
 use script_generate::generate;
 use script_printing::print_script;
@@ -247,7 +245,7 @@ fn serve_source<R: Threads + Wait + Sync, G: Gate, S: Source, K: Sink, A: Audit>
     ensures same_sink { sink.new.sink ≡ sink.old.sink }
     ensures same_audit { audit.new.audit ≡ audit.old.audit }
 {
-    match read_all(means.alloc, MAX_SCRIPT_BYTES, source) {
+    match read_all(means.alloc, fsw_base::MAX_SCRIPT_BYTES, source) {
         Reading::Whole(text) => serve_text(means, way, &text, sink, audit),
         Reading::TooLarge => refuse(sink, TOO_LARGE),
         Reading::Fault => HostStatus::ReadFault,
