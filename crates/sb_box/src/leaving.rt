@@ -1,0 +1,41 @@
+//! The last call of an application.
+ghost use Rattle.std.specs.Prelude.{◌≡◌, ◌<◌, [], IfOk, OnErr};
+ghost use Rattle.std.specs.Result.{result_err};
+ghost use Rattle.bus_words.specs.declared.history.Call.TheVariants.{End};
+ghost use Rattle.bus_words.specs.declared.calls.BusAnswer.TheVariants.{Done};
+ghost use Rattle.sb_plain.specs.Core.{Acts};
+ghost use Rattle.sb_box.specs.Asked.{unasked_end};
+ghost use Rattle.sb_box.specs.Box.{KeepsOtherBags, bag_of};
+
+use crate::boxed::SbBox;
+use crate::refusal::Refusal;
+use bus_words::BusCall;
+use step_count::{Blank, Ledger, Steps};
+
+impl<'r> SbBox<'r> {
+    /// The application's last call, as [`PlainBus::end`]. It has sent or released its buffers
+    /// before.
+    ///
+    /// # Errors
+    /// A [`Refusal`] where the bus wasn't asked.
+    pub fn end<L: Ledger>(&mut self, app: u32, blank: Blank) -> Result<(), Refusal>
+        requires name { blank.name ≡ L.name }
+        requires parts { blank.parts ≡ L.parts }
+        requires some_part { 0 < blank.parts }
+        ensures unasked { result_err result ≡ unasked_end self.old app }
+        ensures nothing { OnErr result (self.new ≡ self.old) }
+        ensures does { IfOk result
+            (λ told. Acts self.old.core self.new.core app End Done) }
+        ensures others { KeepsOtherBags self.old self.new app }
+        ensures empty { IfOk result (λ told. (bag_of self.new app).views ≡ []) }
+    {
+        let caller = self.asks(app, &BusCall::End)?;
+        let bag = &mut self.bags[(caller.get() - 1) as usize];
+        if bag.buffer_count() > 0 {
+            return Err(Refusal::BufferOut);
+        }
+        let mut steps = Steps::<L>::new(blank);
+        self.core.end(caller, bag, &mut steps);
+        Ok(())
+    }
+}
