@@ -45,6 +45,6 @@ mod pool;
 pub use agreement::{agree, pool_and_plain};
 pub use blocks::{BlockNo, ClassStats, CutBlock, OVERHEAD};
 pub use calls::PoolCall;
-pub use laws::draws_take_room_one_by_one;
+pub use laws::{blocks_lie_apart, draws_take_room_one_by_one};
 pub use plain::PlainPool;
 pub use pool::Pool;

@@ -1,9 +1,10 @@
 //! The calls of pipes.
 ghost use Rattle.std.specs.Prelude.{◌≡◌, ◌<◌, ℕ, None, nat_lt, length, IfOk, OnErr};
+ghost use Rattle.std.specs.Option.{option_map};
 ghost use Rattle.std.specs.Result.{result_err};
 ghost use Rattle.bus_words.specs.declared.history.Call.TheVariants.{Create, Delete, SetOpts, GetOpts, Find, PipeName};
+ghost use Rattle.bus_words.specs.Bus.{pipe_at};
 ghost use Rattle.bus_words.specs.Machine.{refused_if};
-ghost use Rattle.buf_desc.specs.Held.{Holding};
 ghost use Rattle.sb_plain.specs.Core.{Acts};
 ghost use Rattle.sb_plain.specs.Answers.{created, done, found, bits_told, named};
 ghost use Rattle.sb_box.specs.Asked.{unasked};
@@ -111,6 +112,14 @@ impl<'r> SbBox<'r> {
             return Err(Refusal::TooLong);
         }
         Ok(self.core.find_pipe(name))
+    }
+
+    /// How many messages wait on any live pipe, as [`PlainBus::waiting`].
+    pub fn waiting(&self, pipe: u32) -> Option<u32>
+        ensures { result ≡
+            option_map (λ it. length it.queue) (pipe_at self.now.core.whole.bus.pipes pipe) }
+    {
+        self.core.waiting(pipe)
     }
 
     /// Answers the name of any pipe, as [`PlainBus::pipe_name`].

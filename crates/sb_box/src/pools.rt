@@ -1,15 +1,17 @@
 //! The calls of memory pools.
-ghost use Rattle.std.specs.Prelude.{◌≡◌, ◌<◌, ℕ, false, Err, IfOk, OnErr, IsTrue};
+ghost use Rattle.std.specs.Prelude.{◌≡◌, ◌<◌, ◌≤◌, ◌+◌, ℕ, false, Err, Some, None, nat_lt, length, slice_index, is_some, IfOk, IfSome, OnErr, IsTrue, if◌then◌else◌};
 ghost use Rattle.std.specs.Result.{result_err};
 ghost use Rattle.bus_words.specs.declared.history.Call.TheVariants.{PoolCreate, PoolGet, PoolPut, PoolFigures};
-ghost use Rattle.pool_words.specs.Grants.{has_numbers};
+ghost use Rattle.pool_words.specs.Grants.{has_numbers, is_pool, pool_in, answer_in, put_answer};
 ghost use Rattle.sb_plain.specs.Core.{Acts};
 ghost use Rattle.sb_plain.specs.Answers.{pool_told, grant_back, figures_told};
 ghost use Rattle.sb_box.specs.Asked.{unasked};
 
 use crate::boxed::SbBox;
 use crate::refusal::Refusal;
+use app_pools::GrantBlock;
 use bus_words::BusCall;
+use es_pool::ClassStats;
 use fsw_base::{EsStatus, PoolStats};
 use step_count::{Blank, Ledger, Steps};
 
@@ -84,6 +86,41 @@ impl<'r> SbBox<'r> {
         let caller = self.asks_active(app)?;
         let mut steps = Steps::<L>::new(blank);
         Ok(self.core.pool_put(caller, pool, grant, &mut steps))
+    }
+
+    /// Where the block of a grant lies, as [`PlainBus::pool_block`].
+    ///
+    /// # Errors
+    /// Those of [`PlainBus::pool_block`].
+    pub fn pool_block(&self, pool: u32, grant: u64) -> Result<GrantBlock, EsStatus>
+        ensures refused { result_err result ≡
+            result_err (answer_in self.now.core.whole.bus.pools pool
+            (put_answer (pool_in self.now.core.whole.bus.pools pool) grant)) }
+        ensures within { IfOk result (λ block. block.offset + block.size ≤
+            (pool_in self.now.core.whole.bus.pools pool).account.bytes) }
+    {
+        self.core.pool_block(pool, grant)
+    }
+
+    /// The figures of a block size of a pool, by its place, from 0; None past the last.
+    ///
+    /// # Errors
+    /// `NoPool` where no pool of this number was created.
+    pub fn pool_class(&self, pool: u32, place: u32) -> Result<Option<ClassStats>, EsStatus>
+        ensures refused { result_err result ≡
+            (if is_pool self.now.core.whole.bus.pools pool then None else Some EsStatus.NoPool) }
+        ensures past { IfOk result (λ it. is_some it ≡ nat_lt place
+            (length (pool_in self.now.core.whole.bus.pools pool).account.sizes)) }
+        ensures size { IfOk result (λ it. IfSome it (λ class. class.size ≡
+            slice_index (pool_in self.now.core.whole.bus.pools pool).account.sizes place)) }
+    {
+        self.core.pool_stats(pool)?;
+        let it = self.core.app_pool(pool);
+        if place < it.classes() {
+            Ok(Some(it.class(place)))
+        } else {
+            Ok(None)
+        }
     }
 
     /// Answers a pool's figures, as [`PlainBus::pool_stats`].

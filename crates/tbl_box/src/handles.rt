@@ -1,8 +1,9 @@
 //! Handles: registrations, and handles that are given back.
-ghost use Rattle.std.specs.Prelude.{◌≡◌, ◌<◌, [], IfOk, OnErr};
+ghost use Rattle.std.specs.Prelude.{◌≡◌, ◌<◌, [], IfOk, OnErr, IsSomeAnd};
 ghost use Rattle.std.specs.Result.{result_err};
 ghost use Rattle.tbl_words.specs.declared.history.Call.TheVariants.{Register, Share, Unregister, Status, End};
 ghost use Rattle.tbl_words.specs.declared.calls.TblAnswer.TheVariants.{Done};
+ghost use Rattle.tbl_words.specs.Tables.{table_of};
 ghost use Rattle.tbl_plain.specs.Core.{Acts};
 ghost use Rattle.tbl_plain.specs.Answers.{registered, shared, plain_figures_told, done};
 ghost use Rattle.tbl_box.specs.Asked.{unasked};
@@ -11,7 +12,7 @@ ghost use Rattle.tbl_box.specs.Box.{KeepsOtherBags, bag_of};
 use crate::boxed::TblBox;
 use crate::refusal::Refusal;
 use step_count::{Blank, Ledger, Steps};
-use tbl_plain::PlainState;
+use tbl_plain::{PlainShape, PlainState};
 use tbl_rules::{Rule, RuleList};
 use tbl_words::{Registered, TblStatus};
 
@@ -98,6 +99,20 @@ impl<'r> TblBox<'r> {
     {
         let caller = self.asks(app, true)?;
         Ok(self.core.status(caller, handle))
+    }
+
+    /// What a table is, as [`PlainTables::shape`].
+    ///
+    /// # Errors
+    /// Those of [`PlainTables::shape`]; a [`Refusal`] where the tables weren't asked.
+    pub fn shape(&self, app: u32, handle: u32) -> Result<Result<PlainShape, TblStatus>, Refusal>
+        ensures unasked { result_err result ≡ unasked self.now.core app (Status handle) }
+        ensures shape { IfOk result (λ told. IfOk told (λ shape.
+            IsSomeAnd (table_of self.now.core.state handle)
+            (λ t. (shape.size ≡ t.size) × (shape.option ≡ t.option)))) }
+    {
+        let caller = self.asks(app, true)?;
+        Ok(self.core.shape(caller, handle))
     }
 
     /// The application's last call, as [`PlainTables::end`].

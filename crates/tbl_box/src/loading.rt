@@ -1,7 +1,10 @@
 //! Loads.
-ghost use Rattle.std.specs.Prelude.{◌≡◌, IfOk, OnErr};
+ghost use Rattle.std.specs.Prelude.{◌≡◌, Some, IfOk, OnErr, IsSomeAnd};
+ghost use Rattle.std.specs.Option.{option_map};
 ghost use Rattle.std.specs.Result.{result_err};
 ghost use Rattle.tbl_words.specs.declared.history.Call.TheVariants.{Stage, Validate, Update, Abort, Load};
+ghost use Rattle.tbl_words.specs.Machine.{cause};
+ghost use Rattle.tbl_words.specs.Tables.{table_of};
 ghost use Rattle.tbl_plain.specs.Core.{Acts, HasNextVersion, answer_behind_last};
 ghost use Rattle.tbl_plain.specs.Answers.{done};
 ghost use Rattle.tbl_box.specs.Asked.{unasked};
@@ -69,6 +72,22 @@ impl<'r> TblBox<'r> {
     {
         let caller = self.asks(app, true)?;
         Ok(self.core.update(caller, handle))
+    }
+
+    /// The staged value, as [`PlainTables::staged`]; it is read before the next call.
+    ///
+    /// # Errors
+    /// Those of [`PlainTables::staged`]; a [`Refusal`] where the tables weren't asked.
+    pub fn staged(&self, app: u32, handle: u32) -> Result<Result<&[u8], TblStatus>, Refusal>
+        ensures unasked { result_err result ≡ unasked self.now.core app (Abort handle) }
+        ensures refused { IfOk result (λ told. result_err told ≡
+            cause self.now.core.limits self.now.core.state app (Abort handle)) }
+        ensures value { IfOk result (λ told. IfOk told (λ bytes.
+            IsSomeAnd (table_of self.now.core.state handle)
+            (λ t. option_map (λ staged. staged.value) t.staged ≡ Some bytes.now))) }
+    {
+        let caller = self.asks(app, true)?;
+        Ok(self.core.staged(caller, handle))
     }
 
     /// Drops the staged value, as [`PlainTables::abort_load`].
