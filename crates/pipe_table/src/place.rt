@@ -167,7 +167,7 @@ impl Place {
     pub(crate) fn waiting(&self) -> Option<u32>
         ensures { result ≡ option_map (λ pipe. length pipe.queue) self.now.pipe }
     {
-        match self.label {
+        match &self.label {
             Some(_) => Some(self.queue.len()),
             None => None,
         }

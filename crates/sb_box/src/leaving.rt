@@ -13,6 +13,20 @@ use bus_words::BusCall;
 use step_count::{Blank, Ledger, Steps};
 
 impl<'r> SbBox<'r> {
+    /// Whether the application may end now.
+    ///
+    /// # Errors
+    /// A [`Refusal`] where it may not.
+    pub fn may_end(&self, app: u32) -> Result<(), Refusal>
+        ensures { result_err result ≡ unasked_end self.now app }
+    {
+        let caller = self.asks(app, &BusCall::End)?;
+        if self.bags[(caller.get() - 1) as usize].buffer_count() > 0 {
+            return Err(Refusal::BufferOut);
+        }
+        Ok(())
+    }
+
     /// The application's last call, as [`PlainBus::end`]. It has sent or released its buffers
     /// before.
     ///
@@ -29,11 +43,9 @@ impl<'r> SbBox<'r> {
         ensures others { KeepsOtherBags self.old self.new app }
         ensures empty { IfOk result (λ told. (bag_of self.new app).views ≡ []) }
     {
+        self.may_end(app)?;
         let caller = self.asks(app, &BusCall::End)?;
         let bag = &mut self.bags[(caller.get() - 1) as usize];
-        if bag.buffer_count() > 0 {
-            return Err(Refusal::BufferOut);
-        }
         let mut steps = Steps::<L>::new(blank);
         self.core.end(caller, bag, &mut steps);
         Ok(())

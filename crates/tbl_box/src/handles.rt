@@ -44,7 +44,10 @@ impl<'r> TblBox<'r> {
         let caller = self.asks_handle(app, list.is_some())?;
         let mut steps = Steps::<L>::new(blank);
         let few = list.unwrap();
-        Ok(self.core.register(caller, name, size, option, &few, &mut steps))
+        Ok(
+            self.core
+                .register(caller, name, size, option, &few, &mut steps),
+        )
     }
 
     /// Gives the application a handle, as [`PlainTables::share`].
