@@ -6,6 +6,8 @@ mod bytes;
 mod codes;
 mod counters;
 mod events;
+#[cfg(test)]
+mod exports_tests;
 mod handle;
 mod held;
 mod limits;
