@@ -1,5 +1,5 @@
 -- What a call did to the tables behind a handle, and which status it answered.
-use Rattle.std.specs.Prelude.{◌≡◌, ℕ, ⊥, Option, Some, None}
+use Rattle.std.specs.Prelude.{◌≡◌, ℕ, Option, Some, None}
 use Rattle.tbl_words.specs.declared.calls.TblAnswer.{TblAnswer}
 use Rattle.tbl_words.specs.declared.history.Call.{Call}
 use Rattle.tbl_plain.specs.Core.{Acts, answer_behind_last}

@@ -1,7 +1,6 @@
 //! Events.
 ghost use Rattle.std.specs.Prelude.{◌≡◌, ◌≢◌};
 ghost use Rattle.bus_words.specs.declared.history.Call.TheVariants.{Register, SendEvent, ResetFilter, LogMode, ClearLog};
-ghost use Rattle.bus_words.specs.declared.calls.BusAnswer.TheVariants.{Done};
 ghost use Rattle.sb_box.specs.Asked.{unasked, unasked_register, unasked_event, unasked_mode};
 ghost use Rattle.fsw_c.specs.Args.{kind_or_debug, pairs_in};
 ghost use Rattle.fsw_c.specs.Said.{Said};

@@ -1,6 +1,6 @@
 //! Messages.
 ghost use Rattle.std.specs.Prelude.{◌≡◌, ◌≢◌};
-ghost use Rattle.bus_words.specs.declared.history.Call.TheVariants.{Transmit, Receive, Pend, Look};
+ghost use Rattle.bus_words.specs.declared.history.Call.TheVariants.{Transmit, Receive, Pend};
 ghost use Rattle.bus_words.specs.declared.calls.BusAnswer.TheVariants.{Sent, Got};
 ghost use Rattle.sb_box.specs.Asked.{unasked, unasked_look};
 ghost use Rattle.fsw_c.specs.Said.{Said, SaidLook, Answered};

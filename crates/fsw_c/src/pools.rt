@@ -1,6 +1,6 @@
 //! Memory pools.
 ghost use Rattle.std.specs.Prelude.{◌≡◌, ◌≢◌};
-ghost use Rattle.bus_words.specs.declared.history.Call.TheVariants.{PoolCreate, PoolGet, PoolPut, PoolFigures};
+ghost use Rattle.bus_words.specs.declared.history.Call.TheVariants.{PoolCreate, PoolGet, PoolPut};
 ghost use Rattle.bus_words.specs.declared.calls.BusAnswer.TheVariants.{Number};
 ghost use Rattle.sb_box.specs.Asked.{unasked};
 ghost use Rattle.fsw_c.specs.Said.{Said, Answered};

@@ -1,6 +1,6 @@
 //! Tables.
 ghost use Rattle.std.specs.Prelude.{◌≡◌, ◌≢◌};
-ghost use Rattle.tbl_words.specs.declared.history.Call.TheVariants.{Register, Share, Unregister, Stage, Validate, Update, Abort, Load, GetAddress, ReleaseAddress, Status};
+ghost use Rattle.tbl_words.specs.declared.history.Call.TheVariants.{Register, Share, Unregister, Stage, Validate, Update, Abort, Load, GetAddress, ReleaseAddress};
 ghost use Rattle.fsw_c.specs.Args.{rules_in};
 ghost use Rattle.fsw_c.specs.SaidTables.{SaidTables};
 

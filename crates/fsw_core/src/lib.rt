@@ -5,8 +5,7 @@
 //! ended there, and then one of the bus, or it is refused as the bus's box refuses it.
 #![tactic(auto)]
 
-ghost use Rattle.std.specs.Prelude.{◌≡◌, ◌≤◌, ◌<◌, [], None, IfOk, OnErr};
-ghost use Rattle.std.specs.Box.{box_value};
+ghost use Rattle.std.specs.Prelude.{◌≡◌, ◌≤◌, ◌<◌, [], None, IfOk, OnErr, box_value};
 ghost use Rattle.std.specs.Result.{result_err};
 ghost use Rattle.fsw_base.specs.Limits.{limits_of};
 ghost use Rattle.bus_words.specs.Acts.{opening_whole};

@@ -1,5 +1,5 @@
 //! The calls of buffers that are sent without a copy.
-ghost use Rattle.std.specs.Prelude.{◌≡◌, ◌<◌, true, false, Err, length, replicate, IfOk, OnErr, IsTrue};
+ghost use Rattle.std.specs.Prelude.{◌≡◌, ◌<◌, true, false, Err, replicate, IfOk, OnErr, IsTrue};
 ghost use Rattle.std.specs.Result.{result_err};
 ghost use Rattle.bus_words.specs.declared.history.Call.TheVariants.{Allocate, TransmitBuffer, Release};
 ghost use Rattle.buf_desc.specs.Fronts.{overwritten};

@@ -1,5 +1,5 @@
 //! Whether the tables are asked.
-ghost use Rattle.std.specs.Prelude.{◌≡◌, ◌≤◌, ◌&&◌, ℕ, List, Some, None, not, nat_le, length, IfOk, IsTrue, if◌then◌else◌};
+ghost use Rattle.std.specs.Prelude.{◌≡◌, ◌≤◌, ◌&&◌, ℕ, Some, None, not, IfOk, IsTrue, if◌then◌else◌};
 ghost use Rattle.std.specs.Result.{result_err};
 ghost use Rattle.tbl_words.specs.Machine.{refused_if, may_call};
 ghost use Rattle.tbl_plain.specs.Core.{has_handle_number, is_range};
