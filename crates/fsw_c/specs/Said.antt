@@ -33,6 +33,11 @@ pub data Said (old new : Option Cores) (app : ℕ) (call : Call) (reason : Boxed
       n.bus.core ≡ with_tick o.bus.core Send → status ≡ sb_code BufAlocErr →
       Said old new app call reason status
 
+-- A call that only asks, whoever's it is; it is refused before for this reason, if there is one.
+abbrev pub SaidByAll : Option Cores → Option Cores → Call → Option Refusal → ℕ → Type 0
+SaidByAll old new call reason status =
+    (app : ℕ) → Said old new app call (λ bus. reason) status
+
 -- the application waits on this pipe of an open core; any pipe of a closed one
 abbrev pub IsWaitedOn : Option Cores → ℕ → ℕ → Type 0
 IsWaitedOn None app pipe = Unit {0}

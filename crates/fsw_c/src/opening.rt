@@ -2,7 +2,6 @@
 ghost use Rattle.std.specs.Prelude.{◌≡◌, ◌≢◌, ◌↔◌, None, IsSome, IfSome};
 ghost use Rattle.bus_words.specs.Acts.{opening_whole};
 ghost use Rattle.tbl_words.specs.Tables.{opening};
-
 ghost use Rattle.sb_box.specs.Asked.{unasked_end};
 ghost use Rattle.fsw_c.specs.Said.{SaidBoth};
 

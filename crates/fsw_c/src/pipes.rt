@@ -1,13 +1,15 @@
 //! Pipes and subscriptions.
-ghost use Rattle.std.specs.Prelude.{◌≡◌, ◌≢◌};
-ghost use Rattle.bus_words.specs.declared.history.Call.TheVariants.{Create, Delete, SetOpts, Subscribe, Unsubscribe};
+ghost use Rattle.std.specs.Prelude.{◌≡◌, ◌≢◌, ◌≤◌, ◌<◌, None, nat_lt, length};
+ghost use Rattle.bus_words.specs.declared.history.Call.TheVariants.{Create, Delete, SetOpts, GetOpts, Find, PipeName, Subscribe, Unsubscribe};
 ghost use Rattle.bus_words.specs.declared.calls.BusAnswer.TheVariants.{Number};
+ghost use Rattle.bus_words.specs.Machine.{refused_if};
 ghost use Rattle.sb_box.specs.Asked.{unasked, unasked_subscribe};
 ghost use Rattle.fsw_c.specs.Args.{scope_or_global};
-ghost use Rattle.fsw_c.specs.Said.{Said, Answered};
+ghost use Rattle.fsw_c.specs.Said.{Said, SaidByAll, Answered};
 
 use crate::codes::{CLOSED, SB_BAD_ARGUMENT, SUCCESS, code_of_sb, code_unasked};
 use crate::handle::FswCore;
+use sb_box::Refusal;
 use std::alloc::Global;
 use std::marker::Brand;
 use step_count::Blank;
@@ -93,7 +95,7 @@ pub extern "C" fn fsw_raw_get_options(
     pipe: u32,
     bits: &mut u8,
 ) -> u32
-    ensures same { core.new.held.value ≡ core.old.held.value }
+    ensures said { SaidByAll core.old.held.value core.new.held.value (GetOpts pipe) None result }
     ensures kept_bits { result ≢ 0 → bits.new ≡ bits.old }
 {
     let Some(mut it) = core.take(alloc) else {
@@ -118,7 +120,8 @@ pub extern "C" fn fsw_raw_find_pipe(
     name: &[u8],
     pipe: &mut u32,
 ) -> u32
-    ensures same { core.new.held.value ≡ core.old.held.value }
+    ensures said { SaidByAll core.old.held.value core.new.held.value (Find name.now)
+        (refused_if (nat_lt 64 (length name.now)) Refusal.TooLong None) result }
     ensures kept_pipe { result ≢ 0 → pipe.new ≡ pipe.old }
 {
     let Some(mut it) = core.take(alloc) else {
@@ -145,6 +148,9 @@ pub extern "C" fn fsw_raw_pipe_name(
     into: &mut [u8],
     name_len: &mut u32,
 ) -> u32
+    ensures said { 19 ≤ length into.old →
+        SaidByAll core.old.held.value core.new.held.value (PipeName pipe) None result }
+    ensures short { length into.old < 19 → core.new.held.value ≡ core.old.held.value }
     ensures kept_len { result ≢ 0 → name_len.new ≡ name_len.old }
     ensures kept { result ≢ 0 → into.new ≡ into.old }
 {
