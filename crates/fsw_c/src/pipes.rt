@@ -3,13 +3,13 @@ ghost use Rattle.std.specs.Prelude.{◌≡◌, ◌≢◌, ◌≤◌, ◌<◌, No
 ghost use Rattle.bus_words.specs.declared.history.Call.TheVariants.{Create, Delete, SetOpts, GetOpts, Find, PipeName, Subscribe, Unsubscribe};
 ghost use Rattle.bus_words.specs.declared.calls.BusAnswer.TheVariants.{Number};
 ghost use Rattle.bus_words.specs.Machine.{refused_if};
+ghost use Rattle.sb_box.specs.declared.refusal.Refusal.TheVariants.{TooLong};
 ghost use Rattle.sb_box.specs.Asked.{unasked, unasked_subscribe};
 ghost use Rattle.fsw_c.specs.Args.{scope_or_global};
 ghost use Rattle.fsw_c.specs.Said.{Said, SaidByAll, Answered};
 
 use crate::codes::{CLOSED, SB_BAD_ARGUMENT, SUCCESS, code_of_sb, code_unasked};
 use crate::handle::FswCore;
-use sb_box::Refusal;
 use std::alloc::Global;
 use std::marker::Brand;
 use step_count::Blank;
@@ -121,7 +121,7 @@ pub extern "C" fn fsw_raw_find_pipe(
     pipe: &mut u32,
 ) -> u32
     ensures said { SaidByAll core.old.held.value core.new.held.value (Find name.now)
-        (refused_if (nat_lt 64 (length name.now)) Refusal.TooLong None) result }
+        (refused_if (nat_lt 64 (length name.now)) TooLong None) result }
     ensures kept_pipe { result ≢ 0 → pipe.new ≡ pipe.old }
 {
     let Some(mut it) = core.take(alloc) else {
