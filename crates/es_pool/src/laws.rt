@@ -20,8 +20,8 @@ pub fn draws_take_room_one_by_one()
         after_draws account class (count + 1) ≡ after_draw (after_draws account class count) class }
 {}
 
-/// Where the blocks of a pool lie: within the pool's bytes, at multiples of 8, and no two have a byte
-/// in common; the overhead before each is no block's either. A block stays where it is when blocks
+/// Where the blocks of a pool lie: within the pool's bytes, at multiples of 8, and no two have a
+/// byte in common; the overhead before each is no block's either. A block stays where it is when blocks
 /// are drawn and given back. Does nothing.
 pub fn blocks_lie_apart()
     ensures within { (pool : PoolState) (number : ℕ) → IsWhole pool →

@@ -265,8 +265,8 @@ impl Pool {
         self.sizes.at(self.blocks[block as usize].class)
     }
 
-    /// Where a block that was cut begins, in bytes from the pool's first byte on. It stays there for
-    /// as long as the pool lives, and no other block has a byte in common with it
+    /// Where a block that was cut begins, in bytes from the pool's first byte on. It stays there as
+    /// long as the pool lives, and no other block has a byte in common with it
     /// ([`blocks_lie_apart`](crate::blocks_lie_apart)). By the code, it is looked up.
     pub fn offset_of(&self, block: BlockNo) -> u32
         requires { block < length self.now.blocks }

@@ -1,5 +1,5 @@
--- The numbers of statuses: those of cFE where cFE has one, else one with service number 0, which cFE
--- leaves free.
+-- The numbers of statuses: those of cFE where cFE has one, else one with service number 0, which
+-- cFE leaves free.
 use Rattle.std.specs.Prelude.{ℕ, ◌+◌}
 use Rattle.fsw_base.specs.declared.statuses.SbStatus.{SbStatus}
 use Rattle.fsw_base.specs.declared.statuses.SbStatus.TheVariants as sb

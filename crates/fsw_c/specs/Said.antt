@@ -21,7 +21,8 @@ use Rattle.fsw_c.specs.Codes.{closed_code, unasked_code, bus_code, sb_code}
 -- A call of the bus, which isn't asked for a reason told by the box: the handle is closed; or the
 -- bus wasn't asked, for this reason; or it took one step of its machine; or it has no number left
 -- for a message. In the first two cases nothing changed, and the tables never change.
-pub data Said (old new : Option Cores) (app : ℕ) (call : Call) (reason : Boxed → Option Refusal) (status : ℕ) : Type 0 where
+pub data Said (old new : Option Cores) (app : ℕ) (call : Call)
+    (reason : Boxed → Option Refusal) (status : ℕ) : Type 0 where
   Closed : old ≡ None → new ≡ None → status ≡ closed_code → Said old new app call reason status
   Unasked : (o : Cores) (why : Refusal) → old ≡ Some o → new ≡ Some o → reason o.bus ≡ Some why →
       status ≡ unasked_code why → Said old new app call reason status
@@ -49,8 +50,10 @@ SaidLook old new app status =
     (pipe : ℕ) → IsWaitedOn old app pipe →
     Said old new app (Look pipe) (λ bus. unasked_look bus.core app) status
 
--- An application's last call: a step of the bus, and one of the tables unless it ended there before.
-pub data SaidBoth (old new : Option Cores) (app : ℕ) (reason : Boxed → Option Refusal) (status : ℕ) : Type 0 where
+-- An application's last call: a step of the bus, and one of the tables unless it ended there
+-- before.
+pub data SaidBoth (old new : Option Cores) (app : ℕ) (reason : Boxed → Option Refusal)
+    (status : ℕ) : Type 0 where
   Closed : old ≡ None → new ≡ None → status ≡ closed_code → SaidBoth old new app reason status
   Unasked : (o : Cores) (why : Refusal) → old ≡ Some o → new ≡ Some o → reason o.bus ≡ Some why →
       status ≡ unasked_code why → SaidBoth old new app reason status

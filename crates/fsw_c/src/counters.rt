@@ -102,7 +102,8 @@ pub extern "C" fn fsw_raw_send_housekeeping(
         (λ bus. unasked bus.core app Housekeeping) result }
     ensures kept_sent { result ≢ 0 → sent.new ≡ sent.old }
     ensures told { result ≡ 0 →
-        Answered core.old.held.value core.new.held.value app Housekeeping (Sent sent.new.number sent.new.reached) }
+        Answered core.old.held.value core.new.held.value app Housekeeping
+        (Sent sent.new.number sent.new.reached) }
 {
     let Some(mut it) = core.take(alloc) else {
         return CLOSED;

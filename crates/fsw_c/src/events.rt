@@ -83,7 +83,7 @@ pub extern "C" fn fsw_raw_register(
     };
     let pairs = pairs_of(filters);
     let told = if filters.len() > MAX_FILTERS {
-        // More filters than there may be: the box tests the application first, and then refuses them.
+        // More than there may be: the box tests the application first, and then refuses them.
         it.bus.register(app, &[(0, 0); MAX_FILTERS + 1])
     } else {
         it.bus.register(app, &pairs[..filters.len()])

@@ -75,7 +75,8 @@ pub extern "C" fn fsw_raw_transmit(
         (λ bus. unasked bus.core app (Transmit bytes.now counts)) result }
     ensures kept_sent { result ≢ 0 → sent.new ≡ sent.old }
     ensures told { result ≡ 0 →
-        Answered core.old.held.value core.new.held.value app (Transmit bytes.now counts) (Sent sent.new.number sent.new.reached) }
+        Answered core.old.held.value core.new.held.value app (Transmit bytes.now counts)
+        (Sent sent.new.number sent.new.reached) }
 {
     let Some(mut it) = core.take(alloc) else {
         return CLOSED;
@@ -105,7 +106,8 @@ pub extern "C" fn fsw_raw_receive(
         (λ bus. unasked bus.core app (Receive pipe)) result }
     ensures kept_message { result ≢ 0 → message.new ≡ message.old }
     ensures told { result ≡ 0 →
-        Answered core.old.held.value core.new.held.value app (Receive pipe) (Got message.new.number) }
+        Answered core.old.held.value core.new.held.value app (Receive pipe)
+        (Got message.new.number) }
 {
     let Some(mut it) = core.take(alloc) else {
         return CLOSED;
@@ -136,7 +138,8 @@ pub extern "C" fn fsw_raw_pend(
         (λ bus. unasked bus.core app (Pend pipe)) result }
     ensures kept_message { result ≢ 0 → message.new ≡ message.old }
     ensures told { result ≡ 0 →
-        Answered core.old.held.value core.new.held.value app (Pend pipe) (Got message.new.number) }
+        Answered core.old.held.value core.new.held.value app (Pend pipe)
+        (Got message.new.number) }
 {
     let Some(mut it) = core.take(alloc) else {
         return CLOSED;

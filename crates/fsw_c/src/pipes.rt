@@ -28,7 +28,8 @@ pub extern "C" fn fsw_raw_create_pipe(
         (λ bus. unasked bus.core app (Create depth name.now)) result }
     ensures kept_pipe { result ≢ 0 → pipe.new ≡ pipe.old }
     ensures told { result ≡ 0 →
-        Answered core.old.held.value core.new.held.value app (Create depth name.now) (Number pipe.new) }
+        Answered core.old.held.value core.new.held.value app (Create depth name.now)
+        (Number pipe.new) }
 {
     let Some(mut it) = core.take(alloc) else {
         return CLOSED;

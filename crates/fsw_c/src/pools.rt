@@ -94,7 +94,8 @@ pub extern "C" fn fsw_raw_pool_create(
         (λ bus. unasked bus.core app (PoolCreate bytes)) result }
     ensures kept_pool { result ≢ 0 → pool.new ≡ pool.old }
     ensures told { result ≡ 0 →
-        Answered core.old.held.value core.new.held.value app (PoolCreate bytes) (Number pool.new) }
+        Answered core.old.held.value core.new.held.value app (PoolCreate bytes)
+        (Number pool.new) }
 {
     let Some(mut it) = core.take(alloc) else {
         return CLOSED;
@@ -125,7 +126,8 @@ pub extern "C" fn fsw_raw_pool_get(
         (λ bus. unasked bus.core app (PoolGet pool size)) result }
     ensures kept_block { result ≢ 0 → block.new ≡ block.old }
     ensures told { result ≡ 0 →
-        Answered core.old.held.value core.new.held.value app (PoolGet pool size) (Number block.new.grant) }
+        Answered core.old.held.value core.new.held.value app (PoolGet pool size)
+        (Number block.new.grant) }
 {
     let Some(mut it) = core.take(alloc) else {
         return CLOSED;

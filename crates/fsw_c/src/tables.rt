@@ -105,7 +105,7 @@ pub extern "C" fn fsw_raw_table_register(
     };
     let kept = rules_of(rules);
     let told = if rules.len() > MAX_RULES {
-        // More rules than there may be: the box tests the application first, and then refuses them.
+        // More than there may be: the box tests the application first, and then refuses them.
         let many = [kept[0]; MAX_RULES + 1];
         it.tables
             .register::<Brand>(app, name, size, option, &many, Blank::new(1))

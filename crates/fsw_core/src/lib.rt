@@ -1,5 +1,5 @@
-//! The bus and the tables of the same applications, with all their memory, as one value on the heap:
-//! what a program in C holds.
+//! The bus and the tables of the same applications, with all their memory, as one value on the
+//! heap: what a program in C holds.
 //!
 //! Proved: a new core has had no call. An end is a step of the tables, where the application hasn't
 //! ended there, and then one of the bus, or it is refused as the bus's box refuses it.

@@ -55,7 +55,7 @@ impl<'r> SbBox<'r> {
         Ok(self.core.allocate(caller, size, bag, &mut steps))
     }
 
-    /// Writes bytes over the first of an unsent buffer of the application's, which is no call of the
+    /// Writes bytes over the first of an unsent buffer of the application's. It is no call of the
     /// bus. Answers whether it has such a buffer, of at least so many bytes; otherwise nothing
     /// changed.
     pub fn write_buffer(&mut self, app: u32, number: u64, bytes: &[u8]) -> bool
@@ -100,7 +100,8 @@ impl<'r> SbBox<'r> {
             (λ told. Acts self.old.core self.new.core app
             (TransmitBuffer number (bytes_at (bag_of self.old app) number) inc)
             (sent told)) }
-        ensures refused { IfOk result (λ told. OnErr told (bag_of self.new app ≡ bag_of self.old app)) }
+        ensures refused { IfOk result
+            (λ told. OnErr told (bag_of self.new app ≡ bag_of self.old app)) }
         ensures others { KeepsOtherBags self.old self.new app }
         ensures views { (bag_of self.new app).views ≡ (bag_of self.old app).views }
     {

@@ -2,7 +2,7 @@
 //! call takes an application's number and plain arguments, and tests all that the bus requires of
 //! its callers.
 //!
-//! A call answers twice: what the bus answered, or why the bus wasn't asked ([`Refusal`]). If the bus
+//! A call answers what the bus answered, or why the bus wasn't asked ([`Refusal`]). If the bus
 //! wasn't asked, nothing changed, and nothing was counted.
 //!
 //! ```text
@@ -43,7 +43,7 @@ mod messages;
 mod pipes;
 mod pools;
 mod refusal;
-mod subscriptions;
+mod subscribing;
 mod waits;
 
 pub use boxed::SbBox;

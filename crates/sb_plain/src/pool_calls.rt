@@ -91,8 +91,8 @@ impl<'r> PlainBus<'r> {
         self.pools.put(pool, grant, steps)
     }
 
-    /// Where the block of a grant of a pool's lies, in bytes from the pool's first byte on. It is no
-    /// call of the bus, and nothing is counted.
+    /// Where the block of a grant of a pool's lies, in bytes from the pool's first byte on. It is
+    /// no call of the bus, and nothing is counted.
     ///
     /// # Errors
     /// Those of [`PlainBus::pool_put`].

@@ -37,7 +37,8 @@ impl<'r> TblBox<'r> {
             unasked self.old.core app (Register name.now size option rules.now) }
         ensures nothing { OnErr result (self.new ≡ self.old) }
         ensures does { IfOk result
-            (λ told. Acts self.old.core self.new.core app (Register name.now size option rules.now) (registered told)) }
+            (λ told. Acts self.old.core self.new.core app
+            (Register name.now size option rules.now) (registered told)) }
         ensures bags { self.new.bags ≡ self.old.bags }
     {
         let list = RuleList::try_new(rules);

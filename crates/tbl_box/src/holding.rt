@@ -14,8 +14,8 @@ use tbl_plain::PlainAddress;
 use tbl_words::TblStatus;
 
 impl<'r> TblBox<'r> {
-    /// Has a handle hold the present version, as [`PlainTables::get_address`]; [`TblBox::held`] shows
-    /// it.
+    /// Has a handle hold the present version, as [`PlainTables::get_address`]; [`TblBox::held`]
+    /// shows it.
     ///
     /// # Errors
     /// Those of [`PlainTables::get_address`]; a [`Refusal`] where the tables weren't asked.
@@ -27,7 +27,8 @@ impl<'r> TblBox<'r> {
         ensures unasked { result_err result ≡ unasked self.old.core app (GetAddress handle) }
         ensures nothing { OnErr result (self.new ≡ self.old) }
         ensures does { IfOk result
-            (λ told. Acts self.old.core self.new.core app (GetAddress handle) (plain_addressed told)) }
+            (λ told. Acts self.old.core self.new.core app (GetAddress handle)
+            (plain_addressed told)) }
         ensures others { KeepsOtherBags self.old self.new app }
     {
         let caller = self.asks(app, true)?;

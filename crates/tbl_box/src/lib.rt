@@ -2,7 +2,7 @@
 //! call takes an application's number and plain arguments, and tests all that the tables require of
 //! their callers.
 //!
-//! A call answers twice: what the tables answered, or why they weren't asked ([`Refusal`]). If they
+//! A call answers what the tables answered, or why they weren't asked ([`Refusal`]). If they
 //! weren't asked, nothing changed.
 //!
 //! ```text
@@ -24,8 +24,8 @@
 //! # Proved
 //!
 //! - Each call is asked of the tables, or refused for just the reason that `specs/Asked.antt` says
-//!   (clause `unasked`). Asked, it takes one step of the tables' machine (`Acts` of `tbl_plain`), and
-//!   the bags of all other applications stay (`others`, `bags`). Not asked, nothing changed
+//!   (clause `unasked`). Asked, it takes one step of the tables' machine (`Acts` of `tbl_plain`),
+//!   and the bags of all other applications stay (`others`, `bags`). Not asked, nothing changed
 //!   (`nothing`).
 //! - Each application has its bag after every call (`Keeps`), so that no call has a condition.
 //! - `held` shows what a handle of the application's holds (`held_value`).

@@ -30,7 +30,8 @@ impl<'r> TblBox<'r> {
             unasked self.old.core app (Stage handle offset bytes.now) }
         ensures nothing { OnErr result (self.new ≡ self.old) }
         ensures does { IfOk result
-            (λ told. Acts self.old.core self.new.core app (Stage handle offset bytes.now) (done told)) }
+            (λ told. Acts self.old.core self.new.core app (Stage handle offset bytes.now)
+            (done told)) }
         ensures bags { self.new.bags ≡ self.old.bags }
     {
         let caller = self.asks(app, is_range(offset, bytes))?;

@@ -52,7 +52,8 @@ impl<'r> PlainTables<'r> {
         Ok(figures(&self.blocks, row.key as u32))
     }
 
-    /// What the table of a handle of the caller's is, registered or not. It is no call of the tables.
+    /// What the table of a handle of the caller's is, registered or not. It is no call of the
+    /// tables.
     ///
     /// # Errors
     /// Those of [`PlainTables::status`].

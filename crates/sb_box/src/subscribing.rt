@@ -42,7 +42,8 @@ impl<'r> SbBox<'r> {
         requires name { blank.name ≡ L.name }
         requires parts { blank.parts ≡ L.parts }
         requires some_part { 0 < blank.parts }
-        ensures unasked { result_err result ≡ unasked_subscribe self.old.core app id pipe limit scope }
+        ensures unasked { result_err result ≡
+            unasked_subscribe self.old.core app id pipe limit scope }
         ensures nothing { OnErr result (self.new ≡ self.old) }
         ensures does { IfOk result
             (λ told. (reach : Reach) → scope_of scope ≡ Some reach →
