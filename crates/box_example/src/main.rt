@@ -59,10 +59,11 @@ fn refuses(bus: &mut SbBox<'_>) -> bool {
 }
 
 // Makes a pipe of application 1 that is subscribed to the messages. Answers its number.
-fn listen(bus: &mut SbBox<'_>) -> Option<u32>
-{
+fn listen(bus: &mut SbBox<'_>) -> Option<u32> {
     let pipe = bus.create_pipe(1, 4, b"TLM").ok()?.ok()?;
-    let subscribed = bus.subscribe::<Brand>(1, ID, pipe, 4, 1, Blank::new(1)).ok()?;
+    let subscribed = bus
+        .subscribe::<Brand>(1, ID, pipe, 4, 1, Blank::new(1))
+        .ok()?;
     subscribed.ok()?;
     Some(pipe)
 }
@@ -75,9 +76,10 @@ fn message() -> [u8; 16] {
 }
 
 // Has application 2 send a message, and application 1 receive it.
-fn pass_bytes(bus: &mut SbBox<'_>, pipe: u32) -> Option<usize>
-{
-    let sent = bus.transmit::<Brand>(2, &message(), true, Blank::new(1)).ok()?;
+fn pass_bytes(bus: &mut SbBox<'_>, pipe: u32) -> Option<usize> {
+    let sent = bus
+        .transmit::<Brand>(2, &message(), true, Blank::new(1))
+        .ok()?;
     sent.ok()?;
     let received = bus.receive::<Brand>(1, pipe, Blank::new(1)).ok()?;
     received.ok()?;
@@ -85,8 +87,7 @@ fn pass_bytes(bus: &mut SbBox<'_>, pipe: u32) -> Option<usize>
 }
 
 // The same by a buffer.
-fn pass_buffer(bus: &mut SbBox<'_>, pipe: u32) -> Option<usize>
-{
+fn pass_buffer(bus: &mut SbBox<'_>, pipe: u32) -> Option<usize> {
     let number = bus.allocate::<Brand>(2, 16, Blank::new(1)).ok()?.ok()?;
     if bus.allocate::<Brand>(2, 16, Blank::new(1)) != Err(Refusal::NoRoom)
         || bus.end::<Brand>(2, Blank::new(1)) != Err(Refusal::BufferOut)
@@ -94,7 +95,9 @@ fn pass_buffer(bus: &mut SbBox<'_>, pipe: u32) -> Option<usize>
     {
         return None;
     }
-    let sent = bus.transmit_buffer::<Brand>(2, number, true, Blank::new(1)).ok()?;
+    let sent = bus
+        .transmit_buffer::<Brand>(2, number, true, Blank::new(1))
+        .ok()?;
     sent.ok()?;
     let received = bus.receive::<Brand>(1, pipe, Blank::new(1)).ok()?;
     received.ok()?;
@@ -102,8 +105,7 @@ fn pass_buffer(bus: &mut SbBox<'_>, pipe: u32) -> Option<usize>
 }
 
 // Has application 2 end, after which it is asked no more.
-fn leave(bus: &mut SbBox<'_>) -> bool
-{
+fn leave(bus: &mut SbBox<'_>) -> bool {
     bus.end::<Brand>(2, Blank::new(1)) == Ok(()) && bus.clear_log(2) == Err(Refusal::NotActive)
 }
 
@@ -141,8 +143,9 @@ fn hold(tables: &mut TblBox<'_>) -> Option<usize> {
         low: 0,
         high: 9,
     };
-    let registered =
-        tables.register::<Brand>(1, b"LIMITS", 4, 1, &[rule], Blank::new(1)).ok()?;
+    let registered = tables
+        .register::<Brand>(1, b"LIMITS", 4, 1, &[rule], Blank::new(1))
+        .ok()?;
     registered.ok()?;
     tables.load(1, 1, 0, &[1, 2, 3, 4]).ok()?.ok()?;
     let handle = tables.share(2, b"LIMITS").ok()?.ok()?;

@@ -344,7 +344,8 @@ impl Pool {
         let size = self.sizes.at(class);
         let block = self.free.add_node();
         self.blocks.push_reserved(CutBlock { class, out: true });
-        self.offsets.push_reserved(self.bytes - self.rest + OVERHEAD);
+        self.offsets
+            .push_reserved(self.bytes - self.rest + OVERHEAD);
         self.made[class as usize] += 1;
         self.rest -= size + OVERHEAD;
         self.in_use += size;
