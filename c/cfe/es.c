@@ -98,7 +98,7 @@ CFE_Status_t CFE_ES_WriteToSysLog(const char *SpecStringPtr, ...)
 /* What stands in the 16 bytes before a block that is out. */
 struct descriptor {
     uint64_t grant;
-    uint64_t pool;
+    uint64_t unused;
 };
 
 /* Where the memory of each pool begins, and how much there is. */
@@ -144,7 +144,7 @@ int32 CFE_ES_GetPoolBuf(CFE_ES_MemPoolBuf_t *BufPtr, CFE_ES_MemHandle_t PoolID, 
     uint32_t status = fsw_pool_get(&layer.core, layer_number(), PoolID, (uint32_t)Size, &block);
     if (status == FSW_SUCCESS) {
         uint8_t *at = memory[PoolID - 1].at + block.offset;
-        struct descriptor descriptor = {block.grant, PoolID};
+        struct descriptor descriptor = {block.grant, 0};
         memcpy(at - sizeof descriptor, &descriptor, sizeof descriptor);
         *BufPtr = at;
     }
@@ -162,11 +162,9 @@ static uint32_t block_at(CFE_ES_MemHandle_t pool, const void *at, struct fsw_blo
     if (offset < sizeof descriptor || offset >= memory[pool - 1].bytes)
         return FSW_ES_BUFFER_NOT_IN_POOL;
     memcpy(&descriptor, (const uint8_t *)at - sizeof descriptor, sizeof descriptor);
+    /* The number before a block could be anything that the application wrote there: the core says whether it is the block's. */
     uint32_t status = fsw_pool_block(&layer.core, pool, descriptor.grant, block);
-    /* The number before a block could be anything that the application wrote there. */
-    if (status == FSW_SUCCESS && (block->offset != offset || descriptor.pool != pool))
-        return FSW_ES_POOL_BLOCK_INVALID;
-    return status;
+    return status == FSW_SUCCESS && block->offset == offset ? FSW_SUCCESS : FSW_ES_POOL_BLOCK_INVALID;
 }
 
 int32 CFE_ES_PutPoolBuf(CFE_ES_MemHandle_t PoolID, CFE_ES_MemPoolBuf_t BufPtr)
@@ -176,6 +174,8 @@ int32 CFE_ES_PutPoolBuf(CFE_ES_MemHandle_t PoolID, CFE_ES_MemPoolBuf_t BufPtr)
     uint32_t status = block_at(PoolID, BufPtr, &block);
     if (status == FSW_SUCCESS)
         status = fsw_pool_put(&layer.core, layer_number(), PoolID, block.grant);
+    else if (status != FSW_ES_NO_SUCH_POOL)
+        fsw_pool_put(&layer.core, layer_number(), PoolID, 0); /* no grant is 0: refused, and counted */
     layer_unlock();
     return status == FSW_SUCCESS ? (int32)block.size : as_status(status);
 }
