@@ -1,10 +1,10 @@
 /*
- * arena.c: the library's memory from one static block, of FSW_ARENA_BYTES bytes, without malloc. Set it to
- * fsw_bytes_needed(limits) and some reserve.
+ * arena.c: the library's memory from one static block, of FSW_ARENA_BYTES bytes, without malloc.
+ * Set it to fsw_bytes_needed(limits) and some reserve.
  *
- * A core takes its memory once and gives it back once, at fsw_close. So blocks are cut one behind the other, and the last
- * one that is given back is cut anew; when no block is out, the arena is whole again. It is called as the library is, by
- * one thread at a time.
+ * A core takes its memory once and gives it back once, at fsw_close. So blocks are cut one behind
+ * the other, and the last one that is given back is cut anew; when no block is out, the arena is
+ * whole again. It is called as the library is, by one thread at a time.
  */
 #include "memory.h"
 
@@ -17,9 +17,9 @@
 enum { ALIGN = 16 };
 
 static _Alignas(ALIGN) uint8_t arena[FSW_ARENA_BYTES];
-static size_t cut;      /* the bytes that are cut */
-static size_t last;     /* where the last block begins */
-static size_t out;      /* how many blocks are out */
+static size_t cut;  /* the bytes that are cut */
+static size_t last; /* where the last block begins */
+static size_t out;  /* how many blocks are out */
 
 static struct rattle_tried refused(void)
 {

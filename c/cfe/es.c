@@ -1,4 +1,5 @@
-/* es.c: what an application asks of Executive Services, in cFE's names. Tasks and runs are in run.c. */
+/* es.c: what an application asks of Executive Services, in cFE's names. Tasks and runs are in
+ * run.c. */
 #include "layer.h"
 
 #include <stdarg.h>
@@ -162,9 +163,11 @@ static uint32_t block_at(CFE_ES_MemHandle_t pool, const void *at, struct fsw_blo
     if (offset < sizeof descriptor || offset >= memory[pool - 1].bytes)
         return FSW_ES_BUFFER_NOT_IN_POOL;
     memcpy(&descriptor, (const uint8_t *)at - sizeof descriptor, sizeof descriptor);
-    /* The number before a block could be anything that the application wrote there: the core says whether it is the block's. */
+    /* The number before a block could be anything that the application wrote there: the core says
+     * whether it is the block's. */
     uint32_t status = fsw_pool_block(&layer.core, pool, descriptor.grant, block);
-    return status == FSW_SUCCESS && block->offset == offset ? FSW_SUCCESS : FSW_ES_POOL_BLOCK_INVALID;
+    return status == FSW_SUCCESS && block->offset == offset ? FSW_SUCCESS
+                                                            : FSW_ES_POOL_BLOCK_INVALID;
 }
 
 int32 CFE_ES_PutPoolBuf(CFE_ES_MemHandle_t PoolID, CFE_ES_MemPoolBuf_t BufPtr)
@@ -175,7 +178,8 @@ int32 CFE_ES_PutPoolBuf(CFE_ES_MemHandle_t PoolID, CFE_ES_MemPoolBuf_t BufPtr)
     if (status == FSW_SUCCESS)
         status = fsw_pool_put(&layer.core, layer_number(), PoolID, block.grant);
     else if (status != FSW_ES_NO_SUCH_POOL)
-        fsw_pool_put(&layer.core, layer_number(), PoolID, 0); /* no grant is 0: refused, and counted */
+        fsw_pool_put(&layer.core, layer_number(), PoolID,
+                     0); /* no grant is 0: refused, and counted */
     layer_unlock();
     return status == FSW_SUCCESS ? (int32)block.size : as_status(status);
 }

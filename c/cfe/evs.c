@@ -40,7 +40,8 @@ CFE_Status_t CFE_EVS_Register(const void *Filters, uint16 NumEventFilters, uint1
 static void send_packet(const struct application *app, uint16 id, uint16 type, const char *text)
 {
     CFE_EVS_LongEventTlm_t packet;
-    CFE_MSG_Init(CFE_MSG_PTR(packet.TelemetryHeader), CFE_SB_ValueToMsgId(CFE_EVS_LONG_EVENT_MSG_MID), sizeof packet);
+    CFE_MSG_Init(CFE_MSG_PTR(packet.TelemetryHeader),
+                 CFE_SB_ValueToMsgId(CFE_EVS_LONG_EVENT_MSG_MID), sizeof packet);
     CFE_SB_TimeStampMsg(CFE_MSG_PTR(packet.TelemetryHeader));
     CFE_EVS_PacketID_t *about = &packet.Payload.PacketID;
     snprintf(about->AppName, sizeof about->AppName, "%s", app->name);
@@ -48,7 +49,8 @@ static void send_packet(const struct application *app, uint16 id, uint16 type, c
     about->EventType = type;
     about->SpacecraftID = 0x42;
     about->ProcessorID = 1;
-    snprintf(packet.Payload.Message, sizeof packet.Payload.Message, "%.*s", (int)sizeof packet.Payload.Message - 1, text);
+    snprintf(packet.Payload.Message, sizeof packet.Payload.Message, "%.*s",
+             (int)sizeof packet.Payload.Message - 1, text);
     layer_send(CFE_MSG_PTR(packet.TelemetryHeader), sizeof packet);
 }
 
@@ -83,7 +85,8 @@ CFE_Status_t CFE_EVS_SendEvent(uint16 EventID, uint16 EventType, const char *Spe
 }
 
 /* An application may send its own events alone. */
-CFE_Status_t CFE_EVS_SendEventWithAppID(uint16 EventID, uint16 EventType, CFE_ES_AppId_t AppID, const char *Spec, ...)
+CFE_Status_t CFE_EVS_SendEventWithAppID(uint16 EventID, uint16 EventType, CFE_ES_AppId_t AppID,
+                                        const char *Spec, ...)
 {
     if (AppID != layer_number())
         return CFE_EVS_APP_ILLEGAL_APP_ID;

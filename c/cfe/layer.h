@@ -1,10 +1,11 @@
 /*
- * layer.h: what the files of this layer share. The layer gives cFE's names to the calls of fsw.h, finds the caller by its
- * thread, and waits with a clock. It decides nothing that the core decides.
+ * layer.h: what the files of this layer share. The layer gives cFE's names to the calls of fsw.h,
+ * finds the caller by its thread, and waits with a clock. It decides nothing that the core decides.
  *
- * One mutex is held round each call of the core. A thread that waits for a message sleeps on a condition variable of its
- * own (struct task), and is woken once its pipe has one. A second mutex is held round loads of tables, from staging to
- * update, so that the value that was validated is the one that is made the table's. It is always taken before the first.
+ * One mutex is held round each call of the core. A thread that waits for a message sleeps on a
+ * condition variable of its own (struct task), and is woken once its pipe has one. A second mutex
+ * is held round loads of tables, from staging to update, so that the value that was validated is
+ * the one that is made the table's. It is always taken before the first.
  */
 #ifndef LAYER_H
 #define LAYER_H
@@ -25,8 +26,8 @@ struct application {
     const char *name;
     void (*entry)(void);
     pthread_t thread;
-    bool ending;        /* its tasks are to end */
-    bool is_ready;      /* it reached its loop, or waits for the others to */
+    bool ending;   /* its tasks are to end */
+    bool is_ready; /* it reached its loop, or waits for the others to */
     uint32_t exit_status;
     struct fsw_buffer *buffers; /* the buffers that it has out, limits.buffers places */
     uint16_t filter_ids[CFE_PLATFORM_EVS_MAX_EVENT_FILTERS];
@@ -74,17 +75,20 @@ CFE_Status_t layer_status(uint32_t status, CFE_Status_t bad);
 /* When so many milliseconds from now will have passed. */
 struct timespec layer_deadline(int32 milliseconds);
 
-/* With the lock: waits until news, or the deadline if there is one. Answers false past the deadline. */
+/* With the lock: waits until news, or the deadline if there is one. Answers false past the
+ * deadline. */
 bool layer_sleep(struct task *task, uint32_t pipe, const struct timespec *deadline);
 
 /* With the lock: whether the caller's tasks are to end. */
 bool layer_is_ending(const struct application *app);
 
-/* With the lock: wakes the tasks whose pipes have a message; or the tasks that wait on a pipe, whatever it has. */
+/* With the lock: wakes the tasks whose pipes have a message; or the tasks that wait on a pipe,
+ * whatever it has. */
 void layer_wake(void);
 void layer_wake_pipe(uint32_t pipe);
 
-/* With the lock: releases the application's buffers, drops its handles of tables, and forgets its pools' memory. */
+/* With the lock: releases the application's buffers, drops its handles of tables, and forgets its
+ * pools' memory. */
 void layer_release_buffers(struct application *app);
 void layer_close_tables(uint32_t app);
 

@@ -3,7 +3,11 @@
 
 #include <string.h>
 
-enum { HEADER_BYTES = sizeof(CFE_MSG_Message_t), LEAST_BYTES = HEADER_BYTES + 1, MOST_BYTES = 65542 };
+enum {
+    HEADER_BYTES = sizeof(CFE_MSG_Message_t),
+    LEAST_BYTES = HEADER_BYTES + 1,
+    MOST_BYTES = 65542
+};
 enum { TYPE_BIT = 0x1000, SECONDARY_BIT = 0x0800, APID_MASK = 0x07ff, COUNT_MASK = 0x3fff };
 
 static CFE_Status_t as_status(uint32_t status)
@@ -11,13 +15,15 @@ static CFE_Status_t as_status(uint32_t status)
     return layer_status(status, CFE_MSG_BAD_ARGUMENT);
 }
 
-static CFE_Status_t header_of(const CFE_MSG_Message_t *message, const void *out, struct fsw_header *header)
+static CFE_Status_t header_of(const CFE_MSG_Message_t *message, const void *out,
+                              struct fsw_header *header)
 {
     return out ? as_status(fsw_read_header(message, HEADER_BYTES, header)) : CFE_MSG_BAD_ARGUMENT;
 }
 
 /* Writes the header anew, with its size, id and count; the flags are those of a whole message. */
-static CFE_Status_t write_header(CFE_MSG_Message_t *message, size_t size, uint32_t id, uint16_t count)
+static CFE_Status_t write_header(CFE_MSG_Message_t *message, size_t size, uint32_t id,
+                                 uint16_t count)
 {
     return as_status(fsw_write_header(message, size, (uint16_t)(id <= UINT16_MAX ? id : 0), count));
 }
@@ -59,7 +65,8 @@ CFE_Status_t CFE_MSG_SetMsgId(CFE_MSG_Message_t *MsgPtr, CFE_SB_MsgId_t MsgId)
 {
     struct fsw_header header;
     CFE_Status_t status = header_of(MsgPtr, MsgPtr, &header);
-    return status == CFE_SUCCESS ? write_header(MsgPtr, header.size, MsgId.Value, header.count) : status;
+    return status == CFE_SUCCESS ? write_header(MsgPtr, header.size, MsgId.Value, header.count)
+                                 : status;
 }
 
 CFE_Status_t CFE_MSG_GetType(const CFE_MSG_Message_t *MsgPtr, CFE_MSG_Type_t *Type)
@@ -71,7 +78,8 @@ CFE_Status_t CFE_MSG_GetType(const CFE_MSG_Message_t *MsgPtr, CFE_MSG_Type_t *Ty
     return status;
 }
 
-CFE_Status_t CFE_MSG_GetHeaderVersion(const CFE_MSG_Message_t *MsgPtr, CFE_MSG_HeaderVersion_t *Version)
+CFE_Status_t CFE_MSG_GetHeaderVersion(const CFE_MSG_Message_t *MsgPtr,
+                                      CFE_MSG_HeaderVersion_t *Version)
 {
     struct fsw_header header;
     CFE_Status_t status = header_of(MsgPtr, Version, &header);
@@ -98,7 +106,8 @@ CFE_Status_t CFE_MSG_GetApId(const CFE_MSG_Message_t *MsgPtr, CFE_MSG_ApId_t *Ap
     return status;
 }
 
-CFE_Status_t CFE_MSG_GetSegmentationFlag(const CFE_MSG_Message_t *MsgPtr, CFE_MSG_SegmentationFlag_t *SegFlag)
+CFE_Status_t CFE_MSG_GetSegmentationFlag(const CFE_MSG_Message_t *MsgPtr,
+                                         CFE_MSG_SegmentationFlag_t *SegFlag)
 {
     struct fsw_header header;
     CFE_Status_t status = header_of(MsgPtr, SegFlag, &header);
@@ -107,7 +116,8 @@ CFE_Status_t CFE_MSG_GetSegmentationFlag(const CFE_MSG_Message_t *MsgPtr, CFE_MS
     return status;
 }
 
-CFE_Status_t CFE_MSG_GetSequenceCount(const CFE_MSG_Message_t *MsgPtr, CFE_MSG_SequenceCount_t *SeqCnt)
+CFE_Status_t CFE_MSG_GetSequenceCount(const CFE_MSG_Message_t *MsgPtr,
+                                      CFE_MSG_SequenceCount_t *SeqCnt)
 {
     struct fsw_header header;
     CFE_Status_t status = header_of(MsgPtr, SeqCnt, &header);
@@ -142,10 +152,12 @@ CFE_Status_t CFE_MSG_SetFcnCode(CFE_MSG_Message_t *MsgPtr, CFE_MSG_FcnCode_t Fcn
     return as_status(fsw_set_function_code(MsgPtr, LEAST_BYTES, code));
 }
 
-/* ---- Secondary headers, which the core doesn't read: the checksum of commands, the time of telemetry ---- */
+/* ---- Secondary headers, which the core doesn't read: the checksum of commands, the time of
+ * telemetry ---- */
 
 /* Whether a message of this type has a secondary header, and is long enough for it. */
-static bool has_secondary(const CFE_MSG_Message_t *message, CFE_MSG_Type_t type, size_t bytes, CFE_Status_t *status)
+static bool has_secondary(const CFE_MSG_Message_t *message, CFE_MSG_Type_t type, size_t bytes,
+                          CFE_Status_t *status)
 {
     struct fsw_header header;
     *status = header_of(message, message, &header);
@@ -230,9 +242,11 @@ void CFE_SB_TimeStampMsg(CFE_MSG_Message_t *MsgPtr)
 static size_t header_bytes(const CFE_MSG_Message_t *message)
 {
     struct fsw_header header;
-    if (fsw_read_header(message, HEADER_BYTES, &header) != FSW_SUCCESS || !(header.id & SECONDARY_BIT))
+    if (fsw_read_header(message, HEADER_BYTES, &header) != FSW_SUCCESS ||
+        !(header.id & SECONDARY_BIT))
         return HEADER_BYTES;
-    return header.id & TYPE_BIT ? sizeof(CFE_MSG_CommandHeader_t) : sizeof(CFE_MSG_TelemetryHeader_t);
+    return header.id & TYPE_BIT ? sizeof(CFE_MSG_CommandHeader_t)
+                                : sizeof(CFE_MSG_TelemetryHeader_t);
 }
 
 void *CFE_SB_GetUserData(CFE_MSG_Message_t *MsgPtr)
@@ -256,8 +270,8 @@ void CFE_SB_SetUserDataLength(CFE_MSG_Message_t *MsgPtr, size_t DataLength)
 
 /* ---- Strings in messages, which need no zero byte if they fill their field ---- */
 
-int32 CFE_SB_MessageStringGet(char *DestStringPtr, const char *SourceStringPtr, const char *DefaultString,
-                              size_t DestMaxSize, size_t SourceMaxSize)
+int32 CFE_SB_MessageStringGet(char *DestStringPtr, const char *SourceStringPtr,
+                              const char *DefaultString, size_t DestMaxSize, size_t SourceMaxSize)
 {
     if (!DestStringPtr || DestMaxSize == 0 || (!SourceStringPtr && !DefaultString))
         return CFE_SB_BAD_ARGUMENT;
@@ -266,17 +280,20 @@ int32 CFE_SB_MessageStringGet(char *DestStringPtr, const char *SourceStringPtr, 
         SourceStringPtr = DefaultString;
         SourceMaxSize = DestMaxSize;
     }
-    size_t length = strnlen(SourceStringPtr, SourceMaxSize < DestMaxSize ? SourceMaxSize : DestMaxSize - 1);
+    size_t length =
+        strnlen(SourceStringPtr, SourceMaxSize < DestMaxSize ? SourceMaxSize : DestMaxSize - 1);
     memcpy(DestStringPtr, SourceStringPtr, length);
     DestStringPtr[length] = '\0';
     return (int32)length;
 }
 
-int32 CFE_SB_MessageStringSet(char *DestStringPtr, const char *SourceStringPtr, size_t DestMaxSize, size_t SourceMaxSize)
+int32 CFE_SB_MessageStringSet(char *DestStringPtr, const char *SourceStringPtr, size_t DestMaxSize,
+                              size_t SourceMaxSize)
 {
     if (!DestStringPtr || !SourceStringPtr)
         return CFE_SB_BAD_ARGUMENT;
-    size_t length = strnlen(SourceStringPtr, SourceMaxSize < DestMaxSize ? SourceMaxSize : DestMaxSize);
+    size_t length =
+        strnlen(SourceStringPtr, SourceMaxSize < DestMaxSize ? SourceMaxSize : DestMaxSize);
     memcpy(DestStringPtr, SourceStringPtr, length);
     memset(DestStringPtr + length, 0, DestMaxSize - length);
     return (int32)length;

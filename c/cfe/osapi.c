@@ -13,7 +13,8 @@ int32 OS_TaskDelay(uint32 millisecond)
     struct timespec deadline = layer_deadline((int32)(millisecond & INT32_MAX));
     int late = 0;
     if (!app)
-        return clock_nanosleep(CLOCK_MONOTONIC, TIMER_ABSTIME, &deadline, NULL) == 0 ? OS_SUCCESS : OS_ERROR;
+        return clock_nanosleep(CLOCK_MONOTONIC, TIMER_ABSTIME, &deadline, NULL) == 0 ? OS_SUCCESS
+                                                                                     : OS_ERROR;
     layer_lock();
     while (!layer_is_ending(app) && late == 0)
         late = pthread_cond_timedwait(&layer.change, &layer.mutex, &deadline);
@@ -82,7 +83,8 @@ int32 OS_MutSemCreate(osal_id_t *sem_id, const char *sem_name, uint32 options)
 static struct mutex *mutex_at(osal_id_t id)
 {
     pthread_mutex_lock(&mutexes_lock);
-    struct mutex *found = 1 <= id && id <= MUTEXES && mutexes[id - 1].is_used ? &mutexes[id - 1] : NULL;
+    struct mutex *found =
+        1 <= id && id <= MUTEXES && mutexes[id - 1].is_used ? &mutexes[id - 1] : NULL;
     pthread_mutex_unlock(&mutexes_lock);
     return found;
 }

@@ -175,8 +175,9 @@ static struct task **place_for_child(struct application *app)
 }
 
 CFE_Status_t CFE_ES_CreateChildTask(CFE_ES_TaskId_t *TaskIdPtr, const char *TaskName,
-                                    CFE_ES_ChildTaskMainFuncPtr_t FunctionPtr, CFE_ES_StackPointer_t StackPtr,
-                                    size_t StackSize, CFE_ES_TaskPriority_Atom_t Priority, uint32 Flags)
+                                    CFE_ES_ChildTaskMainFuncPtr_t FunctionPtr,
+                                    CFE_ES_StackPointer_t StackPtr, size_t StackSize,
+                                    CFE_ES_TaskPriority_Atom_t Priority, uint32 Flags)
 {
     (void)StackPtr, (void)StackSize, (void)Priority, (void)Flags;
     struct application *app = layer_caller();
@@ -193,7 +194,8 @@ CFE_Status_t CFE_ES_CreateChildTask(CFE_ES_TaskId_t *TaskIdPtr, const char *Task
     }
     if (task) {
         *place = task;
-        *TaskIdPtr = (app->number - 1) * LAYER_CHILDREN + (CFE_ES_TaskId_t)(place - app->children) + 1;
+        *TaskIdPtr =
+            (app->number - 1) * LAYER_CHILDREN + (CFE_ES_TaskId_t)(place - app->children) + 1;
     }
     layer_unlock();
     return task ? CFE_SUCCESS : CFE_ES_ERR_CHILD_TASK_CREATE;
@@ -304,7 +306,8 @@ static bool are_named(const struct fsw_app *apps, size_t count)
     return true;
 }
 
-/* Starts the applications; where a thread can't be had, those that run are stopped. Answers how many were started. */
+/* Starts the applications; where a thread can't be had, those that run are stopped. Answers how
+ * many were started. */
 static uint32_t start_all(void)
 {
     for (uint32_t i = 0; i < layer.apps; i++)

@@ -5,7 +5,8 @@
 
 enum { HEADER_BYTES = sizeof(CFE_MSG_Message_t), PIPE_NAME_BYTES = 19 };
 
-/* Lets the lock go, and gives the core's status as cFE's: the end of each call that took the lock. */
+/* Lets the lock go, and gives the core's status as cFE's: the end of each call that took the lock.
+ */
 static CFE_Status_t done(uint32_t status)
 {
     layer_unlock();
@@ -30,7 +31,8 @@ CFE_Status_t CFE_SB_CreatePipe(CFE_SB_PipeId_t *PipeIdPtr, uint16 Depth, const c
     if (!PipeIdPtr || !PipeName)
         return CFE_SB_BAD_ARGUMENT;
     layer_lock();
-    return done(fsw_create_pipe(&layer.core, layer_number(), Depth, PipeName, strlen(PipeName), PipeIdPtr));
+    return done(
+        fsw_create_pipe(&layer.core, layer_number(), Depth, PipeName, strlen(PipeName), PipeIdPtr));
 }
 
 CFE_Status_t CFE_SB_DeletePipe(CFE_SB_PipeId_t PipeId)
@@ -97,7 +99,8 @@ static CFE_Status_t subscribe(CFE_SB_MsgId_t id, CFE_SB_PipeId_t pipe, uint16 li
     return done(fsw_subscribe(&layer.core, layer_number(), id_of(id), pipe, limit, scope));
 }
 
-CFE_Status_t CFE_SB_SubscribeEx(CFE_SB_MsgId_t MsgId, CFE_SB_PipeId_t PipeId, CFE_SB_Qos_t Quality, uint16 MsgLim)
+CFE_Status_t CFE_SB_SubscribeEx(CFE_SB_MsgId_t MsgId, CFE_SB_PipeId_t PipeId, CFE_SB_Qos_t Quality,
+                                uint16 MsgLim)
 {
     (void)Quality;
     return subscribe(MsgId, PipeId, MsgLim, FSW_GLOBAL);
@@ -133,7 +136,8 @@ CFE_Status_t CFE_SB_TransmitMsg(const CFE_MSG_Message_t *MsgPtr, bool IncrementS
     if (fsw_read_header(MsgPtr, HEADER_BYTES, &header) != FSW_SUCCESS)
         return CFE_SB_BAD_ARGUMENT;
     layer_lock();
-    uint32_t status = fsw_transmit(&layer.core, layer_number(), MsgPtr, header.size, IncrementSequenceCount, &sent);
+    uint32_t status = fsw_transmit(&layer.core, layer_number(), MsgPtr, header.size,
+                                   IncrementSequenceCount, &sent);
     if (sent.reached > 0)
         layer_wake();
     return done(status);
@@ -220,7 +224,8 @@ CFE_Status_t CFE_SB_TransmitBuffer(CFE_SB_Buffer_t *BufPtr, bool IncrementSequen
     struct fsw_buffer *place = buffer_at(layer_caller(), BufPtr);
     if (!place)
         return done(FSW_SB_BUFFER_INVALID);
-    uint32_t status = fsw_transmit_buffer(&layer.core, layer_number(), place, IncrementSequenceCount, &sent);
+    uint32_t status =
+        fsw_transmit_buffer(&layer.core, layer_number(), place, IncrementSequenceCount, &sent);
     if (sent.reached > 0)
         layer_wake();
     return done(status);

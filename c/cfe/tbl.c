@@ -8,7 +8,8 @@
 /* A file of the largest table: cFE's two headers and the value. */
 enum { IMAGE_HEADERS = 116, MOST_TABLE = 65536, IMAGE_BYTES = IMAGE_HEADERS + MOST_TABLE };
 
-/* The core's tables have names of at most 15 bytes: there a table is called by the number of its row here. */
+/* The core's tables have names of at most 15 bytes: there a table is called by the number of its
+ * row here. */
 enum { CORE_NAME_BYTES = 16 };
 
 /* A table by its full name, "APPLICATION.Table", whether it is registered or not. */
@@ -67,7 +68,8 @@ static CFE_Status_t done(uint32_t status)
 
 /* ---- Names ---- */
 
-/* With the lock: the row of a full name, or a free one; null where all are taken by tables that have a handle. */
+/* With the lock: the row of a full name, or a free one; null where all are taken by tables that
+ * have a handle. */
 static struct row *row_named(const char *name)
 {
     struct row *row = NULL;
@@ -111,7 +113,8 @@ static uint32_t core_handle(CFE_TBL_Handle_t handle)
     return place ? place->handle : 0;
 }
 
-/* With the lock: the place of a core's handle, a new one if it has none. There are as many as live handles. */
+/* With the lock: the place of a core's handle, a new one if it has none. There are as many as live
+ * handles. */
 static CFE_TBL_Handle_t place_of(uint32_t handle, struct row *row)
 {
     uint32_t free = 0;
@@ -147,7 +150,8 @@ void layer_close_tables(uint32_t app)
 /* The core's option; one that it hasn't where cFE's options ask for what there isn't. */
 static uint32_t core_option(uint16 flags)
 {
-    if (flags & ~(CFE_TBL_OPT_BUFFER_MSK | CFE_TBL_OPT_LD_DMP_MSK) || flags == (CFE_TBL_OPT_DBL_BUFFER | CFE_TBL_OPT_DUMP_ONLY))
+    if (flags & ~(CFE_TBL_OPT_BUFFER_MSK | CFE_TBL_OPT_LD_DMP_MSK) ||
+        flags == (CFE_TBL_OPT_DBL_BUFFER | CFE_TBL_OPT_DUMP_ONLY))
         return UINT32_MAX;
     if (flags & CFE_TBL_OPT_DUMP_ONLY)
         return FSW_TABLE_DUMP_ONLY;
@@ -159,16 +163,19 @@ static bool write_full_name(char *full, const char *name)
     size_t length = strlen(name);
     if (length == 0 || length >= CFE_MISSION_TBL_MAX_NAME_LENGTH)
         return false;
-    int written = snprintf(full, CFE_MISSION_TBL_MAX_FULL_NAME_LEN, "%s.%s", layer_caller()->name, name);
+    int written =
+        snprintf(full, CFE_MISSION_TBL_MAX_FULL_NAME_LEN, "%s.%s", layer_caller()->name, name);
     return written < CFE_MISSION_TBL_MAX_FULL_NAME_LEN;
 }
 
 /* With the lock. */
-static uint32_t register_row(struct row *row, const char *full, uint32_t size, uint32_t option, uint32_t *handle)
+static uint32_t register_row(struct row *row, const char *full, uint32_t size, uint32_t option,
+                             uint32_t *handle)
 {
     char name[CORE_NAME_BYTES];
     uint32_t app = layer_number();
-    uint32_t status = fsw_table_register(&layer.core, app, name, core_name(row, name), size, option, NULL, 0, handle);
+    uint32_t status = fsw_table_register(&layer.core, app, name, core_name(row, name), size, option,
+                                         NULL, 0, handle);
     if (status != FSW_SUCCESS && status != FSW_TBL_WARN_DUPLICATE)
         return status;
     snprintf(row->name, sizeof row->name, "%s", full);
@@ -177,8 +184,8 @@ static uint32_t register_row(struct row *row, const char *full, uint32_t size, u
     return status;
 }
 
-CFE_Status_t CFE_TBL_Register(CFE_TBL_Handle_t *TblHandlePtr, const char *Name, size_t Size, uint16 TblOptionFlags,
-                              CFE_TBL_CallbackFuncPtr_t TblValidationFuncPtr)
+CFE_Status_t CFE_TBL_Register(CFE_TBL_Handle_t *TblHandlePtr, const char *Name, size_t Size,
+                              uint16 TblOptionFlags, CFE_TBL_CallbackFuncPtr_t TblValidationFuncPtr)
 {
     char full[CFE_MISSION_TBL_MAX_FULL_NAME_LEN];
     uint32_t handle = 0;
@@ -213,7 +220,8 @@ CFE_Status_t CFE_TBL_Share(CFE_TBL_Handle_t *TblHandlePtr, const char *TblName)
     struct row *row = TblName[0] ? row_named(TblName) : NULL;
     if (!row || row->name[0] == '\0')
         return done(FSW_TBL_ERR_INVALID_NAME);
-    uint32_t status = fsw_table_share(&layer.core, layer_number(), name, core_name(row, name), &handle);
+    uint32_t status =
+        fsw_table_share(&layer.core, layer_number(), name, core_name(row, name), &handle);
     if (status == FSW_SUCCESS)
         *TblHandlePtr = place_of(handle, row);
     return done(status);
@@ -230,7 +238,8 @@ CFE_Status_t CFE_TBL_Unregister(CFE_TBL_Handle_t TblHandle)
 
 /* ---- Loads: the lock of loads is held from staging to update ---- */
 
-/* Copies the staged value, so that the validation function reads it without the lock; it may make calls of its own. */
+/* Copies the staged value, so that the validation function reads it without the lock; it may make
+ * calls of its own. */
 static uint32_t copy_staged(CFE_TBL_Handle_t handle, CFE_TBL_CallbackFuncPtr_t *validate)
 {
     struct fsw_bytes staged = {NULL, 0};
@@ -270,10 +279,12 @@ static void abort_staged(CFE_TBL_Handle_t handle)
     layer_unlock();
 }
 
-static CFE_Status_t load_bytes(CFE_TBL_Handle_t handle, uint32_t offset, const void *bytes, size_t length)
+static CFE_Status_t load_bytes(CFE_TBL_Handle_t handle, uint32_t offset, const void *bytes,
+                               size_t length)
 {
     layer_lock();
-    CFE_Status_t status = done(fsw_table_stage(&layer.core, layer_number(), core_handle(handle), offset, bytes, length));
+    CFE_Status_t status = done(
+        fsw_table_stage(&layer.core, layer_number(), core_handle(handle), offset, bytes, length));
     if (status != CFE_SUCCESS)
         return status;
     status = validate_staged(handle);
@@ -336,7 +347,8 @@ static CFE_Status_t load_file(CFE_TBL_Handle_t handle, const char *path, size_t 
     return status == CFE_SUCCESS && image.bytes.len < size ? CFE_TBL_WARN_PARTIAL_LOAD : status;
 }
 
-CFE_Status_t CFE_TBL_Load(CFE_TBL_Handle_t TblHandle, CFE_TBL_SrcEnum_t SrcType, const void *SrcDataPtr)
+CFE_Status_t CFE_TBL_Load(CFE_TBL_Handle_t TblHandle, CFE_TBL_SrcEnum_t SrcType,
+                          const void *SrcDataPtr)
 {
     CFE_Status_t status = CFE_TBL_ERR_ILLEGAL_SRC_TYPE;
     if (!SrcDataPtr)
@@ -375,7 +387,8 @@ CFE_Status_t CFE_TBL_GetStatus(CFE_TBL_Handle_t TblHandle)
 {
     struct fsw_table_status figures = {0, 0, 0, 0, 0};
     layer_lock();
-    CFE_Status_t status = done(fsw_table_status(&layer.core, layer_number(), core_handle(TblHandle), &figures));
+    CFE_Status_t status =
+        done(fsw_table_status(&layer.core, layer_number(), core_handle(TblHandle), &figures));
     if (status != CFE_SUCCESS || figures.staged == 0)
         return status;
     return figures.staged == 1 ? CFE_TBL_INFO_VALIDATION_PENDING : CFE_TBL_INFO_UPDATE_PENDING;
@@ -402,7 +415,8 @@ CFE_Status_t CFE_TBL_GetAddress(void **TblPtr, CFE_TBL_Handle_t TblHandle)
         return CFE_TBL_BAD_ARGUMENT;
     *TblPtr = NULL;
     layer_lock();
-    uint32_t status = fsw_table_get_address(&layer.core, layer_number(), core_handle(TblHandle), &address);
+    uint32_t status =
+        fsw_table_get_address(&layer.core, layer_number(), core_handle(TblHandle), &address);
     /* cFE's type isn't const, though nobody may write a table where it lies. */
     *TblPtr = (void *)(uintptr_t)address.at;
     return done(status);
@@ -414,7 +428,8 @@ CFE_Status_t CFE_TBL_ReleaseAddress(CFE_TBL_Handle_t TblHandle)
     return done(fsw_table_release_address(&layer.core, layer_number(), core_handle(TblHandle)));
 }
 
-CFE_Status_t CFE_TBL_GetAddresses(void **TblPtrs[], uint16 NumTables, const CFE_TBL_Handle_t TblHandles[])
+CFE_Status_t CFE_TBL_GetAddresses(void **TblPtrs[], uint16 NumTables,
+                                  const CFE_TBL_Handle_t TblHandles[])
 {
     CFE_Status_t worst = CFE_SUCCESS;
     if (!TblPtrs || !TblHandles)

@@ -9,7 +9,14 @@
 #include <sys/socket.h>
 #include <unistd.h>
 
-enum { COMMAND_PORT = 1234, TELEMETRY_PORT = 1235, MOST_IDS = 32, MOST_PACKET = 65507, DEPTH = 64, POLL_MS = 200 };
+enum {
+    COMMAND_PORT = 1234,
+    TELEMETRY_PORT = 1235,
+    MOST_IDS = 32,
+    MOST_PACKET = 65507,
+    DEPTH = 64,
+    POLL_MS = 200
+};
 enum { SOCKET_EID = 1, REFUSED_EID = 2, ENABLED_EID = 3 };
 
 typedef struct {
@@ -53,7 +60,8 @@ static void KnowGround(const struct sockaddr_in *From)
     Ground = *From;
     Ground.sin_port = htons(TELEMETRY_PORT);
     HasGround = true;
-    CFE_EVS_SendEvent(ENABLED_EID, CFE_EVS_EventType_INFORMATION, "Telemetry goes out to port %u", TELEMETRY_PORT);
+    CFE_EVS_SendEvent(ENABLED_EID, CFE_EVS_EventType_INFORMATION, "Telemetry goes out to port %u",
+                      TELEMETRY_PORT);
 }
 
 /* Whether the bytes are one whole command. */
@@ -76,12 +84,15 @@ static void TakeDatagram(void)
     } Packet;
     struct sockaddr_in From;
     socklen_t FromLength = sizeof From;
-    ssize_t Length = recvfrom(Socket, Packet.Bytes, sizeof Packet.Bytes, 0, (struct sockaddr *)&From, &FromLength);
+    ssize_t Length = recvfrom(Socket, Packet.Bytes, sizeof Packet.Bytes, 0,
+                              (struct sockaddr *)&From, &FromLength);
     if (Length < 0)
         return;
-    if (!IsCommand(&Packet.Buffer, (size_t)Length) || CFE_SB_TransmitMsg(&Packet.Buffer.Msg, false) != CFE_SUCCESS) {
+    if (!IsCommand(&Packet.Buffer, (size_t)Length) ||
+        CFE_SB_TransmitMsg(&Packet.Buffer.Msg, false) != CFE_SUCCESS) {
         Refused++;
-        CFE_EVS_SendEvent(REFUSED_EID, CFE_EVS_EventType_ERROR, "A datagram of %u bytes is no command", (unsigned)Length);
+        CFE_EVS_SendEvent(REFUSED_EID, CFE_EVS_EventType_ERROR,
+                          "A datagram of %u bytes is no command", (unsigned)Length);
         return;
     }
     Taken++;
@@ -112,7 +123,8 @@ static void SendOut(const CFE_SB_Buffer_t *Buffer)
 {
     size_t Size = 0;
     CFE_MSG_GetSize(&Buffer->Msg, &Size);
-    if (HasGround && sendto(Socket, Buffer, Size, 0, (struct sockaddr *)&Ground, sizeof Ground) == (ssize_t)Size)
+    if (HasGround &&
+        sendto(Socket, Buffer, Size, 0, (struct sockaddr *)&Ground, sizeof Ground) == (ssize_t)Size)
         Sent++;
 }
 
@@ -148,12 +160,14 @@ void GROUND_LINK_Main(void)
     CFE_ES_TaskId_t Task;
     CFE_EVS_Register(NULL, 0, CFE_EVS_EventFilter_BINARY);
     if (!OpenSocket()) {
-        CFE_EVS_SendEvent(SOCKET_EID, CFE_EVS_EventType_ERROR, "Port %u can't be had", COMMAND_PORT);
+        CFE_EVS_SendEvent(SOCKET_EID, CFE_EVS_EventType_ERROR, "Port %u can't be had",
+                          COMMAND_PORT);
         CFE_ES_ExitApp(CFE_ES_RunStatus_APP_ERROR);
     }
     CFE_Status_t Status = OpenPipe(&Pipe);
     if (Status == CFE_SUCCESS)
-        Status = CFE_ES_CreateChildTask(&Task, "GROUND_LINK_CMD", TakeCommands, CFE_ES_TASK_STACK_ALLOCATE,
+        Status = CFE_ES_CreateChildTask(&Task, "GROUND_LINK_CMD", TakeCommands,
+                                        CFE_ES_TASK_STACK_ALLOCATE,
                                         CFE_PLATFORM_ES_DEFAULT_STACK_SIZE, 100, 0);
     if (Status == CFE_SUCCESS)
         SendTelemetry(Pipe);

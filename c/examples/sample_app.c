@@ -70,20 +70,23 @@ static int32 ValidateTable(void *Data)
 
 static CFE_Status_t InitPipe(void)
 {
-    CFE_Status_t Status = CFE_SB_CreatePipe(&SAMPLE_APP_Data.CommandPipe, PIPE_DEPTH, "SAMPLE_CMD_PIPE");
+    CFE_Status_t Status =
+        CFE_SB_CreatePipe(&SAMPLE_APP_Data.CommandPipe, PIPE_DEPTH, "SAMPLE_CMD_PIPE");
     if (Status == CFE_SUCCESS)
-        Status = CFE_SB_Subscribe(CFE_SB_ValueToMsgId(SAMPLE_APP_SEND_HK_MID), SAMPLE_APP_Data.CommandPipe);
+        Status = CFE_SB_Subscribe(CFE_SB_ValueToMsgId(SAMPLE_APP_SEND_HK_MID),
+                                  SAMPLE_APP_Data.CommandPipe);
     if (Status == CFE_SUCCESS)
-        Status = CFE_SB_SubscribeEx(CFE_SB_ValueToMsgId(SAMPLE_APP_CMD_MID), SAMPLE_APP_Data.CommandPipe,
-                                    CFE_SB_DEFAULT_QOS, PIPE_DEPTH);
+        Status = CFE_SB_SubscribeEx(CFE_SB_ValueToMsgId(SAMPLE_APP_CMD_MID),
+                                    SAMPLE_APP_Data.CommandPipe, CFE_SB_DEFAULT_QOS, PIPE_DEPTH);
     return Status;
 }
 
 static CFE_Status_t InitTable(void)
 {
     static const SAMPLE_APP_Table_t First = {10, 100};
-    CFE_Status_t Status = CFE_TBL_Register(&SAMPLE_APP_Data.Table, "Limits", sizeof(SAMPLE_APP_Table_t),
-                                           CFE_TBL_OPT_DEFAULT, ValidateTable);
+    CFE_Status_t Status =
+        CFE_TBL_Register(&SAMPLE_APP_Data.Table, "Limits", sizeof(SAMPLE_APP_Table_t),
+                         CFE_TBL_OPT_DEFAULT, ValidateTable);
     if (Status == CFE_SUCCESS)
         Status = CFE_TBL_Load(SAMPLE_APP_Data.Table, CFE_TBL_SRC_ADDRESS, &First);
     return Status;
@@ -93,19 +96,21 @@ static CFE_Status_t Init(void)
 {
     memset(&SAMPLE_APP_Data, 0, sizeof SAMPLE_APP_Data);
     SAMPLE_APP_Data.RunStatus = CFE_ES_RunStatus_APP_RUN;
-    CFE_Status_t Status = CFE_EVS_Register(SAMPLE_APP_Filters, sizeof SAMPLE_APP_Filters / sizeof SAMPLE_APP_Filters[0],
+    CFE_Status_t Status = CFE_EVS_Register(SAMPLE_APP_Filters,
+                                           sizeof SAMPLE_APP_Filters / sizeof SAMPLE_APP_Filters[0],
                                            CFE_EVS_EventFilter_BINARY);
     if (Status != CFE_SUCCESS) {
         CFE_ES_WriteToSysLog("SAMPLE_APP: events refused, 0x%08lX\n", (unsigned long)Status);
         return Status;
     }
-    CFE_MSG_Init(CFE_MSG_PTR(SAMPLE_APP_Data.HkTlm.TelemetryHeader), CFE_SB_ValueToMsgId(SAMPLE_APP_HK_TLM_MID),
-                 sizeof SAMPLE_APP_Data.HkTlm);
+    CFE_MSG_Init(CFE_MSG_PTR(SAMPLE_APP_Data.HkTlm.TelemetryHeader),
+                 CFE_SB_ValueToMsgId(SAMPLE_APP_HK_TLM_MID), sizeof SAMPLE_APP_Data.HkTlm);
     Status = InitPipe();
     if (Status == CFE_SUCCESS)
         Status = InitTable();
     if (Status == CFE_SUCCESS)
-        CFE_EVS_SendEvent(SAMPLE_APP_STARTUP_EID, CFE_EVS_EventType_INFORMATION, "SAMPLE_APP is ready");
+        CFE_EVS_SendEvent(SAMPLE_APP_STARTUP_EID, CFE_EVS_EventType_INFORMATION,
+                          "SAMPLE_APP is ready");
     return Status;
 }
 
@@ -151,7 +156,8 @@ static void Process(void)
 {
     SAMPLE_APP_Table_t Table = Limits();
     SAMPLE_APP_Data.CommandCounter++;
-    CFE_EVS_SendEvent(SAMPLE_APP_PROCESS_EID, CFE_EVS_EventType_INFORMATION, "Limits are %u and %u", Table.Low, Table.High);
+    CFE_EVS_SendEvent(SAMPLE_APP_PROCESS_EID, CFE_EVS_EventType_INFORMATION, "Limits are %u and %u",
+                      Table.Low, Table.High);
 }
 
 static void TellLoad(CFE_Status_t Status)
@@ -161,8 +167,8 @@ static void TellLoad(CFE_Status_t Status)
         CFE_EVS_SendEvent(SAMPLE_APP_LOADED_EID, CFE_EVS_EventType_INFORMATION, "Table loaded");
     } else {
         SAMPLE_APP_Data.CommandErrorCounter++;
-        CFE_EVS_SendEvent(SAMPLE_APP_REFUSED_EID, CFE_EVS_EventType_ERROR, "Table refused, status 0x%08lX",
-                          (unsigned long)(uint32)Status);
+        CFE_EVS_SendEvent(SAMPLE_APP_REFUSED_EID, CFE_EVS_EventType_ERROR,
+                          "Table refused, status 0x%08lX", (unsigned long)(uint32)Status);
     }
 }
 
@@ -196,8 +202,8 @@ static bool IsLong(const CFE_MSG_Message_t *Msg, size_t Expected)
         return true;
     CFE_MSG_GetFcnCode(Msg, &Code);
     SAMPLE_APP_Data.CommandErrorCounter++;
-    CFE_EVS_SendEvent(SAMPLE_APP_LENGTH_EID, CFE_EVS_EventType_ERROR, "Command %u has %u bytes, not %u", Code,
-                      (unsigned)Size, (unsigned)Expected);
+    CFE_EVS_SendEvent(SAMPLE_APP_LENGTH_EID, CFE_EVS_EventType_ERROR,
+                      "Command %u has %u bytes, not %u", Code, (unsigned)Size, (unsigned)Expected);
     return false;
 }
 
@@ -207,19 +213,23 @@ static void ProcessGroundCommand(const CFE_SB_Buffer_t *Buffer)
     CFE_MSG_GetFcnCode(&Buffer->Msg, &Code);
     if (Code == SAMPLE_APP_NOOP_CC && IsLong(&Buffer->Msg, sizeof(SAMPLE_APP_NoArgsCmd_t)))
         Noop();
-    else if (Code == SAMPLE_APP_RESET_COUNTERS_CC && IsLong(&Buffer->Msg, sizeof(SAMPLE_APP_NoArgsCmd_t)))
+    else if (Code == SAMPLE_APP_RESET_COUNTERS_CC &&
+             IsLong(&Buffer->Msg, sizeof(SAMPLE_APP_NoArgsCmd_t)))
         ResetCounters();
     else if (Code == SAMPLE_APP_PROCESS_CC && IsLong(&Buffer->Msg, sizeof(SAMPLE_APP_NoArgsCmd_t)))
         Process();
-    else if (Code == SAMPLE_APP_SET_LIMITS_CC && IsLong(&Buffer->Msg, sizeof(SAMPLE_APP_SetLimitsCmd_t)))
+    else if (Code == SAMPLE_APP_SET_LIMITS_CC &&
+             IsLong(&Buffer->Msg, sizeof(SAMPLE_APP_SetLimitsCmd_t)))
         SetLimits((const SAMPLE_APP_SetLimitsCmd_t *)Buffer);
-    else if (Code == SAMPLE_APP_LOAD_FILE_CC && IsLong(&Buffer->Msg, sizeof(SAMPLE_APP_LoadFileCmd_t)))
+    else if (Code == SAMPLE_APP_LOAD_FILE_CC &&
+             IsLong(&Buffer->Msg, sizeof(SAMPLE_APP_LoadFileCmd_t)))
         LoadFile((const SAMPLE_APP_LoadFileCmd_t *)Buffer);
     else if (Code == SAMPLE_APP_EXIT_CC && IsLong(&Buffer->Msg, sizeof(SAMPLE_APP_NoArgsCmd_t)))
         Exit();
     else if (Code > SAMPLE_APP_EXIT_CC) {
         SAMPLE_APP_Data.CommandErrorCounter++;
-        CFE_EVS_SendEvent(SAMPLE_APP_CODE_EID, CFE_EVS_EventType_ERROR, "No command has code %u", Code);
+        CFE_EVS_SendEvent(SAMPLE_APP_CODE_EID, CFE_EVS_EventType_ERROR, "No command has code %u",
+                          Code);
     }
 }
 
@@ -236,7 +246,8 @@ static void ProcessCommandPacket(const CFE_SB_Buffer_t *Buffer)
         break;
     default:
         SAMPLE_APP_Data.CommandErrorCounter++;
-        CFE_EVS_SendEvent(SAMPLE_APP_MID_EID, CFE_EVS_EventType_ERROR, "Message id 0x%04X is none of mine",
+        CFE_EVS_SendEvent(SAMPLE_APP_MID_EID, CFE_EVS_EventType_ERROR,
+                          "Message id 0x%04X is none of mine",
                           (unsigned)CFE_SB_MsgIdToValue(MsgId));
     }
 }
@@ -249,7 +260,8 @@ void SAMPLE_APP_Main(void)
         SAMPLE_APP_Data.RunStatus = CFE_ES_RunStatus_APP_ERROR;
     while (CFE_ES_RunLoop(&SAMPLE_APP_Data.RunStatus)) {
         CFE_ES_PerfLogExit(1);
-        CFE_Status_t Status = CFE_SB_ReceiveBuffer(&Buffer, SAMPLE_APP_Data.CommandPipe, CFE_SB_PEND_FOREVER);
+        CFE_Status_t Status =
+            CFE_SB_ReceiveBuffer(&Buffer, SAMPLE_APP_Data.CommandPipe, CFE_SB_PEND_FOREVER);
         CFE_ES_PerfLogEntry(1);
         if (Status == CFE_SUCCESS)
             ProcessCommandPacket(Buffer);

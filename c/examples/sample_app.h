@@ -1,19 +1,21 @@
 /*
  * sample_app.h: what the ground knows of SAMPLE_APP.
  *
- * COMMANDS, id 0x1882, by function code. A command of another length or code is refused with an event, and counted.
+ * COMMANDS, id 0x1882, by function code. A command of another length or code is refused with an
+ * event, and counted.
  *
- *   code  name            parameters               effect
- *   0     noop            none                     event 1; counts the command
- *   1     reset counters  none                     event 2; both counters are 0
- *   2     process         none                     event 3 with the limits in the table; counts the command
- *   3     set limits      low, high: 16 bits each  loads the table (high byte first in the packet); event 4, or 5 if the
- *                                                  limits are refused: low above high, or high above 1000
- *   4     load file       a path of 64 bytes       loads the table from a file in cFE's form; event 4, or 5
- *   5     exit            none                     event 6; the application ends
+ *   code  command         parameters        effect
+ *   0     noop                              event 1
+ *   1     reset counters                    event 2; both counters are 0
+ *   2     process                           event 3, with the table's limits
+ *   3     set limits      low, high:        loads the table; event 4, or 5 if the limits are
+ *                         16 bits each      refused: low above high, or high above 1000
+ *   4     load file       a path: 64 bytes  loads the table from a file; event 4, or 5
+ *   5     exit                              event 6; the application ends
  *
- * HOUSEKEEPING, id 0x0883, on request by id 0x1883: a telemetry header of 16 bytes, then the counts of refused and of
- * accepted commands, 8 bits each, and the table's limits, 16 bits each, the highest byte first.
+ * HOUSEKEEPING, id 0x0883, on request by id 0x1883: a telemetry header of 16 bytes, the counts of
+ * refused and of accepted commands, 8 bits each, and the table's limits, 16 bits each. Numbers of
+ * 16 bits have the highest byte first.
  */
 #ifndef SAMPLE_APP_H
 #define SAMPLE_APP_H

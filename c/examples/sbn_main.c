@@ -3,8 +3,8 @@
  *
  *     sbn_main CONFIGURATION OWN_ID MILLISECONDS [ID ..]
  *
- * It sends a telemetry packet of OWN_ID every 50 ms, and counts the packets of each ID that come. At the end it prints what
- * it sent, what came, and what the links counted.
+ * It sends a telemetry packet of OWN_ID every 50 ms, and counts the packets of each ID that come.
+ * At the end it prints what it sent, what came, and what the links counted.
  */
 #include "cfe.h"
 #include "fsw_run.h"
@@ -24,7 +24,8 @@ static void BEACON_Main(void)
     uint32 RunStatus = CFE_ES_RunStatus_APP_RUN;
     CFE_MSG_Init(CFE_MSG_PTR(Packet), CFE_SB_ValueToMsgId(OwnId), sizeof Packet);
     CFE_ES_WaitForStartupSync(CFE_PLATFORM_CORE_MAX_STARTUP_MSEC);
-    for (uint32 Passed = 0; Passed < Milliseconds && CFE_ES_RunLoop(&RunStatus); Passed += BEACON_MS) {
+    for (uint32 Passed = 0; Passed < Milliseconds && CFE_ES_RunLoop(&RunStatus);
+         Passed += BEACON_MS) {
         if (CFE_SB_TransmitMsg(CFE_MSG_PTR(Packet), true) == CFE_SUCCESS)
             Beacons++;
         OS_TaskDelay(BEACON_MS);
@@ -62,14 +63,15 @@ static void Report(void)
     for (uint32 i = 0; i < Heards; i++)
         printf("heard 0x%04x %u\n", Heard[i], HeardCount[i]);
     for (size_t i = 0; i < Links; i++)
-        printf("link %s taken %u refused %u ups %u downs %u\n", Counts[i].Name, Counts[i].Taken, Counts[i].Refused,
-               Counts[i].Ups, Counts[i].Downs);
+        printf("link %s taken %u refused %u ups %u downs %u\n", Counts[i].Name, Counts[i].Taken,
+               Counts[i].Refused, Counts[i].Ups, Counts[i].Downs);
 }
 
 int main(int argc, char **argv)
 {
-    static const struct fsw_app apps[] = {
-        {"SBN_ZMQ", SBN_ZMQ_Main}, {"LISTENER", LISTENER_Main}, {"BEACON", BEACON_Main}};
+    static const struct fsw_app apps[] = {{"SBN_ZMQ", SBN_ZMQ_Main},
+                                          {"LISTENER", LISTENER_Main},
+                                          {"BEACON", BEACON_Main}};
     if (argc < 4 || argc - 4 > MOST_HEARD) {
         fprintf(stderr, "usage: sbn_main CONFIGURATION OWN_ID MILLISECONDS [ID ..]\n");
         return 2;

@@ -1,4 +1,5 @@
-/* sbn_zmq.c: joins the buses of several processes by ZeroMQ. The main task publishes, and a child task listens. */
+/* sbn_zmq.c: joins the buses of several processes by ZeroMQ. The main task publishes, and a child
+ * task listens. */
 #include "sbn_zmq.h"
 
 #include <stdio.h>
@@ -7,7 +8,13 @@
 #include <time.h>
 #include <zmq.h>
 
-enum { MOST_IDS = 64, NAME_BYTES = 16, ADDRESS_BYTES = 128, LINE_BYTES = 1024, MOST_PACKET = 65542 };
+enum {
+    MOST_IDS = 64,
+    NAME_BYTES = 16,
+    ADDRESS_BYTES = 128,
+    LINE_BYTES = 1024,
+    MOST_PACKET = 65542
+};
 enum { DEPTH = 256, SEND_MS = 100, LISTEN_MS = 100, LIFE_MS = 1000, SILENCE_MS = 3000 };
 enum { START_EID = 1, FAILED_EID = 2, UP_EID = 3, DOWN_EID = 4 };
 
@@ -47,7 +54,8 @@ static bool ReadIds(void)
     for (const char *Word = strtok(NULL, " \t\n"); Word; Word = strtok(NULL, " \t\n")) {
         char *End;
         unsigned long Id = strtoul(Word, &End, 0);
-        if (*End || IdCount == MOST_IDS || !CFE_SB_IsValidMsgId(CFE_SB_ValueToMsgId((CFE_SB_MsgId_Atom_t)Id)))
+        if (*End || IdCount == MOST_IDS ||
+            !CFE_SB_IsValidMsgId(CFE_SB_ValueToMsgId((CFE_SB_MsgId_Atom_t)Id)))
             return false;
         Ids[IdCount++] = (CFE_SB_MsgId_Atom_t)Id;
     }
@@ -167,7 +175,8 @@ static void FallSilent(struct Link *Link)
     CFE_EVS_SendEvent(DOWN_EID, CFE_EVS_EventType_ERROR, "Link to %s is down", Link->Counts.Name);
 }
 
-/* Sends a packet on this bus. The pipe of this application doesn't get it, so that it isn't published again. */
+/* Sends a packet on this bus. The pipe of this application doesn't get it, so that it isn't
+ * published again. */
 static void TakePacket(struct Link *Link, const CFE_SB_Buffer_t *Packet, size_t Length)
 {
     size_t Size = 0;
@@ -233,7 +242,8 @@ static void Listen(void)
     uint32 RunStatus = CFE_ES_RunStatus_APP_RUN;
     bool IsOpen = OpenLinks();
     if (!IsOpen)
-        CFE_EVS_SendEvent(FAILED_EID, CFE_EVS_EventType_ERROR, "A link can't be opened: %s", zmq_strerror(zmq_errno()));
+        CFE_EVS_SendEvent(FAILED_EID, CFE_EVS_EventType_ERROR, "A link can't be opened: %s",
+                          zmq_strerror(zmq_errno()));
     while (IsOpen && CFE_ES_RunLoop(&RunStatus))
         PollLinks();
     CloseLinks();
@@ -254,7 +264,8 @@ static CFE_Status_t OpenPipe(CFE_SB_PipeId_t *Pipe)
 
 static bool Publish(const void *Packet, size_t Size)
 {
-    return zmq_send(Publisher, Name, strlen(Name), ZMQ_SNDMORE) >= 0 && zmq_send(Publisher, Packet, Size, 0) >= 0;
+    return zmq_send(Publisher, Name, strlen(Name), ZMQ_SNDMORE) >= 0 &&
+           zmq_send(Publisher, Packet, Size, 0) >= 0;
 }
 
 static void PublishAll(CFE_SB_PipeId_t Pipe)
@@ -285,7 +296,8 @@ void SBN_ZMQ_Main(void)
         Status = CFE_ES_CreateChildTask(&Task, "SBN_ZMQ_LISTEN", Listen, CFE_ES_TASK_STACK_ALLOCATE,
                                         CFE_PLATFORM_ES_DEFAULT_STACK_SIZE, 100, 0);
     if (Status == CFE_SUCCESS) {
-        CFE_EVS_SendEvent(START_EID, CFE_EVS_EventType_INFORMATION, "%s publishes at %s", Name, Address);
+        CFE_EVS_SendEvent(START_EID, CFE_EVS_EventType_INFORMATION, "%s publishes at %s", Name,
+                          Address);
         PublishAll(Pipe);
     } else {
         CFE_EVS_SendEvent(FAILED_EID, CFE_EVS_EventType_ERROR, "%s can't start: 0x%08lX", Name,

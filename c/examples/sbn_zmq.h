@@ -1,6 +1,6 @@
 /*
- * sbn_zmq.h: joins the buses of several processes by ZeroMQ's publish and subscribe. Each process publishes chosen message
- * ids, and sends on its own bus what its peers publish.
+ * sbn_zmq.h: joins the buses of several processes by ZeroMQ's publish and subscribe. Each process
+ * publishes chosen message ids, and sends on its own bus what its peers publish.
  *
  * The configuration is a text file, a line each; # begins a comment:
  *
@@ -9,10 +9,12 @@
  *     peer B tcp://127.0.0.1:5702    a peer, and where that one publishes; up to 8
  *     send 0x0881 0x0882             message ids that are published; up to 64
  *
- * A message that came from a peer isn't published again. A message keeps its sequence count. A peer that isn't heard for
- * three seconds is down until it is heard again; both are told by an event. What is published meanwhile is lost for it.
+ * A message that came from a peer isn't published again. A message keeps its sequence count. A peer
+ * that isn't heard for three seconds is down until it is heard again; both are told by an event.
+ * What is published meanwhile is lost for it.
  *
- * On the wire a message has two parts: the sender's name, and the packet, which is empty once a second (a sign of life).
+ * On the wire a message has two parts: the sender's name, and the packet, which is empty once a
+ * second (a sign of life).
  */
 #ifndef SBN_ZMQ_H
 #define SBN_ZMQ_H

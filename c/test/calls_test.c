@@ -1,6 +1,7 @@
 /*
- * calls_test.c: each call of fsw.h accepted and refused, the bad arguments of every call, a full life of the bus and the
- * tables, and many messages in constant memory. It runs over the library or over its double.
+ * calls_test.c: each call of fsw.h accepted and refused, the bad arguments of every call, a full
+ * life of the bus and the tables, and many messages in constant memory. It runs over the library or
+ * over its double.
  */
 #include "check.h"
 #include "fsw.h"
@@ -57,7 +58,8 @@ static void openings(void)
     bad = usual;
     bad.pipes = 0;
     CHECK_STATUS(fsw_open(&core, &bad), FSW_BAD_LIMITS);
-    CHECK(fsw_bytes_needed(&bad) == 0 && fsw_bytes_needed(&usual) > 0 && fsw_bytes_needed(NULL) == 0);
+    CHECK(fsw_bytes_needed(&bad) == 0 && fsw_bytes_needed(&usual) > 0 &&
+          fsw_bytes_needed(NULL) == 0);
     CHECK_STATUS(fsw_open(NULL, &usual), FSW_BAD_LIMITS);
     CHECK_STATUS(fsw_open(&core, NULL), FSW_BAD_LIMITS);
     CHECK_STATUS(fsw_open(&core, &usual), FSW_SUCCESS);
@@ -79,7 +81,8 @@ static void null_pointers(void)
     CHECK_STATUS(fsw_allocate(&core, 1, 8, NULL), FSW_SB_BAD_ARGUMENT);
     CHECK_STATUS(fsw_pool_create(&core, 1, 64, NULL), FSW_ES_BAD_ARGUMENT);
     CHECK_STATUS(fsw_register(&core, 1, NULL, 1), FSW_EVS_INVALID_PARAMETER);
-    CHECK_STATUS(fsw_table_register(&core, 1, NAME("T"), 4, 0, NULL, 1, &number), FSW_TBL_BAD_ARGUMENT);
+    CHECK_STATUS(fsw_table_register(&core, 1, NAME("T"), 4, 0, NULL, 1, &number),
+                 FSW_TBL_BAD_ARGUMENT);
     CHECK_STATUS(fsw_table_load(&core, 1, 1, 0, NULL, 4), FSW_TBL_BAD_ARGUMENT);
     CHECK_STATUS(fsw_read_header(NULL, 6, NULL), FSW_SB_BAD_ARGUMENT);
     CHECK(number == 77);
@@ -96,21 +99,25 @@ static void applications_and_lengths(void)
     CHECK_STATUS(fsw_counters(&core, &before), FSW_SUCCESS);
     for (size_t i = 0; i < sizeof nobody / sizeof nobody[0]; i++) {
         CHECK_STATUS(fsw_create_pipe(&core, nobody[i], 1, NAME("A"), &number), FSW_NO_APPLICATION);
-        CHECK_STATUS(fsw_transmit(&core, nobody[i], packet(0x801, 8, 0), 8, true, NULL), FSW_NO_APPLICATION);
+        CHECK_STATUS(fsw_transmit(&core, nobody[i], packet(0x801, 8, 0), 8, true, NULL),
+                     FSW_NO_APPLICATION);
         CHECK_STATUS(fsw_table_share(&core, nobody[i], NAME("T"), &number), FSW_NO_APPLICATION);
         CHECK_STATUS(fsw_end(&core, nobody[i]), FSW_NO_APPLICATION);
     }
-    CHECK_STATUS(fsw_create_pipe(&core, 1, 1, "", UINT32_MAX, &number), FSW_TOO_LONG); /* its bytes aren't read */
+    CHECK_STATUS(fsw_create_pipe(&core, 1, 1, "", UINT32_MAX, &number),
+                 FSW_TOO_LONG); /* its bytes aren't read */
     CHECK_STATUS(fsw_find_pipe(&core, "", 65, &number), FSW_TOO_LONG);
     CHECK_STATUS(fsw_transmit(&core, 1, "", UINT32_MAX, true, NULL), FSW_TOO_LONG);
     CHECK_STATUS(fsw_transmit(&core, 1, "", 0, true, NULL), FSW_SB_BAD_ARGUMENT);
     CHECK_STATUS(fsw_send_event(&core, 1, 1, FSW_EVENT_DEBUG, "", 201, NULL), FSW_TOO_LONG);
-    CHECK_STATUS(fsw_register(&core, 1, (const struct fsw_filter *)(const void *)"", 9), FSW_TOO_LONG);
+    CHECK_STATUS(fsw_register(&core, 1, (const struct fsw_filter *)(const void *)"", 9),
+                 FSW_TOO_LONG);
     CHECK_STATUS(fsw_table_stage(&core, 1, 1, 0, "", UINT32_MAX), FSW_TOO_LONG);
     CHECK_STATUS(fsw_table_stage(&core, 1, 1, 0, "", 0), FSW_TOO_LONG);
     CHECK_STATUS(fsw_table_stage(&core, 1, 1, UINT32_MAX, "1", 1), FSW_TOO_LONG);
     CHECK_STATUS(fsw_counters(&core, &after), FSW_SUCCESS);
-    CHECK(after.create == before.create && after.find == before.find && after.send == before.send + 1);
+    CHECK(after.create == before.create && after.find == before.find &&
+          after.send == before.send + 1);
     CHECK(number == 77);
     close_core();
 }
@@ -123,9 +130,11 @@ static void pipes(void)
     open_small();
     CHECK_STATUS(fsw_create_pipe(&core, 1, 0, NAME("A"), &first), FSW_SB_BAD_ARGUMENT);
     CHECK_STATUS(fsw_create_pipe(&core, 1, 4, NAME("A"), &first), FSW_SB_BAD_ARGUMENT);
-    CHECK_STATUS(fsw_create_pipe(&core, 1, 1, NAME("twenty characters ! "), &first), FSW_SB_BAD_ARGUMENT);
+    CHECK_STATUS(fsw_create_pipe(&core, 1, 1, NAME("twenty characters ! "), &first),
+                 FSW_SB_BAD_ARGUMENT);
     CHECK_STATUS(fsw_create_pipe(&core, 1, 3, NAME("nineteen characters"), &first), FSW_SUCCESS);
-    CHECK_STATUS(fsw_create_pipe(&core, 2, 1, NAME("nineteen characters"), &second), FSW_SB_PIPE_CR_ERR);
+    CHECK_STATUS(fsw_create_pipe(&core, 2, 1, NAME("nineteen characters"), &second),
+                 FSW_SB_PIPE_CR_ERR);
     CHECK_STATUS(fsw_create_pipe(&core, 2, 1, NAME("B"), &second), FSW_SUCCESS);
     CHECK_STATUS(fsw_create_pipe(&core, 2, 1, NAME("C"), &found), FSW_SUCCESS);
     CHECK_STATUS(fsw_create_pipe(&core, 2, 1, NAME("D"), &found), FSW_SB_MAX_PIPES_MET);
@@ -138,7 +147,8 @@ static void pipes(void)
     CHECK_STATUS(fsw_pipe_name(&core, 1, name, 18, &length), FSW_SB_BAD_ARGUMENT);
     CHECK_STATUS(fsw_pipe_name(&core, 9, name, sizeof name, &length), FSW_SB_BAD_ARGUMENT);
     CHECK_STATUS(fsw_set_options(&core, 1, 1, FSW_PIPE_IGNORES_OWN), FSW_SUCCESS);
-    CHECK_STATUS(fsw_set_options(&core, 1, 1, FSW_PIPE_DROPS_OLDEST), FSW_SB_BAD_ARGUMENT); /* version 1 */
+    CHECK_STATUS(fsw_set_options(&core, 1, 1, FSW_PIPE_DROPS_OLDEST),
+                 FSW_SB_BAD_ARGUMENT); /* version 1 */
     CHECK_STATUS(fsw_set_options(&core, 2, 1, 0), FSW_SB_BAD_ARGUMENT);
     CHECK_STATUS(fsw_get_options(&core, 1, &bits), FSW_SUCCESS);
     CHECK(bits == 1);
@@ -194,7 +204,8 @@ static void messages(void)
     CHECK_STATUS(fsw_subscribe(&core, 1, 0x801, mine, 3, FSW_GLOBAL), FSW_SUCCESS);
     CHECK_STATUS(fsw_subscribe(&core, 2, 0x801, its, 1, FSW_GLOBAL), FSW_SUCCESS);
     CHECK_STATUS(fsw_transmit(&core, 1, packet(0x801, 8, 0), 7, true, &sent), FSW_SB_BAD_ARGUMENT);
-    CHECK_STATUS(fsw_transmit(&core, 1, packet(0x801, 257, 0), 257, true, &sent), FSW_SB_MSG_TOO_BIG);
+    CHECK_STATUS(fsw_transmit(&core, 1, packet(0x801, 257, 0), 257, true, &sent),
+                 FSW_SB_MSG_TOO_BIG);
     CHECK_STATUS(fsw_transmit(&core, 1, packet(0x801, 64, 5), 64, true, &sent), FSW_SUCCESS);
     CHECK(sent.number == 1 && sent.reached == 2);
     CHECK_STATUS(fsw_waiting(&core, mine, &count), FSW_SUCCESS);
@@ -206,7 +217,8 @@ static void messages(void)
     CHECK_STATUS(fsw_receive(&core, 1, its, &message), FSW_SB_BAD_ARGUMENT);
     CHECK_STATUS(fsw_receive(&core, 1, mine, &message), FSW_SUCCESS);
     CHECK_STATUS(fsw_receive(&core, 2, its, &other), FSW_SUCCESS);
-    CHECK(message.at == other.at && message.len == 64 && message.number == 1); /* one block, not copied */
+    CHECK(message.at == other.at && message.len == 64 &&
+          message.number == 1); /* one block, not copied */
     CHECK((uintptr_t)message.at % 8 == 0);
     CHECK(message.at[3] == 1 && message.at[63] == 5);
     CHECK_STATUS(fsw_receive(&core, 2, its, &other), FSW_SB_NO_MESSAGE);
@@ -214,7 +226,8 @@ static void messages(void)
     CHECK_STATUS(fsw_receive(&core, 1, mine, &message), FSW_SUCCESS);
     CHECK(message.number == 2 && message.at[3] == 2 && message.at[63] == 6);
     CHECK_STATUS(fsw_counters(&core, &counters), FSW_SUCCESS);
-    CHECK(counters.nosub == 1 && counters.limit == 2 && counters.overflow == 1 && counters.send == 2 && counters.recv == 1);
+    CHECK(counters.nosub == 1 && counters.limit == 2 && counters.overflow == 1 &&
+          counters.send == 2 && counters.recv == 1);
     close_core();
 }
 
@@ -260,7 +273,8 @@ static void buffers(void)
     CHECK_STATUS(fsw_allocate(&core, 1, 20, &buffer), FSW_SB_BUFFER_INVALID); /* it has one */
     CHECK_STATUS(fsw_allocate(&core, 1, 20, &second), FSW_SUCCESS);
     CHECK_STATUS(fsw_allocate(&core, 1, 20, &third), FSW_NO_ROOM);
-    CHECK_STATUS(fsw_transmit_buffer(&core, 1, &buffer, true, &sent), FSW_SB_BAD_ARGUMENT); /* zeros are no packet */
+    CHECK_STATUS(fsw_transmit_buffer(&core, 1, &buffer, true, &sent),
+                 FSW_SB_BAD_ARGUMENT); /* zeros are no packet */
     CHECK_STATUS(fsw_transmit_buffer(&core, 2, &buffer, true, &sent), FSW_SB_BUFFER_INVALID);
     CHECK(buffer.is_some);
     CHECK_STATUS(fsw_end(&core, 1), FSW_BUFFER_OUT);
@@ -269,7 +283,8 @@ static void buffers(void)
     CHECK_STATUS(fsw_transmit_buffer(&core, 1, &buffer, true, &sent), FSW_SUCCESS);
     CHECK(sent.number == 1 && sent.reached == 1 && !buffer.is_some && !buffer.at);
     CHECK_STATUS(fsw_receive(&core, 1, pipe, &message), FSW_SUCCESS);
-    CHECK(message.at == where && message.len == 20 && message.number == 1 && message.at[19] == 9); /* not copied */
+    CHECK(message.at == where && message.len == 20 && message.number == 1 &&
+          message.at[19] == 9); /* not copied */
     memcpy(second.at, packet(0x802, 20, 9), 20);
     CHECK_STATUS(fsw_transmit_buffer(&core, 1, &second, true, &sent), FSW_SUCCESS);
     CHECK(sent.number == 0 && !second.is_some); /* nobody subscribes: taken all the same */
@@ -294,9 +309,11 @@ static void pools(void)
     CHECK_STATUS(fsw_pool_get(&core, 1, pool, 80001, &block), FSW_ES_ERR_MEM_BLOCK_SIZE);
     uint32_t count = 0;
     while (fsw_pool_get(&core, 1, pool, 20, &blocks[count]) == FSW_SUCCESS) {
-        CHECK(blocks[count].grant == count + 1 && blocks[count].size == 32 && blocks[count].offset % 8 == 0);
+        CHECK(blocks[count].grant == count + 1 && blocks[count].size == 32 &&
+              blocks[count].offset % 8 == 0);
         CHECK(blocks[count].offset >= 16 && blocks[count].offset + 32 <= sizeof memory);
-        CHECK(count == 0 || blocks[count].offset >= blocks[count - 1].offset + 48); /* with 16 bytes before each */
+        CHECK(count == 0 || blocks[count].offset >=
+                                blocks[count - 1].offset + 48); /* with 16 bytes before each */
         count++;
     }
     CHECK(count == 4);
@@ -332,7 +349,8 @@ static void events(void)
     struct fsw_log_line line;
     open_small();
     memset(text, 'x', sizeof text);
-    CHECK_STATUS(fsw_send_event(&core, 1, 1, FSW_EVENT_ERROR, NAME("no"), &passed), FSW_EVS_APP_NOT_REGISTERED);
+    CHECK_STATUS(fsw_send_event(&core, 1, 1, FSW_EVENT_ERROR, NAME("no"), &passed),
+                 FSW_EVS_APP_NOT_REGISTERED);
     CHECK_STATUS(fsw_reset_filter(&core, 1, 1), FSW_EVS_APP_NOT_REGISTERED);
     CHECK_STATUS(fsw_register(&core, 1, twice, 2), FSW_EVS_INVALID_PARAMETER);
     CHECK_STATUS(fsw_register(&core, 1, filters, 2), FSW_SUCCESS);
@@ -343,19 +361,23 @@ static void events(void)
     CHECK(passed == 0);
     CHECK_STATUS(fsw_reset_filter(&core, 1, 3), FSW_EVS_EVT_NOT_REGISTERED);
     CHECK_STATUS(fsw_reset_filter(&core, 1, 1), FSW_SUCCESS);
-    CHECK_STATUS(fsw_send_event(&core, 1, 1, FSW_EVENT_DEBUG, text, sizeof text, &passed), FSW_SUCCESS);
+    CHECK_STATUS(fsw_send_event(&core, 1, 1, FSW_EVENT_DEBUG, text, sizeof text, &passed),
+                 FSW_SUCCESS);
     CHECK(passed == 1);
     CHECK_STATUS(fsw_log_line(&core, 0, &line), FSW_SUCCESS);
-    CHECK(line.app == 1 && line.id == 1 && line.kind == FSW_EVENT_ERROR && line.text_len == 3 && !memcmp(line.text, "one", 3));
+    CHECK(line.app == 1 && line.id == 1 && line.kind == FSW_EVENT_ERROR && line.text_len == 3 &&
+          !memcmp(line.text, "one", 3));
     CHECK_STATUS(fsw_log_line(&core, 1, &line), FSW_SUCCESS);
     CHECK(line.text_len == 122);
     CHECK_STATUS(fsw_log_line(&core, 2, &line), FSW_EVS_INVALID_PARAMETER);
     CHECK_STATUS(fsw_event_counts(&core, &counts), FSW_SUCCESS);
-    CHECK(counts.sent == 2 && counts.filtered == 1 && counts.cut == 1 && counts.refused == 3 && counts.logged == 2);
+    CHECK(counts.sent == 2 && counts.filtered == 1 && counts.cut == 1 && counts.refused == 3 &&
+          counts.logged == 2);
     CHECK_STATUS(fsw_set_log_mode(&core, 1, 2), FSW_EVS_INVALID_PARAMETER);
     CHECK_STATUS(fsw_set_log_mode(&core, 1, 0), FSW_SUCCESS);
     for (int i = 0; i < 20; i++)
-        CHECK_STATUS(fsw_send_event(&core, 1, 2, FSW_EVENT_CRITICAL, NAME("more"), NULL), FSW_SUCCESS);
+        CHECK_STATUS(fsw_send_event(&core, 1, 2, FSW_EVENT_CRITICAL, NAME("more"), NULL),
+                     FSW_SUCCESS);
     CHECK_STATUS(fsw_event_counts(&core, &counts), FSW_SUCCESS);
     CHECK(counts.logged == 20 && counts.lost == 2 && counts.mode == 0);
     CHECK_STATUS(fsw_clear_log(&core, 1), FSW_SUCCESS);
@@ -379,7 +401,8 @@ static void counters(void)
     CHECK(sent.reached == 1);
     CHECK_STATUS(fsw_receive(&core, 1, pipe, &message), FSW_SUCCESS);
     CHECK(message.len == 64 && message.at[6 + 4 * 6 + 3] == 1); /* the counter of finds */
-    CHECK(message.at[6 + 40 + 3] == 1 && message.at[6 + 44 + 3] == 1 && message.at[6 + 48 + 3] == 1);
+    CHECK(message.at[6 + 40 + 3] == 1 && message.at[6 + 44 + 3] == 1 &&
+          message.at[6 + 48 + 3] == 1);
     CHECK_STATUS(fsw_use(&core, &now, &peak), FSW_SUCCESS);
     CHECK(now.buffers == 1 && now.bytes == 64 && peak.bytes == 64 && now.subs == 1);
     CHECK_STATUS(fsw_receive(&core, 1, pipe, &message), FSW_SB_NO_MESSAGE);
@@ -396,23 +419,35 @@ static void registrations_of_tables(void)
     uint32_t handle = 0, shared = 0, more = 0;
     struct fsw_table_use use;
     open_small();
-    CHECK_STATUS(fsw_table_register(&core, 1, NAME(""), 4, 0, NULL, 0, &handle), FSW_TBL_ERR_INVALID_NAME);
-    CHECK_STATUS(fsw_table_register(&core, 1, NAME("sixteen letters!"), 4, 0, NULL, 0, &handle), FSW_TBL_ERR_INVALID_NAME);
-    CHECK_STATUS(fsw_table_register(&core, 1, NAME("T"), 0, 0, NULL, 0, &handle), FSW_TBL_ERR_INVALID_SIZE);
-    CHECK_STATUS(fsw_table_register(&core, 1, NAME("T"), 65, 0, NULL, 0, &handle), FSW_TBL_ERR_INVALID_SIZE);
-    CHECK_STATUS(fsw_table_register(&core, 1, NAME("T"), 4, 3, NULL, 0, &handle), FSW_TBL_ERR_INVALID_OPTIONS);
-    CHECK_STATUS(fsw_table_register(&core, 1, NAME("T"), 4, 0, &past, 1, &handle), FSW_TBL_ERR_INVALID_OPTIONS);
-    CHECK_STATUS(fsw_table_register(&core, 1, NAME("T"), 4, 0, &empty, 1, &handle), FSW_TBL_ERR_INVALID_OPTIONS);
+    CHECK_STATUS(fsw_table_register(&core, 1, NAME(""), 4, 0, NULL, 0, &handle),
+                 FSW_TBL_ERR_INVALID_NAME);
+    CHECK_STATUS(fsw_table_register(&core, 1, NAME("sixteen letters!"), 4, 0, NULL, 0, &handle),
+                 FSW_TBL_ERR_INVALID_NAME);
+    CHECK_STATUS(fsw_table_register(&core, 1, NAME("T"), 0, 0, NULL, 0, &handle),
+                 FSW_TBL_ERR_INVALID_SIZE);
+    CHECK_STATUS(fsw_table_register(&core, 1, NAME("T"), 65, 0, NULL, 0, &handle),
+                 FSW_TBL_ERR_INVALID_SIZE);
+    CHECK_STATUS(fsw_table_register(&core, 1, NAME("T"), 4, 3, NULL, 0, &handle),
+                 FSW_TBL_ERR_INVALID_OPTIONS);
+    CHECK_STATUS(fsw_table_register(&core, 1, NAME("T"), 4, 0, &past, 1, &handle),
+                 FSW_TBL_ERR_INVALID_OPTIONS);
+    CHECK_STATUS(fsw_table_register(&core, 1, NAME("T"), 4, 0, &empty, 1, &handle),
+                 FSW_TBL_ERR_INVALID_OPTIONS);
     CHECK_STATUS(fsw_table_register(&core, 1, NAME("T"), 4, 0, &rule, 9, &handle), FSW_TOO_LONG);
-    CHECK_STATUS(fsw_table_register(&core, 1, NAME("T"), 4, FSW_TABLE_DOUBLE, &rule, 1, &handle), FSW_SUCCESS);
-    CHECK_STATUS(fsw_table_register(&core, 1, NAME("T"), 4, FSW_TABLE_DOUBLE, &rule, 1, &more), FSW_TBL_WARN_DUPLICATE);
+    CHECK_STATUS(fsw_table_register(&core, 1, NAME("T"), 4, FSW_TABLE_DOUBLE, &rule, 1, &handle),
+                 FSW_SUCCESS);
+    CHECK_STATUS(fsw_table_register(&core, 1, NAME("T"), 4, FSW_TABLE_DOUBLE, &rule, 1, &more),
+                 FSW_TBL_WARN_DUPLICATE);
     CHECK(handle == 1 && more == 1);
-    CHECK_STATUS(fsw_table_register(&core, 1, NAME("T"), 5, 0, NULL, 0, &more), FSW_TBL_ERR_DUPLICATE_DIFF_SIZE);
-    CHECK_STATUS(fsw_table_register(&core, 2, NAME("T"), 4, 0, NULL, 0, &more), FSW_TBL_ERR_DUPLICATE_NOT_OWNED);
+    CHECK_STATUS(fsw_table_register(&core, 1, NAME("T"), 5, 0, NULL, 0, &more),
+                 FSW_TBL_ERR_DUPLICATE_DIFF_SIZE);
+    CHECK_STATUS(fsw_table_register(&core, 2, NAME("T"), 4, 0, NULL, 0, &more),
+                 FSW_TBL_ERR_DUPLICATE_NOT_OWNED);
     CHECK_STATUS(fsw_table_share(&core, 2, NAME("U"), &shared), FSW_TBL_ERR_INVALID_NAME);
     CHECK_STATUS(fsw_table_share(&core, 2, NAME("T"), &shared), FSW_SUCCESS);
     CHECK_STATUS(fsw_table_register(&core, 1, NAME("U"), 4, 0, NULL, 0, &more), FSW_SUCCESS);
-    CHECK_STATUS(fsw_table_register(&core, 1, NAME("V"), 4, 0, NULL, 0, &more), FSW_TBL_ERR_REGISTRY_FULL);
+    CHECK_STATUS(fsw_table_register(&core, 1, NAME("V"), 4, 0, NULL, 0, &more),
+                 FSW_TBL_ERR_REGISTRY_FULL);
     CHECK_STATUS(fsw_table_share(&core, 2, NAME("U"), &more), FSW_SUCCESS);
     CHECK_STATUS(fsw_table_share(&core, 2, NAME("U"), &more), FSW_TBL_ERR_HANDLES_FULL);
     CHECK_STATUS(fsw_table_use(&core, &use), FSW_SUCCESS);
@@ -436,9 +471,11 @@ static void loads(void)
     struct fsw_bytes staged;
     struct fsw_table_status status;
     open_small();
-    CHECK_STATUS(fsw_table_register(&core, 1, NAME("T"), 4, FSW_TABLE_DOUBLE, &rule, 1, &handle), FSW_SUCCESS);
+    CHECK_STATUS(fsw_table_register(&core, 1, NAME("T"), 4, FSW_TABLE_DOUBLE, &rule, 1, &handle),
+                 FSW_SUCCESS);
     CHECK_STATUS(fsw_table_get_address(&core, 1, handle, &address), FSW_TBL_ERR_NEVER_LOADED);
-    CHECK(address.len == 4 && address.at[0] == 0 && address.version == 0 && (uintptr_t)address.at % 8 == 0);
+    CHECK(address.len == 4 && address.at[0] == 0 && address.version == 0 &&
+          (uintptr_t)address.at % 8 == 0);
     CHECK_STATUS(fsw_table_release_address(&core, 1, handle), FSW_SUCCESS);
     CHECK_STATUS(fsw_table_stage(&core, 1, handle, 1, good, 1), FSW_TBL_ERR_PARTIAL_LOAD);
     CHECK_STATUS(fsw_table_stage(&core, 1, handle, 1, good, 4), FSW_TBL_ERR_FILE_TOO_LARGE);
@@ -458,19 +495,23 @@ static void loads(void)
     CHECK_STATUS(fsw_table_get_address(&core, 1, handle, &older), FSW_TBL_INFO_UPDATED);
     CHECK_STATUS(fsw_table_load(&core, 1, handle, 3, "\x09", 1), FSW_SUCCESS);
     CHECK(older.version == 1 && memcmp(older.at, good, 4) == 0); /* held bytes stay */
-    CHECK_STATUS(fsw_table_load(&core, 1, handle, 0, good, 4), FSW_TBL_INFO_TABLE_LOCKED); /* an older version is held */
+    CHECK_STATUS(fsw_table_load(&core, 1, handle, 0, good, 4),
+                 FSW_TBL_INFO_TABLE_LOCKED); /* an older version is held */
     CHECK_STATUS(fsw_table_status(&core, 1, handle, &status), FSW_SUCCESS);
-    CHECK(status.version == 2 && status.holds == 1 && status.size == 4 && status.option == FSW_TABLE_DOUBLE);
+    CHECK(status.version == 2 && status.holds == 1 && status.size == 4 &&
+          status.option == FSW_TABLE_DOUBLE);
     CHECK_STATUS(fsw_table_get_address(&core, 1, handle, &address), FSW_TBL_INFO_UPDATED);
     CHECK(address.at[2] == 3 && address.at[3] == 9);
     CHECK_STATUS(fsw_table_get_address(&core, 1, handle, &address), FSW_SUCCESS);
-    CHECK_STATUS(fsw_table_register(&core, 1, NAME("S"), 4, FSW_TABLE_SINGLE, NULL, 0, &single), FSW_SUCCESS);
+    CHECK_STATUS(fsw_table_register(&core, 1, NAME("S"), 4, FSW_TABLE_SINGLE, NULL, 0, &single),
+                 FSW_SUCCESS);
     CHECK_STATUS(fsw_table_load(&core, 1, single, 0, good, 4), FSW_SUCCESS);
     CHECK_STATUS(fsw_table_get_address(&core, 1, single, &address), FSW_TBL_INFO_UPDATED);
     CHECK_STATUS(fsw_table_load(&core, 1, single, 0, bad, 4), FSW_TBL_INFO_TABLE_LOCKED);
     CHECK(memcmp(address.at, good, 4) == 0);
     CHECK_STATUS(fsw_table_unregister(&core, 1, single), FSW_SUCCESS);
-    CHECK_STATUS(fsw_table_register(&core, 1, NAME("D"), 4, FSW_TABLE_DUMP_ONLY, NULL, 0, &single), FSW_SUCCESS);
+    CHECK_STATUS(fsw_table_register(&core, 1, NAME("D"), 4, FSW_TABLE_DUMP_ONLY, NULL, 0, &single),
+                 FSW_SUCCESS);
     CHECK_STATUS(fsw_table_load(&core, 1, single, 0, good, 4), FSW_TBL_ERR_DUMP_ONLY);
     close_core();
 }
@@ -499,7 +540,8 @@ static void packets_and_files(void)
     CHECK_STATUS(fsw_read_image(file, 115, &image), FSW_TBL_ERR_NO_STD_HEADER);
     CHECK_STATUS(fsw_read_image(file, 119, &image), FSW_TBL_ERR_FILE_SIZE);
     CHECK_STATUS(fsw_read_image(file, 120, &image), FSW_SUCCESS);
-    CHECK(image.name.len == 3 && image.bytes.len == 4 && image.bytes.at == file + 116 && image.offset == 0);
+    CHECK(image.name.len == 3 && image.bytes.len == 4 && image.bytes.at == file + 116 &&
+          image.offset == 0);
     file[76] = ' ';
     CHECK_STATUS(fsw_read_image(file, 120, &image), FSW_TBL_ERR_NO_TBL_HEADER);
     file[0] = 'x';
@@ -516,7 +558,8 @@ static void many_messages(unsigned long count)
     CHECK_STATUS(fsw_create_pipe(&core, 1, 3, NAME("A"), &pipe), FSW_SUCCESS);
     CHECK_STATUS(fsw_subscribe(&core, 1, 0x801, pipe, 3, FSW_GLOBAL), FSW_SUCCESS);
     for (unsigned long i = 0; i < count; i++) {
-        CHECK_STATUS(fsw_transmit(&core, 1, packet(0x801, 64, (uint8_t)i), 64, true, NULL), FSW_SUCCESS);
+        CHECK_STATUS(fsw_transmit(&core, 1, packet(0x801, 64, (uint8_t)i), 64, true, NULL),
+                     FSW_SUCCESS);
         CHECK_STATUS(fsw_receive(&core, 1, pipe, &message), FSW_SUCCESS);
         CHECK(message.number == i + 1 && message.at[63] == (uint8_t)i);
     }

@@ -1,6 +1,7 @@
 /*
- * layer_test.c: the calls of the layer with cFE's names, accepted and refused, by one application that a second one helps:
- * waits, time-outs, child tasks, pools over memory, tables with validation and from files, and the end of a run.
+ * layer_test.c: the calls of the layer with cFE's names, accepted and refused, by one application
+ * that a second one helps: waits, time-outs, child tasks, pools over memory, tables with validation
+ * and from files, and the end of a run.
  */
 #include "cfe.h"
 #include "check.h"
@@ -11,7 +12,13 @@
 #include <time.h>
 #include <unistd.h>
 
-enum { PING_MID = 0x0901, PONG_MID = 0x0902, ECHO_MID = 0x0903, CMD_MID = 0x1901, STOP_MID = 0x1902 };
+enum {
+    PING_MID = 0x0901,
+    PONG_MID = 0x0902,
+    ECHO_MID = 0x0903,
+    CMD_MID = 0x1901,
+    STOP_MID = 0x1902
+};
 
 typedef struct {
     CFE_MSG_TelemetryHeader_t TelemetryHeader;
@@ -38,7 +45,8 @@ static CFE_SB_MsgId_t id(uint32 value)
 static void send_packet(uint32 mid, uint8 fill)
 {
     Packet_t packet;
-    CHECK_STATUS(CFE_MSG_Init(CFE_MSG_PTR(packet.TelemetryHeader), id(mid), sizeof packet), CFE_SUCCESS);
+    CHECK_STATUS(CFE_MSG_Init(CFE_MSG_PTR(packet.TelemetryHeader), id(mid), sizeof packet),
+                 CFE_SUCCESS);
     memset(packet.Data, fill, sizeof packet.Data);
     CHECK_STATUS(CFE_SB_TransmitMsg(CFE_MSG_PTR(packet.TelemetryHeader), true), CFE_SUCCESS);
 }
@@ -76,7 +84,8 @@ static void headers(void)
     CHECK_STATUS(CFE_MSG_GetApId(msg, &apid), CFE_SUCCESS);
     CHECK_STATUS(CFE_MSG_GetHeaderVersion(msg, &version), CFE_SUCCESS);
     CHECK_STATUS(CFE_MSG_GetHasSecondaryHeader(msg, &is_so), CFE_SUCCESS);
-    CHECK(size == 8 && type == CFE_MSG_Type_Cmd && flag == CFE_MSG_SegFlag_Unsegmented && apid == 0x101 && version == 0);
+    CHECK(size == 8 && type == CFE_MSG_Type_Cmd && flag == CFE_MSG_SegFlag_Unsegmented &&
+          apid == 0x101 && version == 0);
     CHECK(is_so);
     CHECK_STATUS(CFE_MSG_SetFcnCode(msg, 128), CFE_MSG_BAD_ARGUMENT);
     CHECK_STATUS(CFE_MSG_SetFcnCode(msg, 256), CFE_MSG_BAD_ARGUMENT);
@@ -96,7 +105,8 @@ static void headers(void)
     CHECK_STATUS(CFE_MSG_SetMsgId(msg, id(PING_MID)), CFE_SUCCESS);
     CHECK_STATUS(CFE_MSG_SetSize(msg, 20), CFE_SUCCESS);
     CHECK_STATUS(CFE_MSG_GetFcnCode(msg, &code), CFE_MSG_WRONG_MSG_TYPE);
-    CHECK_STATUS(CFE_MSG_SetMsgTime(msg, (CFE_TIME_SysTime_t){0x01020304, 0x05060708}), CFE_SUCCESS);
+    CHECK_STATUS(CFE_MSG_SetMsgTime(msg, (CFE_TIME_SysTime_t){0x01020304, 0x05060708}),
+                 CFE_SUCCESS);
     CHECK_STATUS(CFE_MSG_GetMsgTime(msg, &time), CFE_SUCCESS);
     CHECK(time.Seconds == 0x01020304 && time.Subseconds == 0x05060000);
     CHECK(CFE_SB_GetUserDataLength(msg) == 4 && CFE_SB_GetUserData(msg) == command.Bytes + 16);
@@ -107,11 +117,14 @@ static void headers(void)
 static void strings(void)
 {
     char text[8];
-    CHECK(CFE_SB_MessageStringGet(text, "abc", NULL, sizeof text, 2) == 2 && strcmp(text, "ab") == 0);
-    CHECK(CFE_SB_MessageStringGet(text, "", "usual", sizeof text, 4) == 5 && strcmp(text, "usual") == 0);
+    CHECK(CFE_SB_MessageStringGet(text, "abc", NULL, sizeof text, 2) == 2 &&
+          strcmp(text, "ab") == 0);
+    CHECK(CFE_SB_MessageStringGet(text, "", "usual", sizeof text, 4) == 5 &&
+          strcmp(text, "usual") == 0);
     CHECK(CFE_SB_MessageStringGet(text, "longer than it", NULL, sizeof text, 14) == 7);
     CHECK_STATUS(CFE_SB_MessageStringGet(text, NULL, NULL, sizeof text, 4), CFE_SB_BAD_ARGUMENT);
-    CHECK(CFE_SB_MessageStringSet(text, "abc", sizeof text, 3) == 3 && text[3] == 0 && text[7] == 0);
+    CHECK(CFE_SB_MessageStringSet(text, "abc", sizeof text, 3) == 3 && text[3] == 0 &&
+          text[7] == 0);
 }
 
 /* ---- Pipes ---- */
@@ -141,7 +154,8 @@ static void pipes(void)
     CHECK_STATUS(CFE_SB_PipeId_ToIndex(pipe, &index), CFE_SUCCESS);
     CHECK_STATUS(CFE_SB_Subscribe(id(PING_MID), pipe), CFE_SUCCESS);
     send_packet(PING_MID, 1);
-    CHECK_STATUS(CFE_SB_ReceiveBuffer(&buffer, pipe, CFE_SB_POLL), CFE_SB_NO_MESSAGE); /* it ignores its own */
+    CHECK_STATUS(CFE_SB_ReceiveBuffer(&buffer, pipe, CFE_SB_POLL),
+                 CFE_SB_NO_MESSAGE); /* it ignores its own */
     CHECK(!buffer);
     CHECK_STATUS(CFE_SB_SetPipeOpts(pipe, 0), CFE_SUCCESS);
     send_packet(PING_MID, 2);
@@ -186,20 +200,23 @@ static void buffers(void)
         CHECK_STATUS(CFE_SB_ReleaseMessageBuffer(more[i]), CFE_SUCCESS);
     CHECK_STATUS(CFE_SB_ReleaseMessageBuffer(more[0]), CFE_SB_BUFFER_INVALID);
     CHECK_STATUS(CFE_SB_ReleaseMessageBuffer(NULL), CFE_SB_BAD_ARGUMENT);
-    CHECK_STATUS(CFE_SB_DeletePipe(pipe), CFE_SUCCESS); /* one buffer is left to the application's end */
+    CHECK_STATUS(CFE_SB_DeletePipe(pipe),
+                 CFE_SUCCESS); /* one buffer is left to the application's end */
 }
 
 /* ---- Events ---- */
 
 static void events(void)
 {
-    static const CFE_EVS_BinFilter_t filters[] = {{1, CFE_EVS_FIRST_ONE_STOP}, {2, CFE_EVS_EVERY_OTHER_ONE}};
+    static const CFE_EVS_BinFilter_t filters[] = {{1, CFE_EVS_FIRST_ONE_STOP},
+                                                  {2, CFE_EVS_EVERY_OTHER_ONE}};
     CFE_SB_PipeId_t pipe;
     CFE_SB_Buffer_t *buffer;
     CFE_ES_AppId_t me;
     CHECK_STATUS(CFE_EVS_SendEvent(1, CFE_EVS_EventType_DEBUG, "no"), CFE_EVS_APP_NOT_REGISTERED);
     CHECK_STATUS(CFE_EVS_Register(filters, 2, 1), CFE_EVS_UNKNOWN_FILTER);
-    CHECK_STATUS(CFE_EVS_Register(filters, 9, CFE_EVS_EventFilter_BINARY), CFE_EVS_APP_FILTER_OVERLOAD);
+    CHECK_STATUS(CFE_EVS_Register(filters, 9, CFE_EVS_EventFilter_BINARY),
+                 CFE_EVS_APP_FILTER_OVERLOAD);
     CHECK_STATUS(CFE_EVS_Register(NULL, 2, CFE_EVS_EventFilter_BINARY), CFE_EVS_INVALID_PARAMETER);
     CHECK_STATUS(CFE_EVS_Register(filters, 2, CFE_EVS_EventFilter_BINARY), CFE_SUCCESS);
     CHECK_STATUS(CFE_SB_CreatePipe(&pipe, 4, "E"), CFE_SUCCESS);
@@ -208,16 +225,20 @@ static void events(void)
     CHECK_STATUS(CFE_EVS_SendEvent(1, CFE_EVS_EventType_ERROR, "stopped"), CFE_SUCCESS);
     CHECK_STATUS(CFE_SB_ReceiveBuffer(&buffer, pipe, CFE_SB_POLL), CFE_SUCCESS);
     const CFE_EVS_LongEventTlm_t *event = (const CFE_EVS_LongEventTlm_t *)buffer;
-    CHECK(strcmp(event->Payload.Message, "number 7") == 0 && strcmp(event->Payload.PacketID.AppName, "TESTER") == 0);
-    CHECK(event->Payload.PacketID.EventID == 1 && event->Payload.PacketID.EventType == CFE_EVS_EventType_ERROR);
-    CHECK_STATUS(CFE_SB_ReceiveBuffer(&buffer, pipe, CFE_SB_POLL), CFE_SB_NO_MESSAGE); /* its filter held it back */
+    CHECK(strcmp(event->Payload.Message, "number 7") == 0 &&
+          strcmp(event->Payload.PacketID.AppName, "TESTER") == 0);
+    CHECK(event->Payload.PacketID.EventID == 1 &&
+          event->Payload.PacketID.EventType == CFE_EVS_EventType_ERROR);
+    CHECK_STATUS(CFE_SB_ReceiveBuffer(&buffer, pipe, CFE_SB_POLL),
+                 CFE_SB_NO_MESSAGE); /* its filter held it back */
     CHECK_STATUS(CFE_EVS_ResetFilter(3), CFE_EVS_EVT_NOT_REGISTERED);
     CHECK_STATUS(CFE_EVS_ResetAllFilters(), CFE_SUCCESS);
     CHECK_STATUS(CFE_EVS_SendEvent(1, CFE_EVS_EventType_ERROR, "%*s", 300, "long"), CFE_SUCCESS);
     CHECK_STATUS(CFE_SB_ReceiveBuffer(&buffer, pipe, CFE_SB_POLL), CFE_SUCCESS);
     CHECK(strlen(((const CFE_EVS_LongEventTlm_t *)buffer)->Payload.Message) == 121);
     CHECK_STATUS(CFE_ES_GetAppID(&me), CFE_SUCCESS);
-    CHECK_STATUS(CFE_EVS_SendEventWithAppID(5, CFE_EVS_EventType_DEBUG, me + 1, "no"), CFE_EVS_APP_ILLEGAL_APP_ID);
+    CHECK_STATUS(CFE_EVS_SendEventWithAppID(5, CFE_EVS_EventType_DEBUG, me + 1, "no"),
+                 CFE_EVS_APP_ILLEGAL_APP_ID);
     CHECK_STATUS(CFE_EVS_SendEventWithAppID(5, CFE_EVS_EventType_DEBUG, me, "yes"), CFE_SUCCESS);
     CHECK_STATUS(CFE_EVS_SendEvent(5, 9, "no"), CFE_EVS_INVALID_PARAMETER);
     CHECK_STATUS(CFE_SB_DeletePipe(pipe), CFE_SUCCESS);
@@ -244,7 +265,8 @@ static void pools(void)
     CHECK(count == 8);
     for (int i = 0; i < count; i++) {
         const uint8 *bytes = blocks[i];
-        CHECK(bytes[0] == i && bytes[47] == i && (uintptr_t)bytes % 8 == 0); /* none wrote over another */
+        CHECK(bytes[0] == i && bytes[47] == i &&
+              (uintptr_t)bytes % 8 == 0); /* none wrote over another */
         CHECK(bytes >= memory.Data && bytes + 48 <= memory.Data + sizeof memory);
         CHECK(CFE_ES_GetPoolBufInfo(pool, blocks[i]) == 48);
     }
@@ -255,8 +277,10 @@ static void pools(void)
     CHECK_STATUS(CFE_ES_PutPoolBuf(pool, NULL), CFE_ES_BUFFER_NOT_IN_POOL);
     CHECK(CFE_ES_GetPoolBuf(&block, pool, 33) == 48 && block == blocks[3]);
     CHECK_STATUS(CFE_ES_GetMemPoolStats(&stats, pool), CFE_SUCCESS);
-    CHECK(stats.PoolSize == 512 && stats.NumBlocksRequested == 9 && stats.BlockStats[3].BlockSize == 48);
-    CHECK(stats.CheckErrCtr == 4 && stats.BlockStats[3].NumCreated == 8 && stats.BlockStats[3].NumFree == 0);
+    CHECK(stats.PoolSize == 512 && stats.NumBlocksRequested == 9 &&
+          stats.BlockStats[3].BlockSize == 48);
+    CHECK(stats.CheckErrCtr == 4 && stats.BlockStats[3].NumCreated == 8 &&
+          stats.BlockStats[3].NumFree == 0);
 }
 
 /* ---- Tables ---- */
@@ -279,7 +303,8 @@ static void put_number(uint8 *at, uint32 number)
 }
 
 /* Writes a table file in cFE's form. */
-static void write_file(const char *path, const char *name, uint32 offset, const void *bytes, size_t length)
+static void write_file(const char *path, const char *name, uint32 offset, const void *bytes,
+                       size_t length)
 {
     uint8 file[116 + 64] = {0};
     put_number(file, CFE_FS_FILE_CONTENT_ID);
@@ -300,14 +325,20 @@ static void tables(void)
     CFE_TBL_Handle_t handle, same, shared, none;
     CFE_TBL_Info_t info;
     void *address, *older;
-    CHECK_STATUS(CFE_TBL_Register(NULL, "L", sizeof good, CFE_TBL_OPT_DEFAULT, validate), CFE_TBL_BAD_ARGUMENT);
-    CHECK_STATUS(CFE_TBL_Register(&none, "sixteen letters!", 4, CFE_TBL_OPT_DEFAULT, NULL), CFE_TBL_ERR_INVALID_NAME);
+    CHECK_STATUS(CFE_TBL_Register(NULL, "L", sizeof good, CFE_TBL_OPT_DEFAULT, validate),
+                 CFE_TBL_BAD_ARGUMENT);
+    CHECK_STATUS(CFE_TBL_Register(&none, "sixteen letters!", 4, CFE_TBL_OPT_DEFAULT, NULL),
+                 CFE_TBL_ERR_INVALID_NAME);
     CHECK(none == CFE_TBL_BAD_TABLE_HANDLE);
-    CHECK_STATUS(CFE_TBL_Register(&none, "L", 4, CFE_TBL_OPT_CRITICAL, NULL), CFE_TBL_ERR_INVALID_OPTIONS);
-    CHECK_STATUS(CFE_TBL_Register(&handle, "L", sizeof good, CFE_TBL_OPT_DBL_BUFFER, validate), CFE_SUCCESS);
-    CHECK_STATUS(CFE_TBL_Register(&same, "L", sizeof good, CFE_TBL_OPT_DBL_BUFFER, validate), CFE_TBL_WARN_DUPLICATE);
+    CHECK_STATUS(CFE_TBL_Register(&none, "L", 4, CFE_TBL_OPT_CRITICAL, NULL),
+                 CFE_TBL_ERR_INVALID_OPTIONS);
+    CHECK_STATUS(CFE_TBL_Register(&handle, "L", sizeof good, CFE_TBL_OPT_DBL_BUFFER, validate),
+                 CFE_SUCCESS);
+    CHECK_STATUS(CFE_TBL_Register(&same, "L", sizeof good, CFE_TBL_OPT_DBL_BUFFER, validate),
+                 CFE_TBL_WARN_DUPLICATE);
     CHECK(same == handle);
-    CHECK_STATUS(CFE_TBL_Register(&same, "L", 8, CFE_TBL_OPT_DBL_BUFFER, validate), CFE_TBL_ERR_DUPLICATE_DIFF_SIZE);
+    CHECK_STATUS(CFE_TBL_Register(&same, "L", 8, CFE_TBL_OPT_DBL_BUFFER, validate),
+                 CFE_TBL_ERR_DUPLICATE_DIFF_SIZE);
     CHECK_STATUS(CFE_TBL_GetAddress(&address, handle), CFE_TBL_ERR_NEVER_LOADED);
     CHECK(address);
     CHECK_STATUS(CFE_TBL_ReleaseAddress(handle), CFE_SUCCESS);
@@ -327,7 +358,8 @@ static void tables(void)
     CHECK_STATUS(CFE_TBL_GetAddress(&address, shared), CFE_TBL_INFO_UPDATED);
     CHECK(memcmp(address, &next, sizeof next) == 0);
     CHECK_STATUS(CFE_TBL_GetInfo(&info, "TESTER.L"), CFE_SUCCESS);
-    CHECK(info.Size == sizeof good && info.NumUsers == 2 && info.DoubleBuffered && info.TableLoadedOnce && !info.DumpOnly);
+    CHECK(info.Size == sizeof good && info.NumUsers == 2 && info.DoubleBuffered &&
+          info.TableLoadedOnce && !info.DumpOnly);
     CHECK_STATUS(CFE_TBL_Validate(handle), CFE_TBL_INFO_NO_VALIDATION_PENDING);
     CHECK_STATUS(CFE_TBL_Update(handle), CFE_TBL_INFO_NO_UPDATE_PENDING);
     CHECK_STATUS(CFE_TBL_Manage(handle), CFE_SUCCESS);
@@ -348,7 +380,8 @@ static void table_files(void)
     CFE_TBL_Info_t info;
     void *address;
     snprintf(path, sizeof path, "/tmp/fsw_layer_test.%d", (int)getpid());
-    CHECK_STATUS(CFE_TBL_Register(&handle, "F", sizeof good, CFE_TBL_OPT_DEFAULT, validate), CFE_SUCCESS);
+    CHECK_STATUS(CFE_TBL_Register(&handle, "F", sizeof good, CFE_TBL_OPT_DEFAULT, validate),
+                 CFE_SUCCESS);
     CHECK_STATUS(CFE_TBL_Load(handle, CFE_TBL_SRC_FILE, "/nowhere/at/all"), CFE_TBL_ERR_ACCESS);
     write_file(path, "TESTER.G", 0, &good, sizeof good);
     CHECK_STATUS(CFE_TBL_Load(handle, CFE_TBL_SRC_FILE, path), CFE_TBL_ERR_FILE_FOR_WRONG_TABLE);
@@ -360,7 +393,8 @@ static void table_files(void)
     CHECK_STATUS(CFE_TBL_Load(handle, CFE_TBL_SRC_FILE, path), CFE_TBL_WARN_PARTIAL_LOAD);
     CHECK_STATUS(CFE_TBL_GetAddress(&address, handle), CFE_TBL_INFO_UPDATED);
     CHECK(((const Limits_t *)address)->Low == 3 && ((const Limits_t *)address)->High == 9);
-    CHECK_STATUS(CFE_TBL_Load(handle, CFE_TBL_SRC_FILE, path), CFE_TBL_INFO_TABLE_LOCKED); /* single buffered, and held */
+    CHECK_STATUS(CFE_TBL_Load(handle, CFE_TBL_SRC_FILE, path),
+                 CFE_TBL_INFO_TABLE_LOCKED); /* single buffered, and held */
     CHECK_STATUS(CFE_TBL_GetInfo(&info, "TESTER.F"), CFE_SUCCESS);
     CHECK(strcmp(info.LastFileLoaded, path) == 0);
     truncate(path, 50) == 0 ? (void)0 : abort();
@@ -394,7 +428,9 @@ static void child_tasks(void)
     CHECK_STATUS(CFE_SB_Subscribe(id(PING_MID), pipe), CFE_SUCCESS);
     CHECK_STATUS(CFE_ES_CreateChildTask(&tasks[0], "C", NULL, NULL, 0, 0, 0), CFE_ES_BAD_ARGUMENT);
     for (int i = 0; i < 3; i++)
-        CHECK_STATUS(CFE_ES_CreateChildTask(&tasks[i], "C", child, CFE_ES_TASK_STACK_ALLOCATE, 4096, 1, 0), CFE_SUCCESS);
+        CHECK_STATUS(CFE_ES_CreateChildTask(&tasks[i], "C", child, CFE_ES_TASK_STACK_ALLOCATE, 4096,
+                                            1, 0),
+                     CFE_SUCCESS);
     CHECK(tasks[0] != tasks[1]);
     for (int i = 0; i < 3; i++) {
         CHECK_STATUS(CFE_SB_ReceiveBuffer(&buffer, pipe, CFE_SB_PEND_FOREVER), CFE_SUCCESS);
@@ -442,7 +478,8 @@ static void HELPER_Main(void)
             return;
         Packet_t copy;
         memcpy(&copy, buffer, sizeof copy);
-        CHECK_STATUS(CFE_MSG_SetMsgId(CFE_MSG_PTR(copy.TelemetryHeader), id(PONG_MID)), CFE_SUCCESS);
+        CHECK_STATUS(CFE_MSG_SetMsgId(CFE_MSG_PTR(copy.TelemetryHeader), id(PONG_MID)),
+                     CFE_SUCCESS);
         CHECK_STATUS(CFE_SB_TransmitMsg(CFE_MSG_PTR(copy.TelemetryHeader), true), CFE_SUCCESS);
     }
 }
@@ -516,8 +553,10 @@ int main(void)
     struct fsw_limits bad = FSW_USUAL_LIMITS;
     CFE_SB_PipeId_t pipe;
     bad.depth = 0;
-    CHECK_STATUS(CFE_SB_CreatePipe(&pipe, 4, "P"), CFE_ES_ERR_RESOURCEID_NOT_VALID); /* no run, no application */
-    CHECK(fsw_run(NULL, two, 0) == -1 && fsw_run(NULL, two, 17) == -1 && fsw_run(NULL, NULL, 1) == -1);
+    CHECK_STATUS(CFE_SB_CreatePipe(&pipe, 4, "P"),
+                 CFE_ES_ERR_RESOURCEID_NOT_VALID); /* no run, no application */
+    CHECK(fsw_run(NULL, two, 0) == -1 && fsw_run(NULL, two, 17) == -1 &&
+          fsw_run(NULL, NULL, 1) == -1);
     CHECK(fsw_run(NULL, unnamed, 1) == -1 && fsw_run(&bad, two, 2) == -1);
     fsw_set_event_output((struct fsw_event_output){.packets = true});
     CHECK(fsw_run(NULL, two, 2) == 0);

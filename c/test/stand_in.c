@@ -1,15 +1,31 @@
 /*
- * A stand-in for the library: the exports of fsw.h over plain lists, slow and simple. It is a double for the tests of the
- * layer above. Nothing of it is proved, and no program links it. Each message and each version of a table is a block of
- * malloc's own, freed when it is let go, so that valgrind and the sanitizers see a read that comes too late.
+ * A stand-in for the library: the exports of fsw.h over plain lists, slow and simple. It is a
+ * double for the tests of the layer above. Nothing of it is proved, and no program links it. Each
+ * message and each version of a table is a block of malloc's own, freed when it is let go, so that
+ * valgrind and the sanitizers see a read that comes too late.
  */
 #include "fsw.h"
 
 #include <stdlib.h>
 #include <string.h>
 
-enum { CLASSES = 17, OVERHEAD = 16, MOST_APPS = 16, MOST_POOLS = 8, LOG_LINES = 20, MOST_TEXT = 122 };
-enum { MOST_NAME = 64, MOST_SEND = 65542, MOST_EVENT = 200, MOST_LIST = 8, HEADER = 6, LEAST_MESSAGE = 7, HK_BYTES = 64 };
+enum {
+    CLASSES = 17,
+    OVERHEAD = 16,
+    MOST_APPS = 16,
+    MOST_POOLS = 8,
+    LOG_LINES = 20,
+    MOST_TEXT = 122
+};
+enum {
+    MOST_NAME = 64,
+    MOST_SEND = 65542,
+    MOST_EVENT = 200,
+    MOST_LIST = 8,
+    HEADER = 6,
+    LEAST_MESSAGE = 7,
+    HK_BYTES = 64
+};
 
 static const uint32_t SIZES[CLASSES] = {8,   16,   32,   48,   64,   96,    128,   160,  256,
                                         512, 1024, 2048, 4096, 8192, 16384, 32768, 80000};
@@ -129,7 +145,7 @@ static uint32_t class_of(uint32_t size)
 {
     uint32_t class = 0;
     while (class < CLASSES && SIZES[class] < size)
-        class++;
+        class ++;
     return class;
 }
 
@@ -158,12 +174,14 @@ static bool draw(struct account *account, uint32_t class)
 
 static void tell_account(const struct account *account, struct fsw_pool_stats *stats)
 {
-    *stats = (struct fsw_pool_stats){account->bytes, account->requests, account->errors, account->rest};
+    *stats =
+        (struct fsw_pool_stats){account->bytes, account->requests, account->errors, account->rest};
 }
 
 /* ---- Events ---- */
 
-static void log_event(struct core *c, uint32_t app, uint16_t id, uint32_t kind, const void *text, size_t len)
+static void log_event(struct core *c, uint32_t app, uint16_t id, uint32_t kind, const void *text,
+                      size_t len)
 {
     c->events.sent++;
     if (len > MOST_TEXT)
@@ -230,11 +248,12 @@ static bool within(uint32_t value, uint32_t low, uint32_t high)
 
 static bool are_limits(const struct fsw_limits *l)
 {
-    return within(l->apps, 1, 16) && l->buffers <= 65535 && within(l->msgids, 1, 1024) && within(l->pipes, 1, 256) &&
-           within(l->dests, 1, 64) && within(l->depth, 1, 1024) && within(l->msgmax, 7, 65542) &&
-           within(l->pool, 24, 16777216) && within(l->apppool, 24, 1048576) && within(l->tables, 1, 256) &&
-           within(l->handles, 1, 1024) && within(l->tablemax, 1, 65536) && within(l->tablepool, 24, 16777216) &&
-           within(l->version, 1, 2);
+    return within(l->apps, 1, 16) && l->buffers <= 65535 && within(l->msgids, 1, 1024) &&
+           within(l->pipes, 1, 256) && within(l->dests, 1, 64) && within(l->depth, 1, 1024) &&
+           within(l->msgmax, 7, 65542) && within(l->pool, 24, 16777216) &&
+           within(l->apppool, 24, 1048576) && within(l->tables, 1, 256) &&
+           within(l->handles, 1, 1024) && within(l->tablemax, 1, 65536) &&
+           within(l->tablepool, 24, 16777216) && within(l->version, 1, 2);
 }
 
 uint64_t fsw_raw_bytes_needed(const struct fsw_limits *limits)
@@ -333,8 +352,8 @@ static struct sub *sub_numbered(const struct core *c, uint32_t number)
     return sub;
 }
 
-uint32_t fsw_raw_create_pipe(struct fsw_core *core, uint32_t app, uint32_t depth, const uint8_t *name, size_t name_len,
-                             uint32_t *pipe)
+uint32_t fsw_raw_create_pipe(struct fsw_core *core, uint32_t app, uint32_t depth,
+                             const uint8_t *name, size_t name_len, uint32_t *pipe)
 {
     struct core *c = opened(core);
     uint32_t why = unasked_with(c, app, name_len, MOST_NAME);
@@ -437,7 +456,8 @@ uint32_t fsw_raw_get_options(struct fsw_core *core, uint32_t pipe, uint8_t *bits
     return FSW_SUCCESS;
 }
 
-uint32_t fsw_raw_find_pipe(struct fsw_core *core, const uint8_t *name, size_t name_len, uint32_t *pipe)
+uint32_t fsw_raw_find_pipe(struct fsw_core *core, const uint8_t *name, size_t name_len,
+                           uint32_t *pipe)
 {
     struct core *c = opened(core);
     if (!c)
@@ -451,7 +471,8 @@ uint32_t fsw_raw_find_pipe(struct fsw_core *core, const uint8_t *name, size_t na
     return FSW_SUCCESS;
 }
 
-uint32_t fsw_raw_pipe_name(struct fsw_core *core, uint32_t pipe, uint8_t *into, size_t into_len, uint32_t *name_len)
+uint32_t fsw_raw_pipe_name(struct fsw_core *core, uint32_t pipe, uint8_t *into, size_t into_len,
+                           uint32_t *name_len)
 {
     struct core *c = opened(core);
     if (!c)
@@ -530,7 +551,8 @@ static void add_sub(struct core *c, uint16_t id, uint32_t pipe, uint32_t limit)
     see(c);
 }
 
-uint32_t fsw_raw_subscribe(struct fsw_core *core, uint32_t app, uint16_t id, uint32_t pipe, uint32_t limit, uint32_t scope)
+uint32_t fsw_raw_subscribe(struct fsw_core *core, uint32_t app, uint16_t id, uint32_t pipe,
+                           uint32_t limit, uint32_t scope)
 {
     struct core *c = opened(core);
     uint32_t why = unasked(c, app);
@@ -602,7 +624,8 @@ static void take_first(struct core *c, struct pipe *pipe)
 }
 
 /* Puts the block on the pipe of a subscription, unless the pipe misses it. */
-static void offer(struct core *c, uint32_t app, struct sub *sub, struct block *block, struct fsw_sent *sent)
+static void offer(struct core *c, uint32_t app, struct sub *sub, struct block *block,
+                  struct fsw_sent *sent)
 {
     struct pipe *pipe = pipe_at(c, sub->pipe);
     if (pipe->app == app && pipe->bits & FSW_PIPE_IGNORES_OWN)
@@ -629,7 +652,8 @@ static void offer(struct core *c, uint32_t app, struct sub *sub, struct block *b
 }
 
 /* Delivers a block that the bus has to all subscribers of its id. */
-static void deliver(struct core *c, uint32_t app, struct block *block, bool counts, struct fsw_sent *sent)
+static void deliver(struct core *c, uint32_t app, struct block *block, bool counts,
+                    struct fsw_sent *sent)
 {
     uint16_t id = id_in(block->at);
     struct route *route = route_of(c, id);
@@ -654,8 +678,8 @@ static void go_nowhere(struct core *c, struct fsw_sent *sent)
     *sent = (struct fsw_sent){0, 0};
 }
 
-static uint32_t send_bytes(struct core *c, uint32_t app, const uint8_t *bytes, size_t len, bool counts,
-                           struct fsw_sent *sent)
+static uint32_t send_bytes(struct core *c, uint32_t app, const uint8_t *bytes, size_t len,
+                           bool counts, struct fsw_sent *sent)
 {
     if (len < LEAST_MESSAGE || size_in(bytes) != len || !is_id(id_in(bytes)))
         return counted(&c->counters.send, FSW_SB_BAD_ARGUMENT);
@@ -674,8 +698,8 @@ static uint32_t send_bytes(struct core *c, uint32_t app, const uint8_t *bytes, s
     return FSW_SUCCESS;
 }
 
-uint32_t fsw_raw_transmit(struct fsw_core *core, uint32_t app, const uint8_t *bytes, size_t bytes_len, bool counts,
-                          struct fsw_sent *sent)
+uint32_t fsw_raw_transmit(struct fsw_core *core, uint32_t app, const uint8_t *bytes,
+                          size_t bytes_len, bool counts, struct fsw_sent *sent)
 {
     struct core *c = opened(core);
     uint32_t why = unasked_with(c, app, bytes_len, MOST_SEND);
@@ -700,7 +724,8 @@ static uint32_t take_message(struct core *c, struct pipe *pipe, struct fsw_messa
     return FSW_SUCCESS;
 }
 
-uint32_t fsw_raw_receive(struct fsw_core *core, uint32_t app, uint32_t pipe, struct fsw_message *message)
+uint32_t fsw_raw_receive(struct fsw_core *core, uint32_t app, uint32_t pipe,
+                         struct fsw_message *message)
 {
     struct core *c = opened(core);
     uint32_t why = unasked(c, app);
@@ -716,13 +741,15 @@ static bool are_others_idle(const struct core *c, uint32_t app)
 {
     for (uint32_t i = 1; i <= c->limits.apps; i++) {
         const struct app *other = &c->app[i];
-        if (i != app && !other->ended && !(other->waits_on && pipe_at(c, other->waits_on)->length == 0))
+        if (i != app && !other->ended &&
+            !(other->waits_on && pipe_at(c, other->waits_on)->length == 0))
             return false;
     }
     return true;
 }
 
-static uint32_t wait_or_take(struct core *c, uint32_t app, struct pipe *pipe, struct fsw_message *message)
+static uint32_t wait_or_take(struct core *c, uint32_t app, struct pipe *pipe,
+                             struct fsw_message *message)
 {
     uint32_t status = take_message(c, pipe, message);
     if (status == FSW_SUCCESS)
@@ -730,7 +757,8 @@ static uint32_t wait_or_take(struct core *c, uint32_t app, struct pipe *pipe, st
     return are_others_idle(c, app) ? FSW_SB_TIME_OUT : FSW_PENDING;
 }
 
-uint32_t fsw_raw_pend(struct fsw_core *core, uint32_t app, uint32_t pipe, struct fsw_message *message)
+uint32_t fsw_raw_pend(struct fsw_core *core, uint32_t app, uint32_t pipe,
+                      struct fsw_message *message)
 {
     struct core *c = opened(core);
     uint32_t why = unasked(c, app);
@@ -769,7 +797,8 @@ static uint32_t unsent_of(const struct core *c, uint32_t app)
     return count;
 }
 
-uint32_t fsw_raw_allocate(struct fsw_core *core, uint32_t app, uint32_t size, struct fsw_buffer *buffer)
+uint32_t fsw_raw_allocate(struct fsw_core *core, uint32_t app, uint32_t size,
+                          struct fsw_buffer *buffer)
 {
     struct core *c = opened(core);
     uint32_t why = unasked(c, app);
@@ -812,8 +841,8 @@ static void take_unsent(struct core *c, struct block *block)
     block->next = NULL;
 }
 
-uint32_t fsw_raw_transmit_buffer(struct fsw_core *core, uint32_t app, struct fsw_buffer *buffer, bool counts,
-                                 struct fsw_sent *sent)
+uint32_t fsw_raw_transmit_buffer(struct fsw_core *core, uint32_t app, struct fsw_buffer *buffer,
+                                 bool counts, struct fsw_sent *sent)
 {
     struct core *c = opened(core);
     uint32_t why = unasked(c, app);
@@ -895,7 +924,8 @@ static struct cut *draw_cut(struct pool *pool, uint32_t class)
     return cut;
 }
 
-uint32_t fsw_raw_pool_get(struct fsw_core *core, uint32_t app, uint32_t pool, uint32_t size, struct fsw_block *block)
+uint32_t fsw_raw_pool_get(struct fsw_core *core, uint32_t app, uint32_t pool, uint32_t size,
+                          struct fsw_block *block)
 {
     struct core *c = opened(core);
     uint32_t why = unasked(c, app);
@@ -917,7 +947,8 @@ uint32_t fsw_raw_pool_get(struct fsw_core *core, uint32_t app, uint32_t pool, ui
 /* Why the grant isn't out. */
 static uint32_t not_out(const struct pool *pool, uint64_t grant)
 {
-    return grant == 0 || grant > pool->given ? FSW_ES_BUFFER_NOT_IN_POOL : FSW_ES_POOL_BLOCK_INVALID;
+    return grant == 0 || grant > pool->given ? FSW_ES_BUFFER_NOT_IN_POOL
+                                             : FSW_ES_POOL_BLOCK_INVALID;
 }
 
 uint32_t fsw_raw_pool_put(struct fsw_core *core, uint32_t app, uint32_t pool, uint64_t grant)
@@ -937,7 +968,8 @@ uint32_t fsw_raw_pool_put(struct fsw_core *core, uint32_t app, uint32_t pool, ui
     return FSW_SUCCESS;
 }
 
-uint32_t fsw_raw_pool_block(struct fsw_core *core, uint32_t pool, uint64_t grant, struct fsw_block *block)
+uint32_t fsw_raw_pool_block(struct fsw_core *core, uint32_t pool, uint64_t grant,
+                            struct fsw_block *block)
 {
     struct core *c = opened(core);
     if (!c)
@@ -964,7 +996,8 @@ uint32_t fsw_raw_pool_stats(struct fsw_core *core, uint32_t pool, struct fsw_poo
     return FSW_SUCCESS;
 }
 
-uint32_t fsw_raw_pool_class(struct fsw_core *core, uint32_t pool, uint32_t place, struct fsw_class_stats *stats)
+uint32_t fsw_raw_pool_class(struct fsw_core *core, uint32_t pool, uint32_t place,
+                            struct fsw_class_stats *stats)
 {
     struct core *c = opened(core);
     if (!c)
@@ -975,13 +1008,15 @@ uint32_t fsw_raw_pool_class(struct fsw_core *core, uint32_t pool, uint32_t place
     if (place >= CLASSES)
         return FSW_ES_BAD_ARGUMENT;
     const struct account *account = &found->account;
-    *stats = (struct fsw_class_stats){SIZES[place], account->made[place], account->made[place] - account->out[place]};
+    *stats = (struct fsw_class_stats){SIZES[place], account->made[place],
+                                      account->made[place] - account->out[place]};
     return FSW_SUCCESS;
 }
 
 /* ---- Events of applications ---- */
 
-uint32_t fsw_raw_register(struct fsw_core *core, uint32_t app, const struct fsw_filter *filters, size_t filters_len)
+uint32_t fsw_raw_register(struct fsw_core *core, uint32_t app, const struct fsw_filter *filters,
+                          size_t filters_len)
 {
     struct core *c = opened(core);
     uint32_t why = unasked_with(c, app, filters_len, MOST_LIST);
@@ -1014,8 +1049,8 @@ static bool passes(struct app *who, uint16_t id)
     return true;
 }
 
-uint32_t fsw_raw_send_event(struct fsw_core *core, uint32_t app, uint16_t id, uint32_t kind, const uint8_t *text,
-                            size_t text_len, uint32_t *passed)
+uint32_t fsw_raw_send_event(struct fsw_core *core, uint32_t app, uint16_t id, uint32_t kind,
+                            const uint8_t *text, size_t text_len, uint32_t *passed)
 {
     struct core *c = opened(core);
     uint32_t why = unasked_with(c, app, text_len, MOST_EVENT);
@@ -1166,7 +1201,8 @@ static struct handle *handle_at(const struct core *c, uint32_t number)
 }
 
 /* Finds a handle of the caller's, or says why not. */
-static uint32_t own_handle(const struct core *c, uint32_t app, uint32_t number, struct handle **handle)
+static uint32_t own_handle(const struct core *c, uint32_t app, uint32_t number,
+                           struct handle **handle)
 {
     uint32_t why = unasked_table(c, app);
     if (why)
@@ -1178,7 +1214,8 @@ static uint32_t own_handle(const struct core *c, uint32_t app, uint32_t number, 
 }
 
 /* The same of a handle whose table is registered. */
-static uint32_t own_table(const struct core *c, uint32_t app, uint32_t number, struct handle **handle)
+static uint32_t own_table(const struct core *c, uint32_t app, uint32_t number,
+                          struct handle **handle)
 {
     uint32_t why = own_handle(c, app, number, handle);
     if (why)
@@ -1189,7 +1226,8 @@ static uint32_t own_table(const struct core *c, uint32_t app, uint32_t number, s
 static struct table *table_named(const struct core *c, const uint8_t *name, size_t len)
 {
     struct table *table = c->table;
-    while (table && (!table->owner || table->name_len != len || memcmp(table->name, name, len) != 0))
+    while (table &&
+           (!table->owner || table->name_len != len || memcmp(table->name, name, len) != 0))
         table = table->next;
     return table;
 }
@@ -1240,8 +1278,8 @@ static uint32_t blocks_of(uint32_t option)
     return option == FSW_TABLE_DOUBLE ? 2 : 1;
 }
 
-static struct table *add_table(struct core *c, uint32_t app, const uint8_t *name, size_t name_len, uint32_t size,
-                               uint32_t option)
+static struct table *add_table(struct core *c, uint32_t app, const uint8_t *name, size_t name_len,
+                               uint32_t size, uint32_t option)
 {
     struct table *table = calloc(1, sizeof *table);
     if (!table)
@@ -1271,8 +1309,9 @@ static uint32_t no_new_table(const struct core *c, uint32_t size, uint32_t optio
     return fits(&c->table_pool, size, blocks_of(option)) ? FSW_SUCCESS : FSW_ES_ERR_MEM_BLOCK_SIZE;
 }
 
-uint32_t fsw_raw_table_register(struct fsw_core *core, uint32_t app, const uint8_t *name, size_t name_len, uint32_t size,
-                                uint32_t option, const struct fsw_rule *rules, size_t rules_len, uint32_t *handle)
+uint32_t fsw_raw_table_register(struct fsw_core *core, uint32_t app, const uint8_t *name,
+                                size_t name_len, uint32_t size, uint32_t option,
+                                const struct fsw_rule *rules, size_t rules_len, uint32_t *handle)
 {
     struct core *c = opened(core);
     uint32_t why = unasked_table(c, app);
@@ -1306,7 +1345,8 @@ uint32_t fsw_raw_table_register(struct fsw_core *core, uint32_t app, const uint8
     return FSW_SUCCESS;
 }
 
-uint32_t fsw_raw_table_share(struct fsw_core *core, uint32_t app, const uint8_t *name, size_t name_len, uint32_t *handle)
+uint32_t fsw_raw_table_share(struct fsw_core *core, uint32_t app, const uint8_t *name,
+                             size_t name_len, uint32_t *handle)
 {
     struct core *c = opened(core);
     uint32_t why = unasked_table(c, app);
@@ -1389,7 +1429,8 @@ static uint32_t single_staged(const struct core *c)
 }
 
 /* Why these bytes can't be staged. */
-static uint32_t unstaged(const struct core *c, const struct table *table, uint32_t offset, size_t len)
+static uint32_t unstaged(const struct core *c, const struct table *table, uint32_t offset,
+                         size_t len)
 {
     if (table->option == FSW_TABLE_DUMP_ONLY)
         return FSW_TBL_ERR_DUMP_ONLY;
@@ -1406,8 +1447,8 @@ static uint32_t unstaged(const struct core *c, const struct table *table, uint32
     return FSW_SUCCESS;
 }
 
-static uint32_t loadable(const struct core *c, uint32_t app, uint32_t handle, uint32_t offset, size_t len,
-                         struct handle **found)
+static uint32_t loadable(const struct core *c, uint32_t app, uint32_t handle, uint32_t offset,
+                         size_t len, struct handle **found)
 {
     uint32_t why = unasked_table(c, app);
     if (why)
@@ -1428,8 +1469,8 @@ static void stage(struct table *table, uint32_t offset, const uint8_t *bytes, si
     table->staged_state = 1;
 }
 
-uint32_t fsw_raw_table_stage(struct fsw_core *core, uint32_t app, uint32_t handle, uint32_t offset, const uint8_t *bytes,
-                             size_t bytes_len)
+uint32_t fsw_raw_table_stage(struct fsw_core *core, uint32_t app, uint32_t handle, uint32_t offset,
+                             const uint8_t *bytes, size_t bytes_len)
 {
     struct handle *found;
     uint32_t why = loadable(opened(core), app, handle, offset, bytes_len, &found);
@@ -1438,7 +1479,8 @@ uint32_t fsw_raw_table_stage(struct fsw_core *core, uint32_t app, uint32_t handl
     return why;
 }
 
-uint32_t fsw_raw_table_staged(struct fsw_core *core, uint32_t app, uint32_t handle, struct fsw_bytes *bytes)
+uint32_t fsw_raw_table_staged(struct fsw_core *core, uint32_t app, uint32_t handle,
+                              struct fsw_bytes *bytes)
 {
     struct handle *found;
     uint32_t why = own_table(opened(core), app, handle, &found);
@@ -1517,8 +1559,8 @@ uint32_t fsw_raw_table_abort(struct fsw_core *core, uint32_t app, uint32_t handl
     return FSW_SUCCESS;
 }
 
-uint32_t fsw_raw_table_load(struct fsw_core *core, uint32_t app, uint32_t handle, uint32_t offset, const uint8_t *bytes,
-                            size_t bytes_len)
+uint32_t fsw_raw_table_load(struct fsw_core *core, uint32_t app, uint32_t handle, uint32_t offset,
+                            const uint8_t *bytes, size_t bytes_len)
 {
     struct handle *found;
     uint32_t why = loadable(opened(core), app, handle, offset, bytes_len, &found);
@@ -1536,7 +1578,8 @@ uint32_t fsw_raw_table_load(struct fsw_core *core, uint32_t app, uint32_t handle
     return why;
 }
 
-uint32_t fsw_raw_table_get_address(struct fsw_core *core, uint32_t app, uint32_t handle, struct fsw_address *address)
+uint32_t fsw_raw_table_get_address(struct fsw_core *core, uint32_t app, uint32_t handle,
+                                   struct fsw_address *address)
 {
     struct handle *found;
     uint32_t why = own_table(opened(core), app, handle, &found);
@@ -1563,7 +1606,8 @@ uint32_t fsw_raw_table_release_address(struct fsw_core *core, uint32_t app, uint
     return why;
 }
 
-uint32_t fsw_raw_table_status(struct fsw_core *core, uint32_t app, uint32_t handle, struct fsw_table_status *status)
+uint32_t fsw_raw_table_status(struct fsw_core *core, uint32_t app, uint32_t handle,
+                              struct fsw_table_status *status)
 {
     struct handle *found;
     uint32_t why = own_handle(opened(core), app, handle, &found);
@@ -1571,7 +1615,8 @@ uint32_t fsw_raw_table_status(struct fsw_core *core, uint32_t app, uint32_t hand
         return why;
     const struct table *table = found->table;
     uint32_t holds = table->present->holds + (table->older ? table->older->holds : 0);
-    *status = (struct fsw_table_status){table->present->version, table->size, table->option, table->staged_state, holds};
+    *status = (struct fsw_table_status){table->present->version, table->size, table->option,
+                                        table->staged_state, holds};
     return FSW_SUCCESS;
 }
 
@@ -1668,7 +1713,8 @@ uint32_t fsw_raw_read_header(const uint8_t *bytes, size_t bytes_len, struct fsw_
     if (bytes_len < HEADER)
         return FSW_SB_BAD_ARGUMENT;
     uint16_t word = (uint16_t)(bytes[2] << 8 | bytes[3]);
-    *header = (struct fsw_header){size_in(bytes), id_in(bytes), word & 0x3fff, (uint8_t)(word >> 14)};
+    *header =
+        (struct fsw_header){size_in(bytes), id_in(bytes), word & 0x3fff, (uint8_t)(word >> 14)};
     return FSW_SUCCESS;
 }
 
@@ -1677,8 +1723,9 @@ uint32_t fsw_raw_write_header(uint8_t *bytes, size_t bytes_len, uint16_t id, uin
     if (bytes_len < LEAST_MESSAGE || bytes_len > MOST_SEND || !is_id(id) || count > 16383)
         return FSW_SB_BAD_ARGUMENT;
     size_t length = bytes_len - LEAST_MESSAGE;
-    const uint8_t header[HEADER] = {(uint8_t)(id >> 8),           (uint8_t)id,            (uint8_t)(0xc0 | count >> 8),
-                                    (uint8_t)count,               (uint8_t)(length >> 8), (uint8_t)length};
+    const uint8_t header[HEADER] = {(uint8_t)(id >> 8),           (uint8_t)id,
+                                    (uint8_t)(0xc0 | count >> 8), (uint8_t)count,
+                                    (uint8_t)(length >> 8),       (uint8_t)length};
     memcpy(bytes, header, HEADER);
     return FSW_SUCCESS;
 }
@@ -1732,7 +1779,9 @@ uint32_t fsw_raw_read_image(const uint8_t *file, size_t file_len, struct fsw_ima
     uint32_t said = number_at(file + 72);
     if (said == 0 || said != file_len - HEADERS)
         return FSW_TBL_ERR_FILE_SIZE;
-    *image = (struct fsw_image){
-        {file + 32, 32}, {file + NAME_AT, name_len}, {file + HEADERS, said}, number_at(file + 68)};
+    *image = (struct fsw_image){{file + 32, 32},
+                                {file + NAME_AT, name_len},
+                                {file + HEADERS, said},
+                                number_at(file + 68)};
     return FSW_SUCCESS;
 }

@@ -1,7 +1,7 @@
 /*
- * threads_test.c [SECONDS]: sixteen applications, each on a thread of its own, that make every call of the layer at random
- * for so long, while others end and messages are read without the lock. A message that is read is whole: its bytes are all
- * the same.
+ * threads_test.c [SECONDS]: sixteen applications, each on a thread of its own, that make every call
+ * of the layer at random for so long, while others end and messages are read without the lock. A
+ * message that is read is whole: its bytes are all the same.
  */
 #include "cfe.h"
 #include "check.h"
@@ -47,7 +47,8 @@ static void send(Self_t *self)
 {
     Packet_t packet;
     size_t data = 1 + draw(self, MOST_DATA);
-    CHECK_STATUS(CFE_MSG_Init(CFE_MSG_PTR(packet.TelemetryHeader), any_id(self), sizeof(CFE_MSG_TelemetryHeader_t) + data),
+    CHECK_STATUS(CFE_MSG_Init(CFE_MSG_PTR(packet.TelemetryHeader), any_id(self),
+                              sizeof(CFE_MSG_TelemetryHeader_t) + data),
                  CFE_SUCCESS);
     memset(packet.Data, (int)draw(self, 256), data);
     CFE_Status_t status = CFE_SB_TransmitMsg(CFE_MSG_PTR(packet.TelemetryHeader), draw(self, 2));
@@ -57,12 +58,16 @@ static void send(Self_t *self)
 static void send_buffer(Self_t *self)
 {
     size_t data = 1 + draw(self, MOST_DATA);
-    CFE_SB_Buffer_t *buffer = CFE_SB_AllocateMessageBuffer(sizeof(CFE_MSG_TelemetryHeader_t) + data);
+    CFE_SB_Buffer_t *buffer =
+        CFE_SB_AllocateMessageBuffer(sizeof(CFE_MSG_TelemetryHeader_t) + data);
     if (!buffer)
         return;
-    CHECK_STATUS(CFE_MSG_Init(&buffer->Msg, any_id(self), sizeof(CFE_MSG_TelemetryHeader_t) + data), CFE_SUCCESS);
+    CHECK_STATUS(CFE_MSG_Init(&buffer->Msg, any_id(self), sizeof(CFE_MSG_TelemetryHeader_t) + data),
+                 CFE_SUCCESS);
     memset(((Packet_t *)buffer)->Data, (int)draw(self, 256), data);
-    CHECK_STATUS(draw(self, 4) ? CFE_SB_TransmitBuffer(buffer, true) : CFE_SB_ReleaseMessageBuffer(buffer), CFE_SUCCESS);
+    CHECK_STATUS(draw(self, 4) ? CFE_SB_TransmitBuffer(buffer, true)
+                               : CFE_SB_ReleaseMessageBuffer(buffer),
+                 CFE_SUCCESS);
 }
 
 static void check_whole(CFE_SB_Buffer_t *buffer)
@@ -97,16 +102,20 @@ static void new_pipe(Self_t *self)
     CHECK_STATUS(CFE_SB_SetPipeOpts(self->pipe, (uint8)draw(self, 2)), CFE_SUCCESS);
     CHECK_STATUS(CFE_SB_GetPipeOpts(self->pipe, &opts), CFE_SUCCESS);
     for (int i = 0; i < 3; i++)
-        CHECK_STATUS(CFE_SB_SubscribeEx(any_id(self), self->pipe, CFE_SB_DEFAULT_QOS, DEPTH), CFE_SUCCESS);
+        CHECK_STATUS(CFE_SB_SubscribeEx(any_id(self), self->pipe, CFE_SB_DEFAULT_QOS, DEPTH),
+                     CFE_SUCCESS);
     CHECK_STATUS(CFE_SB_Unsubscribe(any_id(self), self->pipe), CFE_SUCCESS);
 }
 
 static void events(Self_t *self)
 {
-    static const CFE_EVS_BinFilter_t filters[] = {{1, CFE_EVS_FIRST_4_STOP}, {2, CFE_EVS_EVERY_OTHER_ONE}};
+    static const CFE_EVS_BinFilter_t filters[] = {{1, CFE_EVS_FIRST_4_STOP},
+                                                  {2, CFE_EVS_EVERY_OTHER_ONE}};
     if (draw(self, 8) == 0)
         CHECK_STATUS(CFE_EVS_Register(filters, 2, CFE_EVS_EventFilter_BINARY), CFE_SUCCESS);
-    CHECK_STATUS(CFE_EVS_SendEvent((uint16)draw(self, 4), CFE_EVS_EventType_DEBUG, "%u", (unsigned)self->calls), CFE_SUCCESS);
+    CHECK_STATUS(CFE_EVS_SendEvent((uint16)draw(self, 4), CFE_EVS_EventType_DEBUG, "%u",
+                                   (unsigned)self->calls),
+                 CFE_SUCCESS);
     CHECK_STATUS(draw(self, 2) ? CFE_EVS_ResetFilter(1) : CFE_EVS_ResetAllFilters(), CFE_SUCCESS);
 }
 
@@ -158,7 +167,8 @@ static void hold(Self_t *self, CFE_TBL_Handle_t handle)
     CFE_Status_t status = CFE_TBL_GetAddress(&address, handle);
     if (status == CFE_TBL_ERR_UNREGISTERED)
         return;
-    CHECK(status == CFE_SUCCESS || status == CFE_TBL_INFO_UPDATED || status == CFE_TBL_ERR_NEVER_LOADED);
+    CHECK(status == CFE_SUCCESS || status == CFE_TBL_INFO_UPDATED ||
+          status == CFE_TBL_ERR_NEVER_LOADED);
     memcpy(before, address, sizeof before);
     CHECK_STATUS(are_alike(address), CFE_SUCCESS);
     send(self);
@@ -179,7 +189,8 @@ static void share(Self_t *self)
 
 static void any_handle(Self_t *self)
 {
-    hold(self, draw(self, 2) || self->shared == CFE_TBL_BAD_TABLE_HANDLE ? self->own : self->shared);
+    hold(self,
+         draw(self, 2) || self->shared == CFE_TBL_BAD_TABLE_HANDLE ? self->own : self->shared);
 }
 
 static void any_change(Self_t *self)
@@ -192,8 +203,9 @@ static void any_change(Self_t *self)
 
 static void any_call(Self_t *self)
 {
-    static void (*const ways[])(Self_t *) = {send, send, send, send_buffer, receive, receive, receive, events, pool, load,
-                                             any_handle, any_change};
+    static void (*const ways[])(Self_t *) = {send,    send,    send,       send_buffer,
+                                             receive, receive, receive,    events,
+                                             pool,    load,    any_handle, any_change};
     ways[draw(self, sizeof ways / sizeof ways[0])](self);
     self->calls++;
 }
@@ -216,10 +228,13 @@ static void APP_Main(void)
     CHECK_STATUS(CFE_ES_GetAppName(name, me, sizeof name), CFE_SUCCESS);
     self.random = me;
     CHECK_STATUS(CFE_EVS_Register(NULL, 0, CFE_EVS_EventFilter_BINARY), CFE_SUCCESS);
-    CHECK_STATUS(CFE_EVS_Register(&(CFE_EVS_BinFilter_t){1, 0}, 1, CFE_EVS_EventFilter_BINARY), CFE_SUCCESS);
+    CHECK_STATUS(CFE_EVS_Register(&(CFE_EVS_BinFilter_t){1, 0}, 1, CFE_EVS_EventFilter_BINARY),
+                 CFE_SUCCESS);
     CHECK_STATUS(CFE_SB_CreatePipe(&self.pipe, DEPTH, name), CFE_SUCCESS);
-    CHECK_STATUS(CFE_SB_SubscribeEx(any_id(&self), self.pipe, CFE_SB_DEFAULT_QOS, DEPTH), CFE_SUCCESS);
-    CHECK_STATUS(CFE_TBL_Register(&self.own, "Table", 16, me % 2 ? CFE_TBL_OPT_DBL_BUFFER : CFE_TBL_OPT_DEFAULT, are_alike),
+    CHECK_STATUS(CFE_SB_SubscribeEx(any_id(&self), self.pipe, CFE_SB_DEFAULT_QOS, DEPTH),
+                 CFE_SUCCESS);
+    CHECK_STATUS(CFE_TBL_Register(&self.own, "Table", 16,
+                                  me % 2 ? CFE_TBL_OPT_DBL_BUFFER : CFE_TBL_OPT_DEFAULT, are_alike),
                  CFE_SUCCESS);
     pthread_once(&pool_once, make_pool);
     self.pool = common_pool;
@@ -243,6 +258,7 @@ int main(int argc, char **argv)
     }
     fsw_set_event_output((struct fsw_event_output){.packets = true});
     CHECK(fsw_run(NULL, apps, APPS) == 0);
-    printf("threads_test passed: %llu calls, %llu messages read\n", (unsigned long long)calls, (unsigned long long)received);
+    printf("threads_test passed: %llu calls, %llu messages read\n", (unsigned long long)calls,
+           (unsigned long long)received);
     return 0;
 }

@@ -1,4 +1,5 @@
-/* cfe_es.h: what an application asks of Executive Services: its loop, its tasks and its memory pools. */
+/* cfe_es.h: what an application asks of Executive Services: its loop, its tasks and its memory
+ * pools. */
 #ifndef CFE_ES_H
 #define CFE_ES_H
 
@@ -50,8 +51,9 @@ typedef uint16 CFE_ES_TaskPriority_Atom_t;
 #define CFE_ES_TASK_STACK_ALLOCATE NULL
 
 CFE_Status_t CFE_ES_CreateChildTask(CFE_ES_TaskId_t *TaskIdPtr, const char *TaskName,
-                                    CFE_ES_ChildTaskMainFuncPtr_t FunctionPtr, CFE_ES_StackPointer_t StackPtr,
-                                    size_t StackSize, CFE_ES_TaskPriority_Atom_t Priority, uint32 Flags);
+                                    CFE_ES_ChildTaskMainFuncPtr_t FunctionPtr,
+                                    CFE_ES_StackPointer_t StackPtr, size_t StackSize,
+                                    CFE_ES_TaskPriority_Atom_t Priority, uint32 Flags);
 void CFE_ES_ExitChildTask(void);
 
 typedef void *CFE_ES_MemPoolBuf_t;

@@ -4,7 +4,7 @@
 
 #include "common_types.h"
 
-#define CFE_FS_FILE_CONTENT_ID 0x63464531
+#define CFE_FS_FILE_CONTENT_ID  0x63464531
 #define CFE_FS_HDR_DESC_MAX_LEN 32
 #define CFE_FS_SubType_TBL_IMG  8
 

@@ -14,11 +14,14 @@
 typedef CFE_ResourceId_t CFE_SB_PipeId_t;
 #define CFE_SB_INVALID_PIPE CFE_RESOURCEID_UNDEFINED
 
-#define CFE_SB_MSGID_WRAP_VALUE(value) {(CFE_SB_MsgId_Atom_t)(value)}
-#define CFE_SB_MSGID_C(value)          ((CFE_SB_MsgId_t)CFE_SB_MSGID_WRAP_VALUE(value))
-#define CFE_SB_MSGID_UNWRAP_VALUE(id)  ((id).Value)
-#define CFE_SB_MSGID_RESERVED          CFE_SB_MSGID_WRAP_VALUE(0)
-#define CFE_SB_INVALID_MSG_ID          CFE_SB_MSGID_C(0)
+#define CFE_SB_MSGID_WRAP_VALUE(value) \
+    {                                  \
+        (CFE_SB_MsgId_Atom_t)(value)   \
+    }
+#define CFE_SB_MSGID_C(value)         ((CFE_SB_MsgId_t)CFE_SB_MSGID_WRAP_VALUE(value))
+#define CFE_SB_MSGID_UNWRAP_VALUE(id) ((id).Value)
+#define CFE_SB_MSGID_RESERVED         CFE_SB_MSGID_WRAP_VALUE(0)
+#define CFE_SB_INVALID_MSG_ID         CFE_SB_MSGID_C(0)
 
 /* A message where it lies, at a multiple of 8. cFE's union has a member of long double besides. */
 union CFE_SB_Msg {
@@ -41,7 +44,8 @@ CFE_Status_t CFE_SB_SetPipeOpts(CFE_SB_PipeId_t PipeId, uint8 Opts);
 CFE_Status_t CFE_SB_GetPipeOpts(CFE_SB_PipeId_t PipeId, uint8 *OptPtr);
 CFE_Status_t CFE_SB_GetPipeName(char *PipeNameBuf, size_t PipeNameSize, CFE_SB_PipeId_t PipeId);
 CFE_Status_t CFE_SB_GetPipeIdByName(CFE_SB_PipeId_t *PipeIdPtr, const char *PipeName);
-CFE_Status_t CFE_SB_SubscribeEx(CFE_SB_MsgId_t MsgId, CFE_SB_PipeId_t PipeId, CFE_SB_Qos_t Quality, uint16 MsgLim);
+CFE_Status_t CFE_SB_SubscribeEx(CFE_SB_MsgId_t MsgId, CFE_SB_PipeId_t PipeId, CFE_SB_Qos_t Quality,
+                                uint16 MsgLim);
 CFE_Status_t CFE_SB_Subscribe(CFE_SB_MsgId_t MsgId, CFE_SB_PipeId_t PipeId);
 CFE_Status_t CFE_SB_SubscribeLocal(CFE_SB_MsgId_t MsgId, CFE_SB_PipeId_t PipeId, uint16 MsgLim);
 CFE_Status_t CFE_SB_Unsubscribe(CFE_SB_MsgId_t MsgId, CFE_SB_PipeId_t PipeId);
@@ -56,9 +60,10 @@ void CFE_SB_TimeStampMsg(CFE_MSG_Message_t *MsgPtr);
 void *CFE_SB_GetUserData(CFE_MSG_Message_t *MsgPtr);
 size_t CFE_SB_GetUserDataLength(const CFE_MSG_Message_t *MsgPtr);
 void CFE_SB_SetUserDataLength(CFE_MSG_Message_t *MsgPtr, size_t DataLength);
-int32 CFE_SB_MessageStringGet(char *DestStringPtr, const char *SourceStringPtr, const char *DefaultString,
-                              size_t DestMaxSize, size_t SourceMaxSize);
-int32 CFE_SB_MessageStringSet(char *DestStringPtr, const char *SourceStringPtr, size_t DestMaxSize, size_t SourceMaxSize);
+int32 CFE_SB_MessageStringGet(char *DestStringPtr, const char *SourceStringPtr,
+                              const char *DefaultString, size_t DestMaxSize, size_t SourceMaxSize);
+int32 CFE_SB_MessageStringSet(char *DestStringPtr, const char *SourceStringPtr, size_t DestMaxSize,
+                              size_t SourceMaxSize);
 
 bool CFE_SB_IsValidMsgId(CFE_SB_MsgId_t MsgId);
 

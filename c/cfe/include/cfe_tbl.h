@@ -49,17 +49,20 @@ typedef struct {
     char LastFileLoaded[CFE_MISSION_MAX_PATH_LEN];
 } CFE_TBL_Info_t;
 
-CFE_Status_t CFE_TBL_Register(CFE_TBL_Handle_t *TblHandlePtr, const char *Name, size_t Size, uint16 TblOptionFlags,
+CFE_Status_t CFE_TBL_Register(CFE_TBL_Handle_t *TblHandlePtr, const char *Name, size_t Size,
+                              uint16 TblOptionFlags,
                               CFE_TBL_CallbackFuncPtr_t TblValidationFuncPtr);
 CFE_Status_t CFE_TBL_Share(CFE_TBL_Handle_t *TblHandlePtr, const char *TblName);
 CFE_Status_t CFE_TBL_Unregister(CFE_TBL_Handle_t TblHandle);
-CFE_Status_t CFE_TBL_Load(CFE_TBL_Handle_t TblHandle, CFE_TBL_SrcEnum_t SrcType, const void *SrcDataPtr);
+CFE_Status_t CFE_TBL_Load(CFE_TBL_Handle_t TblHandle, CFE_TBL_SrcEnum_t SrcType,
+                          const void *SrcDataPtr);
 CFE_Status_t CFE_TBL_Validate(CFE_TBL_Handle_t TblHandle);
 CFE_Status_t CFE_TBL_Update(CFE_TBL_Handle_t TblHandle);
 CFE_Status_t CFE_TBL_Manage(CFE_TBL_Handle_t TblHandle);
 CFE_Status_t CFE_TBL_GetAddress(void **TblPtr, CFE_TBL_Handle_t TblHandle);
 CFE_Status_t CFE_TBL_ReleaseAddress(CFE_TBL_Handle_t TblHandle);
-CFE_Status_t CFE_TBL_GetAddresses(void **TblPtrs[], uint16 NumTables, const CFE_TBL_Handle_t TblHandles[]);
+CFE_Status_t CFE_TBL_GetAddresses(void **TblPtrs[], uint16 NumTables,
+                                  const CFE_TBL_Handle_t TblHandles[]);
 CFE_Status_t CFE_TBL_ReleaseAddresses(uint16 NumTables, const CFE_TBL_Handle_t TblHandles[]);
 CFE_Status_t CFE_TBL_GetStatus(CFE_TBL_Handle_t TblHandle);
 CFE_Status_t CFE_TBL_GetInfo(CFE_TBL_Info_t *TblInfoPtr, const char *TblName);

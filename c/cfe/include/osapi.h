@@ -4,13 +4,13 @@
 
 #include "common_types.h"
 
-#define OS_SUCCESS          0
-#define OS_ERROR            (-1)
-#define OS_INVALID_POINTER  (-2)
-#define OS_ERR_NO_FREE_IDS  (-14)
+#define OS_SUCCESS           0
+#define OS_ERROR             (-1)
+#define OS_INVALID_POINTER   (-2)
+#define OS_ERR_NO_FREE_IDS   (-14)
 #define OS_ERR_NAME_TOO_LONG (-13)
-#define OS_ERR_NAME_TAKEN   (-15)
-#define OS_ERR_INVALID_ID   (-16)
+#define OS_ERR_NAME_TAKEN    (-15)
+#define OS_ERR_INVALID_ID    (-16)
 
 #define OS_MAX_API_NAME 20
 #define OS_MAX_PATH_LEN 64
