@@ -165,14 +165,15 @@ struct fsw_message {
 };
 
 /*
- * An unsent buffer that C writes in place, or none: all zero. C writes the `len` bytes at `at`, and
- * no field; it makes no copy of the struct, and writes nothing at `at` once the buffer was sent or
- * released.
+ * An unsent buffer that C writes in place, or none: all zero. C writes the `size` bytes at `at`,
+ * and no field; it makes no copy of the struct, and writes nothing at `at` once the buffer was sent
+ * or released.
  */
 struct fsw_buffer {
     uint8_t *at;     /* its first byte, at a multiple of 8 */
-    size_t len;      /* the bytes of its block, at least as many as were asked for */
+    size_t len;      /* the bytes of its block */
     bool is_some;    /* whether there is a buffer */
+    uint32_t size;   /* the bytes that were asked for: its packet has at most so many */
     uint64_t number; /* the number under which its message will be sent */
 };
 

@@ -269,7 +269,8 @@ static void buffers(void)
     CHECK_STATUS(fsw_allocate(&core, 1, 257, &buffer), FSW_SB_MSG_TOO_BIG);
     CHECK_STATUS(fsw_release(&core, 1, &buffer), FSW_SB_BUFFER_INVALID);
     CHECK_STATUS(fsw_allocate(&core, 1, 20, &buffer), FSW_SUCCESS);
-    CHECK(buffer.is_some && buffer.len == 32 && buffer.number == 1 && buffer.at[19] == 0);
+    CHECK(buffer.is_some && buffer.len == 32 && buffer.size == 20 && buffer.number == 1 &&
+          buffer.at[19] == 0);
     CHECK_STATUS(fsw_allocate(&core, 1, 20, &buffer), FSW_SB_BUFFER_INVALID); /* it has one */
     CHECK_STATUS(fsw_allocate(&core, 1, 20, &second), FSW_SUCCESS);
     CHECK_STATUS(fsw_allocate(&core, 1, 20, &third), FSW_NO_ROOM);

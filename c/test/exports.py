@@ -14,7 +14,7 @@ HEADER = Path(__file__).resolve().parent.parent / 'include' / 'fsw.h'
 NUMBERS = {'uint8_t': 'u8', 'uint16_t': 'u16', 'uint32_t': 'u32', 'uint64_t': 'u64', 'size_t': 'usize', 'bool': 'bool'}
 # A handle's and a buffer's pointer stand in a struct of their own, which owns what they point to.
 OWNED = {'FswCore': ['held: Held', 'is_open: bool'],
-         'FswBuffer': ['lent: Lent', 'is_some: bool', 'number: u64']}
+         'FswBuffer': ['lent: Lent', 'is_some: bool', 'size: u32', 'number: u64']}
 
 
 def camel(name):

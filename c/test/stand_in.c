@@ -6,6 +6,7 @@
  */
 #include "fsw.h"
 
+#include <stdio.h>
 #include <stdlib.h>
 #include <string.h>
 
@@ -198,9 +199,20 @@ static void log_event(struct core *c, uint32_t app, uint16_t id, uint32_t kind, 
     memcpy(line->text, text, line->len);
 }
 
-static void tell_service(struct core *c, uint16_t id, uint32_t kind, const char *text)
+/* The bus's own events; those of a send have the sender, the others 0. */
+static void tell_service(struct core *c, uint16_t event, uint16_t id, uint32_t pipe,
+                         uint32_t sender)
 {
-    log_event(c, 0, id, kind, text, strlen(text));
+    static const char *const words[] = {"",      "duplicate", "not subscribed", "no subscribers",
+                                        "limit", "overflow",  "oldest"};
+    char text[MOST_TEXT];
+    int length = snprintf(text, sizeof text, "%s id 0x%04x", words[event], id);
+    if (pipe)
+        length += snprintf(text + length, sizeof text - (size_t)length, " pipe %u", pipe);
+    if (sender)
+        length += snprintf(text + length, sizeof text - (size_t)length, " sender %u", sender);
+    uint32_t kind = event == 4 || event == 5 ? FSW_EVENT_ERROR : FSW_EVENT_INFORMATION;
+    log_event(c, 0, event, kind, text, (size_t)length);
 }
 
 /* ---- Who may call ---- */
@@ -564,7 +576,7 @@ uint32_t fsw_raw_subscribe(struct fsw_core *core, uint32_t app, uint16_t id, uin
         return counted(&c->counters.sub, FSW_SB_BAD_ARGUMENT);
     if (sub_of(c, id, pipe)) {
         c->counters.dup++;
-        tell_service(c, 1, FSW_EVENT_INFORMATION, "Duplicate subscription");
+        tell_service(c, 1, id, pipe, 0);
         return FSW_SUCCESS;
     }
     if (!route_of(c, id) && c->now.msgids >= c->limits.msgids)
@@ -584,7 +596,7 @@ uint32_t fsw_raw_unsubscribe(struct fsw_core *core, uint32_t app, uint16_t id, u
     if (!is_id(id) || !own_pipe(c, app, pipe))
         return counted(&c->counters.sub, FSW_SB_BAD_ARGUMENT);
     if (!sub_of(c, id, pipe))
-        tell_service(c, 2, FSW_EVENT_INFORMATION, "No such subscription");
+        tell_service(c, 2, id, pipe, 0);
     end_subs(c, pipe, id);
     return FSW_SUCCESS;
 }
@@ -632,18 +644,18 @@ static void offer(struct core *c, uint32_t app, struct sub *sub, struct block *b
         return;
     if (sub->waiting >= sub->limit) {
         c->counters.limit++;
-        tell_service(c, 4, FSW_EVENT_ERROR, "Message limit reached");
+        tell_service(c, 4, sub->id, sub->pipe, app);
         return;
     }
     if (pipe->length >= pipe->depth && !(pipe->bits & FSW_PIPE_DROPS_OLDEST)) {
         c->counters.overflow++;
-        tell_service(c, 5, FSW_EVENT_ERROR, "Pipe full");
+        tell_service(c, 5, sub->id, sub->pipe, app);
         return;
     }
     if (pipe->length >= pipe->depth) {
         struct block *oldest = pipe->queue[0].block;
         c->counters.oldest++;
-        tell_service(c, 6, FSW_EVENT_INFORMATION, "Oldest message dropped");
+        tell_service(c, 6, sub->id, sub->pipe, app);
         take_first(c, pipe);
         drop_use(c, oldest);
     }
@@ -671,10 +683,10 @@ static void deliver(struct core *c, uint32_t app, struct block *block, bool coun
     drop_use(c, block);
 }
 
-static void go_nowhere(struct core *c, struct fsw_sent *sent)
+static void go_nowhere(struct core *c, uint16_t id, struct fsw_sent *sent)
 {
     c->counters.nosub++;
-    tell_service(c, 3, FSW_EVENT_INFORMATION, "No subscribers");
+    tell_service(c, 3, id, 0, 0);
     *sent = (struct fsw_sent){0, 0};
 }
 
@@ -686,7 +698,7 @@ static uint32_t send_bytes(struct core *c, uint32_t app, const uint8_t *bytes, s
     if (len > c->limits.msgmax)
         return counted(&c->counters.send, FSW_SB_MSG_TOO_BIG);
     if (subs_of(c, id_in(bytes)) == 0) {
-        go_nowhere(c, sent);
+        go_nowhere(c, id_in(bytes), sent);
         return FSW_SUCCESS;
     }
     if (!fits(&c->bus_pool, (uint32_t)len, 1))
@@ -820,7 +832,7 @@ uint32_t fsw_raw_allocate(struct fsw_core *core, uint32_t app, uint32_t size,
     block->next = c->unsent;
     c->unsent = block;
     see(c);
-    *buffer = (struct fsw_buffer){block->at, SIZES[block->class], true, block->number};
+    *buffer = (struct fsw_buffer){block->at, SIZES[block->class], true, size, block->number};
     return FSW_SUCCESS;
 }
 
@@ -854,9 +866,9 @@ uint32_t fsw_raw_transmit_buffer(struct fsw_core *core, uint32_t app, struct fsw
     if (size_in(block->at) > block->size || !is_id(id_in(block->at)))
         return counted(&c->counters.send, FSW_SB_BAD_ARGUMENT);
     take_unsent(c, block);
-    *buffer = (struct fsw_buffer){NULL, 0, false, 0};
+    *buffer = (struct fsw_buffer){NULL, 0, false, 0, 0};
     if (subs_of(c, id_in(block->at)) == 0) {
-        go_nowhere(c, sent);
+        go_nowhere(c, id_in(block->at), sent);
         free_block(c, block);
     } else {
         deliver(c, app, block, counts, sent);
@@ -875,7 +887,7 @@ uint32_t fsw_raw_release(struct fsw_core *core, uint32_t app, struct fsw_buffer 
         return counted(&c->counters.send, FSW_SB_BUFFER_INVALID);
     take_unsent(c, block);
     free_block(c, block);
-    *buffer = (struct fsw_buffer){NULL, 0, false, 0};
+    *buffer = (struct fsw_buffer){NULL, 0, false, 0, 0};
     return FSW_SUCCESS;
 }
 
