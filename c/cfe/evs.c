@@ -5,8 +5,8 @@
 #include <stdio.h>
 #include <string.h>
 
-/* As many bytes as the core takes; it keeps 122. */
-enum { TEXT_BYTES = 200 };
+/* As many bytes as the core takes; it keeps 122. And who we are in packets. */
+enum { TEXT_BYTES = 200, SPACECRAFT = 0x42, PROCESSOR = 1 };
 
 static CFE_Status_t as_status(uint32_t status)
 {
@@ -47,8 +47,8 @@ static void send_packet(const struct application *app, uint16 id, uint16 type, c
     snprintf(about->AppName, sizeof about->AppName, "%s", app->name);
     about->EventID = id;
     about->EventType = type;
-    about->SpacecraftID = 0x42;
-    about->ProcessorID = 1;
+    about->SpacecraftID = SPACECRAFT;
+    about->ProcessorID = PROCESSOR;
     snprintf(packet.Payload.Message, sizeof packet.Payload.Message, "%.*s",
              (int)sizeof packet.Payload.Message - 1, text);
     layer_send(CFE_MSG_PTR(packet.TelemetryHeader), sizeof packet);

@@ -40,6 +40,7 @@ struct task {
     struct application *app;
     void (*entry)(void); /* of a child task */
     pthread_t thread;
+    bool is_done;        /* of a child task: it makes no more calls */
     pthread_cond_t news; /* a message for the pipe that it waits on, or a reason to wait no more */
     uint32_t waits_on;   /* a pipe, or 0 */
     struct task *next;   /* among the tasks that wait */

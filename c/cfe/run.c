@@ -129,8 +129,10 @@ static void wake_tasks_of(const struct application *app)
 void fsw_stop(void)
 {
     layer_lock();
-    layer.stops = true;
-    wake_tasks_of(NULL);
+    if (layer.apps > 0) {
+        layer.stops = true;
+        wake_tasks_of(NULL);
+    }
     layer_unlock();
 }
 
@@ -141,10 +143,19 @@ void fsw_set_event_output(struct fsw_event_output output)
 
 /* ---- Child tasks ---- */
 
+/* The child's last act: its place is free for another. */
+static void end_child(void)
+{
+    layer_lock();
+    self->is_done = true;
+    layer_unlock();
+}
+
 static void *run_child(void *task)
 {
     self = task;
     self->entry();
+    end_child();
     return NULL;
 }
 
@@ -165,12 +176,22 @@ static void free_task(struct task *task)
     free(task);
 }
 
-/* With the lock: a free place for a child. */
+static void join_child(struct task **place)
+{
+    pthread_join((*place)->thread, NULL);
+    free_task(*place);
+    *place = NULL;
+}
+
+/* With the lock: a place for a child, which may be that of one that is done. */
 static struct task **place_for_child(struct application *app)
 {
-    for (int i = 0; i < LAYER_CHILDREN; i++)
+    for (int i = 0; i < LAYER_CHILDREN; i++) {
+        if (app->children[i] && app->children[i]->is_done)
+            join_child(&app->children[i]);
         if (!app->children[i])
             return &app->children[i];
+    }
     return NULL;
 }
 
@@ -203,19 +224,17 @@ CFE_Status_t CFE_ES_CreateChildTask(CFE_ES_TaskId_t *TaskIdPtr, const char *Task
 
 void CFE_ES_ExitChildTask(void)
 {
-    if (self && self->entry)
-        pthread_exit(NULL);
+    if (!self || !self->entry)
+        return;
+    end_child();
+    pthread_exit(NULL);
 }
 
 static void join_children(struct application *app)
 {
-    for (int i = 0; i < LAYER_CHILDREN; i++) {
-        if (!app->children[i])
-            continue;
-        pthread_join(app->children[i]->thread, NULL);
-        free_task(app->children[i]);
-        app->children[i] = NULL;
-    }
+    for (int i = 0; i < LAYER_CHILDREN; i++)
+        if (app->children[i])
+            join_child(&app->children[i]);
 }
 
 /* ---- An application's life ---- */
@@ -288,12 +307,15 @@ static bool open_run(const struct fsw_limits *limits, const struct fsw_app *apps
 
 static void close_run(void)
 {
+    layer_lock();
     for (uint32_t i = 0; i < layer.apps; i++)
         free(layer.app[i].buffers);
+    layer.apps = 0;
     layer_free_tables();
     layer_forget_pools();
     fsw_close(&layer.core);
     pthread_cond_destroy(&layer.change);
+    layer_unlock();
 }
 
 static bool are_named(const struct fsw_app *apps, size_t count)
