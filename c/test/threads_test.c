@@ -29,7 +29,7 @@ typedef struct {
     uint64_t calls;
 } Self_t;
 
-static time_t end_time;
+static long seconds;
 static atomic_ullong calls, received;
 
 static uint32_t draw(Self_t *self, uint32_t below)
@@ -240,10 +240,11 @@ static void APP_Main(void)
     self.pool = common_pool;
     CFE_ES_WaitForStartupSync(60000);
     /* One application in four ends before the others, with all that it has. */
-    time_t until = me % 4 ? end_time : end_time - (end_time - time(NULL)) / 2;
-    while (time(NULL) < until)
+    time_t until = time(NULL) + (me % 4 ? seconds : seconds / 2);
+    do
         for (int i = 0; i < 20; i++)
             any_call(&self);
+    while (time(NULL) < until);
     calls += self.calls;
 }
 
@@ -251,13 +252,14 @@ int main(int argc, char **argv)
 {
     static struct fsw_app apps[APPS];
     static char names[APPS][OS_MAX_API_NAME];
-    end_time = time(NULL) + (argc > 1 ? strtol(argv[1], NULL, 10) : 2);
+    seconds = argc > 1 ? strtol(argv[1], NULL, 10) : 2;
     for (int i = 0; i < APPS; i++) {
         snprintf(names[i], sizeof names[i], "APP%02d", i);
         apps[i] = (struct fsw_app){names[i], APP_Main};
     }
     fsw_set_event_output((struct fsw_event_output){.packets = true});
     CHECK(fsw_run(NULL, apps, APPS) == 0);
+    CHECK(calls >= APPS * 20 && received > 0);
     printf("threads_test passed: %llu calls, %llu messages read\n", (unsigned long long)calls,
            (unsigned long long)received);
     return 0;
