@@ -9,8 +9,10 @@
 #include <stddef.h>
 #include <stdint.h>
 
-/* Whether there is memory, and where. Where there is none, `at` isn't null, and nothing may be read
- * or written there. */
+/*
+ * Whether there is memory, and where. Where there is none, `at` isn't null, and nothing may be read
+ * or written there.
+ */
 struct rattle_tried {
     bool ok;
     uint8_t *at;
@@ -22,8 +24,10 @@ struct rattle_tried {
  */
 struct rattle_tried rattle_alloc(size_t bytes, size_t align);
 
-/* Makes the block one of `bytes` bytes, whose first `kept` bytes are as they were. It may move. If
- * there is no memory for it, it is as it was. */
+/*
+ * Makes the block one of `bytes` bytes, whose first `kept` bytes are as they were. It may move. If
+ * there is no memory for it, it is as it was.
+ */
 struct rattle_tried rattle_realloc(uint8_t *at, size_t kept, size_t bytes, size_t align);
 
 /* Takes back what either of the two gave. */

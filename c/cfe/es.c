@@ -1,5 +1,7 @@
-/* es.c: what an application asks of Executive Services, in cFE's names. Tasks and runs are in
- * run.c. */
+/*
+ * es.c: what an application asks of Executive Services, in cFE's names. Tasks and runs are in
+ * run.c.
+ */
 #include "layer.h"
 
 #include <stdarg.h>
@@ -163,8 +165,10 @@ static uint32_t block_at(CFE_ES_MemHandle_t pool, const void *at, struct fsw_blo
     if (offset < sizeof descriptor || offset >= memory[pool - 1].bytes)
         return FSW_ES_BUFFER_NOT_IN_POOL;
     memcpy(&descriptor, (const uint8_t *)at - sizeof descriptor, sizeof descriptor);
-    /* The number before a block could be anything that the application wrote there: the core says
-     * whether it is the block's. */
+    /*
+     * The number before a block could be anything that the application wrote there: the core says
+     * whether it is the block's.
+     */
     uint32_t status = fsw_pool_block(&layer.core, pool, descriptor.grant, block);
     return status == FSW_SUCCESS && block->offset == offset ? FSW_SUCCESS
                                                             : FSW_ES_POOL_BLOCK_INVALID;

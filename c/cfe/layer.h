@@ -76,20 +76,26 @@ CFE_Status_t layer_status(uint32_t status, CFE_Status_t bad);
 /* When so many milliseconds from now will have passed. */
 struct timespec layer_deadline(int32 milliseconds);
 
-/* With the lock: waits until news, or the deadline if there is one. Answers false past the
- * deadline. */
+/*
+ * With the lock: waits until news, or the deadline if there is one. Answers false past the
+ * deadline.
+ */
 bool layer_sleep(struct task *task, uint32_t pipe, const struct timespec *deadline);
 
 /* With the lock: whether the caller's tasks are to end. */
 bool layer_is_ending(const struct application *app);
 
-/* With the lock: wakes the tasks whose pipes have a message; or the tasks that wait on a pipe,
- * whatever it has. */
+/*
+ * With the lock: wakes the tasks whose pipes have a message; or the tasks that wait on a pipe,
+ * whatever it has.
+ */
 void layer_wake(void);
 void layer_wake_pipe(uint32_t pipe);
 
-/* With the lock: releases the application's buffers, drops its handles of tables, and forgets its
- * pools' memory. */
+/*
+ * With the lock: releases the application's buffers, drops its handles of tables, and forgets its
+ * pools' memory.
+ */
 void layer_release_buffers(struct application *app);
 void layer_close_tables(uint32_t app);
 

@@ -328,8 +328,10 @@ static bool are_named(const struct fsw_app *apps, size_t count)
     return true;
 }
 
-/* Starts the applications; where a thread can't be had, those that run are stopped. Answers how
- * many were started. */
+/*
+ * Starts the applications; where a thread can't be had, those that run are stopped. Answers how
+ * many were started.
+ */
 static uint32_t start_all(void)
 {
     for (uint32_t i = 0; i < layer.apps; i++)

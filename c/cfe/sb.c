@@ -5,7 +5,8 @@
 
 enum { HEADER_BYTES = sizeof(CFE_MSG_Message_t), PIPE_NAME_BYTES = 19 };
 
-/* Lets the lock go, and gives the core's status as cFE's: the end of each call that took the lock.
+/*
+ * Lets the lock go, and gives the core's status as cFE's: the end of each call that took the lock.
  */
 static CFE_Status_t done(uint32_t status)
 {

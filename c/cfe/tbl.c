@@ -8,8 +8,10 @@
 /* A file of the largest table: cFE's two headers and the value. */
 enum { IMAGE_HEADERS = 116, MOST_TABLE = 65536, IMAGE_BYTES = IMAGE_HEADERS + MOST_TABLE };
 
-/* The core's tables have names of at most 15 bytes: there a table is called by the number of its
- * row here. */
+/*
+ * The core's tables have names of at most 15 bytes: there a table is called by the number of its
+ * row here.
+ */
 enum { CORE_NAME_BYTES = 16 };
 
 /* A table by its full name, "APPLICATION.Table", whether it is registered or not. */
@@ -68,8 +70,10 @@ static CFE_Status_t done(uint32_t status)
 
 /* ---- Names ---- */
 
-/* With the lock: the row of a full name, or a free one; null where all are taken by tables that
- * have a handle. */
+/*
+ * With the lock: the row of a full name, or a free one; null where all are taken by tables that
+ * have a handle.
+ */
 static struct row *row_named(const char *name)
 {
     struct row *row = NULL;
@@ -113,8 +117,10 @@ static uint32_t core_handle(CFE_TBL_Handle_t handle)
     return place ? place->handle : 0;
 }
 
-/* With the lock: the place of a core's handle, a new one if it has none. There are as many as live
- * handles. */
+/*
+ * With the lock: the place of a core's handle, a new one if it has none. There are as many as live
+ * handles.
+ */
 static CFE_TBL_Handle_t place_of(uint32_t handle, struct row *row)
 {
     uint32_t free = 0;
@@ -238,8 +244,10 @@ CFE_Status_t CFE_TBL_Unregister(CFE_TBL_Handle_t TblHandle)
 
 /* ---- Loads: the lock of loads is held from staging to update ---- */
 
-/* Copies the staged value, so that the validation function reads it without the lock; it may make
- * calls of its own. */
+/*
+ * Copies the staged value, so that the validation function reads it without the lock; it may make
+ * calls of its own.
+ */
 static uint32_t copy_staged(CFE_TBL_Handle_t handle, CFE_TBL_CallbackFuncPtr_t *validate)
 {
     struct fsw_bytes staged = {NULL, 0};

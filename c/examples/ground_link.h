@@ -13,8 +13,10 @@ void GROUND_LINK_SetTelemetry(const CFE_SB_MsgId_Atom_t *ids, size_t count);
 
 void GROUND_LINK_Main(void);
 
-/* Message id of its own telemetry, each second: counts of packets in, refused and out, 32 bits
- * each, highest byte first. */
+/*
+ * Message id of its own telemetry, each second: counts of packets in, refused and out, 32 bits
+ * each, highest byte first.
+ */
 #define GROUND_LINK_HK_TLM_MID 0x0884
 
 #endif

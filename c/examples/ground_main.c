@@ -1,5 +1,7 @@
-/* ground_main.c: SAMPLE_APP, its link to the ground, and a clock that asks for housekeeping, in one
- * process. */
+/*
+ * ground_main.c: SAMPLE_APP, its link to the ground, and a clock that asks for housekeeping, in one
+ * process.
+ */
 #include "cfe.h"
 #include "fsw_run.h"
 #include "ground_link.h"
@@ -7,8 +9,10 @@
 
 enum { HOUSEKEEPING_MS = 500 };
 
-/* Asks for housekeeping until SAMPLE_APP has ended, which is seen by its pipe; then it stops the
- * run. */
+/*
+ * Asks for housekeeping until SAMPLE_APP has ended, which is seen by its pipe; then it stops the
+ * run.
+ */
 static void CLOCK_Main(void)
 {
     CFE_MSG_CommandHeader_t Request;

@@ -1,5 +1,7 @@
-/* sbn_zmq.c: joins the buses of several processes by ZeroMQ. The main task publishes, and a child
- * task listens. */
+/*
+ * sbn_zmq.c: joins the buses of several processes by ZeroMQ. The main task publishes, and a child
+ * task listens.
+ */
 #include "sbn_zmq.h"
 
 #include <stdio.h>
@@ -175,8 +177,10 @@ static void FallSilent(struct Link *Link)
     CFE_EVS_SendEvent(DOWN_EID, CFE_EVS_EventType_ERROR, "Link to %s is down", Link->Counts.Name);
 }
 
-/* Sends a packet on this bus. The pipe of this application doesn't get it, so that it isn't
- * published again. */
+/*
+ * Sends a packet on this bus. The pipe of this application doesn't get it, so that it isn't
+ * published again.
+ */
 static void TakePacket(struct Link *Link, const CFE_SB_Buffer_t *Packet, size_t Length)
 {
     size_t Size = 0;

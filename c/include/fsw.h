@@ -114,8 +114,10 @@ extern "C" {
  * Types.
  */
 
-/* What C holds of the core: all zero while it is closed. C reads and writes no field of it, and
- * makes no copy of it. */
+/*
+ * What C holds of the core: all zero while it is closed. C reads and writes no field of it, and
+ * makes no copy of it.
+ */
 struct fsw_core {
     void *at;
     bool is_open;
@@ -447,8 +449,10 @@ static inline uint32_t fsw_close(struct fsw_core *core)
     return core ? fsw_raw_close(core) : FSW_CLOSED;
 }
 
-/* The bytes of memory that fsw_open takes for these limits, at most; 0 if a limit isn't in its
- * range. */
+/*
+ * The bytes of memory that fsw_open takes for these limits, at most; 0 if a limit isn't in its
+ * range.
+ */
 static inline uint64_t fsw_bytes_needed(const struct fsw_limits *limits)
 {
     return limits ? fsw_raw_bytes_needed(limits) : 0;
@@ -516,8 +520,10 @@ static inline uint32_t fsw_get_options(struct fsw_core *core, uint32_t pipe, uin
     return core && bits ? fsw_raw_get_options(core, pipe, bits) : FSW_SB_BAD_ARGUMENT;
 }
 
-/* Finds any application's live pipe by its name, of at most 64 bytes. FSW_TOO_LONG;
- * FSW_SB_BAD_ARGUMENT if none has it. */
+/*
+ * Finds any application's live pipe by its name, of at most 64 bytes. FSW_TOO_LONG;
+ * FSW_SB_BAD_ARGUMENT if none has it.
+ */
 static inline uint32_t fsw_find_pipe(struct fsw_core *core, const void *name, size_t name_len,
                                      uint32_t *pipe)
 {
@@ -540,8 +546,10 @@ static inline uint32_t fsw_pipe_name(struct fsw_core *core, uint32_t pipe, void 
     return fsw_raw_pipe_name(core, pipe, (uint8_t *)into, into_len, name_len);
 }
 
-/* Tells how many messages wait on any application's pipe; counts nothing. FSW_SB_BAD_ARGUMENT if it
- * isn't live. */
+/*
+ * Tells how many messages wait on any application's pipe; counts nothing. FSW_SB_BAD_ARGUMENT if it
+ * isn't live.
+ */
 static inline uint32_t fsw_waiting(struct fsw_core *core, uint32_t pipe, uint32_t *count)
 {
     return core && count ? fsw_raw_waiting(core, pipe, count) : FSW_SB_BAD_ARGUMENT;
@@ -669,8 +677,10 @@ static inline uint32_t fsw_transmit_buffer(struct fsw_core *core, uint32_t app,
     return fsw_raw_transmit_buffer(core, app, buffer, counts, sent ? sent : &unread);
 }
 
-/* Gives a buffer of the caller's back unsent; the struct is all zero afterwards.
- * FSW_SB_BUFFER_INVALID as above. */
+/*
+ * Gives a buffer of the caller's back unsent; the struct is all zero afterwards.
+ * FSW_SB_BUFFER_INVALID as above.
+ */
 static inline uint32_t fsw_release(struct fsw_core *core, uint32_t app, struct fsw_buffer *buffer)
 {
     return core && buffer ? fsw_raw_release(core, app, buffer) : FSW_SB_BAD_ARGUMENT;
@@ -719,8 +729,10 @@ static inline uint32_t fsw_pool_put(struct fsw_core *core, uint32_t app, uint32_
     return core ? fsw_raw_pool_put(core, app, pool, grant) : FSW_ES_BAD_ARGUMENT;
 }
 
-/* Tells of a grant that is out where its block lies. Refused as fsw_pool_put is; nothing is
- * counted. */
+/*
+ * Tells of a grant that is out where its block lies. Refused as fsw_pool_put is; nothing is
+ * counted.
+ */
 static inline uint32_t fsw_pool_block(struct fsw_core *core, uint32_t pool, uint64_t grant,
                                       struct fsw_block *block)
 {
@@ -734,8 +746,10 @@ static inline uint32_t fsw_pool_stats(struct fsw_core *core, uint32_t pool,
     return core && stats ? fsw_raw_pool_stats(core, pool, stats) : FSW_ES_BAD_ARGUMENT;
 }
 
-/* Tells the figures of a pool's block size by its place, from 0. FSW_ES_NO_SUCH_POOL;
- * FSW_ES_BAD_ARGUMENT past the last. */
+/*
+ * Tells the figures of a pool's block size by its place, from 0. FSW_ES_NO_SUCH_POOL;
+ * FSW_ES_BAD_ARGUMENT past the last.
+ */
 static inline uint32_t fsw_pool_class(struct fsw_core *core, uint32_t pool, uint32_t place,
                                       struct fsw_class_stats *stats)
 {
@@ -778,15 +792,19 @@ static inline uint32_t fsw_send_event(struct fsw_core *core, uint32_t app, uint1
                               passed ? passed : &unread);
 }
 
-/* Has the caller's filter for an event id count from 0. FSW_EVS_APP_NOT_REGISTERED;
- * FSW_EVS_EVT_NOT_REGISTERED. */
+/*
+ * Has the caller's filter for an event id count from 0. FSW_EVS_APP_NOT_REGISTERED;
+ * FSW_EVS_EVT_NOT_REGISTERED.
+ */
 static inline uint32_t fsw_reset_filter(struct fsw_core *core, uint32_t app, uint16_t id)
 {
     return core ? fsw_raw_reset_filter(core, app, id) : FSW_EVS_INVALID_PARAMETER;
 }
 
-/* Says what a full log drops: 0 its oldest line, 1 the new one. FSW_EVS_INVALID_PARAMETER for
- * another mode. */
+/*
+ * Says what a full log drops: 0 its oldest line, 1 the new one. FSW_EVS_INVALID_PARAMETER for
+ * another mode.
+ */
 static inline uint32_t fsw_set_log_mode(struct fsw_core *core, uint32_t app, uint8_t mode)
 {
     return core ? fsw_raw_set_log_mode(core, app, mode) : FSW_EVS_INVALID_PARAMETER;
@@ -835,8 +853,10 @@ static inline uint32_t fsw_counters(struct fsw_core *core, struct fsw_counters *
     return core && counters ? fsw_raw_counters(core, counters) : FSW_SB_BAD_ARGUMENT;
 }
 
-/* Tells what of the bus is in use now, and the most of each since it was opened. Either may be
- * null. */
+/*
+ * Tells what of the bus is in use now, and the most of each since it was opened. Either may be
+ * null.
+ */
 static inline uint32_t fsw_use(struct fsw_core *core, struct fsw_use *now, struct fsw_use *peak)
 {
     struct fsw_use unread[2];
@@ -924,16 +944,20 @@ static inline uint32_t fsw_table_stage(struct fsw_core *core, uint32_t app, uint
     return fsw_raw_table_stage(core, app, handle, offset, (const uint8_t *)bytes, bytes_len);
 }
 
-/* Tells where the staged value lies, which is read before the next call on the handle.
- * FSW_TBL_INFO_NO_LOAD. */
+/*
+ * Tells where the staged value lies, which is read before the next call on the handle.
+ * FSW_TBL_INFO_NO_LOAD.
+ */
 static inline uint32_t fsw_table_staged(struct fsw_core *core, uint32_t app, uint32_t handle,
                                         struct fsw_bytes *bytes)
 {
     return core && bytes ? fsw_raw_table_staged(core, app, handle, bytes) : FSW_TBL_BAD_ARGUMENT;
 }
 
-/* Validates the staged value by the table's rules. FSW_TBL_INFO_NO_LOAD; FSW_RULE_FAILED(n): it
- * stays staged. */
+/*
+ * Validates the staged value by the table's rules. FSW_TBL_INFO_NO_LOAD; FSW_RULE_FAILED(n): it
+ * stays staged.
+ */
 static inline uint32_t fsw_table_validate(struct fsw_core *core, uint32_t app, uint32_t handle)
 {
     return core ? fsw_raw_table_validate(core, app, handle) : FSW_TBL_BAD_ARGUMENT;
@@ -1010,8 +1034,10 @@ static inline uint32_t fsw_table_pool(struct fsw_core *core, struct fsw_pool_sta
  * Packets and table files: calls on bytes, without a handle, which any thread may make at any time.
  */
 
-/* Reads the primary header that begins here. FSW_SB_BAD_ARGUMENT for fewer than 6 bytes. No field
- * is tested. */
+/*
+ * Reads the primary header that begins here. FSW_SB_BAD_ARGUMENT for fewer than 6 bytes. No field
+ * is tested.
+ */
 static inline uint32_t fsw_read_header(const void *bytes, size_t bytes_len,
                                        struct fsw_header *header)
 {

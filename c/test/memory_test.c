@@ -1,5 +1,7 @@
-/* memory_test.c: the arena gives blocks that don't share a byte, takes them back, and refuses what
- * it hasn't. */
+/*
+ * memory_test.c: the arena gives blocks that don't share a byte, takes them back, and refuses what
+ * it hasn't.
+ */
 #include "../memory.h"
 #include "check.h"
 

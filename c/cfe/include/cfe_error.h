@@ -1,5 +1,7 @@
-/* cfe_error.h: cFE's statuses, those that a call of this layer answers and those that applications
- * compare with. */
+/*
+ * cfe_error.h: cFE's statuses, those that a call of this layer answers and those that applications
+ * compare with.
+ */
 #ifndef CFE_ERROR_H
 #define CFE_ERROR_H
 

@@ -1,5 +1,7 @@
-/* cfe_es.h: what an application asks of Executive Services: its loop, its tasks and its memory
- * pools. */
+/*
+ * cfe_es.h: what an application asks of Executive Services: its loop, its tasks and its memory
+ * pools.
+ */
 #ifndef CFE_ES_H
 #define CFE_ES_H
 

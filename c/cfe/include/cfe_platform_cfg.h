@@ -1,4 +1,5 @@
-/* cfe_platform_cfg.h: the sizes that are a platform's own. Those of a core are its limits (fsw.h).
+/*
+ * cfe_platform_cfg.h: the sizes that are a platform's own. Those of a core are its limits (fsw.h).
  */
 #ifndef CFE_PLATFORM_CFG_H
 #define CFE_PLATFORM_CFG_H

@@ -1,5 +1,7 @@
-/* cfe_resourceid.h: the ids of applications, tasks, pipes and pools. Here they are numbers from 1,
- * and 0 is none. */
+/*
+ * cfe_resourceid.h: the ids of applications, tasks, pipes and pools. Here they are numbers from 1,
+ * and 0 is none.
+ */
 #ifndef CFE_RESOURCEID_H
 #define CFE_RESOURCEID_H
 
