@@ -15,10 +15,11 @@ static CFE_Status_t as_status(uint32_t status)
     return layer_status(status, CFE_MSG_BAD_ARGUMENT);
 }
 
-static CFE_Status_t header_of(const CFE_MSG_Message_t *message, const void *out,
-                              struct fsw_header *header)
+/* Reads the header; not if there is no message, or no place for what is asked of it. */
+static bool has_header(const CFE_MSG_Message_t *message, const void *out, struct fsw_header *header)
 {
-    return out ? as_status(fsw_read_header(message, HEADER_BYTES, header)) : CFE_MSG_BAD_ARGUMENT;
+    *header = (struct fsw_header){0, 0, 0, 0};
+    return out && fsw_read_header(message, HEADER_BYTES, header) == FSW_SUCCESS;
 }
 
 /* Writes the header anew, with its size, id and count; the flags are those of a whole message. */
@@ -39,91 +40,92 @@ CFE_Status_t CFE_MSG_Init(CFE_MSG_Message_t *MsgPtr, CFE_SB_MsgId_t MsgId, CFE_M
 CFE_Status_t CFE_MSG_GetSize(const CFE_MSG_Message_t *MsgPtr, CFE_MSG_Size_t *Size)
 {
     struct fsw_header header;
-    CFE_Status_t status = header_of(MsgPtr, Size, &header);
-    if (status == CFE_SUCCESS)
-        *Size = header.size;
-    return status;
+    if (!has_header(MsgPtr, Size, &header))
+        return CFE_MSG_BAD_ARGUMENT;
+    *Size = header.size;
+    return CFE_SUCCESS;
 }
 
 CFE_Status_t CFE_MSG_SetSize(CFE_MSG_Message_t *MsgPtr, CFE_MSG_Size_t Size)
 {
     struct fsw_header header;
-    CFE_Status_t status = header_of(MsgPtr, &Size, &header);
-    return status == CFE_SUCCESS ? write_header(MsgPtr, Size, header.id, header.count) : status;
+    if (!has_header(MsgPtr, &Size, &header))
+        return CFE_MSG_BAD_ARGUMENT;
+    return write_header(MsgPtr, Size, header.id, header.count);
 }
 
 CFE_Status_t CFE_MSG_GetMsgId(const CFE_MSG_Message_t *MsgPtr, CFE_SB_MsgId_t *MsgId)
 {
     struct fsw_header header;
-    CFE_Status_t status = header_of(MsgPtr, MsgId, &header);
-    if (status == CFE_SUCCESS)
-        *MsgId = CFE_SB_ValueToMsgId(header.id);
-    return status;
+    if (!has_header(MsgPtr, MsgId, &header))
+        return CFE_MSG_BAD_ARGUMENT;
+    *MsgId = CFE_SB_ValueToMsgId(header.id);
+    return CFE_SUCCESS;
 }
 
 CFE_Status_t CFE_MSG_SetMsgId(CFE_MSG_Message_t *MsgPtr, CFE_SB_MsgId_t MsgId)
 {
     struct fsw_header header;
-    CFE_Status_t status = header_of(MsgPtr, MsgPtr, &header);
-    return status == CFE_SUCCESS ? write_header(MsgPtr, header.size, MsgId.Value, header.count)
-                                 : status;
+    if (!has_header(MsgPtr, MsgPtr, &header))
+        return CFE_MSG_BAD_ARGUMENT;
+    return write_header(MsgPtr, header.size, MsgId.Value, header.count);
 }
 
 CFE_Status_t CFE_MSG_GetType(const CFE_MSG_Message_t *MsgPtr, CFE_MSG_Type_t *Type)
 {
     struct fsw_header header;
-    CFE_Status_t status = header_of(MsgPtr, Type, &header);
-    if (status == CFE_SUCCESS)
-        *Type = header.id & TYPE_BIT ? CFE_MSG_Type_Cmd : CFE_MSG_Type_Tlm;
-    return status;
+    if (!has_header(MsgPtr, Type, &header))
+        return CFE_MSG_BAD_ARGUMENT;
+    *Type = header.id & TYPE_BIT ? CFE_MSG_Type_Cmd : CFE_MSG_Type_Tlm;
+    return CFE_SUCCESS;
 }
 
 CFE_Status_t CFE_MSG_GetHeaderVersion(const CFE_MSG_Message_t *MsgPtr,
                                       CFE_MSG_HeaderVersion_t *Version)
 {
     struct fsw_header header;
-    CFE_Status_t status = header_of(MsgPtr, Version, &header);
-    if (status == CFE_SUCCESS)
-        *Version = header.id >> 13;
-    return status;
+    if (!has_header(MsgPtr, Version, &header))
+        return CFE_MSG_BAD_ARGUMENT;
+    *Version = header.id >> 13;
+    return CFE_SUCCESS;
 }
 
 CFE_Status_t CFE_MSG_GetHasSecondaryHeader(const CFE_MSG_Message_t *MsgPtr, bool *HasSecondary)
 {
     struct fsw_header header;
-    CFE_Status_t status = header_of(MsgPtr, HasSecondary, &header);
-    if (status == CFE_SUCCESS)
-        *HasSecondary = (header.id & SECONDARY_BIT) != 0;
-    return status;
+    if (!has_header(MsgPtr, HasSecondary, &header))
+        return CFE_MSG_BAD_ARGUMENT;
+    *HasSecondary = (header.id & SECONDARY_BIT) != 0;
+    return CFE_SUCCESS;
 }
 
 CFE_Status_t CFE_MSG_GetApId(const CFE_MSG_Message_t *MsgPtr, CFE_MSG_ApId_t *ApId)
 {
     struct fsw_header header;
-    CFE_Status_t status = header_of(MsgPtr, ApId, &header);
-    if (status == CFE_SUCCESS)
-        *ApId = header.id & APID_MASK;
-    return status;
+    if (!has_header(MsgPtr, ApId, &header))
+        return CFE_MSG_BAD_ARGUMENT;
+    *ApId = header.id & APID_MASK;
+    return CFE_SUCCESS;
 }
 
 CFE_Status_t CFE_MSG_GetSegmentationFlag(const CFE_MSG_Message_t *MsgPtr,
                                          CFE_MSG_SegmentationFlag_t *SegFlag)
 {
     struct fsw_header header;
-    CFE_Status_t status = header_of(MsgPtr, SegFlag, &header);
-    if (status == CFE_SUCCESS)
-        *SegFlag = (CFE_MSG_SegmentationFlag_t)(header.flags + CFE_MSG_SegFlag_Continue);
-    return status;
+    if (!has_header(MsgPtr, SegFlag, &header))
+        return CFE_MSG_BAD_ARGUMENT;
+    *SegFlag = (CFE_MSG_SegmentationFlag_t)(header.flags + CFE_MSG_SegFlag_Continue);
+    return CFE_SUCCESS;
 }
 
 CFE_Status_t CFE_MSG_GetSequenceCount(const CFE_MSG_Message_t *MsgPtr,
                                       CFE_MSG_SequenceCount_t *SeqCnt)
 {
     struct fsw_header header;
-    CFE_Status_t status = header_of(MsgPtr, SeqCnt, &header);
-    if (status == CFE_SUCCESS)
-        *SeqCnt = header.count;
-    return status;
+    if (!has_header(MsgPtr, SeqCnt, &header))
+        return CFE_MSG_BAD_ARGUMENT;
+    *SeqCnt = header.count;
+    return CFE_SUCCESS;
 }
 
 CFE_Status_t CFE_MSG_SetSequenceCount(CFE_MSG_Message_t *MsgPtr, CFE_MSG_SequenceCount_t SeqCnt)
@@ -160,13 +162,13 @@ static bool has_secondary(const CFE_MSG_Message_t *message, CFE_MSG_Type_t type,
                           CFE_Status_t *status)
 {
     struct fsw_header header;
-    *status = header_of(message, message, &header);
-    if (*status != CFE_SUCCESS)
+    *status = CFE_MSG_BAD_ARGUMENT;
+    if (!has_header(message, message, &header))
         return false;
     CFE_MSG_Type_t its = header.id & TYPE_BIT ? CFE_MSG_Type_Cmd : CFE_MSG_Type_Tlm;
-    if (its != type || !(header.id & SECONDARY_BIT) || header.size < bytes)
-        *status = CFE_MSG_WRONG_MSG_TYPE;
-    return *status == CFE_SUCCESS;
+    bool has_it = its == type && (header.id & SECONDARY_BIT) && header.size >= bytes;
+    *status = has_it ? CFE_SUCCESS : CFE_MSG_WRONG_MSG_TYPE;
+    return has_it;
 }
 
 /* 0xff and all bytes of the message, added without carry: 0 where the checksum is right. */
@@ -242,8 +244,7 @@ void CFE_SB_TimeStampMsg(CFE_MSG_Message_t *MsgPtr)
 static size_t header_bytes(const CFE_MSG_Message_t *message)
 {
     struct fsw_header header;
-    if (fsw_read_header(message, HEADER_BYTES, &header) != FSW_SUCCESS ||
-        !(header.id & SECONDARY_BIT))
+    if (!has_header(message, message, &header) || !(header.id & SECONDARY_BIT))
         return HEADER_BYTES;
     return header.id & TYPE_BIT ? sizeof(CFE_MSG_CommandHeader_t)
                                 : sizeof(CFE_MSG_TelemetryHeader_t);
