@@ -106,9 +106,9 @@ static unsigned long load_and_read(unsigned long rounds)
     unsigned long read = 0;
     uint32_t handle;
     volatile uint8_t seen;
-    uint8_t *value = calloc(1, TABLE_BYTES);
-    if (!value || fsw_table_register(&core, 1, "T", 1, TABLE_BYTES, FSW_TABLE_DOUBLE, NULL, 0,
-                                     &handle) != FSW_SUCCESS)
+    static uint8_t value[TABLE_BYTES];
+    if (fsw_table_register(&core, 1, "T", 1, TABLE_BYTES, FSW_TABLE_DOUBLE, NULL, 0, &handle) !=
+        FSW_SUCCESS)
         return 0;
     for (unsigned long round = 0; round < rounds; round++) {
         struct fsw_address address;
@@ -123,7 +123,6 @@ static unsigned long load_and_read(unsigned long rounds)
         lock();
         read += done(fsw_table_release_address(&core, 1, handle)) == FSW_SUCCESS;
     }
-    free(value);
     return read;
 }
 
