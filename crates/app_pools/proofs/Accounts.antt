@@ -1,62 +1,66 @@
--- The account of a pool: it is the only one, and moves as the pool's calls do.
-use Rattle.std.proofs.Common.{◌≡◌, ℕ, ◌+◌, ◌<◌, ◌≤◌, true, false, cond, Option, Some, None, List, [], ◌∷◌, ◌++◌, length, get_or, set, refl, ap, sym, subst, ◌∙◌, arith}
+-- The account of a pool is that of its grants, and moves as the pool's calls do.
+use Rattle.std.proofs.Common.{◌≡◌, ℕ, ◌+◌, ◌<◌, ◌≤◌, true, false, cond, eqb, map, Option, Some, None, List, [], ◌∷◌, ◌++◌, length, get_or, set, refl, ap, sym, subst, ◌∙◌, arith}
 use Rattle.std.proofs.lemmas.Bool.{false≢true}
 use Rattle.std.proofs.lemmas.List.{get_or-set_same, get_or-set_other, get_or_append_left, get_or_push, length-set, length_push}
 use Rattle.std.proofs.lemmas.List.Sums.{sum_by_push}
 use Rattle.std.proofs.lemmas.List.FromFn.{fill_by_all}
 use Rattle.fsw_base.specs.Blocks.{class_of}
 use Rattle.fsw_base.specs.PoolAccounts.{Account, counted, after_draw, after_return, after_refusal}
-use Rattle.es_pool.specs.Pool.{PoolState, DrawsFor, DrawsIf, Reuses, Cuts, made_in, out_in, out_among, is_out, class_at, given_back}
+use Rattle.es_pool.specs.Pool.{PoolState, DrawsFor, DrawsIf, Reuses, Cuts, made_in, out_among, is_out, class_at, given_back}
 use Rattle.es_pool.specs.Account.{IsAccountOf}
 use Rattle.es_pool.specs.declared.blocks.CutBlock.{CutBlock}
 use Rattle.es_pool.proofs.Law.{draws_alike, returns_alike}
 use Rattle.es_pool.proofs.Totals.{block, sum-change}
 use Rattle.es_pool.proofs.Keeps.{inside_from_out}
-use Rattle.app_pools.specs.Inside.{account_in}
+use Rattle.pool_words.specs.Grants.{Grant, PoolGrants, with_grant, out_of, pool_account}
+use Rattle.pool_words.proofs.Accounts as words
+use Rattle.app_pools.specs.Inside.{grant_of, grants_of, account_in}
+use Rattle.app_pools.specs.declared.pool.Lent.{Lent}
 
--- six figures make an account
-abbrev account : ℕ → List ℕ → List ℕ → List ℕ → ℕ → ℕ → Account
-account bytes sizes made out requests errors = record { bytes = bytes; sizes = sizes; made = made; out = out; requests = requests; errors = errors }
+-- seven figures make a pool
+abbrev grants : ℕ → List ℕ → List ℕ → ℕ → ℕ → ℕ → List Grant → PoolGrants
+grants bytes sizes made requests errors given out = record { bytes = bytes; sizes = sizes; made = made; requests = requests; errors = errors; given = given; out = out }
 
-pub account_is : (pool : PoolState) (a : Account) → IsAccountOf pool a → a ≡ account_in pool
-account_is pool a h =
-    let made = fill_by_all (made_in pool.blocks) a.made (length pool.sizes) 0 h.made_all h.made in
-    let out = fill_by_all (out_in pool.blocks) a.out (length pool.sizes) 0 h.out_all h.out in
-    let now = account_in pool in
-    ap (λ x. account x a.sizes a.made a.out a.requests a.errors) h.bytes
-    ∙ (ap (λ x. account now.bytes x a.made a.out a.requests a.errors) h.sizes
-    ∙ (ap (λ x. account now.bytes now.sizes x a.out a.requests a.errors) made
-    ∙ (ap (λ x. account now.bytes now.sizes now.made x a.requests a.errors) out
-    ∙ (ap (λ x. account now.bytes now.sizes now.made now.out x a.errors) h.requests ∙ ap (λ x. account now.bytes now.sizes now.made now.out now.requests x) h.errors))))
+-- a pool is the only one of its account and its grants
+pub pool_is : (pool : PoolState) (p : PoolGrants) (lent : List Lent) → IsAccountOf pool (pool_account p) → p.out ≡ map grant_of lent → p ≡ grants_of pool p.given lent
+pool_is pool p lent h e =
+    let made = fill_by_all (made_in pool.blocks) p.made (length pool.sizes) 0 h.made_all h.made in
+    let now = grants_of pool p.given lent in
+    ap (λ x. grants x p.sizes p.made p.requests p.errors p.given p.out) h.bytes
+    ∙ (ap (λ x. grants now.bytes x p.made p.requests p.errors p.given p.out) h.sizes
+    ∙ (ap (λ x. grants now.bytes now.sizes x p.requests p.errors p.given p.out) made
+    ∙ (ap (λ x. grants now.bytes now.sizes now.made x p.errors p.given p.out) h.requests
+    ∙ (ap (λ x. grants now.bytes now.sizes now.made now.requests x p.given p.out) h.errors ∙ ap (λ x. grants now.bytes now.sizes now.made now.requests now.errors p.given x) e))))
 
--- an account is the pool's after a call
-pub record Moved (new : PoolState) (after : Account) : Type 0 where
-  pub same : after ≡ account_in new
-  pub kept : IsAccountOf new (account_in new)
+-- and so its account is that of its grants
+pub account_is : (pool : PoolState) (p : PoolGrants) (lent : List Lent) → IsAccountOf pool (pool_account p) → p.out ≡ map grant_of lent → IsAccountOf pool (account_in pool lent)
+account_is pool p lent h e = subst (λ (q : PoolGrants). IsAccountOf pool (pool_account q)) (pool_is pool p lent h e) h
 
-pub moved_from : (new : PoolState) (after : Account) → IsAccountOf new after → Moved new after
-moved_from new after h = record { same = account_is new after h; kept = subst (IsAccountOf new) (account_is new after h) h }
+-- a grant is given
+pub moved_drawn : (old new : PoolState) (given app size number class : ℕ) (lent : List Lent) → IsAccountOf old (account_in old lent) → DrawsFor old new size number → class_of size old.sizes ≡ Some class →
+    IsAccountOf new (pool_account (with_grant (grants_of old given lent) app class))
+moved_drawn old new given app size number class lent a draws e =
+    let p = grants_of old given lent in
+    subst (IsAccountOf new) (sym (words.drawn p app class)) (draws_alike old new (pool_account p) (after_draw (pool_account p) class) size number class a draws e refl)
 
-pub moved_drawn : (old new : PoolState) (size number class : ℕ) → IsAccountOf old (account_in old) → DrawsFor old new size number → class_of size old.sizes ≡ Some class → Moved new (after_draw (account_in old) class)
-moved_drawn old new size number class a draws e = moved_from new (after_draw (account_in old) class) (draws_alike old new (account_in old) (after_draw (account_in old) class) size number class a draws e refl)
+-- a grant comes back: those that are left have one fewer of its class
+pub moved_back : (pool new : PoolState) (p : PoolGrants) (left : List Grant) (number class : ℕ) → IsAccountOf pool (pool_account p) → is_out pool number ≡ true → class ≡ class_at pool number → new ≡ given_back pool number →
+    ((c : ℕ) → out_of c p.out ≡ cond (eqb class c) 1 0 + out_of c left) → IsAccountOf new (pool_account (record p { out = left }))
+moved_back pool new p left number class a out e e_new fewer =
+    subst (IsAccountOf new) (sym (ap (λ l. let x : Account = record (pool_account p) { out = l } in x) (words.one_fewer p.sizes p.out left class fewer)))
+    (returns_alike pool new (pool_account p) (after_return (pool_account p) class) number class a out e e_new refl)
 
-pub moved_back : (pool new : PoolState) (number class : ℕ) → IsAccountOf pool (account_in pool) → is_out pool number ≡ true → class ≡ class_at pool number → new ≡ given_back pool number → Moved new (after_return (account_in pool) class)
-moved_back pool new number class a out e e_new = moved_from new (after_return (account_in pool) class) (returns_alike pool new (account_in pool) (after_return (account_in pool) class) number class a out e e_new refl)
-
-pub moved_refused : (pool new : PoolState) → IsAccountOf pool (account_in pool) → new ≡ record pool { errors = counted pool.errors } → Moved new (after_refusal (account_in pool))
-moved_refused pool new a e = subst (λ p. Moved p (after_refusal (account_in pool))) (sym e) (record {
-  same = refl;
-  kept = record {
-    bytes = a.bytes;
-    sizes = a.sizes;
-    made_all = a.made_all;
-    out_all = a.out_all;
-    made = a.made;
-    out = a.out;
-    classes = a.classes;
-    requests = a.requests;
-    errors = refl;
-  };
+pub moved_refused : (pool new : PoolState) (lent : List Lent) → IsAccountOf pool (account_in pool lent) → new ≡ record pool { errors = counted pool.errors } → IsAccountOf new (after_refusal (account_in pool lent))
+moved_refused pool new lent a e = subst (λ p. IsAccountOf p (after_refusal (account_in pool lent))) (sym e) (record {
+  bytes = a.bytes;
+  sizes = a.sizes;
+  made_all = a.made_all;
+  out_all = a.out_all;
+  made = a.made;
+  out = a.out;
+  classes = a.classes;
+  requests = a.requests;
+  errors = refl;
 })
 
 -- what a draw does to the blocks: one more is out, of the class that the size asks for, and those that were out stay as they

@@ -9,25 +9,30 @@ use Rattle.std.proofs.lemmas.List.Edits.{length-remove}
 use Rattle.std.proofs.lemmas.List.Elements.{All-push}
 use Rattle.std.proofs.lemmas.List.Quantifiers.{all_pairs_push, all_pairs_remove}
 use Rattle.fsw_base.specs.Blocks.{class_of}
-use Rattle.fsw_base.specs.PoolAccounts.{overhead, counted, has_room_if, has_room_for, after_return, after_refusal}
+use Rattle.fsw_base.specs.PoolAccounts.{overhead, counted, has_room_if, has_room_for}
 use Rattle.fsw_base.specs.declared.statuses.EsStatus.TheVariants.{ErrMemBlockSize, BufferNotInPool, PoolBlockInvalid}
 use Rattle.es_pool.specs.Pool.{PoolState, DrawsFor, IsWhole, fits, out_among, is_out, class_at, given_back, most_cut}
 use Rattle.es_pool.specs.Account.{IsAccountOf}
 use Rattle.es_pool.proofs.Law.{room_alike, account_new}
 use Rattle.es_pool.proofs.Keeps.{out_few}
-use Rattle.pool_words.specs.Grants.{Grant, PoolGrants, new_account, new_pool, was_given, is_among, get_answer, after_get, after_get_if, with_grant, put_answer, after_put, class_under, without}
+use Rattle.pool_words.specs.Grants.{Grant, PoolGrants, new_pool, was_given, is_among, get_answer, after_get, after_get_if, with_grant, pool_account, put_answer, after_put, without}
+use Rattle.pool_words.proofs.Accounts.{none_out}
 use Rattle.app_pools.specs.Inside.{account_in, grant_of, grants_of, IsLent, HasNumber, AreKept}
 use Rattle.app_pools.specs.declared.pool.Lent.{Lent}
-use Rattle.app_pools.proofs.Accounts.{account_is, Moved, moved_drawn, moved_back, moved_refused, Drawn, drawn, out_other, class_other, one_fewer}
-use Rattle.app_pools.proofs.Rows.{without_one, without_is, among_here, among_none, class_here}
+use Rattle.app_pools.proofs.Accounts.{pool_is, account_is, moved_drawn, moved_back, moved_refused, Drawn, drawn, out_other, class_other, one_fewer}
+use Rattle.app_pools.proofs.Rows.{without_one, without_is, among_here, among_none, one_class_fewer}
 
 -- a pool of which nothing was cut
 abbrev uncut : ℕ → ℕ → List ℕ → PoolState
 uncut bytes most sizes = record { bytes = bytes; most = most; sizes = sizes; blocks = []; requests = 0; errors = 0 }
 
+new_account : (bytes : ℕ) (sizes : List ℕ) → IsAccountOf (uncut bytes bytes sizes) (pool_account (new_pool sizes bytes))
+new_account bytes sizes =
+    subst (λ out. IsAccountOf (uncut bytes bytes sizes) (record (pool_account (new_pool sizes bytes)) { out = out })) (none_out sizes) (account_new bytes sizes)
+
 pub kept_new : (pool : PoolState) (bytes room : ℕ) (sizes : List ℕ) → pool ≡ uncut bytes bytes sizes → most_cut pool ≤ room → AreKept pool 0 [] room
 kept_new pool bytes room sizes e enough = record {
-  account = subst (λ p. IsAccountOf p (account_in p)) (sym e) (subst (IsAccountOf (uncut bytes bytes sizes)) (account_is (uncut bytes bytes sizes) (new_account sizes bytes) (account_new bytes sizes)) (account_new bytes sizes));
+  account = subst (λ p. IsAccountOf p (account_in p [])) (sym e) (account_is (uncut bytes bytes sizes) (new_pool sizes bytes) [] (new_account bytes sizes) refl);
   blocks = record { each = λ k d h. absurd (omega (arith, h)); apart = λ i j d lt h. absurd (omega (arith, h)) };
   numbered = record { rising = λ i j d lt h. absurd (omega (arith, h)); given_all = λ k d h. absurd (omega (arith, h)) };
   all = sym (ap (λ (p : PoolState). out_among p.blocks) e);
@@ -36,7 +41,7 @@ kept_new pool bytes room sizes e enough = record {
 }
 
 pub new_is : (pool : PoolState) (bytes : ℕ) (sizes : List ℕ) → pool ≡ uncut bytes bytes sizes → grants_of pool 0 [] ≡ new_pool sizes bytes
-new_is pool bytes sizes e = ap (λ p. grants_of p 0 []) e ∙ ap (λ a. let p : PoolGrants = record { account = a; given = 0; out = [] } in p) (sym (account_is (uncut bytes bytes sizes) (new_account sizes bytes) (account_new bytes sizes)))
+new_is pool bytes sizes e = ap (λ p. grants_of p 0 []) e ∙ sym (pool_is (uncut bytes bytes sizes) (new_pool sizes bytes) [] (new_account bytes sizes) refl)
 
 -- most blocks that can be cut
 pub same_most : (old new : PoolState) → new.sizes ≡ old.sizes → new.most ≡ old.most → most_cut new ≡ most_cut old
@@ -57,9 +62,21 @@ module _ (old new : PoolState) (given room size : ℕ) (lent : List Lent) (k : A
   pub room_left : IsWhole new → length lent < room
   room_left whole = one_left (length lent) (out_among old.blocks) (out_among new.blocks) (length new.blocks) (most_cut old) (most_cut new) room k.all draw.one_more (out_few new.blocks) whole.few (same_most old new draw.sizes draw.most) k.enough
 
+  abbrev granted : PoolGrants
+  granted = with_grant (grants_of old given lent) row.app (class_at new row.block)
+
+  granted_out : row.class ≡ class_at new row.block → row.number ≡ given + 1 → granted.out ≡ map grant_of (lent ++ row ∷ [])
+  granted_out e_class e_number =
+      let grant : Grant = record { number = given + 1; app = row.app; class = class_at new row.block } in
+      let same_grant : grant_of row ≡ grant = ap (λ n. let h : Grant = record { number = n; app = row.app; class = row.class } in h) e_number ∙ ap (λ c. let h : Grant = record { number = given + 1; app = row.app; class = c } in h) e_class in
+      sym (map_push grant_of lent row ∙ ap (λ g. map grant_of lent ++ g ∷ []) same_grant)
+
+  moved : IsAccountOf new (pool_account granted)
+  moved = moved_drawn old new given row.app size row.block (class_at new row.block) lent k.account draws draw.class
+
   pub kept_push : (room' : ℕ) → room' ≡ room → is_out new row.block ≡ true → row.class ≡ class_at new row.block → row.number ≡ given + 1 → AreKept new (given + 1) (lent ++ row ∷ []) room'
   kept_push room' e_room now_out e_class e_number = record {
-    account = (moved_drawn old new size row.block (class_at new row.block) k.account draws draw.class).kept;
+    account = account_is new granted (lent ++ row ∷ []) moved (granted_out e_class e_number);
     blocks = record {
       each = All-push (IsLent new) lent row (λ i d h. let was = k.blocks.each i d h in (draw.out (get_or lent i d).block was.0, draw.classes (get_or lent i d).block was.0 ∙ was.1)) (now_out, sym e_class);
       apart = all_pairs_push (λ earlier later. earlier.block ≢ later.block) lent row k.blocks.apart (λ i d h same. false≢true (sym free ∙ (ap (is_out old) (sym same) ∙ (k.blocks.each i d h).0)));
@@ -77,14 +94,9 @@ module _ (old new : PoolState) (given room size : ℕ) (lent : List Lent) (k : A
   given_is room_there e_class e_number =
       let pool = grants_of old given lent in
       let class = class_at new row.block in
-      let there : has_room_for pool.account class 1 ≡ true = sym (ap (has_room_if pool.account) draw.class) ∙ (sym (room_alike old (account_in old) size k.account) ∙ room_there) in
-      let moved = moved_drawn old new size row.block class k.account draws draw.class in
-      let grant : Grant = record { number = given + 1; app = row.app; class = class } in
-      let same_grant : grant_of row ≡ grant = ap (λ n. let h : Grant = record { number = n; app = row.app; class = row.class } in h) e_number ∙ ap (λ c. let h : Grant = record { number = given + 1; app = row.app; class = c } in h) e_class in
+      let there : has_room_for (pool_account pool) class 1 ≡ true = sym (ap (has_room_if (pool_account pool)) draw.class) ∙ (sym (room_alike old (account_in old lent) size k.account) ∙ room_there) in
       ap (after_get_if pool row.app) draw.class
-      ∙ (ap (λ b. cond b (with_grant pool row.app class) pool) there
-      ∙ (ap (λ a. let p : PoolGrants = record { account = a; given = given + 1; out = map grant_of lent ++ grant ∷ [] } in p) moved.same
-      ∙ ap (λ out. let p : PoolGrants = record { account = account_in new; given = given + 1; out = out } in p) (sym (map_push grant_of lent row ∙ ap (λ g. map grant_of lent ++ g ∷ []) same_grant))))
+      ∙ (ap (λ b. cond b (with_grant pool row.app class) pool) there ∙ pool_is new granted (lent ++ row ∷ []) moved (granted_out e_class e_number))
 
 pub false_unless : (b : Bool) → (b ≡ true → false ≡ true) → b ≡ false
 false_unless true never = sym (never refl)
@@ -92,16 +104,16 @@ false_unless false never = refl
 
 -- what the answer is, from what the pool tells
 pub answer_given : (pool : PoolState) (given room size : ℕ) (lent : List Lent) → AreKept pool given lent room → fits pool size 1 ≡ true → Ok (given + 1) ≡ get_answer (grants_of pool given lent) size
-answer_given pool given room size lent k there = sym (ap (λ b. cond b (Ok (given + 1)) (Err ErrMemBlockSize)) (sym (room_alike pool (account_in pool) size k.account) ∙ there))
+answer_given pool given room size lent k there = sym (ap (λ b. cond b (Ok (given + 1)) (Err ErrMemBlockSize)) (sym (room_alike pool (account_in pool lent) size k.account) ∙ there))
 
 pub answer_refused : (pool : PoolState) (given room size : ℕ) (lent : List Lent) → AreKept pool given lent room → fits pool size 1 ≡ false → Err ErrMemBlockSize ≡ get_answer (grants_of pool given lent) size
-answer_refused pool given room size lent k full = sym (ap (λ b. cond b (Ok (given + 1)) (Err ErrMemBlockSize)) (sym (room_alike pool (account_in pool) size k.account) ∙ full))
+answer_refused pool given room size lent k full = sym (ap (λ b. cond b (Ok (given + 1)) (Err ErrMemBlockSize)) (sym (room_alike pool (account_in pool lent) size k.account) ∙ full))
 
 -- a refused request changes nothing
 pub refused_is : (pool : PoolState) (given room app size : ℕ) (lent : List Lent) → AreKept pool given lent room → fits pool size 1 ≡ false → after_get (grants_of pool given lent) app size ≡ grants_of pool given lent
-refused_is pool given room app size lent k full = by_class (class_of size pool.sizes) (sym (room_alike pool (account_in pool) size k.account) ∙ full)
+refused_is pool given room app size lent k full = by_class (class_of size pool.sizes) (sym (room_alike pool (account_in pool lent) size k.account) ∙ full)
   where
-    by_class : (o : Option ℕ) → has_room_if (account_in pool) o ≡ false → after_get_if (grants_of pool given lent) app o ≡ grants_of pool given lent
+    by_class : (o : Option ℕ) → has_room_if (account_in pool lent) o ≡ false → after_get_if (grants_of pool given lent) app o ≡ grants_of pool given lent
     by_class None e = refl
     by_class (Some class) e = ap (λ b. cond b (with_grant (grants_of pool given lent) app class) (grants_of pool given lent)) e
 
@@ -113,8 +125,12 @@ module _ (old new : PoolState) (given room : ℕ) (lent : List Lent) (k : AreKep
   was : IsLent old (get_or lent i d)
   was = k.blocks.each i d here.0
 
-  moved : Moved new (after_return (account_in old) (get_or lent i d).class)
-  moved = moved_back old new b (get_or lent i d).class k.account was.0 (sym was.1) back
+  -- the grants but this one
+  abbrev others : PoolGrants
+  others = record (grants_of old given lent) { out = map grant_of (remove lent i) }
+
+  moved_left : IsAccountOf new (pool_account others)
+  moved_left = moved_back old new (grants_of old given lent) (map grant_of (remove lent i)) b (get_or lent i d).class k.account was.0 (sym was.1) back (one_class_fewer lent i d here.0)
 
   not_it : (j : ℕ) (e : Lent) → j < length lent → (j ≡ i → ⊥) → (get_or lent j e).block ≡ b → ⊥
   not_it j e h ne same = by_order (cases_lt j i)
@@ -128,7 +144,7 @@ module _ (old new : PoolState) (given room : ℕ) (lent : List Lent) (k : AreKep
 
   pub kept_removed : (room' : ℕ) → room' ≡ room → AreKept new given (remove lent i) room'
   kept_removed room' e_room = record {
-    account = moved.kept;
+    account = account_is new others (remove lent i) moved_left refl;
     blocks = record {
       each = without_one (IsLent new) lent i here.0 (λ j e h ne. let other = not_it j e h ne in let is = k.blocks.each j e h in
           subst (λ p. IsLent p (get_or lent j e)) (sym back) (out_other old b (get_or lent j e).block other ∙ is.0, class_other old b (get_or lent j e).block other ∙ is.1));
@@ -146,12 +162,8 @@ module _ (old new : PoolState) (given room : ℕ) (lent : List Lent) (k : AreKep
   pub removed_is : after_put (grants_of old given lent) n ≡ grants_of new given (remove lent i)
   removed_is =
       let pool = grants_of old given lent in
-      let came : PoolGrants = record { account = after_return pool.account (class_under pool.out n); given = given; out = without n pool.out } in
-      let counted_one : PoolGrants = record { account = after_refusal pool.account; given = given; out = pool.out } in
-      ap (λ t. cond t came counted_one) (among_here lent n i here)
-      ∙ (ap (λ c. let p : PoolGrants = record { account = after_return pool.account c; given = given; out = without n pool.out } in p) (class_here lent n i d k.numbered.rising here)
-      ∙ (ap (λ a. let p : PoolGrants = record { account = a; given = given; out = without n pool.out } in p) moved.same
-      ∙ ap (λ out. let p : PoolGrants = record { account = account_in new; given = given; out = out } in p) (sym (without_is lent n i k.numbered.rising here))))
+      ap (λ t. cond t (record pool { out = without n pool.out }) (record pool { errors = counted pool.errors })) (among_here lent n i here)
+      ∙ (ap (λ out. let p : PoolGrants = record pool { out = out } in p) (sym (without_is lent n i k.numbered.rising here)) ∙ pool_is new others (remove lent i) moved_left refl)
 
   pub removed_answer : put_answer (grants_of old given lent) n ≡ Ok tt
   removed_answer =
@@ -166,10 +178,8 @@ module _ (old new : PoolState) (given room : ℕ) (lent : List Lent) (k : AreKep
 pub refusal_is : (old new : PoolState) (given room n : ℕ) (lent : List Lent) → AreKept old given lent room → new ≡ record old { errors = counted old.errors } → is_among (map grant_of lent) n ≡ false → after_put (grants_of old given lent) n ≡ grants_of new given lent
 refusal_is old new given room n lent k e none =
     let pool = grants_of old given lent in
-    let came : PoolGrants = record { account = after_return pool.account (class_under pool.out n); given = given; out = without n pool.out } in
-    let counted_one : PoolGrants = record { account = after_refusal pool.account; given = given; out = pool.out } in
-    ap (λ t. cond t came counted_one) none
-    ∙ ap (λ a. let p : PoolGrants = record { account = a; given = given; out = map grant_of lent } in p) (moved_refused old new k.account e).same
+    let counted_one : PoolGrants = record pool { errors = counted pool.errors } in
+    ap (λ t. cond t (record pool { out = without n pool.out }) counted_one) none ∙ pool_is new counted_one lent (moved_refused old new lent k.account e) refl
 
 -- none that was never given is out
 pub never_out : (pool : PoolState) (given room n : ℕ) (lent : List Lent) → AreKept pool given lent room → (leb 1 n && leb n given) ≡ false → is_among (map grant_of lent) n ≡ false

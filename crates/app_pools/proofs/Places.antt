@@ -1,4 +1,4 @@
--- The places of the pools: those that were created stand first, and all of them are counted.
+-- The places of the pools: those that were created stand first, and the grants of all of them are numbered.
 use Rattle.std.proofs.Common.{◌≡◌, ℕ, ◌+◌, ◌-◌, ◌*◌, ◌^◌, ◌<◌, ◌≤◌, ltb, ◌||◌, zero, suc, Bool, true, false, not, leb, cond, List, [], ◌∷◌, ◌++◌, length, get_or, set, take, drop, map, replicate, sum_by, Result, Ok, Err, refl, ap, sym, subst, ◌∙◌, arith}
 use Rattle.std.proofs.lemmas.Bool.{false≢true, leb-false, leb-true, not-false}
 use Rattle.std.proofs.lemmas.Bool.Decides.{nat_tests}
@@ -8,9 +8,9 @@ use Rattle.std.proofs.lemmas.List.Elements.{All-replicate, All-get_or, All-set, 
 use Rattle.std.proofs.lemmas.List.Sums.{sum_by_more}
 use Rattle.fsw_base.specs.declared.statuses.EsStatus.{EsStatus}
 use Rattle.fsw_base.specs.declared.statuses.EsStatus.TheVariants.{ErrMemBlockSize, NoPool}
-use Rattle.pool_words.specs.Grants.{PoolGrants, Pools, new_pool, is_pool, pool_in, has_numbers, with_pool, refuses_pool, create_answer, after_create, answer_in, after_get, after_put, after_end, held_by, all_after_end, IsCounted}
+use Rattle.pool_words.specs.Grants.{PoolGrants, Pools, new_pool, is_pool, pool_in, has_numbers, with_pool, refuses_pool, create_answer, after_create, answer_in, after_get, after_put, after_end, held_by, all_after_end, IsNumbered}
 use Rattle.app_pools.specs.Inside.{pools_in, AreOpened, IsPlace}
-use Rattle.pool_words.proofs.Counted.{counted_new, counted_get, counted_put, counted_end}
+use Rattle.pool_words.proofs.Numbered.{numbered_new, numbered_get, numbered_put, numbered_end}
 
 -- at opening
 pub opened_new : (most : ℕ) (sizes : List ℕ) (places : List PoolGrants) → places ≡ replicate 8 (new_pool sizes most) → AreOpened most sizes 0 places
@@ -18,7 +18,7 @@ opened_new most sizes places is = subst (AreOpened most sizes 0) (sym is) (recor
   eight = length-replicate 8 (new_pool sizes most);
   within = omega arith;
   unused = λ i above below. get_or-replicate 8 i (new_pool sizes most) (new_pool [] 0) below;
-  counted = All-replicate IsCounted 8 (new_pool sizes most) (counted_new sizes most);
+  numbered = All-replicate IsNumbered 8 (new_pool sizes most) (numbered_new sizes most);
 })
 
 -- the first elements, with one of them changed
@@ -64,22 +64,22 @@ module _ (most made : ℕ) (sizes : List ℕ) (places : List PoolGrants) (o : Ar
         ∙ (ap (λ (p : Pools). record p { pools = set p.pools place x }) e
         ∙ (ap (λ i. record s { pools = set s.pools i x }) is.before ∙ sym (ap (λ b. cond b (record s { pools = set s.pools (pool - 1) x }) s) is.there)))
 
-    counted_there : IsCounted (pool_in s pool)
-    counted_there = subst IsCounted (reads (new_pool [] 0)) (All-get_or IsCounted places place (new_pool [] 0) inside o.counted)
+    numbered_there : IsNumbered (pool_in s pool)
+    numbered_there = subst IsNumbered (reads (new_pool [] 0)) (All-get_or IsNumbered places place (new_pool [] 0) inside o.numbered)
 
-    opened_set : (x : PoolGrants) → IsCounted x → AreOpened most sizes made (set places place x)
-    opened_set x counted = record {
+    opened_set : (x : PoolGrants) → IsNumbered x → AreOpened most sizes made (set places place x)
+    opened_set x numbered = record {
       eight = length-set places place x ∙ o.eight;
       within = o.within;
       unused = λ i above below. get_or-set_other places place i x (new_pool [] 0) (λ same. omega (arith, same, above, before_made)) ∙ o.unused i above below;
-      counted = All-set IsCounted places place x counted o.counted;
+      numbered = All-set IsNumbered places place x numbered o.numbered;
     }
 
     pub opened_get : (x : PoolGrants) (app size : ℕ) → x ≡ after_get (pool_in s pool) app size → AreOpened most sizes made (set places place x)
-    opened_get x app size after = opened_set x (subst IsCounted (sym after) (counted_get (pool_in s pool) app size counted_there))
+    opened_get x app size after = opened_set x (subst IsNumbered (sym after) (numbered_get (pool_in s pool) app size numbered_there))
 
     pub opened_put : (x : PoolGrants) (number : ℕ) → x ≡ after_put (pool_in s pool) number → AreOpened most sizes made (set places place x)
-    opened_put x number after = opened_set x (subst IsCounted (sym after) (counted_put (pool_in s pool) number counted_there))
+    opened_put x number after = opened_set x (subst IsNumbered (sym after) (numbered_put (pool_in s pool) number numbered_there))
 
   -- one more is created
   module _ (s : Pools) (e : pools_in most sizes made places ≡ s) (bytes : ℕ) (allowed : refuses_pool s bytes ≡ false) where
@@ -107,7 +107,7 @@ module _ (most made : ℕ) (sizes : List ℕ) (places : List PoolGrants) (o : Ar
       eight = length-set places made x ∙ o.eight;
       within = omega (arith, few);
       unused = λ i above below. get_or-set_other places made i x (new_pool [] 0) (λ same. omega (arith, same, above)) ∙ o.unused i (omega (arith, above)) below;
-      counted = All-set IsCounted places made x (subst IsCounted (sym is) (counted_new sizes bytes)) o.counted;
+      numbered = All-set IsNumbered places made x (subst IsNumbered (sym is) (numbered_new sizes bytes)) o.numbered;
     }
 
     pub created_number : Ok (made + 1) ≡ create_answer s bytes
@@ -131,10 +131,10 @@ module _ (most made : ℕ) (sizes : List ℕ) (places : List PoolGrants) (o : Ar
       unused = λ i above below.
           get_or-append_right (map (after_end app) (take made places)) (drop made places) made i (new_pool [] 0) ended_many above
           ∙ (get_or-drop made places (i - made) (new_pool [] 0) ∙ (ap (λ n. get_or places n (new_pool [] 0)) (there i above) ∙ o.unused i above below));
-      counted = All-append IsCounted (map (after_end app) (take made places)) (drop made places)
-          (All-map IsCounted (after_end app) (take made places)
-          (All-weaker IsCounted (λ p. IsCounted (after_end app p)) (counted_end app) (take made places) (All-take IsCounted made places o.counted)))
-          (All-drop IsCounted made places o.counted);
+      numbered = All-append IsNumbered (map (after_end app) (take made places)) (drop made places)
+          (All-map IsNumbered (after_end app) (take made places)
+          (All-weaker IsNumbered (λ p. IsNumbered (after_end app p)) (numbered_end app) (take made places) (All-take IsNumbered made places o.numbered)))
+          (All-drop IsNumbered made places o.numbered);
     })
       where
         there : (i : ℕ) → made ≤ i → made + (i - made) ≡ i

@@ -1,19 +1,21 @@
 -- All grants of an application come back, one after another.
-use Rattle.std.proofs.Common.{◌≡◌, ◌≢◌, ℕ, ◌+◌, ◌*◌, ◌<◌, ◌≤◌, ◌⊎◌, inl, inr, Bool, true, false, not, cond, eqb, List, [], ◌∷◌, length, get_or, drop, map, refl, ap, sym, subst, ◌∙◌, arith}
+use Rattle.std.proofs.Common.{◌≡◌, ◌≢◌, ℕ, ◌+◌, ◌*◌, ◌<◌, ◌≤◌, ◌⊎◌, inl, inr, Bool, true, false, not, cond, eqb, List, [], ◌∷◌, ◌++◌, length, get_or, take, drop, map, sum_by, refl, ap, sym, subst, ◌∙◌, arith}
 use Rattle.std.specs.List.{filter}
 use Rattle.std.proofs.lemmas.Bool.{false≢true, cases_lt}
 use Rattle.std.proofs.lemmas.Bool.Decides.{nat_tests}
-use Rattle.std.proofs.lemmas.List.{drop_more, drop_all, get_or_default, length-set}
-use Rattle.std.proofs.lemmas.List.Elements.{All-filter, filter_passes}
+use Rattle.std.proofs.lemmas.List.{append-nil, append_assoc, drop_more, drop_all, take_more, take_all, get_or_default, length-set}
+use Rattle.std.proofs.lemmas.List.Elements.{All-filter, filter_passes, filter-append}
+use Rattle.std.proofs.lemmas.List.Sums.{sum_by-append, sum_by-cons}
 use Rattle.std.proofs.lemmas.List.Kept.{AllPairs-filter}
-use Rattle.fsw_base.specs.PoolAccounts.{after_return}
+use Rattle.fsw_base.proofs.Lists.{count_by-map}
+use Rattle.es_pool.specs.Account.{IsAccountOf}
 use Rattle.es_pool.specs.Pool.{PoolState, out_among, is_out, class_at, given_back, most_cut}
 use Rattle.es_pool.proofs.Totals.{block}
 use Rattle.es_pool.proofs.Keeps.{true_from_same}
-use Rattle.pool_words.specs.Grants.{PoolGrants, account_without, after_end, of_others, held_by}
-use Rattle.app_pools.specs.Inside.{account_in, grant_of, grants_of, IsLent, AreLent, AreGivenBack, AreKept}
+use Rattle.pool_words.specs.Grants.{Grant, PoolGrants, after_end, held_by, out_of, blocks_out, pool_account}
+use Rattle.app_pools.specs.Inside.{account_in, grant_of, grants_of, left_after, IsLent, AreLent, AreGivenBack, AreKept}
 use Rattle.app_pools.specs.declared.pool.Lent.{Lent}
-use Rattle.app_pools.proofs.Accounts.{Moved, moved_back, out_other, class_other, one_fewer}
+use Rattle.app_pools.proofs.Accounts.{pool_is, account_is, moved_back, out_other, class_other, one_fewer}
 use Rattle.app_pools.proofs.Keeps.{most_le, same_most}
 use Rattle.app_pools.proofs.Rows.{others_are, held_first, others_and_own}
 
@@ -28,8 +30,36 @@ module _ (old mid new : PoolState) (lent : List Lent) (app i : ℕ) (x : Lent) (
   pub still_out : is_out mid x.block ≡ true
   still_out = subst (λ (l : Lent). is_out mid l.block ≡ true) here (g.held i x h (inl (omega arith))).0
 
-  account_left : account_without app (cond (eqb x.app app) (after_return (account_in mid) x.class) (account_in mid)) (map grant_of (drop (i + 1) lent)) ≡ account_without app (account_in old) (map grant_of lent)
-  account_left = sym (ap (λ l. account_without app (account_in mid) (map grant_of l)) left) ∙ g.account
+  abbrev passes : Lent → Bool
+  passes grant = not (eqb grant.app app)
+
+  -- what is left of the first, and what stands behind this one
+  abbrev first : List Lent
+  first = filter passes (take i lent)
+
+  abbrev behind : List Lent
+  behind = drop (i + 1) lent
+
+  left_here : left_after app i lent ≡ first ++ x ∷ behind
+  left_here = ap (λ l. first ++ l) left
+
+  left_next : left_after app (i + 1) lent ≡ (first ++ cond (passes x) (x ∷ []) []) ++ behind
+  left_next = ap (λ l. filter passes l ++ behind) (take_more lent i x h ∙ ap (λ y. take i lent ++ y ∷ []) here) ∙ ap (λ l. l ++ behind) (filter-append passes (take i lent) (x ∷ []))
+
+  -- the pool once so many were gone through
+  abbrev through : ℕ → PoolGrants
+  through n = record (grants_of old 0 lent) { out = map grant_of (left_after app n lent) }
+
+  out_left : eqb x.app app ≡ true → (c : ℕ) → out_of c (through i).out ≡ cond (eqb x.class c) 1 0 + out_of c (through (i + 1)).out
+  out_left own c =
+      let f : Lent → ℕ = λ (l : Lent). cond {A = ℕ} (eqb l.class c) 1 0 in
+      let next : left_after app (i + 1) lent ≡ first ++ behind = left_next ∙ ap (λ b. (first ++ cond (not b) (x ∷ []) []) ++ behind) own ∙ ap (λ l. l ++ behind) (append-nil first) in
+      let now : out_of c (through i).out ≡ sum_by f (first ++ x ∷ behind) = ap (λ l. out_of c (map grant_of l)) left_here ∙ count_by-map (λ (grant : Grant). eqb grant.class c) grant_of (first ++ x ∷ behind) in
+      let later : out_of c (through (i + 1)).out ≡ sum_by f (first ++ behind) = ap (λ l. out_of c (map grant_of l)) next ∙ count_by-map (λ (grant : Grant). eqb grant.class c) grant_of (first ++ behind) in
+      omega (arith, now, later, sum_by-append f first (x ∷ behind), sum_by-append f first behind, sum_by-cons f x behind)
+
+  stays_left : eqb x.app app ≡ false → left_after app (i + 1) lent ≡ left_after app i lent
+  stays_left other = left_next ∙ ap (λ b. (first ++ cond (not b) (x ∷ []) []) ++ behind) other ∙ append_assoc first (x ∷ []) behind ∙ sym left_here
 
   pub cost_left : (before now now' : ℕ) → now + 8 * held_by app (map grant_of (drop i lent)) ≤ before + 8 * held_by app (map grant_of lent) → now' ≤ now + cond (eqb x.app app) 8 0 → now' + 8 * held_by app (map grant_of (drop (i + 1) lent)) ≤ before + 8 * held_by app (map grant_of lent)
   cost_left before now now' far more = by_app (eqb x.app app) refl
@@ -46,8 +76,7 @@ module _ (old mid new : PoolState) (lent : List Lent) (app i : ℕ) (x : Lent) (
 
   own_back : eqb x.app app ≡ true → new ≡ given_back mid x.block → AreGivenBack old new lent app (i + 1)
   own_back own back = record {
-    account = ap (λ a. account_without app a (map grant_of (drop (i + 1) lent))) (sym moved.same) ∙ (sym (ap (λ b. account_without app (cond b (after_return (account_in mid) x.class) (account_in mid)) (map grant_of (drop (i + 1) lent))) own) ∙ account_left);
-    kept = moved.kept;
+    account = moved_back mid new (through i) (through (i + 1)).out x.block x.class g.account still_out same_class back (out_left own);
     held = others;
     cut = ap (λ (p : PoolState). length p.blocks) back ∙ (length-set mid.blocks x.block (block (class_at mid x.block) false) ∙ g.cut);
     sizes = ap (λ (p : PoolState). p.sizes) back ∙ g.sizes;
@@ -56,8 +85,8 @@ module _ (old mid new : PoolState) (lent : List Lent) (app i : ℕ) (x : Lent) (
         omega (arith, one, held_left, g.fewer, one_fewer mid x.block still_out, ap (λ (p : PoolState). out_among p.blocks) back);
   }
     where
-      moved : Moved new (after_return (account_in mid) x.class)
-      moved = moved_back mid new x.block x.class g.kept still_out (sym (subst (λ (l : Lent). class_at mid l.block ≡ l.class) here (g.held i x h (inl (omega arith))).1)) back
+      same_class : x.class ≡ class_at mid x.block
+      same_class = sym (subst (λ (l : Lent). class_at mid l.block ≡ l.class) here (g.held i x h (inl (omega arith))).1)
 
       not_here : (j : ℕ) (d : Lent) → (i + 1 ≤ j) ⊎ ((get_or lent j d).app ≢ app) → j ≡ i → ⊥
       not_here j d (inl later) same = omega (arith, later, same)
@@ -88,8 +117,7 @@ module _ (old mid new : PoolState) (lent : List Lent) (app i : ℕ) (x : Lent) (
 
   other_stays : eqb x.app app ≡ false → new ≡ mid → AreGivenBack old new lent app (i + 1)
   other_stays other same = subst (λ p. AreGivenBack old p lent app (i + 1)) (sym same) (record {
-    account = sym (ap (λ b. account_without app (cond b (after_return (account_in mid) x.class) (account_in mid)) (map grant_of (drop (i + 1) lent))) other) ∙ account_left;
-    kept = g.kept;
+    account = subst (λ l. IsAccountOf mid (record (account_in old lent) { out = blocks_out old.sizes (map grant_of l) })) (sym (stays_left other)) g.account;
     held = λ j d hj one. g.held j d hj (earlier j d one);
     cut = g.cut;
     sizes = g.sizes;
@@ -113,30 +141,33 @@ module _ (old new : PoolState) (given room app : ℕ) (lent rest : List Lent) (k
   all_gone : drop (length lent) lent ≡ []
   all_gone = drop_all (length lent) lent (omega arith)
 
-  pub end_is : after_end app (grants_of old given lent) ≡ grants_of new given rest
-  end_is =
-      let account : account_without app (account_in old) (map grant_of lent) ≡ account_in new = sym (sym (ap (λ l. account_without app (account_in new) (map grant_of l)) all_gone) ∙ g.account) in
-      ap (λ a. let p : PoolGrants = record { account = a; given = given; out = of_others app (map grant_of lent) } in p) account
-      ∙ ap (λ out. let p : PoolGrants = record { account = account_in new; given = given; out = out } in p) (others_are lent app ∙ ap (map grant_of) (sym retained))
+  abbrev stays : Lent → Bool
+  stays grant = not (eqb grant.app app)
 
-  abbrev passes : Lent → Bool
-  passes grant = not (eqb grant.app app)
+  all_left : left_after app (length lent) lent ≡ filter stays lent
+  all_left = ap (λ l. filter stays (take (length lent) lent) ++ l) all_gone ∙ append-nil (filter stays (take (length lent) lent)) ∙ ap (filter stays) (take_all (length lent) lent (omega arith))
+
+  ended : IsAccountOf new (pool_account (after_end app (grants_of old given lent)))
+  ended = subst (λ out. IsAccountOf new (record (account_in old lent) { out = blocks_out old.sizes out })) (ap (map grant_of) all_left ∙ sym (others_are lent app)) g.account
+
+  pub end_is : after_end app (grants_of old given lent) ≡ grants_of new given rest
+  end_is = pool_is new (after_end app (grants_of old given lent)) rest ended (others_are lent app ∙ ap (map grant_of) (sym retained))
 
   pub kept_ended : (room' : ℕ) → room' ≡ room → AreKept new given rest room'
   kept_ended room' e_room = subst (λ l. AreKept new given l room') (sym retained) (record {
-    account = g.kept;
+    account = account_is new (after_end app (grants_of old given lent)) (filter stays lent) ended (others_are lent app);
     blocks = record {
-      each = λ i d h. All-filter passes (λ grant. passes grant ≡ true → IsLent new grant) lent (λ j e hj pass. g.held j e hj (inr (other (get_or lent j e) pass))) i d h (filter_passes passes lent i d h);
-      apart = AllPairs-filter (λ earlier later. earlier.block ≢ later.block) passes lent k.blocks.apart;
+      each = λ i d h. All-filter stays (λ grant. stays grant ≡ true → IsLent new grant) lent (λ j e hj pass. g.held j e hj (inr (other (get_or lent j e) pass))) i d h (filter_passes stays lent i d h);
+      apart = AllPairs-filter (λ earlier later. earlier.block ≢ later.block) stays lent k.blocks.apart;
     };
     numbered = record {
-      rising = AllPairs-filter (λ earlier later. earlier.number < later.number) passes lent k.numbered.rising;
-      given_all = All-filter passes (λ grant. (1 ≤ grant.number) × (grant.number ≤ given)) lent k.numbered.given_all;
+      rising = AllPairs-filter (λ earlier later. earlier.number < later.number) stays lent k.numbered.rising;
+      given_all = All-filter stays (λ grant. (1 ≤ grant.number) × (grant.number ≤ given)) lent k.numbered.given_all;
     };
     all = omega (arith, k.all, g.fewer, others_and_own lent app, ap (λ l. held_by app (map grant_of l)) all_gone);
     cut = omega (arith, k.cut, g.cut);
     enough = most_le (most_cut old) (most_cut new) room room' k.enough (same_most old new g.sizes g.most) e_room;
   })
     where
-      other : (grant : Lent) → passes grant ≡ true → grant.app ≢ app
+      other : (grant : Lent) → stays grant ≡ true → grant.app ≢ app
       other grant pass same = false≢true (ap not (sym (true_from_same grant.app app same)) ∙ pass)

@@ -6,15 +6,15 @@ use Rattle.std.proofs.lemmas.Bool.{cases_lt}
 use Rattle.std.proofs.lemmas.Bool.Decides.{nat_tests}
 use Rattle.std.proofs.lemmas.List.Edits.{length-remove, get_or-remove_below, get_or-remove_above}
 use Rattle.std.proofs.lemmas.List.Folds.{list_any_at, list_any_none}
-use Rattle.std.proofs.lemmas.List.Sums.{sum_by-cons}
+use Rattle.std.proofs.lemmas.List.Sums.{sum_by-cons, sum_by-remove}
 use Rattle.std.specs.List.Sorted.{IsSearchInRange, IsBinarySearchResult, IsNonDecreasingBy}
 use Rattle.std.specs.Ordering.{nat_cmp, ordering_index}
 use Rattle.std.proofs.lemmas.Cmp.{ranked}
 use Rattle.std.proofs.lemmas.List.Sorted.{IsNonDecreasingBy-from_default}
-use Rattle.fsw_base.proofs.Lists.{list_any-map, filter-map}
+use Rattle.fsw_base.proofs.Lists.{list_any-map, filter-map, count_by-map}
 use Rattle.es_pool.proofs.Keeps.{true_from_same, false_from_other}
 use Rattle.pool_words.proofs.Tests.{filter_all}
-use Rattle.pool_words.specs.Grants.{Grant, is_among, class_under, without, of_others, held_by}
+use Rattle.pool_words.specs.Grants.{Grant, is_among, without, of_others, held_by, out_of}
 use Rattle.app_pools.specs.Inside.{grant_of, AreRising, HasNumber}
 use Rattle.app_pools.specs.declared.pool.Lent.{Lent}
 
@@ -57,18 +57,18 @@ remove_is (x ∷ lent) n (suc i) rising h =
 pub without_is : (lent : List Lent) (n i : ℕ) → AreRising lent → HasNumber lent n i → map grant_of (remove lent i) ≡ without n (map grant_of lent)
 without_is lent n i rising h = ap (map grant_of) (remove_is lent n i rising h) ∙ sym (filter-map (λ grant. not (eqb grant.number n)) grant_of lent)
 
--- the grant of a number is among them, with its class
+-- the grant of a number is among them
 pub among_here : (lent : List Lent) (n i : ℕ) → HasNumber lent n i → is_among (map grant_of lent) n ≡ true
 among_here [] n i h = absurd (omega (arith, h.0))
 among_here (x ∷ lent) n i h = list_any-map (λ grant. eqb grant.number n) grant_of (x ∷ lent) ∙ list_any_at (λ grant. eqb grant.number n) (x ∷ lent) i x h.0 (true_from_same (get_or (x ∷ lent) i x).number n (h.1 x))
 
-pub class_here : (lent : List Lent) (n i : ℕ) (d : Lent) → AreRising lent → HasNumber lent n i → class_under (map grant_of lent) n ≡ (get_or lent i d).class
-class_here [] n i d rising h = absurd (omega (arith, h.0))
-class_here (x ∷ lent) n zero d rising h =
-    ap (λ b. option_map_or (λ (grant : Grant). grant.class) (cond b (Some (grant_of x)) (find (λ grant. eqb grant.number n) (map grant_of lent))) 0) (true_from_same x.number n (h.1 x))
-class_here (x ∷ lent) n (suc i) d rising h =
-    ap (λ b. option_map_or (λ (grant : Grant). grant.class) (cond b (Some (grant_of x)) (find (λ grant. eqb grant.number n) (map grant_of lent))) 0) (first_below x lent n i rising h)
-    ∙ class_here lent n i d (rising_tail x lent rising) (number_tail x lent n i h)
+-- without the grant at a place one fewer is of its class
+pub one_class_fewer : (lent : List Lent) (i : ℕ) (d : Lent) → i < length lent → (c : ℕ) → out_of c (map grant_of lent) ≡ cond (eqb (get_or lent i d).class c) 1 0 + out_of c (map grant_of (remove lent i))
+one_class_fewer lent i d h c =
+    let among = count_by-map (λ (grant : Grant). eqb grant.class c) grant_of lent in
+    let left = count_by-map (λ (grant : Grant). eqb grant.class c) grant_of (remove lent i) in
+    let fewer = sum_by-remove (λ (l : Lent). cond {A = ℕ} (eqb l.class c) 1 0) lent i d h in
+    omega (arith, among, left, fewer)
 
 -- no grant of a number is among them
 pub among_none : (lent : List Lent) (n : ℕ) → All (λ grant. grant.number ≢ n) lent → is_among (map grant_of lent) n ≡ false

@@ -24,9 +24,9 @@
 //!
 //! - `create`, `get`, `put`, `stats` and `end` are those of `pool_words`. No grant number is used
 //!   again. A grant that was never given, or came back already, is refused and counted.
-//! - A pool's account (`app_pool`) is that of `fsw_base`'s definitions. `recall_counted`: the
-//!   grants out are in order of number, each was given, and they are as many of each block size as
-//!   the account says (`IsCounted`).
+//! - The pool itself (`app_pool`) has the account in which as many blocks of each size are out as
+//!   grants (`pool_account`). `recall_numbered`: the grants out are in order of number, each was
+//!   given, and each is of a block size that there is (`IsNumbered`).
 //!
 //! By reading: no call but `new` takes memory; a grant is found by halves; a return moves the later
 //! grants one place up; an end visits the grants that are out in each pool.

@@ -3,7 +3,7 @@ ghost use Rattle.std.specs.Prelude.{◌≡◌, ◌≢◌, ◌==◌, ◌&&◌, na
 ghost use Rattle.fsw_base.specs.PoolAccounts.{counted};
 ghost use Rattle.es_pool.specs.Account.{IsAccountOf};
 ghost use Rattle.es_pool.specs.Pool.{class_at, is_out, given_back};
-ghost use Rattle.pool_words.specs.Grants.{new_pool, get_answer, after_get, put_answer, after_put, after_end, figures_of, held_by};
+ghost use Rattle.pool_words.specs.Grants.{new_pool, get_answer, after_get, put_answer, after_put, after_end, figures_of, held_by, pool_account};
 ghost use Rattle.app_pools.specs.Inside.{grant_of, account_in, AreLent, AreRising, HasNumber, AreGivenBack};
 
 use es_pool::{BlockNo, Pool};
@@ -28,7 +28,7 @@ struct Lent {
 /// A pool that hands out grants, numbered from 1, in place of its blocks, which go out again and
 /// again.
 ///
-/// Contracts see its account, how many grants were given, and those that are out.
+/// Contracts see its bytes, its counts, and the grants that are out.
 #[derive(Drop)]
 pub(crate) struct AppPool {
     // The blocks.
@@ -74,9 +74,8 @@ impl AppPool {
     /// Sets the bytes of a pool that gave no grant yet, to at most what it has.
     pub(crate) fn open(&mut self, bytes: u32)
         requires unused { self.old.given ≡ 0 }
-        requires within { bytes ≤ self.old.account.bytes }
-        ensures { self.new ≡
-            record self.old { account = record self.old.account { bytes = bytes } } }
+        requires within { bytes ≤ self.old.bytes }
+        ensures { self.new ≡ record self.old { bytes = bytes } }
     {
         self.pool.recall_whole();
         self.pool.set_bytes(bytes);
@@ -166,7 +165,7 @@ impl AppPool {
 
     /// The pool itself, to be read.
     pub(crate) fn pool(&self) -> &Pool
-        ensures { IsAccountOf result.now self.now.account }
+        ensures { IsAccountOf result.now (pool_account self.now) }
     {
         &self.pool
     }
@@ -225,7 +224,7 @@ fn free<L: Ledger>(pool: &mut Pool, block: BlockNo, steps: &mut Steps<L>)
 // Gives the blocks of an application's grants back.
 fn free_all_of<L: Ledger>(pool: &mut Pool, lent: &[Lent], app: AppNo, steps: &mut Steps<L>)
     requires blocks { AreLent pool.old lent.now }
-    requires account { IsAccountOf pool.old (account_in pool.old) }
+    requires account { IsAccountOf pool.old (account_in pool.old lent.now) }
     ensures freed { AreGivenBack pool.old pool.new lent.now app (length lent.now) }
     ensures cost { steps.new ≤ steps.old + 8 * held_by app (map grant_of lent.now) }
 {

@@ -2,7 +2,7 @@
 ghost use Rattle.std.specs.Prelude.{◌≡◌, ◌+◌, ◌-◌, ◌*◌, ◌<◌, ◌≤◌, ◌^◌, ◌++◌, false, [], length, map, take, drop, replicate, slice_index, sum_by, All, IsTrue, IfOk, IfSome, Ok, None};
 ghost use Rattle.es_pool.specs.Account.{IsAccountOf};
 ghost use Rattle.fsw_base.specs.PoolAccounts.{overhead};
-ghost use Rattle.pool_words.specs.Grants.{new_pool, is_pool, pool_in, with_pool, has_numbers, refuses_pool, create_answer, after_create, answer_in, get_answer, after_get, put_answer, after_put, figures_of, after_end, held_by, all_after_end, held_in, IsCounted};
+ghost use Rattle.pool_words.specs.Grants.{new_pool, is_pool, pool_in, with_pool, has_numbers, refuses_pool, create_answer, after_create, answer_in, get_answer, after_get, put_answer, after_put, figures_of, after_end, held_by, all_after_end, held_in, pool_account, IsNumbered};
 ghost use Rattle.app_pools.specs.Inside.{IsPlace};
 
 use crate::pool::AppPool;
@@ -18,7 +18,7 @@ pub const MAX_APP_POOLS: u32 = 8;
 /// The memory pools of applications, numbered from 1 in order of creation. Any application may use
 /// any of them. They lend no bytes: what they hand out are numbered grants.
 ///
-/// Contracts see of each pool its account, how many grants it gave, and those that are out.
+/// Contracts see of each pool its bytes, its counts, and the grants that are out.
 #[derive(Drop)]
 pub struct AppPools {
     // Room for [`MAX_APP_POOLS`] pools; those that weren't created are as large as one may be.
@@ -173,15 +173,15 @@ impl AppPools {
     /// A pool that was created, to be read.
     pub fn app_pool(&self, pool: u32) -> &Pool
         requires { IsTrue (is_pool self.now pool) }
-        ensures { IsAccountOf result.now (pool_in self.now pool).account }
+        ensures { IsAccountOf result.now (pool_account (pool_in self.now pool)) }
     {
         self.places[pool as usize - 1].pool()
     }
 
-    /// In every pool the grants that are out stand in order of number, each was given, and they are
-    /// as many of each block size as the account says that blocks of it are out. Does nothing.
-    pub fn recall_counted(&self)
-        ensures { All IsCounted self.now.pools }
+    /// In every pool the grants that are out stand in order of number, each was given, and each is
+    /// of a block size that there is. Does nothing.
+    pub fn recall_numbered(&self)
+        ensures { All IsNumbered self.now.pools }
     {
         let _ = &self.places;
     }

@@ -3,7 +3,7 @@ use Rattle.std.proofs.Common.{ℕ, ◌+◌, ◌≤◌, List, [], ◌∷◌, ◌+
 use Rattle.std.proofs.lemmas.List.{length_push}
 use Rattle.std.proofs.lemmas.List.Elements.{All-nil}
 use Rattle.fsw_base.specs.Limits.{Limits}
-use Rattle.pool_words.specs.Grants.{PoolGrants, Pools, IsCounted, all_after_end}
+use Rattle.pool_words.specs.Grants.{PoolGrants, Pools, IsNumbered, all_after_end}
 use Rattle.pool_words.proofs.Following.{Follow, follows_same, follows_end}
 use Rattle.bus_words.specs.declared.history.Call.{Call}
 use Rattle.bus_words.specs.declared.history.Entry.{Entry}
@@ -17,7 +17,7 @@ one_more limits entries s next are follows = record {
   most = follows.most ∙ are.most;
   sizes = follows.sizes ∙ are.sizes;
   few = follows.few are.few;
-  counted = follows.counted are.counted;
+  numbered = follows.numbered are.numbered;
   given = follows.given entries are.given;
 }
 
@@ -59,7 +59,7 @@ ArePools-opening limits apps = record {
   most = refl;
   sizes = refl;
   few = omega arith;
-  counted = All-nil IsCounted;
+  numbered = All-nil IsNumbered;
   given = All-nil (λ (pool : PoolGrants). pool.given ≤ 0);
 }
 

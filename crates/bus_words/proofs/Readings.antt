@@ -10,11 +10,11 @@ use Rattle.std.proofs.lemmas.List.Sums.{sum_by-append}
 use Rattle.std.proofs.Math.ListN.{get_or-map}
 use Rattle.fsw_base.specs.Limits.{Limits}
 use Rattle.fsw_base.specs.Blocks.{class_of}
-use Rattle.fsw_base.specs.PoolAccounts.{Account, counted, has_room, has_room_if, after_return, after_refusal}
+use Rattle.fsw_base.specs.PoolAccounts.{counted, has_room, has_room_if}
 use Rattle.fsw_base.specs.declared.statuses.EsStatus.{EsStatus}
 use Rattle.fsw_base.specs.declared.statuses.EsStatus.TheVariants.{ErrMemBlockSize, BufferNotInPool, PoolBlockInvalid, NoPool}
 use Rattle.ccsds_msg.specs.Message.{message_id}
-use Rattle.pool_words.specs.Grants.{Grant, PoolGrants, Pools, IsCounted, new_pool, is_pool, pool_in, with_pool, with_grant, after_get, after_get_if, after_put, after_end, account_without, all_after_end, is_among, was_given, class_under, without, refuses_pool, after_create}
+use Rattle.pool_words.specs.Grants.{Grant, PoolGrants, Pools, IsNumbered, new_pool, is_pool, pool_in, with_pool, with_grant, after_get, after_get_if, after_put, after_end, all_after_end, pool_account, is_among, was_given, without, refuses_pool, after_create}
 use Rattle.bus_words.specs.declared.calls.BusAnswer.{BusAnswer}
 use Rattle.bus_words.specs.declared.calls.BusAnswer.TheVariants.{Number, Es, Done}
 use Rattle.bus_words.specs.declared.history.Call.{Call}
@@ -28,25 +28,21 @@ use Rattle.bus_words.specs.Readings.{gets_grant, is_refused_return, times, accou
 use Rattle.bus_words.proofs.PoolGrants.{ArePools-step, ArePools-opening}
 use Rattle.bus_words.proofs.Steps.{after_choice, refused_receive, with_subscription}
 
--- the account of a pool
-abbrev account_in : Pools → ℕ → Account
-account_in s pool = (pool_in s pool).account
-
 -- one more, short of the last value of a count, where the test holds
 abbrev raised : Bool → ℕ → ℕ
 raised test n = cond test (counted n) n
 
 -- a call so answered raises the counts of a pool
 record Raises (pool : ℕ) (call : Call) (s next : Pools) (answer : BusAnswer) : Type 0 where
-  pub requests : (account_in next pool).requests ≡ raised (gets_grant pool call answer) ((account_in s pool).requests)
-  pub errors : (account_in next pool).errors ≡ raised (is_refused_return pool call answer) ((account_in s pool).errors)
+  pub requests : (pool_in next pool).requests ≡ raised (gets_grant pool call answer) ((pool_in s pool).requests)
+  pub errors : (pool_in next pool).errors ≡ raised (is_refused_return pool call answer) ((pool_in s pool).errors)
 
 -- where the call is neither, no count changes
 neither : (pool : ℕ) (call : Call) (s next : Pools) (answer : BusAnswer) → gets_grant pool call answer ≡ false → is_refused_return pool call answer ≡ false →
-    (account_in next pool).requests ≡ (account_in s pool).requests → (account_in next pool).errors ≡ (account_in s pool).errors → Raises pool call s next answer
+    (pool_in next pool).requests ≡ (pool_in s pool).requests → (pool_in next pool).errors ≡ (pool_in s pool).errors → Raises pool call s next answer
 neither pool call s next answer gets refused requests errors = record {
-  requests = requests ∙ ap (λ b. raised b ((account_in s pool).requests)) (sym gets);
-  errors = errors ∙ ap (λ b. raised b ((account_in s pool).errors)) (sym refused);
+  requests = requests ∙ ap (λ b. raised b ((pool_in s pool).requests)) (sym gets);
+  errors = errors ∙ ap (λ b. raised b ((pool_in s pool).errors)) (sym refused);
 }
 
 -- whether a call is a return
@@ -56,45 +52,32 @@ is_return call = false
 
 -- One pool. --
 
-get-requests : (p : PoolGrants) (app size : ℕ) → has_room p.account size ≡ true →
-    ((after_get p app size).account.requests ≡ counted p.account.requests) × ((after_get p app size).account.errors ≡ p.account.errors)
-get-requests p app size = by_class (class_of size p.account.sizes)
+get-requests : (p : PoolGrants) (app size : ℕ) → has_room (pool_account p) size ≡ true →
+    ((after_get p app size).requests ≡ counted p.requests) × ((after_get p app size).errors ≡ p.errors)
+get-requests p app size = by_class (class_of size p.sizes)
   where
     Got : PoolGrants → Type 0
-    Got q = (q.account.requests ≡ counted p.account.requests) × (q.account.errors ≡ p.account.errors)
+    Got q = (q.requests ≡ counted p.requests) × (q.errors ≡ p.errors)
 
-    by_class : (o : Option ℕ) → has_room_if p.account o ≡ true → Got (after_get_if p app o)
+    by_class : (o : Option ℕ) → has_room_if (pool_account p) o ≡ true → Got (after_get_if p app o)
     by_class None room = absurd (false≢true room)
     by_class (Some class) room =
         subst (λ b. Got (cond {A = PoolGrants} b (with_grant p app class) p)) (sym room) (refl, refl)
 
-put-requests : (p : PoolGrants) (number : ℕ) → (after_put p number).account.requests ≡ p.account.requests
+put-requests : (p : PoolGrants) (number : ℕ) → (after_put p number).requests ≡ p.requests
 put-requests p number = by_out (is_among p.out number)
   where
     by_out : (b : Bool) →
-        (cond {A = PoolGrants} b (record { account = after_return p.account (class_under p.out number); given = p.given; out = without number p.out }) (record p { account = after_refusal p.account })).account.requests
-        ≡ p.account.requests
+        (cond {A = PoolGrants} b (record p { out = without number p.out }) (record p { errors = counted p.errors })).requests
+        ≡ p.requests
     by_out true = refl
     by_out false = refl
 
-put-errors : (p : PoolGrants) (number : ℕ) (out : Bool) → is_among p.out number ≡ out → (after_put p number).account.errors ≡ raised (not out) p.account.errors
+put-errors : (p : PoolGrants) (number : ℕ) (out : Bool) → is_among p.out number ≡ out → (after_put p number).errors ≡ raised (not out) p.errors
 put-errors p number true is =
-    ap (λ b. (cond {A = PoolGrants} b (record { account = after_return p.account (class_under p.out number); given = p.given; out = without number p.out }) (record p { account = after_refusal p.account })).account.errors) is
+    ap (λ b. (cond {A = PoolGrants} b (record p { out = without number p.out }) (record p { errors = counted p.errors })).errors) is
 put-errors p number false is =
-    ap (λ b. (cond {A = PoolGrants} b (record { account = after_return p.account (class_under p.out number); given = p.given; out = without number p.out }) (record p { account = after_refusal p.account })).account.errors) is
-
-end-counts : (app : ℕ) (account : Account) (out : List Grant) →
-    ((account_without app account out).requests ≡ account.requests) × ((account_without app account out).errors ≡ account.errors)
-end-counts app account [] = (refl, refl)
-end-counts app account (grant ∷ out) =
-    by_app (grant.app == app) (end-counts app (after_return account grant.class) out) (end-counts app account out)
-  where
-    Same : Account → Type 0
-    Same from = ((account_without app from out).requests ≡ account.requests) × ((account_without app from out).errors ≡ account.errors)
-
-    by_app : (b : Bool) → Same (after_return account grant.class) → Same account → Same (cond {A = Account} b (after_return account grant.class) account)
-    by_app true back stays = back
-    by_app false back stays = stays
+    ap (λ b. (cond {A = PoolGrants} b (record p { out = without number p.out }) (record p { errors = counted p.errors })).errors) is
 
 -- a grant that is out was given
 among-given : (p : PoolGrants) (number : ℕ) (out : List Grant) → All (λ grant. (1 ≤ grant.number) × (grant.number ≤ p.given)) out → is_among out number ≡ true →
@@ -131,15 +114,15 @@ unchanged s number after none = ap (λ b. cond {A = Pools} b (record s { pools =
 quiet : (pool : ℕ) (call : Call) (s next : Pools) (answer : BusAnswer) → gets_grant pool call answer ≡ false → is_refused_return pool call answer ≡ false → next ≡ s →
     Raises pool call s next answer
 quiet pool call s next answer gets refused same =
-    neither pool call s next answer gets refused (ap (λ p. (account_in p pool).requests) same) (ap (λ p. (account_in p pool).errors) same)
+    neither pool call s next answer gets refused (ap (λ p. (pool_in p pool).requests) same) (ap (λ p. (pool_in p pool).errors) same)
 
 create-raises : (s : Pools) (pool bytes : ℕ) (call : Call) (answer : BusAnswer) → gets_grant pool call answer ≡ false → is_refused_return pool call answer ≡ false →
     Raises pool call s (after_create s bytes) answer
 create-raises s pool bytes call answer gets refused = by_refusal (refuses_pool s bytes)
   where
     more : (pools : List PoolGrants) (at : ℕ) →
-        ((get_or (pools ++ new_pool s.sizes bytes ∷ []) at (new_pool [] 0)).account.requests ≡ (get_or pools at (new_pool [] 0)).account.requests)
-        × ((get_or (pools ++ new_pool s.sizes bytes ∷ []) at (new_pool [] 0)).account.errors ≡ (get_or pools at (new_pool [] 0)).account.errors)
+        ((get_or (pools ++ new_pool s.sizes bytes ∷ []) at (new_pool [] 0)).requests ≡ (get_or pools at (new_pool [] 0)).requests)
+        × ((get_or (pools ++ new_pool s.sizes bytes ∷ []) at (new_pool [] 0)).errors ≡ (get_or pools at (new_pool [] 0)).errors)
     more [] zero = (refl, refl)
     more [] (suc at) = (refl, refl)
     more (p ∷ pools) zero = (refl, refl)
@@ -154,11 +137,10 @@ create-raises s pool bytes call answer gets refused = by_refusal (refuses_pool s
 end-raises : (s : Pools) (pool app : ℕ) → Raises pool End s (all_after_end app s) Done
 end-raises s pool app =
     let ended : pool_in (all_after_end app s) pool ≡ after_end app (pool_in s pool) = get_or-map (after_end app) s.pools (pool - 1) (new_pool [] 0) in
-    let counts = end-counts app (account_in s pool) (pool_in s pool).out in
     neither pool End s (all_after_end app s) Done refl refl
-    (ap (λ (p : PoolGrants). p.account.requests) ended ∙ counts.0) (ap (λ (p : PoolGrants). p.account.errors) ended ∙ counts.1)
+    (ap (λ (p : PoolGrants). p.requests) ended) (ap (λ (p : PoolGrants). p.errors) ended)
 
-get-raises : (s : Pools) (pool app number size : ℕ) → 1 ≤ pool → is_pool s number ≡ true → has_room (account_in s number) size ≡ true →
+get-raises : (s : Pools) (pool app number size : ℕ) → 1 ≤ pool → is_pool s number ≡ true → has_room (pool_account (pool_in s number)) size ≡ true →
     Raises pool (PoolGet number size) s (with_pool s number (after_get (pool_in s number) app size)) (Number ((pool_in s number).given + 1))
 get-raises s pool app number size from there room = by_number (number == pool) refl
   where
@@ -168,7 +150,7 @@ get-raises s pool app number size from there room = by_number (number == pool) r
     next : Pools
     next = with_pool s number after
 
-    got : (after.account.requests ≡ counted ((account_in s number).requests)) × (after.account.errors ≡ (account_in s number).errors)
+    got : (after.requests ≡ counted ((pool_in s number).requests)) × (after.errors ≡ (pool_in s number).errors)
     got = get-requests (pool_in s number) app size room
 
     by_number : (b : Bool) → (number == pool) ≡ b → Raises pool (PoolGet number size) s next (Number ((pool_in s number).given + 1))
@@ -176,14 +158,14 @@ get-raises s pool app number size from there room = by_number (number == pool) r
         let here : number ≡ pool = grind (arith, nat_tests, same) in
         let now = changed s number pool after from there ∙ ap (λ b. cond b after (pool_in s pool)) same in
         record {
-          requests = ap (λ (p : PoolGrants). p.account.requests) now ∙ got.0 ∙ ap (λ n. counted ((account_in s n).requests)) here
-              ∙ ap (λ b. raised b ((account_in s pool).requests)) (sym same);
-          errors = ap (λ (p : PoolGrants). p.account.errors) now ∙ got.1 ∙ ap (λ n. (account_in s n).errors) here;
+          requests = ap (λ (p : PoolGrants). p.requests) now ∙ got.0 ∙ ap (λ n. counted ((pool_in s n).requests)) here
+              ∙ ap (λ b. raised b ((pool_in s pool).requests)) (sym same);
+          errors = ap (λ (p : PoolGrants). p.errors) now ∙ got.1 ∙ ap (λ n. (pool_in s n).errors) here;
         }
     by_number false other =
         let now = changed s number pool after from there ∙ ap (λ b. cond b after (pool_in s pool)) other in
         neither pool (PoolGet number size) s next (Number ((pool_in s number).given + 1)) other refl
-        (ap (λ (p : PoolGrants). p.account.requests) now) (ap (λ (p : PoolGrants). p.account.errors) now)
+        (ap (λ (p : PoolGrants). p.requests) now) (ap (λ (p : PoolGrants). p.errors) now)
 
 -- what a return answers
 abbrev return_answer : Option EsStatus → BusAnswer
@@ -198,7 +180,7 @@ and_false : (b : Bool) → false ≡ (b && false)
 and_false true = refl
 and_false false = refl
 
-put-raises : (s : Pools) (pool number grant : ℕ) → 1 ≤ pool → All IsCounted s.pools →
+put-raises : (s : Pools) (pool number grant : ℕ) → 1 ≤ pool → All IsNumbered s.pools →
     Raises pool (PoolPut number grant) s (with_pool s number (after_put (pool_in s number) grant))
     (return_answer
     (refused_if (not (is_pool s number)) NoPool
@@ -230,15 +212,15 @@ put-raises s pool number grant from counts =
             let here : number ≡ pool = grind (arith, nat_tests, same) in
             let now = changed s number pool after from there ∙ ap (λ b. cond b after (pool_in s pool)) same in
             record {
-              requests = ap (λ (q : PoolGrants). q.account.requests) now ∙ put-requests p grant ∙ ap (λ n. (account_in s n).requests) here
-                  ∙ ap (λ b. raised b ((account_in s pool).requests)) (sym gets);
-              errors = ap (λ (q : PoolGrants). q.account.errors) now ∙ put-errors p grant out is ∙ ap (λ n. raised (not out) ((account_in s n).errors)) here
-                  ∙ ap (λ b. raised (b && not out) ((account_in s pool).errors)) (sym same) ∙ ap (λ b. raised b ((account_in s pool).errors)) (sym refused);
+              requests = ap (λ (q : PoolGrants). q.requests) now ∙ put-requests p grant ∙ ap (λ n. (pool_in s n).requests) here
+                  ∙ ap (λ b. raised b ((pool_in s pool).requests)) (sym gets);
+              errors = ap (λ (q : PoolGrants). q.errors) now ∙ put-errors p grant out is ∙ ap (λ n. raised (not out) ((pool_in s n).errors)) here
+                  ∙ ap (λ b. raised (b && not out) ((pool_in s pool).errors)) (sym same) ∙ ap (λ b. raised b ((pool_in s pool).errors)) (sym refused);
             }
         by_number false other =
             let now = changed s number pool after from there ∙ ap (λ b. cond b after (pool_in s pool)) other in
             neither pool (PoolPut number grant) s next answer gets (refused ∙ ap (λ b. b && not out) other)
-            (ap (λ (q : PoolGrants). q.account.requests) now) (ap (λ (q : PoolGrants). q.account.errors) now)
+            (ap (λ (q : PoolGrants). q.requests) now) (ap (λ (q : PoolGrants). q.errors) now)
 
     by_tests : (there given out : Bool) → is_pool s number ≡ there → was_given p grant ≡ given → is_among p.out grant ≡ out →
         Raises pool (PoolPut number grant) s next (answer_by (is_pool s number) (was_given p grant) (is_among p.out grant))
@@ -248,7 +230,7 @@ put-raises s pool number grant from counts =
     by_tests true false true there gives is =
         absurd (true≢false
         (sym (among-given p grant p.out
-        (All-get_or IsCounted s.pools (number - 1) (new_pool [] 0) (grind (arith, nat_tests, there)) counts).given_all is)
+        (All-get_or IsNumbered s.pools (number - 1) (new_pool [] 0) (grind (arith, nat_tests, there)) counts).given_all is)
         ∙ gives))
     by_tests true false false there gives is =
         subst (λ b. Raises pool (PoolPut number grant) s next (answer_by b (was_given p grant) (is_among p.out grant))) (sym there)
@@ -309,8 +291,8 @@ passing-same [] sending s = refl
 passing-same (sub ∷ subs) sending s = refl
 
 -- a request that isn't refused is to a pool that there is, and that has room
-get-none : (s : State) (number size : ℕ) → by_pools (pool_get_cause s number size) ≡ None → (is_pool s.pools number ≡ true) × (has_room (account_in s.pools number) size ≡ true)
-get-none s number size = by_tests (is_pool s.pools number) (has_room (account_in s.pools number) size)
+get-none : (s : State) (number size : ℕ) → by_pools (pool_get_cause s number size) ≡ None → (is_pool s.pools number ≡ true) × (has_room (pool_account (pool_in s.pools number)) size ≡ true)
+get-none s number size = by_tests (is_pool s.pools number) (has_room (pool_account (pool_in s.pools number)) size)
   where
     by_tests : (there room : Bool) → by_pools (refused_if (not there) NoPool (refused_if (not room) ErrMemBlockSize None)) ≡ None → (there ≡ true) × (room ≡ true)
     by_tests true true none = (refl, refl)
@@ -375,7 +357,7 @@ accepted-raises reads limits s pool app End from other none = end-raises s.pools
 -- Histories. --
 
 -- a call raises the counts of a pool by its own kind
-step-raises : (limits : Limits) (history : List Entry) (s : State) (pool app : ℕ) (call : Call) → 1 ≤ pool → All IsCounted s.pools.pools →
+step-raises : (limits : Limits) (history : List Entry) (s : State) (pool app : ℕ) (call : Call) → 1 ≤ pool → All IsNumbered s.pools.pools →
     Raises pool call s.pools (((step limits history s app call).1).pools) ((step limits history s app call).0)
 step-raises limits history s pool app call from counts =
     let raises = by_call call (is_return call) refl in
@@ -411,10 +393,10 @@ raised-more false n = omega arith
 
 -- the counts of a pool behind more entries
 record Counts (pool n m : ℕ) (s : Pools) : Type 0 where
-  pub requests : (account_in s pool).requests ≡ min n (2 ^ 32 - 1)
-  pub errors : (account_in s pool).errors ≡ min m (2 ^ 32 - 1)
+  pub requests : (pool_in s pool).requests ≡ min n (2 ^ 32 - 1)
+  pub errors : (pool_in s pool).errors ≡ min m (2 ^ 32 - 1)
 
-counts-step : (limits : Limits) (history : List Entry) (s : State) (pool n m : ℕ) (e : Entry) → 1 ≤ pool → All IsCounted s.pools.pools →
+counts-step : (limits : Limits) (history : List Entry) (s : State) (pool n m : ℕ) (e : Entry) → 1 ≤ pool → All IsNumbered s.pools.pools →
     e.answer ≡ (step limits history s e.app e.call).0 → Counts pool n m s.pools →
     Counts pool (n + cond {A = ℕ} (gets_grant pool e.call e.answer) 1 0) (m + cond {A = ℕ} (is_refused_return pool e.call e.answer) 1 0) ((step limits history s e.app e.call).1).pools
 counts-step limits history s pool n m e from counted_all answered counts =
@@ -442,7 +424,7 @@ counts-from limits history s (e ∷ es) pool n m from are legal counts =
     let got = cond {A = ℕ} (gets_grant pool e.call e.answer) 1 0 in
     let refused = cond {A = ℕ} (is_refused_return pool e.call e.answer) 1 0 in
     let now = subst (λ k. ArePools limits k next.pools) (sym (length_push history e)) (ArePools-step limits history s e.app e.call (length history) are) in
-    let rest = counts-from limits (history ++ e ∷ []) next es pool (n + got) (m + refused) from now legal.4 (counts-step limits history s pool n m e from are.counted legal.1 counts) in
+    let rest = counts-from limits (history ++ e ∷ []) next es pool (n + got) (m + refused) from now legal.4 (counts-step limits history s pool n m e from are.numbered legal.1 counts) in
     record {
       requests = rest.requests ∙ ap (λ k. min k (2 ^ 32 - 1)) (omega (arith, count-more (λ x. gets_grant pool x.call x.answer) e es));
       errors = rest.errors ∙ ap (λ k. min k (2 ^ 32 - 1)) (omega (arith, count-more (λ x. is_refused_return pool x.call x.answer) e es));

@@ -6,7 +6,7 @@ use Rattle.std.specs.Option.{option_map_or}
 use Rattle.fsw_base.specs.Limits.{Limits}
 use Rattle.fsw_base.specs.EventDesk.{Desk, new_desk}
 use Rattle.housekeeping.specs.Statistics.{Statistics, no_statistics}
-use Rattle.pool_words.specs.Grants.{Pools, IsCounted}
+use Rattle.pool_words.specs.Grants.{Pools, IsNumbered}
 pub use Rattle.bus_words.specs.Pipes.{PipeOf, Subscription, Offer, is_queued, is_oldest, all_bits, oldest, pipe_at, is_live, owns, pipe_named, is_named, with_pipe, without_pipe, new_pipe, ignores_own, after_receive, with_bits}
 use Rattle.bus_words.specs.declared.verdict.Verdict.{Verdict}
 use Rattle.bus_words.specs.Pipes as words
@@ -78,13 +78,13 @@ opening limits apps = record {
   statistics = no_statistics;
 }
 
--- the memory pools of a bus after so many entries: they have the limits' block sizes, each is
--- counted, and each gave at most as many grants as there are entries
+-- the memory pools of a bus after so many entries: they have the limits' block sizes, the grants of
+-- each that are out are numbered, and each gave at most as many grants as there are entries
 pub record ArePools (limits : Limits) (entries : ℕ) (pools : Pools) : Type 0 where
   pub most : pools.most ≡ limits.apppool
   pub sizes : pools.sizes ≡ limits.sizes
   pub few : length pools.pools ≤ 8
-  pub counted : All IsCounted pools.pools
+  pub numbered : All IsNumbered pools.pools
   pub given : All (λ pool. pool.given ≤ entries) pools.pools
 
 -- the standing of an application; one that the bus doesn't know has ended

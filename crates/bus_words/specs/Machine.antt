@@ -12,7 +12,7 @@ use Rattle.fsw_base.specs.declared.statuses.EsStatus.TheVariants.{ErrMemBlockSiz
 use Rattle.fsw_base.specs.declared.statuses.EvsStatus.{EvsStatus}
 use Rattle.fsw_base.specs.EventDesk.{Desk, send_refusal, reset_refusal}
 use Rattle.fsw_base.specs.PoolAccounts.{has_room}
-use Rattle.pool_words.specs.Grants.{is_pool, pool_in, with_pool, refuses_pool, after_create, was_given, is_among, after_get, after_put, figures_of, all_after_end}
+use Rattle.pool_words.specs.Grants.{is_pool, pool_in, pool_account, with_pool, refuses_pool, after_create, was_given, is_among, after_get, after_put, figures_of, all_after_end}
 use Rattle.ccsds_msg.specs.Message.{fault, front_fault, message_id, is_valid_id}
 use Rattle.housekeeping.specs.Packet.{housekeeping_id}
 use Rattle.housekeeping.specs.Statistics.{Statistics}
@@ -141,7 +141,7 @@ pool_create_cause s bytes = refused_if (refuses_pool s.pools bytes) ErrMemBlockS
 abbrev pub pool_get_cause : State → ℕ → ℕ → Option EsStatus
 pool_get_cause s pool size =
     refused_if (not (is_pool s.pools pool)) NoPool
-    (refused_if (not (has_room (pool_in s.pools pool).account size)) ErrMemBlockSize None)
+    (refused_if (not (has_room (pool_account (pool_in s.pools pool)) size)) ErrMemBlockSize None)
 
 -- where the pool wasn't created, never gave the grant, or the grant isn't out any more
 abbrev pub pool_put_cause : State → ℕ → ℕ → Option EsStatus

@@ -4,7 +4,7 @@ use Rattle.std.specs.Prelude.{ℕ, ◌-◌, ◌^◌, ◌==◌, min, Bool, false,
 use Rattle.fsw_base.specs.Limits.{Limits}
 use Rattle.fsw_base.specs.PoolAccounts.{Account}
 use Rattle.fsw_base.specs.declared.statuses.EsStatus.TheVariants.{BufferNotInPool, PoolBlockInvalid}
-use Rattle.pool_words.specs.Grants.{pool_in}
+use Rattle.pool_words.specs.Grants.{pool_in, pool_account}
 use Rattle.bus_words.specs.declared.calls.BusAnswer.{BusAnswer}
 use Rattle.bus_words.specs.declared.calls.BusAnswer.TheVariants.{Number, Es}
 use Rattle.bus_words.specs.declared.history.Call.{Call}
@@ -30,4 +30,4 @@ times kind history = min (count_by (λ e. kind e.call e.answer) history) (2 ^ 32
 -- the account of the pool of this number after a history
 abbrev pub account_after : Limits → ℕ → List Entry → ℕ → Account
 account_after limits apps history pool =
-    (pool_in (state_after limits apps history).pools pool).account
+    pool_account (pool_in (state_after limits apps history).pools pool)

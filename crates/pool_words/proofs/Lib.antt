@@ -1,4 +1,4 @@
-pub mod Counted
+pub mod Accounts
 pub mod Following
-pub mod Present
+pub mod Numbered
 pub mod Tests

@@ -1,11 +1,11 @@
 -- Memory pools of applications (cFE Executive Services, memory pools). A pool hands out grants,
 -- numbered from 1, and keeps of each one that is out what its return needs. Nothing is kept of a
 -- grant that came back.
-use Rattle.std.specs.Prelude.{◌≡◌, ◌==◌, ◌&&◌, ◌||◌, ℕ, ◌+◌, ◌-◌, ◌^◌, ◌<◌, ◌≤◌, nat_le, nat_lt, All, Bool, true, not, if◌then◌else◌, List, [], ◌∷◌, ◌++◌, length, replicate, map, filter, find, count_by, sum_by, slice_index, slice_index_or, slice_set, Option, Some, None, Result, Ok, Err}
-use Rattle.std.specs.List.{list_any, AllPairs}
+use Rattle.std.specs.Prelude.{◌==◌, ◌&&◌, ◌||◌, ℕ, ◌+◌, ◌-◌, ◌^◌, ◌<◌, ◌≤◌, nat_le, nat_lt, All, Bool, true, not, if◌then◌else◌, List, [], ◌∷◌, ◌++◌, length, replicate, map, filter, find, count_by, sum_by, slice_index, slice_index_or, slice_set, Option, Some, None, Result, Ok, Err}
+use Rattle.std.specs.List.{list_any, range_with_len, AllPairs}
 use Rattle.std.specs.Option.{option_map_or}
 use Rattle.fsw_base.specs.Blocks.{class_of}
-use Rattle.fsw_base.specs.PoolAccounts.{Account, overhead, cost_of, has_room, has_room_for, after_draw, after_return, after_refusal}
+use Rattle.fsw_base.specs.PoolAccounts.{Account, overhead, counted, cost_of, has_room, has_room_for, after_draw}
 use Rattle.fsw_base.specs.declared.config.PoolStats.{PoolStats}
 use Rattle.fsw_base.specs.declared.statuses.EsStatus.{EsStatus}
 use Rattle.fsw_base.specs.declared.statuses.EsStatus.TheVariants.{ErrMemBlockSize, BufferNotInPool, PoolBlockInvalid, NoPool}
@@ -17,27 +17,49 @@ pub record Grant : Type 0 where
   pub app : ℕ
   pub class : ℕ
 
--- a pool: its account, how many grants it gave, and those that are out, in order of number
+-- A pool: its bytes and block sizes; how many blocks of each size were made, which is the greatest
+-- number that were ever out at once; how many blocks were drawn, and how many returns were refused;
+-- how many grants it gave, and those that are out, in order of number.
 pub record PoolGrants : Type 0 where
-  pub account : Account
+  pub bytes : ℕ
+  pub sizes : List ℕ
+  pub made : List ℕ
+  pub requests : ℕ
+  pub errors : ℕ
   pub given : ℕ
   pub out : List Grant
 
--- an account of which nothing was made
-abbrev pub new_account : List ℕ → ℕ → Account
-new_account sizes bytes =
+-- a pool of so many bytes that gave no grant
+abbrev pub new_pool : List ℕ → ℕ → PoolGrants
+new_pool sizes bytes =
     record {
       bytes = bytes;
       sizes = sizes;
       made = replicate (length sizes) 0;
-      out = replicate (length sizes) 0;
       requests = 0;
       errors = 0;
+      given = 0;
+      out = [];
     }
 
--- a pool of so many bytes that gave no grant
-abbrev pub new_pool : List ℕ → ℕ → PoolGrants
-new_pool sizes bytes = record { account = new_account sizes bytes; given = 0; out = [] }
+-- how many of these grants are of a class
+abbrev pub out_of : ℕ → List Grant → ℕ
+out_of class out = count_by (λ grant. grant.class == class) out
+
+-- for each of these sizes, how many of these grants have a block of it
+abbrev pub blocks_out : List ℕ → List Grant → List ℕ
+blocks_out sizes out = map (λ class. out_of class out) (range_with_len 0 (length sizes))
+
+-- the account of a pool: as many blocks of each size are out as grants that are out have one
+abbrev pub pool_account : PoolGrants → Account
+pool_account pool = record {
+  bytes = pool.bytes;
+  sizes = pool.sizes;
+  made = pool.made;
+  out = blocks_out pool.sizes pool.out;
+  requests = pool.requests;
+  errors = pool.errors;
+}
 
 -- whether a pool ever gave a grant of this number
 abbrev pub was_given : PoolGrants → ℕ → Bool
@@ -64,10 +86,11 @@ of_others app out = filter (λ grant. not (grant.app == app)) out
 abbrev pub held_by : ℕ → List Grant → ℕ
 held_by app out = count_by (λ grant. grant.app == app) out
 
--- one grant more, of a block of this class
+-- one grant more: a block of this class is drawn
 abbrev pub with_grant : PoolGrants → ℕ → ℕ → PoolGrants
-with_grant pool app class = record {
-  account = after_draw pool.account class;
+with_grant pool app class = record pool {
+  made = (after_draw (pool_account pool) class).made;
+  requests = (after_draw (pool_account pool) class).requests;
   given = pool.given + 1;
   out = pool.out ++ record { number = pool.given + 1; app = app; class = class } ∷ [];
 }
@@ -76,25 +99,22 @@ with_grant pool app class = record {
 abbrev pub after_get_if : PoolGrants → ℕ → Option ℕ → PoolGrants
 after_get_if pool app None = pool
 after_get_if pool app (Some class) =
-    if has_room_for pool.account class 1 then with_grant pool app class else pool
+    if has_room_for (pool_account pool) class 1 then with_grant pool app class else pool
 
 -- a request for a size is one for the smallest class that is large enough
 abbrev pub after_get : PoolGrants → ℕ → ℕ → PoolGrants
-after_get pool app size = after_get_if pool app (class_of size pool.account.sizes)
+after_get pool app size = after_get_if pool app (class_of size pool.sizes)
 
 -- it answers the grant's number, one more than were given
 abbrev pub get_answer : PoolGrants → ℕ → Result ℕ EsStatus
 get_answer pool size =
-    if has_room pool.account size then Ok (pool.given + 1) else Err ErrMemBlockSize
+    if has_room (pool_account pool) size then Ok (pool.given + 1) else Err ErrMemBlockSize
 
--- a return: the grant isn't out any more, and its block is free; any other return is counted
+-- a return: the grant isn't out any more; any other return is counted
 abbrev pub after_put : PoolGrants → ℕ → PoolGrants
 after_put pool number =
-    if is_among pool.out number then (record {
-      account = after_return pool.account (class_under pool.out number);
-      given = pool.given;
-      out = without number pool.out;
-    }) else (record pool { account = after_refusal pool.account })
+    if is_among pool.out number then record pool { out = without number pool.out }
+    else record pool { errors = counted pool.errors }
 
 -- a return is refused where the grant was never given, or isn't out any more
 abbrev pub put_answer : PoolGrants → ℕ → Result Unit EsStatus
@@ -102,43 +122,25 @@ put_answer pool number =
     if not (was_given pool number) then Err BufferNotInPool
     else (if not (is_among pool.out number) then Err PoolBlockInvalid else Ok tt)
 
--- the account once an application's grants came back
-abbrev pub account_without : ℕ → Account → List Grant → Account
-account_without app account [] = account
-account_without app account (grant ∷ out) =
-    account_without app (if grant.app == app then after_return account grant.class else account) out
-
 -- an application's end: all its grants come back
 abbrev pub after_end : ℕ → PoolGrants → PoolGrants
-after_end app pool =
-    record {
-      account = account_without app pool.account pool.out;
-      given = pool.given;
-      out = of_others app pool.out;
-    }
+after_end app pool = record pool { out = of_others app pool.out }
 
 -- the figures of a pool: its bytes, the blocks drawn, the returns refused and the bytes never cut
 abbrev pub figures_of : PoolGrants → PoolStats
 figures_of pool = record {
-  size = pool.account.bytes;
-  requests = pool.account.requests;
-  errors = pool.account.errors;
-  free = pool.account.bytes - cost_of pool.account.made pool.account.sizes;
+  size = pool.bytes;
+  requests = pool.requests;
+  errors = pool.errors;
+  free = pool.bytes - cost_of pool.made pool.sizes;
 }
 
--- how many grants of a class are out
-abbrev pub out_of : ℕ → List Grant → ℕ
-out_of class out = count_by (λ grant. grant.class == class) out
-
--- the grants that are out stand in order of number, each was given and is of a class that there is,
--- and there are as many of each class as the account says that blocks of it are out
-pub record IsCounted (pool : PoolGrants) : Type 0 where
-  pub classes_all : length pool.account.out ≡ length pool.account.sizes
+-- the grants that are out stand in order of number, and each was given and is of a class that there
+-- is
+pub record IsNumbered (pool : PoolGrants) : Type 0 where
   pub rising : AllPairs (λ earlier later. earlier.number < later.number) pool.out
   pub given_all : All (λ grant. (1 ≤ grant.number) × (grant.number ≤ pool.given)) pool.out
-  pub classes : All (λ grant. grant.class < length pool.account.sizes) pool.out
-  pub counts : (class : ℕ) → class < length pool.account.sizes →
-      slice_index pool.account.out class ≡ out_of class pool.out
+  pub classes : All (λ grant. grant.class < length pool.sizes) pool.out
 
 -- the most bytes that a pool may have, the block sizes of every pool, and the pools, numbered from
 -- 1 in order of creation

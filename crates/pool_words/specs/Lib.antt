@@ -1,2 +1,1 @@
 pub mod Grants
-pub mod History

@@ -1,38 +1,29 @@
-//! That what the pools keep is what a history tells of them, and that it counts right.
-ghost use Rattle.std.specs.Prelude.{◌≡◌, ℕ, List};
-ghost use Rattle.pool_words.specs.Grants.{PoolGrants, IsCounted, new_pool, is_pool, pool_in, with_pool, create_answer, after_create, get_answer, after_get, put_answer, after_put, after_end, all_after_end};
-ghost use Rattle.pool_words.specs.History.{ToldPools, is_told, told_in, with_told, told_create_answer, told_create, told_get_answer, told_get, told_put_answer, told_put, told_end, all_told_end, present_pool, present};
+//! What the calls of a pool keep, and how its account moves with them.
+ghost use Rattle.std.specs.Prelude.{◌≡◌, ℕ, true, false, List};
+ghost use Rattle.fsw_base.specs.PoolAccounts.{after_draw, after_return, after_refusal};
+ghost use Rattle.pool_words.specs.Grants.{PoolGrants, IsNumbered, new_pool, is_among, class_under, pool_account, with_grant, after_get, after_put, after_end};
 
-/// What is kept of the pools, of each its account, how many grants were given and those that are
-/// out, says all that their calls ask: where a history tells every grant that was ever given,
-/// creations, requests, returns and ends answer and leave the same by what is kept of it. Does
-/// nothing.
-pub fn recall_grants_present()
-    ensures pool { (s : ToldPools) (pool : ℕ) → (is_pool (present s) pool ≡ is_told s pool) ×
-        (pool_in (present s) pool ≡ present_pool (told_in s pool)) }
-    ensures creations { (s : ToldPools) (bytes : ℕ) →
-        (create_answer (present s) bytes ≡ told_create_answer s bytes) ×
-        (after_create (present s) bytes ≡ present (told_create s bytes)) }
-    ensures requests { (s : ToldPools) (pool app size : ℕ) →
-        (get_answer (present_pool (told_in s pool)) size ≡ told_get_answer (told_in s pool) size) ×
-        (with_pool (present s) pool (after_get (present_pool (told_in s pool)) app size) ≡
-        present (with_told s pool (told_get (told_in s pool) app size))) }
-    ensures returns { (s : ToldPools) (pool number : ℕ) →
-        (put_answer (present_pool (told_in s pool)) number ≡
-        told_put_answer (told_in s pool) number) ×
-        (with_pool (present s) pool (after_put (present_pool (told_in s pool)) number) ≡
-        present (with_told s pool (told_put (told_in s pool) number))) }
-    ensures ends { (s : ToldPools) (app : ℕ) →
-        all_after_end app (present s) ≡ present (all_told_end app s) }
+/// A pool's account, whose blocks out are counted from the grants that are out, moves as accounts
+/// do: a grant draws a block of its size, its return gives this block back, and a refused return is
+/// counted. Does nothing.
+pub fn recall_blocks_counted()
+    ensures draws { (pool : PoolGrants) (app class : ℕ) →
+        pool_account (with_grant pool app class) ≡ after_draw (pool_account pool) class }
+    ensures returns { (pool : PoolGrants) (number : ℕ) → IsNumbered pool →
+        is_among pool.out number ≡ true → pool_account (after_put pool number) ≡
+        after_return (pool_account pool) (class_under pool.out number) }
+    ensures refusals { (pool : PoolGrants) (number : ℕ) → is_among pool.out number ≡ false →
+        pool_account (after_put pool number) ≡ after_refusal (pool_account pool) }
 {}
 
-/// In every pool the grants that are out are as many of each block size as its account says: a pool
-/// begins so, and each call keeps it. Does nothing.
-pub fn recall_grants_counted()
-    ensures creations { (sizes : List ℕ) (bytes : ℕ) → IsCounted (new_pool sizes bytes) }
-    ensures requests { (pool : PoolGrants) (app size : ℕ) → IsCounted pool →
-        IsCounted (after_get pool app size) }
-    ensures returns { (pool : PoolGrants) (number : ℕ) → IsCounted pool →
-        IsCounted (after_put pool number) }
-    ensures ends { (app : ℕ) (pool : PoolGrants) → IsCounted pool → IsCounted (after_end app pool) }
+/// In every pool the grants that are out stand in order of number, each was given, and each is of a
+/// block size that there is: a pool begins so, and each call keeps it. Does nothing.
+pub fn recall_grants_numbered()
+    ensures creations { (sizes : List ℕ) (bytes : ℕ) → IsNumbered (new_pool sizes bytes) }
+    ensures requests { (pool : PoolGrants) (app size : ℕ) → IsNumbered pool →
+        IsNumbered (after_get pool app size) }
+    ensures returns { (pool : PoolGrants) (number : ℕ) → IsNumbered pool →
+        IsNumbered (after_put pool number) }
+    ensures ends { (app : ℕ) (pool : PoolGrants) → IsNumbered pool →
+        IsNumbered (after_end app pool) }
 {}

@@ -1,8 +1,8 @@
 //! The memory pools of applications, as definitions: what their calls answer and change (cFE
 //! Executive Services, memory pools). The bus's definitions and the pools themselves cite them.
 //!
-//! It promises that what is kept of a pool, which is nothing of a grant that came back, says all
-//! that a history of every grant ever given says, and that it counts right.
+//! A pool is its bytes, the blocks made, its counts and the grants that are out; nothing is kept of
+//! a grant that came back. It promises that its account moves with them as accounts do.
 //!
 //! ```text
 //! let pool = new_pool sizes bytes in
@@ -10,12 +10,12 @@
 //! put_answer (after_get pool 2 60) 1  -- Ok (), for any application
 //! ```
 //!
-//! Proved: `recall_grants_present`: the account, the count of grants and those that are out are
-//! enough: over a history of every grant ever given, creations, requests, returns and ends answer
-//! and leave the same. `recall_grants_counted`: a pool begins with its grants counted
-//! (`IsCounted`), and each call keeps that.
+//! Proved: `recall_blocks_counted`: the blocks out are counted from the grants that are out
+//! (`pool_account`), and a grant draws a block, its return gives this block back, and a refused
+//! return is counted, as the accounts of `fsw_base` have it. `recall_grants_numbered`: a pool
+//! begins with its grants in order of number (`IsNumbered`), and each call keeps that.
 #![tactic(auto)]
 
 mod laws;
 
-pub use laws::{recall_grants_counted, recall_grants_present};
+pub use laws::{recall_blocks_counted, recall_grants_numbered};

@@ -1,6 +1,7 @@
 -- The text of a report.
 use Rattle.std.specs.Prelude.{ℕ, List, ◌++◌, codes, decimal, map}
 use Rattle.fsw_base.specs.Limits.{Limits}
+use Rattle.pool_words.specs.Grants.{pool_account}
 use Rattle.bus_words.specs.declared.history.Entry.{Entry}
 use Rattle.bus_words.specs.declared.receipts.Receipt.{Receipt}
 use Rattle.bus_words.specs.Bus.{State}
@@ -26,7 +27,7 @@ figures_shown limits s = record {
   statistics = s.statistics;
   now = in_use limits s;
   pool = account_of limits s;
-  pools = map (λ pool. pool.account) s.pools.pools;
+  pools = map pool_account s.pools.pools;
 }
 
 -- what a report shows of the tables after a history of so many applications
@@ -45,7 +46,7 @@ figures_read readings = record {
   statistics = readings.counters.now;
   now = readings.in_use;
   pool = account_read readings.pool.now;
-  pools = map (λ pool. pool.account) readings.pools.now.pools;
+  pools = map pool_account readings.pools.now.pools;
 }
 
 -- what a report shows of what was read off the tables

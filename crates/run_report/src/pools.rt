@@ -1,6 +1,7 @@
 //! The lines on memory pools: the bus's own, those that applications created, and the tables'.
 ghost use Rattle.std.specs.Prelude.{◌≡◌, ◌<◌, ℕ, length, map};
 ghost use Rattle.std.specs.List.{flat_map, range_with_len};
+ghost use Rattle.pool_words.specs.Grants.{pool_account};
 ghost use Rattle.text_page.specs.Pieces.{Puts};
 ghost use Rattle.run_report.specs.CounterText.{account_read, pool_head, class_head, pool_text, class_text, account_text, accounts_text};
 
@@ -24,7 +25,7 @@ pub(crate) enum PoolName {
 /// Puts the lines of the pools that applications created, number 1 first.
 pub fn put_app_pools<K: Sink>(sink: &mut SinkGuard<'_, K>, page: &mut Page, pools: &AppPools)
     ensures { Puts sink.old sink.new page.old page.new
-        (accounts_text (map (λ pool. pool.account) pools.now.pools)) }
+        (accounts_text (map pool_account pools.now.pools)) }
 {
     for i in 0..pools.app_pools() {
         put_account(

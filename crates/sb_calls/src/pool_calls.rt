@@ -3,7 +3,7 @@
 //! call is the core's and one entry of the journal.
 ghost use Rattle.std.specs.Prelude.{◌≡◌, ◌+◌, ◌≤◌, length, IsTrue};
 ghost use Rattle.es_pool.specs.Account.{IsAccountOf};
-ghost use Rattle.pool_words.specs.Grants.{is_pool, pool_in};
+ghost use Rattle.pool_words.specs.Grants.{is_pool, pool_in, pool_account};
 ghost use Rattle.sb_calls.specs.Bags.{KeepsBags};
 ghost use Rattle.sb_calls.specs.Core.{MayCall, Does, state_of};
 ghost use Rattle.sb_plain.specs.Answers.{pool_told, grant_back, figures_told};
@@ -128,7 +128,7 @@ impl<'r> BusCore<'r> {
     /// A memory pool that was created, to be read.
     pub fn app_pool(&self, pool: u32) -> &Pool
         requires { IsTrue (is_pool (state_of self.now).pools pool) }
-        ensures { IsAccountOf result.now (pool_in (state_of self.now).pools pool).account }
+        ensures { IsAccountOf result.now (pool_account (pool_in (state_of self.now).pools pool)) }
     {
         self.core.app_pool(pool)
     }

@@ -6,7 +6,7 @@ use Rattle.fsw_base.specs.Limits.{limits_of}
 use Rattle.fsw_base.specs.PoolAccounts.{has_room, has_room_if, has_room_for}
 use Rattle.fsw_base.specs.declared.statuses.EsStatus.{EsStatus}
 use Rattle.fsw_base.specs.declared.statuses.EsStatus.TheVariants.{ErrMemBlockSize, NoPool}
-use Rattle.pool_words.specs.Grants.{PoolGrants, Pools, new_pool, is_pool, pool_in, with_pool, with_grant, after_get, after_get_if, get_answer, answer_in}
+use Rattle.pool_words.specs.Grants.{PoolGrants, Pools, new_pool, is_pool, pool_in, with_pool, with_grant, pool_account, after_get, after_get_if, get_answer, answer_in}
 use Rattle.bus_words.specs.declared.calls.BusAnswer.{BusAnswer}
 use Rattle.bus_words.specs.declared.history.Call.TheVariants.{PoolGet}
 use Rattle.bus_words.specs.Refusals.{Refusal, OfPools}
@@ -23,16 +23,16 @@ module _ (a : Inside) (app pool size : ℕ) where
   it = pool_in a.pools pool
 
   -- a request that isn't granted leaves the pool
-  still : has_room it.account size ≡ false → after_get it app size ≡ it
-  still none = at (class_of size it.account.sizes) none
+  still : has_room (pool_account it) size ≡ false → after_get it app size ≡ it
+  still none = at (class_of size it.sizes) none
     where
       by_room : (class : ℕ) (b : Bool) → b ≡ false → cond {A = PoolGrants} b (with_grant it app class) it ≡ it
       by_room class true e = absurd (cc (e))
       by_room class false e = refl
 
-      at : (o : Option ℕ) → has_room_if it.account o ≡ false → after_get_if it app o ≡ it
+      at : (o : Option ℕ) → has_room_if (pool_account it) o ≡ false → after_get_if it app o ≡ it
       at None e = refl
-      at (Some class) e = by_room class (has_room_for it.account class 1) e
+      at (Some class) e = by_room class (has_room_for (pool_account it) class 1) e
 
   -- and so all pools
   same : with_pool a.pools pool it ≡ a.pools
@@ -50,26 +50,26 @@ module _ (a : Inside) (app pool size : ℕ) where
   after = with_pool a.pools pool (after_get it app size)
 
   made : bare (limits_of a.config) (means a) app (PoolGet pool size) ≡ with_answer (answer_in a.pools pool (get_answer it size)) after
-  made = by_tests (is_pool a.pools pool) (has_room it.account size) refl refl
+  made = by_tests (is_pool a.pools pool) (has_room (pool_account it) size) refl refl
     where
-      why : (there room : Bool) → is_pool a.pools pool ≡ there → has_room it.account size ≡ room →
+      why : (there room : Bool) → is_pool a.pools pool ≡ there → has_room (pool_account it) size ≡ room →
           cause (limits_of a.config) (means a).bus app (PoolGet pool size) ≡ by_pools (refused_if (not there) NoPool (refused_if (not room) ErrMemBlockSize None))
       why there room is fits =
-          ap (λ b. by_pools (refused_if (not b) NoPool (refused_if (not (has_room it.account size)) ErrMemBlockSize None))) is
+          ap (λ b. by_pools (refused_if (not b) NoPool (refused_if (not (has_room (pool_account it) size)) ErrMemBlockSize None))) is
           ∙ ap (λ b. by_pools (refused_if (not there) NoPool (refused_if (not b) ErrMemBlockSize None))) fits
 
       by : (there room : Bool) (o : Option Refusal) → by_pools (refused_if (not there) NoPool (refused_if (not room) ErrMemBlockSize None)) ≡ o →
-          is_pool a.pools pool ≡ there → has_room it.account size ≡ room → cause (limits_of a.config) (means a).bus app (PoolGet pool size) ≡ o
+          is_pool a.pools pool ≡ there → has_room (pool_account it) size ≡ room → cause (limits_of a.config) (means a).bus app (PoolGet pool size) ≡ o
       by there room o none is fits = why there room is fits ∙ none
 
-      told : (there room : Bool) → is_pool a.pools pool ≡ there → has_room it.account size ≡ room →
+      told : (there room : Bool) → is_pool a.pools pool ≡ there → has_room (pool_account it) size ≡ room →
           with_answer (answer_in a.pools pool (get_answer it size)) after
           ≡ with_answer (cond there (cond room (Ok (it.given + 1)) (Err ErrMemBlockSize)) (Err NoPool)) after
       told there room is fits =
           ap (λ b. with_answer (cond b (get_answer it size) (Err NoPool)) after) is
           ∙ ap (λ b. with_answer (cond there (cond b (Ok (it.given + 1)) (Err ErrMemBlockSize)) (Err NoPool)) after) fits
 
-      by_tests : (there room : Bool) → is_pool a.pools pool ≡ there → has_room it.account size ≡ room →
+      by_tests : (there room : Bool) → is_pool a.pools pool ≡ there → has_room (pool_account it) size ≡ room →
           bare (limits_of a.config) (means a) app (PoolGet pool size) ≡ with_answer (answer_in a.pools pool (get_answer it size)) after
       by_tests false room is fits =
           bare_by (limits_of a.config) (means a) app (PoolGet pool size) (Some (OfPools NoPool)) (by false room (Some (OfPools NoPool)) refl is fits)
@@ -100,5 +100,5 @@ get_numbered s pool size told is = subst (λ (r : Result ℕ EsStatus). IfOk r (
     by_room false = tt
 
     by_pool : (b : Bool) → IfOk (cond {A = Result ℕ EsStatus} b (get_answer (pool_in s pool) size) (Err NoPool)) (λ n. n ≡ (pool_in s pool).given + 1)
-    by_pool true = by_room (has_room (pool_in s pool).account size)
+    by_pool true = by_room (has_room (pool_account (pool_in s pool)) size)
     by_pool false = tt

@@ -2,7 +2,7 @@
 //! memory pools). They lend no bytes: what a pool hands out are numbered grants of its blocks.
 ghost use Rattle.std.specs.Prelude.{◌≡◌, ℕ, ◌+◌, ◌≤◌, false, length, Err, IfOk, IsTrue};
 ghost use Rattle.es_pool.specs.Account.{IsAccountOf};
-ghost use Rattle.pool_words.specs.Grants.{is_pool, pool_in, has_numbers};
+ghost use Rattle.pool_words.specs.Grants.{is_pool, pool_in, pool_account, has_numbers};
 ghost use Rattle.bus_words.specs.declared.history.Call.TheVariants.{PoolCreate, PoolGet, PoolPut, PoolFigures};
 ghost use Rattle.sb_plain.specs.Core.{MayAct, Acts};
 ghost use Rattle.sb_plain.specs.Answers.{pool_told, grant_back, figures_told};
@@ -117,7 +117,7 @@ impl<'r> PlainBus<'r> {
     /// A memory pool that was created, to be read.
     pub fn app_pool(&self, pool: u32) -> &Pool
         requires { IsTrue (is_pool self.now.whole.bus.pools pool) }
-        ensures { IsAccountOf result.now (pool_in self.now.whole.bus.pools pool).account }
+        ensures { IsAccountOf result.now (pool_account (pool_in self.now.whole.bus.pools pool)) }
     {
         self.pools.app_pool(pool)
     }

@@ -1,4 +1,5 @@
 use Rattle.std.proofs.Common.{map, ap, sym}
+use Rattle.pool_words.specs.Grants.{pool_account}
 use Rattle.bus_words.specs.Held.{account_of}
 use Rattle.sb_calls.specs.Core.{state_of}
 use Rattle.run_report.proofs.Accounts.{one_account}
@@ -10,4 +11,4 @@ returns-clause-figures c =
     let bus = c.args.bus.now in
     figures-as c.version.ensures c.events.ensures.desk c.counters.ensures.statistics c.in_use.ensures.now
     (sym (one_account c.pool.result.now (account_of bus.limits (state_of bus)) c.pool.ensures.account))
-    (ap (λ pools. map (λ pool. pool.account) pools.pools) c.pools.ensures)
+    (ap (λ pools. map pool_account pools.pools) c.pools.ensures)

@@ -2,7 +2,7 @@ use Rattle.std.proofs.Common.{◌≡◌, ◌+◌, ◌-◌, ◌<◌, [], length, 
 use Rattle.std.proofs.lemmas.Option.{slice_get-get_or}
 use Rattle.run_report.specs.CounterText.{account_text}
 use Rattle.run_report.specs.declared.pools.PoolName.TheVariants.{Applications}
-use Rattle.pool_words.specs.Grants.{new_pool, pool_in}
+use Rattle.pool_words.specs.Grants.{new_pool, pool_in, pool_account}
 use Rattle.text_page.proofs.Following.{numbered-map-next}
 use Rattle.text_page.proofs.Putting.{◌▸◌, puts_as}
 use Rattle.run_report.proofs.Accounts.{one_account}
@@ -15,7 +15,7 @@ loop-i-preserved g c =
     let there : c.loop-i.i < length pools.pools = omega (arith, c.app_pools-i-end.ensures) in
     let same : c.loop-i.i + 1 - 1 ≡ c.loop-i.i = omega arith in
     puts_as _
-    (numbered-map-next (λ number account. account_text (Applications number) account) (λ pool. pool.account) pools.pools c.loop-i.i pool
+    (numbered-map-next (λ number account. account_text (Applications number) account) pool_account pools.pools c.loop-i.i pool
     (slice_get-get_or pools.pools c.loop-i.i (new_pool [] 0) there ∙ ap (λ n. Some (slice_index_or pools.pools n (new_pool [] 0))) (sym same)))
     (c.loop-i.invariant
-    ▸ puts_as _ (ap (account_text (Applications (c.loop-i.i + 1))) (sym (one_account c.app_pool.result.now pool.account c.app_pool.ensures))) c.put_account.ensures)
+    ▸ puts_as _ (ap (account_text (Applications (c.loop-i.i + 1))) (sym (one_account c.app_pool.result.now (pool_account pool) c.app_pool.ensures))) c.put_account.ensures)

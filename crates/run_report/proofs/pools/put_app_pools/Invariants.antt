@@ -1,7 +1,8 @@
 use Rattle.std.proofs.Common.{take, map}
+use Rattle.pool_words.specs.Grants.{pool_account}
 use Rattle.text_page.specs.Pieces.{Puts}
 use Rattle.run_report.specs.CounterText.{accounts_text}
 use Rattle.run_report.proofs.pools.put_app_pools.Given as goal
 
 abbrev pub invariant-loop-i : goal.invariant-loop-i
-invariant-loop-i g l = Puts l.initial.sink l.sink l.initial.page l.page (accounts_text (map (λ pool. pool.account) (take l.i l.pools.pools)))
+invariant-loop-i g l = Puts l.initial.sink l.sink l.initial.page l.page (accounts_text (map pool_account (take l.i l.pools.pools)))

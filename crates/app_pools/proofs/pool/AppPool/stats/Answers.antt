@@ -10,5 +10,5 @@ pub returns : goal.returns
 returns c =
     let pool = c.self.inside.pool in
     c.stats.ensures
-    ∙ (ap (λ used. let figures : PoolStats = record { size = pool.bytes; requests = pool.requests; errors = pool.errors; free = pool.bytes - used } in figures) (sym (rest_alike pool (account_in pool) c.self.invariant.account))
+    ∙ (ap (λ used. let figures : PoolStats = record { size = pool.bytes; requests = pool.requests; errors = pool.errors; free = pool.bytes - used } in figures) (sym (rest_alike pool (account_in pool c.self.inside.lent.items) c.self.invariant.account))
     ∙ ap figures_of c.self.view_is)

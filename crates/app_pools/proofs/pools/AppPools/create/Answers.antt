@@ -15,7 +15,7 @@ open-requires c =
     let old = c.index_mut.ensures.value ∙ fresh a.most a.made a.sizes a.places.items c.self.invariant c.args.self.now c.self.view_is c.args.bytes allowed _ in
     record {
       unused = ap (λ (p : PoolGrants). p.given) old;
-      within = subst (λ (p : PoolGrants). c.args.bytes ≤ p.account.bytes) (sym old) (within_most a.most a.made a.sizes a.places.items c.self.invariant c.args.self.now c.self.view_is c.args.bytes allowed);
+      within = subst (λ (p : PoolGrants). c.args.bytes ≤ p.bytes) (sym old) (within_most a.most a.made a.sizes a.places.items c.self.invariant c.args.self.now c.self.view_is c.args.bytes allowed);
     }
 
 pub overflow_add-self : goal.overflow_add-self
@@ -28,7 +28,7 @@ invariant_of-self c =
     let a = c.self.inside in
     let allowed = sym c.refuses.ensures ∙ c.if-refuses.false in
     let old = c.index_mut.ensures.value ∙ fresh a.most a.made a.sizes a.places.items c.self.invariant c.args.self.now c.self.view_is c.args.bytes allowed _ in
-    let new = c.open.ensures ∙ ap (λ (p : PoolGrants). record p { account = record p.account { bytes = c.args.bytes } }) old in
+    let new = c.open.ensures ∙ ap (λ (p : PoolGrants). record p { bytes = c.args.bytes }) old in
     opened_more a.most a.made a.sizes a.places.items c.self.invariant c.args.self.now c.self.view_is c.args.bytes allowed c.open.new.self new
 
 pub returns-clause-answer : goal.returns-clause-answer
@@ -41,5 +41,5 @@ returns-clause-after c =
     let a = c.self.inside in
     let allowed = sym c.refuses.ensures ∙ c.if-refuses.false in
     let old = c.index_mut.ensures.value ∙ fresh a.most a.made a.sizes a.places.items c.self.invariant c.args.self.now c.self.view_is c.args.bytes allowed _ in
-    let new = c.open.ensures ∙ ap (λ (p : PoolGrants). record p { account = record p.account { bytes = c.args.bytes } }) old in
+    let new = c.open.ensures ∙ ap (λ (p : PoolGrants). record p { bytes = c.args.bytes }) old in
     created a.most a.made a.sizes a.places.items c.self.invariant c.args.self.now c.self.view_is c.args.bytes allowed c.open.new.self new

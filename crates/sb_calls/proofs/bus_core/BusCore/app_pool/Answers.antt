@@ -1,6 +1,6 @@
 use Rattle.std.proofs.Common.{IsTrue, sym, subst}
 use Rattle.es_pool.specs.Account.{IsAccountOf}
-use Rattle.pool_words.specs.Grants.{is_pool, pool_in}
+use Rattle.pool_words.specs.Grants.{is_pool, pool_in, pool_account}
 use Rattle.bus_words.specs.Bus.{State}
 use Rattle.sb_calls.proofs.Over.{bus_now}
 use Rattle.sb_calls.proofs.bus_core.BusCore.app_pool.Goals as goal
@@ -11,4 +11,4 @@ app_pool-requires c =
 
 pub returns : goal.returns
 returns c =
-    subst (λ (s : State). IsAccountOf c.app_pool.result.now (pool_in s.pools c.args.pool).account) (bus_now c.self.inside c.args.self.now c.self.view_is c.self.invariant) c.app_pool.ensures
+    subst (λ (s : State). IsAccountOf c.app_pool.result.now (pool_account (pool_in s.pools c.args.pool))) (bus_now c.self.inside c.args.self.now c.self.view_is c.self.invariant) c.app_pool.ensures
