@@ -193,7 +193,7 @@ does-send limits history s p a own app bytes inc ordered alike (sub ∷ subs) is
     (subst (λ xs. Goes p (cond {A = List Input} (was_made s p) (input ∷ []) []) false s.subscriptions_made (deliver sending xs s.pipes) s.subscriptions a) is
     (elim (was_made s p) as (λ b. was_made s p ≡ b → Goes p (cond {A = List Input} b (input ∷ []) []) false s.subscriptions_made (deliver sending (route s.subscriptions id) s.pipes) s.subscriptions a) [
       | true ↦ λ made. goes-send own p s.subscriptions_made id sending s.pipes s.subscriptions a ordered.tied.pairs ordered.tied.live alike
-      | false ↦ λ early. goes-early own p s.subscriptions_made s.pipes_created id sending s.pipes s.subscriptions a ordered.tied.pairs ordered.numbered.pipes (leb-false p s.pipes_created early) alike
+      | false ↦ λ early. goes-early own p s.subscriptions_made s.pipes_created id sending s.pipes s.subscriptions a ordered.tied.pairs ordered.numbered.pipes early alike
     ] refl))
 
 does-pass : (limits : Limits) (history : List Entry) (s : State) (p : ℕ) (a : Alone) (own : ℕ → ℕ) (app buf : ℕ) (bytes : List ℕ) (inc : Bool) → AreOrdered s → 1 ≤ buf →
@@ -211,7 +211,7 @@ does-pass limits history s p a own app buf bytes inc ordered first alike (sub �
     (subst (λ xs. Goes p (cond {A = List Input} (was_made s p) (input ∷ []) []) false s.subscriptions_made (deliver sending xs s.pipes) s.subscriptions a) is
     (elim (was_made s p) as (λ b. was_made s p ≡ b → Goes p (cond {A = List Input} b (input ∷ []) []) false s.subscriptions_made (deliver sending (route s.subscriptions id) s.pipes) s.subscriptions a) [
       | true ↦ λ made. goes-send own p s.subscriptions_made id sending s.pipes s.subscriptions a ordered.tied.pairs ordered.tied.live alike
-      | false ↦ λ early. goes-early own p s.subscriptions_made s.pipes_created id sending s.pipes s.subscriptions a ordered.tied.pairs ordered.numbered.pipes (leb-false p s.pipes_created early) alike
+      | false ↦ λ early. goes-early own p s.subscriptions_made s.pipes_created id sending s.pipes s.subscriptions a ordered.tied.pairs ordered.numbered.pipes early alike
     ] refl))
 
 -- housekeeping is a send of its packet

@@ -1,6 +1,6 @@
 -- What each entry does to one pipe of the bus, and to the pipe alone: they stay alike, and give the same messages.
-use Rattle.std.proofs.Common.{◌≡◌, ℕ, suc, ◌+◌, ◌<◌, ◌≤◌, ◌==◌, ◌&&◌, ◌||◌, not, Bool, true, false, cond, true≢false, eqb-true, ne_eqb, append-nil, List, [], ◌∷◌, ◌++◌, length, map, filter, Option, Some, None, refl, ap, sym, ◌∙◌, subst, arith}
-use Rattle.std.specs.Prelude.{find, if◌then◌else◌}
+use Rattle.std.proofs.Common.{◌≡◌, ℕ, suc, ◌+◌, ◌<◌, ◌≤◌, ◌==◌, ◌&&◌, ◌||◌, not, Bool, true, false, cond, true≢false, eqb-true, ne_eqb, leb-false, append-nil, List, [], ◌∷◌, ◌++◌, length, map, filter, Option, Some, None, refl, ap, sym, ◌∙◌, subst, arith}
+use Rattle.std.specs.Prelude.{find, nat_le, if◌then◌else◌}
 use Rattle.std.specs.List.{list_any}
 use Rattle.std.specs.Option.{option_map, option_map_or}
 use Rattle.fsw_base.specs.declared.config.Scope.{Scope}
@@ -75,6 +75,15 @@ none_below low top p (n ∷ ns) rising below =
 -- a pipe that isn't made yet isn't live
 unmade_dead : (top p : ℕ) (pipes : List Pipe) → AreRising 0 top (map (λ pipe. pipe.number) pipes) → top < p → is_live pipes p ≡ false
 unmade_dead top p pipes rising above = sym (any-map (λ n. n == p) (λ (pipe : Pipe). pipe.number) pipes) ∙ none_above 0 top p _ rising above
+
+-- and so is none of a number that no pipe has
+never_live : (created p : ℕ) (pipes : List Pipe) → AreRising 0 created (map (λ pipe. pipe.number) pipes) → (nat_le 1 p && nat_le p created) ≡ false → is_live pipes p ≡ false
+never_live created p pipes rising early = by_first (nat_le 1 p) refl early
+  where
+    by_first : (b : Bool) → nat_le 1 p ≡ b → (b && nat_le p created) ≡ false → is_live pipes p ≡ false
+    by_first true some late = unmade_dead created p pipes rising (leb-false p created late)
+    by_first false none late =
+        sym (any-map (λ n. n == p) (λ (pipe : Pipe). pipe.number) pipes) ∙ none_below 0 created p _ rising (omega (arith, leb-false 1 p none))
 
 any-find : (pipes : List Pipe) (p : ℕ) → pipe_at pipes p ≡ None → is_live pipes p ≡ false
 any-find [] p none = refl
@@ -377,12 +386,12 @@ goes-send own p top id sending pipes subs a pairs live alike = record {
   given = refl;
 }
 
--- an accepted send before the pipe is made
+-- an accepted send where the pipe isn't made
 pub goes-early : (own : ℕ → ℕ) (p top created id : ℕ) (sending : Sending) (pipes : List Pipe) (subs : List Subscription) (a : Alone) → ArePairs subs →
-    AreRising 0 created (map (λ pipe. pipe.number) pipes) → created < p → AreAlike own top (pipe_at pipes p) (mine p subs) a →
+    AreRising 0 created (map (λ pipe. pipe.number) pipes) → (nat_le 1 p && nat_le p created) ≡ false → AreAlike own top (pipe_at pipes p) (mine p subs) a →
     Goes p [] false top (deliver sending (route subs id) pipes) subs a
-goes-early own p top created id sending pipes subs a pairs rising later alike =
-    let none : pipe_at pipes p ≡ None = find-any (λ (x : Pipe). x.number == p) pipes (unmade_dead created p pipes rising later) in
+goes-early own p top created id sending pipes subs a pairs rising early alike =
+    let none : pipe_at pipes p ≡ None = find-any (λ (x : Pipe). x.number == p) pipes (never_live created p pipes rising early) in
     goes_by own p top _ subs a (unmoved own top top (pipe_at pipes p) _ (mine p subs) (mine p subs) a (omega arith)
     (none ∙ sym (delivered_route sending p id subs pipes pairs ∙ ap (option_map (offered_to sending (find (λ sub. sub.id == id) (mine p subs)))) none)) refl alike)
 

@@ -133,9 +133,9 @@ takes TimeOut = true
 takes Pending = true
 takes answer = false
 
--- whether pipe p was made, be it live or not
+-- whether pipe p was made, be it live or not; the first has the number 1
 abbrev pub was_made : State → ℕ → Bool
-was_made s p = nat_le p s.pipes_created
+was_made s p = nat_le 1 p && nat_le p s.pipes_created
 
 -- what an entry is to pipe p, after this history and in this state of the bus: an accepted call on
 -- it, an accepted send once the pipe was made, or its owner's end
