@@ -1,6 +1,6 @@
 -- The account of a pool moves as its grants do: one that is given draws a block of its class, one that comes back frees it.
-use Rattle.std.proofs.Common.{◌≡◌, ℕ, ◌+◌, ◌-◌, ◌<◌, ◌≤◌, ◌||◌, ◌⊎◌, inl, inr, suc, Bool, true, false, not, cond, eqb, Some, List, [], ◌∷◌, ◌++◌, length, get_or, set, map, replicate, refl, ap, sym, subst, ◌∙◌, arith}
-use Rattle.std.specs.List.{find, All, AllPairs, range_with_len}
+use Rattle.std.proofs.Common.{◌≡◌, ℕ, ◌+◌, ◌-◌, ◌<◌, ◌||◌, ◌⊎◌, inl, inr, suc, true, false, not, cond, eqb, Some, List, [], ◌∷◌, ◌++◌, length, get_or, set, replicate, ap, sym, subst, ◌∙◌, arith}
+use Rattle.std.specs.List.{find, All, AllPairs}
 use Rattle.std.specs.Option.{option_map_or}
 use Rattle.std.proofs.lemmas.Bool.{false≢true, cases_eq}
 use Rattle.std.proofs.lemmas.List.{length-set, length-replicate, get_or-replicate, get_or-set_same, get_or-set_other}

@@ -1,12 +1,12 @@
 -- The grants that are out stand in order of number, whatever the calls.
-use Rattle.std.proofs.Common.{◌≡◌, ℕ, ◌+◌, ◌<◌, ◌≤◌, Bool, List, true, false, not, cond, eqb, leb, Option, Some, None, length, ◌∷◌, refl, arith}
-use Rattle.std.specs.List.{filter, All, AllPairs}
+use Rattle.std.proofs.Common.{◌≡◌, ℕ, ◌+◌, ◌<◌, ◌≤◌, Bool, List, true, false, not, cond, eqb, leb, Option, Some, None, length, refl, arith}
+use Rattle.std.specs.List.{filter}
 use Rattle.std.proofs.lemmas.List.Elements.{All-push, All-filter}
 use Rattle.std.proofs.lemmas.List.Kept.{AllPairs-filter}
 use Rattle.std.proofs.lemmas.List.Quantifiers.{all_pairs_push, position-Some}
 use Rattle.fsw_base.specs.Blocks.{class_of}
 use Rattle.fsw_base.specs.PoolAccounts.{counted, has_room_for}
-use Rattle.pool_words.specs.Grants.{Grant, PoolGrants, new_pool, is_among, without, of_others, with_grant, after_get_if, after_get, after_put, pool_account, after_end, IsNumbered}
+use Rattle.pool_words.specs.Grants.{Grant, PoolGrants, new_pool, is_among, without, with_grant, after_get_if, after_get, after_put, pool_account, after_end, IsNumbered}
 
 -- a pool that gave no grant
 pub numbered_new : (sizes : List ℕ) (bytes : ℕ) → IsNumbered (new_pool sizes bytes)
