@@ -8,10 +8,11 @@ use Rattle.journal_store.specs.Store.{Stored}
 use Rattle.journal_store.specs.Store as store
 use Rattle.journal_store.proofs.Charges as charges
 use Rattle.bus_words.specs.declared.calls.BusAnswer.{BusAnswer}
+use Rattle.bus_words.specs.declared.calls.BusCall.{BusCall}
+use Rattle.bus_words.specs.declared.history.Call.{Call}
 use Rattle.bus_words.specs.declared.history.Entry.{Entry}
 use Rattle.bus_words.specs.declared.journal.Row.{Row}
-use Rattle.bus_words.specs.declared.journal.RowCall.{RowCall}
-use Rattle.bus_words.specs.Entries.{call_bytes}
+use Rattle.bus_words.specs.Entries.{call_of, with_text, call_bytes}
 use Rattle.bus_words.specs.Inside.{entry_in, entries_in, AreWhole}
 use Rattle.bus_words.specs.Log.{Log, charge_of, left_of}
 
@@ -37,18 +38,23 @@ get_last : {X : Type 0} (front : List X) (last : X) → slice_get (front ++ last
 get_last [] last = refl
 get_last (x ∷ front) last = get_last front last
 
+-- with these bytes it is the same call
+abbrev pub AreAlike : BusCall → BusCall → Type 0
+AreAlike again call = (text : List ℕ) → with_text text (call_of again) ≡ with_text text (call_of call)
+
 -- what another answer makes of the rows: the last one has it, and its call as before
-record Answered (rows now : List (Stored Row)) (call : RowCall) (answer : BusAnswer) : Type 0 where
+record Answered (rows now : List (Stored Row)) (again : BusCall) (answer : BusAnswer) : Type 0 where
   front : List (Stored Row)
   last : Stored Row
   before : rows ≡ front ++ last ∷ []
-  after : now ≡ front ++ record last { row = record { call = last.row.call; answer = answer } } ∷ []
+  after : now ≡ front ++ record last { row = record { call = again; answer = answer } } ∷ []
+  same : AreAlike again last.row.call
 
-answered : (rows now : List (Stored Row)) (i : ℕ) (row : Row) (answer : BusAnswer) → 1 ≤ length rows → i + 1 ≡ length rows →
+answered : (rows now : List (Stored Row)) (i : ℕ) (row : Row) (again : BusCall) (answer : BusAnswer) → AreAlike again row.call → 1 ≤ length rows → i + 1 ≡ length rows →
     option_map (λ stored. stored.row) (slice_get rows i) ≡ Some row →
-    ((front : List (Stored Row)) (last : Stored Row) → rows ≡ front ++ last ∷ [] → now ≡ front ++ record last { row = record { call = row.call; answer = answer } } ∷ []) →
-    Answered rows now row.call answer
-answered rows now i row answer some at found replaced =
+    ((front : List (Stored Row)) (last : Stored Row) → rows ≡ front ++ last ∷ [] → now ≡ front ++ record last { row = record { call = again; answer = answer } } ∷ []) →
+    Answered rows now again answer
+answered rows now i row again answer alike some at found replaced =
     let parts = ends rows some in
     let front = parts.0 in
     let last = parts.1 in
@@ -58,21 +64,17 @@ answered rows now i row answer some at found replaced =
     let it : Some last.row ≡ Some row =
     sym (ap (option_map (λ (stored : Stored Row). stored.row)) (ap (λ (xs : List (Stored Row)). slice_get xs i) is ∙ ap (slice_get (front ++ last ∷ [])) here ∙ get_last front last)) ∙ found in
     let same : last.row ≡ row = ap (λ (o : Option Row). option_map_or (λ r. r) o row) it in
-    record {
-      front = front;
-      last = last;
-      before = is;
-      after = replaced front last is ∙ ap (λ (r : Row). front ++ record last { row = record { call = r.call; answer = answer } } ∷ []) (sym same);
-    }
+    record { front = front; last = last; before = is; after = replaced front last is; same = λ text. alike text ∙ ap (λ (r : Row). with_text text (call_of r.call)) (sym same) }
 
 -- the rows take as much as before
-pub AreWhole-answered : (rows now : List (Stored Row)) (i : ℕ) (row : Row) (answer : BusAnswer) → AreWhole rows → 1 ≤ length rows → i + 1 ≡ length rows →
+pub AreWhole-answered : (rows now : List (Stored Row)) (i : ℕ) (row : Row) (again : BusCall) (answer : BusAnswer) → AreWhole rows → AreAlike again row.call → 1 ≤ length rows → i + 1 ≡ length rows →
     option_map (λ stored. stored.row) (slice_get rows i) ≡ Some row →
-    ((front : List (Stored Row)) (last : Stored Row) → rows ≡ front ++ last ∷ [] → now ≡ front ++ record last { row = record { call = row.call; answer = answer } } ∷ []) →
+    ((front : List (Stored Row)) (last : Stored Row) → rows ≡ front ++ last ∷ [] → now ≡ front ++ record last { row = record { call = again; answer = answer } } ∷ []) →
     AreWhole now
-AreWhole-answered rows now i row answer whole some at found replaced =
-    let is = answered rows now i row answer some at found replaced in
-    let new : Stored Row = record is.last { row = record { call = is.last.row.call; answer = answer } } in
+AreWhole-answered rows now i row again answer whole alike some at found replaced =
+    let is = answered rows now i row again answer alike some at found replaced in
+    let new : Stored Row = record is.last { row = record { call = again; answer = answer } } in
+    let same : charge_of (entry_in is.last) ≡ charge_of (entry_in new) = ap (λ (call : Call). charge_of (record { app = is.last.app; call = call; answer = answer })) (sym (is.same is.last.text)) in
     ap (map store.charge_of) is.after
     ∙ map_push store.charge_of is.front new
     ∙ sym (map_push store.charge_of is.front is.last)
@@ -81,20 +83,22 @@ AreWhole-answered rows now i row answer whole some at found replaced =
     ∙ ap (λ rs. map charge_of (entries_in rs)) is.before
     ∙ ap (map charge_of) (map_push entry_in is.front is.last)
     ∙ map_push charge_of (entries_in is.front) (entry_in is.last)
+    ∙ ap (λ charge. map charge_of (entries_in is.front) ++ charge ∷ []) same
     ∙ sym (map_push charge_of (entries_in is.front) (entry_in new))
     ∙ sym (ap (map charge_of) (map_push entry_in is.front new))
     ∙ ap (λ rs. map charge_of (entries_in rs)) (sym is.after)
 
 -- the last entry has the answer, and its call as before
-pub entries-answered : (rows now : List (Stored Row)) (i : ℕ) (row : Row) (answer : BusAnswer) (front : List Entry) (last : Entry) → 1 ≤ length rows → i + 1 ≡ length rows →
+pub entries-answered : (rows now : List (Stored Row)) (i : ℕ) (row : Row) (again : BusCall) (answer : BusAnswer) (front : List Entry) (last : Entry) → AreAlike again row.call → 1 ≤ length rows → i + 1 ≡ length rows →
     option_map (λ stored. stored.row) (slice_get rows i) ≡ Some row →
-    ((front : List (Stored Row)) (last : Stored Row) → rows ≡ front ++ last ∷ [] → now ≡ front ++ record last { row = record { call = row.call; answer = answer } } ∷ []) →
+    ((front : List (Stored Row)) (last : Stored Row) → rows ≡ front ++ last ∷ [] → now ≡ front ++ record last { row = record { call = again; answer = answer } } ∷ []) →
     entries_in rows ≡ front ++ last ∷ [] → entries_in now ≡ front ++ record last { answer = answer } ∷ []
-entries-answered rows now i row answer front last some at found replaced entries =
-    let is = answered rows now i row answer some at found replaced in
-    let new : Stored Row = record is.last { row = record { call = is.last.row.call; answer = answer } } in
+entries-answered rows now i row again answer front last alike some at found replaced entries =
+    let is = answered rows now i row again answer alike some at found replaced in
+    let new : Stored Row = record is.last { row = record { call = again; answer = answer } } in
     let parts = same_from_push (entries_in is.front) front (entry_in is.last) last (sym (map_push entry_in is.front is.last) ∙ ap entries_in (sym is.before) ∙ entries) in
     ap entries_in is.after
     ∙ map_push entry_in is.front new
-    ∙ ap (λ es. es ++ entry_in new ∷ []) parts.0
+    ∙ ap (λ (call : Call). entries_in is.front ++ record { app = is.last.app; call = call; answer = answer } ∷ []) (is.same is.last.text)
+    ∙ ap (λ es. es ++ record (entry_in is.last) { answer = answer } ∷ []) parts.0
     ∙ ap (λ (e : Entry). front ++ record e { answer = answer } ∷ []) parts.1

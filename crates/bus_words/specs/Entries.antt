@@ -76,6 +76,15 @@ call_text Housekeeping = []
 call_text Figures = []
 call_text End = []
 
+-- the call with these bytes in place of those that it brings; itself, where it brings none
+abbrev pub with_text : List ℕ → Call → Call
+with_text text (Create depth name) = Create depth text
+with_text text (Find name) = Find text
+with_text text (Transmit bytes inc) = Transmit text inc
+with_text text (TransmitBuffer buf bytes inc) = TransmitBuffer buf text inc
+with_text text (SendEvent id kind own) = SendEvent id kind text
+with_text text call = call
+
 -- how many they are
 abbrev pub call_bytes : Call → ℕ
 call_bytes call = length (call_text call)

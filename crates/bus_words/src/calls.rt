@@ -1,6 +1,6 @@
 //! The calls of the software bus, their answers, and both together as an entry of the journal.
-ghost use Rattle.std.specs.Prelude.{◌≡◌};
-ghost use Rattle.bus_words.specs.Entries.{call_of, call_text, call_bytes};
+ghost use Rattle.std.specs.Prelude.{◌≡◌, ℕ, List};
+ghost use Rattle.bus_words.specs.Entries.{call_of, call_text, with_text, call_bytes};
 
 use crate::pipe_text::PipeText;
 use fsw_base::{
@@ -173,6 +173,83 @@ impl<'a> BusCall<'a> {
             BusCall::Transmit { bytes, .. } | BusCall::TransmitBuffer { bytes, .. } => bytes,
             BusCall::SendEvent { text, .. } => text,
             _ => &[],
+        }
+    }
+
+    // The same call with these bytes in place of its own; itself, where it brings none.
+    pub(crate) fn with_text<'b>(&self, text: &'b [u8]) -> BusCall<'b>
+        ensures call { call_of result ≡ with_text text.entry.now (call_of self.now) }
+        ensures other { (other : List ℕ) →
+            with_text other (call_of result) ≡ with_text other (call_of self.now) }
+        ensures own { with_text (call_text (call_of self.now)) (call_of result) ≡
+            call_of self.now }
+    {
+        match self {
+            BusCall::Create { depth, .. } => BusCall::Create {
+                depth: *depth,
+                name: text,
+            },
+            BusCall::Delete { pipe } => BusCall::Delete { pipe: *pipe },
+            BusCall::SetOpts { pipe, bits } => BusCall::SetOpts {
+                pipe: *pipe,
+                bits: *bits,
+            },
+            BusCall::GetOpts { pipe } => BusCall::GetOpts { pipe: *pipe },
+            BusCall::Find { .. } => BusCall::Find { name: text },
+            BusCall::PipeName { pipe } => BusCall::PipeName { pipe: *pipe },
+            BusCall::Subscribe {
+                id,
+                pipe,
+                limit,
+                scope,
+            } => BusCall::Subscribe {
+                id: *id,
+                pipe: *pipe,
+                limit: *limit,
+                scope: *scope,
+            },
+            BusCall::Unsubscribe { id, pipe } => BusCall::Unsubscribe {
+                id: *id,
+                pipe: *pipe,
+            },
+            BusCall::Transmit { inc, .. } => BusCall::Transmit {
+                inc: *inc,
+                bytes: text,
+            },
+            BusCall::Receive { pipe } => BusCall::Receive { pipe: *pipe },
+            BusCall::Pend { pipe } => BusCall::Pend { pipe: *pipe },
+            BusCall::Look { pipe } => BusCall::Look { pipe: *pipe },
+            BusCall::Allocate { size } => BusCall::Allocate { size: *size },
+            BusCall::TransmitBuffer { buf, inc, .. } => BusCall::TransmitBuffer {
+                buf: *buf,
+                inc: *inc,
+                bytes: text,
+            },
+            BusCall::Release { buf } => BusCall::Release { buf: *buf },
+            BusCall::PoolCreate { bytes } => BusCall::PoolCreate { bytes: *bytes },
+            BusCall::PoolGet { pool, size } => BusCall::PoolGet {
+                pool: *pool,
+                size: *size,
+            },
+            BusCall::PoolPut { pool, grant } => BusCall::PoolPut {
+                pool: *pool,
+                grant: *grant,
+            },
+            BusCall::PoolFigures { pool } => BusCall::PoolFigures { pool: *pool },
+            BusCall::Register { filters } => BusCall::Register {
+                filters: filters.again(),
+            },
+            BusCall::SendEvent { id, kind, .. } => BusCall::SendEvent {
+                id: *id,
+                kind: *kind,
+                text,
+            },
+            BusCall::ResetFilter { id } => BusCall::ResetFilter { id: *id },
+            BusCall::LogMode { mode } => BusCall::LogMode { mode: *mode },
+            BusCall::ClearLog => BusCall::ClearLog,
+            BusCall::Housekeeping => BusCall::Housekeeping,
+            BusCall::Figures => BusCall::Figures,
+            BusCall::End => BusCall::End,
         }
     }
 
