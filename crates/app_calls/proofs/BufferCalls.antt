@@ -14,7 +14,7 @@ use Rattle.bus_words.specs.Machine.{step}
 use Rattle.bus_words.proofs.Steps.{length-standings}
 use Rattle.bus_store.specs.Bag.{HoldsViews}
 use Rattle.sb_calls.specs.declared.results.Sent.{Sent}
-use Rattle.sb_plain.specs.Answers.{allocated, done}
+use Rattle.sb_plain.specs.Answers.{numbered, done}
 use Rattle.sb_calls.specs.Answers.{sent}
 use Rattle.sb_plain.specs.Bags.{KeepsBuffers}
 use Rattle.sb_calls.specs.Bags.{HasBag, loans_of}
@@ -92,15 +92,15 @@ given-bytes : (found : Option Unsent) (size : ℕ) → option_map (λ bytes. len
 given-bytes None size long zeros = absurd (cc long)
 given-bytes (Some block) size long zeros = ap Some zeros
 
-pub leaves-given : (core now : Core) (app size : ℕ) (old new : Holding LentBytes) (result : Result ℕ SbStatus) → Called core now app (calls.Allocate size) (allocated result) old new →
+pub leaves-given : (core now : Core) (app size : ℕ) (old new : Holding LentBytes) (result : Result ℕ SbStatus) → Called core now app (calls.Allocate size) (numbered result) old new →
     IfOk result (λ number. bytes_at new number ≡ replicate size 0) → IfOk result (KeepsBuffers old new) → OnErr result (new ≡ old) →
-    LeavesBuffers old new (calls.Allocate size) (allocated result)
-leaves-given core now app size old new (Err status) c zeros keeps refused = leaves-refused old new (calls.Allocate size) (allocated (Err status)) refused (λ number. refl)
+    LeavesBuffers old new (calls.Allocate size) (numbered result)
+leaves-given core now app size old new (Err status) c zeros keeps refused = leaves-refused old new (calls.Allocate size) (numbered (Err status)) refused (λ number. refl)
 leaves-given core now app size old new (Ok number) c zeros keeps refused = record {
   written = λ other. elim (number == other) as (λ b. (number == other) ≡ b → written_in new other ≡ cond {A = Option (List ℕ)} b (Some (replicate size 0)) (written_in old other)) [
     | true ↦ λ is. subst (λ n. written_in new n ≡ Some (replicate size 0)) (eqb-true number other is)
         (given-bytes (buffer_at new number) size
-        (agree-now core now app (calls.Allocate size) (allocated (Ok number)) old new c number
+        (agree-now core now app (calls.Allocate size) (numbered (Ok number)) old new c number
         ∙ ap (λ b. option_map (λ (bytes : List ℕ). length bytes) (cond {A = Option (List ℕ)} b (Some (replicate size 0)) (written_in old number))) (eq-eqb number number refl)) zeros)
     | false ↦ λ differ. kept-bytes old new number other differ keeps
   ] refl;

@@ -2,7 +2,7 @@
 ghost use Rattle.std.specs.Prelude.{◌≡◌, length};
 ghost use Rattle.std.specs.Option.{option_map};
 ghost use Rattle.buf_desc.specs.Held.{bytes_at};
-ghost use Rattle.sb_plain.specs.Answers.{created, found, done, bits_told, named, got, allocated, pool_told, grant_back, figures_told, event_told};
+ghost use Rattle.sb_plain.specs.Answers.{numbered, done, named, got, pool_told, grant_back, figures_told, event_told};
 ghost use Rattle.sb_calls.specs.Answers.{sent, pended};
 ghost use Rattle.sb_calls.specs.Views.{bytes_seen};
 ghost use Rattle.script_runs.specs.Messages.{sent_message};
@@ -36,7 +36,7 @@ pub trait Calls {
     fn create_pipe(&mut self, depth: u32, name: &[u8]) -> Result<u32, SbStatus>
         requires { MayCallBus (caller self.old) (Call.Create depth name.now) }
         ensures { Answers (caller self.old) (caller self.new) (Call.Create depth name.now)
-            (created result) };
+            (numbered result) };
 
     /// Ends a pipe.
     ///
@@ -62,7 +62,7 @@ pub trait Calls {
     fn get_opts(&mut self, pipe: u32) -> Result<u8, SbStatus>
         requires { MayCallBus (caller self.old) (Call.GetOpts pipe) }
         ensures { Answers (caller self.old) (caller self.new) (Call.GetOpts pipe)
-            (bits_told result) };
+            (numbered result) };
 
     /// Answers the number of the pipe of this name.
     ///
@@ -70,7 +70,7 @@ pub trait Calls {
     /// As `BusCore::find_pipe`.
     fn find_pipe(&mut self, name: &[u8]) -> Result<u32, SbStatus>
         requires { MayCallBus (caller self.old) (Call.Find name.now) }
-        ensures { Answers (caller self.old) (caller self.new) (Call.Find name.now) (found result) };
+        ensures { Answers (caller self.old) (caller self.new) (Call.Find name.now) (numbered result) };
 
     /// Answers a pipe's name.
     ///
@@ -137,7 +137,7 @@ pub trait Calls {
     fn allocate(&mut self, size: u32) -> Result<u32, SbStatus>
         requires { MayCallBus (caller self.old) (Call.Allocate size) }
         ensures { Answers (caller self.old) (caller self.new) (Call.Allocate size)
-            (allocated result) };
+            (numbered result) };
 
     /// Sends the message that a buffer of the application's begins with, as its bag has the bytes,
     /// without a copy; `inc` gives it the id's next sequence count. Once it is sent the buffer

@@ -1,25 +1,15 @@
 //! The answers of the calls, as entries of the journal have them.
 ghost use Rattle.std.specs.Prelude.{◌≡◌};
-ghost use Rattle.sb_plain.specs.Answers.{created, done, named, got, allocated, pool_told, grant_back, figures_told, event_told};
+ghost use Rattle.sb_plain.specs.Answers.{numbered, done, named, got, pool_told, grant_back, figures_told, event_told};
 ghost use Rattle.sb_calls.specs.Answers.{sent, waited, pended};
 
 use bus_words::{BusAnswer, PipeText};
 use fsw_base::{EsStatus, EvsStatus, PoolStats, SbStatus};
 use sb_calls::{Pended, Sent};
 
-/// A number that was asked for, or the refusal.
+/// The number of a pipe or of a buffer, or the refusal.
 pub(crate) fn number(answer: Result<u32, SbStatus>) -> BusAnswer
-    ensures { result ≡ created answer }
-{
-    match answer {
-        Ok(number) => BusAnswer::Number(number),
-        Err(status) => BusAnswer::Sb(status),
-    }
-}
-
-/// The number of a buffer, or the refusal.
-pub(crate) fn buffer(answer: Result<u32, SbStatus>) -> BusAnswer
-    ensures { result ≡ allocated answer }
+    ensures { result ≡ numbered answer }
 {
     match answer {
         Ok(number) => BusAnswer::Number(number),
@@ -29,7 +19,7 @@ pub(crate) fn buffer(answer: Result<u32, SbStatus>) -> BusAnswer
 
 /// Option bits that were asked for, or the refusal.
 pub(crate) fn bits(answer: Result<u8, SbStatus>) -> BusAnswer
-    ensures { result ≡ created answer }
+    ensures { result ≡ numbered answer }
 {
     match answer {
         Ok(bits) => BusAnswer::Number(bits as u32),

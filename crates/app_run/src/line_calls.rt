@@ -212,7 +212,7 @@ fn allocate<C: Calls>(calls: &mut C, size: u32) -> BusAnswer
     ensures { Answers (C.caller calls.old) (C.caller calls.new) (Call.Allocate size) result }
 {
     let answer = calls.allocate(size);
-    answers::buffer(answer)
+    answers::number(answer)
 }
 
 fn transmit_buffer<C: Calls>(calls: &mut C, buf: u32, inc: bool) -> BusAnswer

@@ -2,7 +2,7 @@
 ghost use Rattle.std.specs.Prelude.{◌≡◌, ◌+◌, ◌<◌, ◌≤◌, length, replicate, IfOk, OnErr};
 ghost use Rattle.buf_desc.specs.Held.{bytes_at};
 ghost use Rattle.bus_words.specs.declared.history.Call.TheVariants as made;
-ghost use Rattle.sb_plain.specs.Answers.{allocated, done};
+ghost use Rattle.sb_plain.specs.Answers.{numbered, done};
 ghost use Rattle.sb_calls.specs.Answers.{sent};
 ghost use Rattle.sb_plain.specs.Bags.{KeepsBuffers};
 ghost use Rattle.sb_calls.specs.Core.{MayCall};
@@ -29,7 +29,7 @@ impl PortCall for Allocate {
 
     ghost call = { λ c bag. made.Allocate c.size };
 
-    ghost answer = { allocated };
+    ghost answer = { numbered };
 
     ghost leaves = { λ c old new told. Adds c.size old new told };
 
@@ -110,7 +110,7 @@ impl<'r> BusPort<'r> {
         requires bus { self.old.lock ≡ bus.now }
         requires may { MayCall self.old.seen self.old.app (made.Allocate size) }
         requires room { length self.old.bag.buffers < self.old.bag.buffer_room }
-        ensures answers { Answers self.old self.new (made.Allocate size) (allocated result) }
+        ensures answers { Answers self.old self.new (made.Allocate size) (numbered result) }
         ensures zeros { IfOk result (λ number. bytes_at self.new.bag number ≡ replicate size 0) }
         ensures buffers { IfOk result (KeepsBuffers self.old.bag self.new.bag) }
         ensures count { length self.new.bag.buffers ≤ length self.old.bag.buffers + 1 }

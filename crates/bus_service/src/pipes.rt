@@ -1,7 +1,7 @@
 //! Calls about pipes, by ports.
 ghost use Rattle.std.specs.Prelude.{◌≡◌, OnErr};
 ghost use Rattle.bus_words.specs.declared.history.Call.TheVariants as made;
-ghost use Rattle.sb_plain.specs.Answers.{bits_told, created, done, found, named};
+ghost use Rattle.sb_plain.specs.Answers.{numbered, done, named};
 ghost use Rattle.sb_calls.specs.Core.{MayCall};
 ghost use Rattle.bus_service.specs.Ports.{Answers};
 
@@ -29,7 +29,7 @@ impl PortCall for CreatePipe<'_> {
 
     ghost call = { λ c bag. made.Create c.depth c.name.now };
 
-    ghost answer = { created };
+    ghost answer = { numbered };
 
     ghost leaves = { λ c old new told. new ≡ old };
 
@@ -113,7 +113,7 @@ impl PortCall for GetOpts {
 
     ghost call = { λ c bag. made.GetOpts c.pipe };
 
-    ghost answer = { bits_told };
+    ghost answer = { numbered };
 
     ghost leaves = { λ c old new told. new ≡ old };
 
@@ -140,7 +140,7 @@ impl PortCall for FindPipe<'_> {
 
     ghost call = { λ c bag. made.Find c.name.now };
 
-    ghost answer = { found };
+    ghost answer = { numbered };
 
     ghost leaves = { λ c old new told. new ≡ old };
 
@@ -197,7 +197,7 @@ impl<'r> BusPort<'r> {
     ) -> Result<u32, SbStatus>
         requires bus { self.old.lock ≡ bus.now }
         requires may { MayCall self.old.seen self.old.app (made.Create depth name.now) }
-        ensures answers { Answers self.old self.new (made.Create depth name.now) (created result) }
+        ensures answers { Answers self.old self.new (made.Create depth name.now) (numbered result) }
         ensures bag { self.new.bag ≡ self.old.bag }
     {
         self.visit(bus, rt, CreatePipe { depth, name })
@@ -246,7 +246,7 @@ impl<'r> BusPort<'r> {
     pub fn get_opts<R: Wait>(&mut self, bus: &Bus<'r>, rt: &R, pipe: u32) -> Result<u8, SbStatus>
         requires bus { self.old.lock ≡ bus.now }
         requires may { MayCall self.old.seen self.old.app (made.GetOpts pipe) }
-        ensures answers { Answers self.old self.new (made.GetOpts pipe) (bits_told result) }
+        ensures answers { Answers self.old self.new (made.GetOpts pipe) (numbered result) }
         ensures bag { self.new.bag ≡ self.old.bag }
     {
         self.visit(bus, rt, GetOpts { pipe })
@@ -265,7 +265,7 @@ impl<'r> BusPort<'r> {
     ) -> Result<u32, SbStatus>
         requires bus { self.old.lock ≡ bus.now }
         requires may { MayCall self.old.seen self.old.app (made.Find name.now) }
-        ensures answers { Answers self.old self.new (made.Find name.now) (found result) }
+        ensures answers { Answers self.old self.new (made.Find name.now) (numbered result) }
         ensures bag { self.new.bag ≡ self.old.bag }
     {
         self.visit(bus, rt, FindPipe { name })

@@ -7,7 +7,7 @@ use Rattle.bus_words.specs.declared.calls.BusAnswer.{BusAnswer}
 use Rattle.bus_words.specs.declared.history.Call.{Call}
 use Rattle.bus_words.specs.declared.history.Call.TheVariants as calls
 use Rattle.sb_calls.specs.declared.results.Sent.{Sent}
-use Rattle.sb_plain.specs.Answers.{allocated, done}
+use Rattle.sb_plain.specs.Answers.{numbered, done}
 use Rattle.sb_calls.specs.Answers.{sent}
 use Rattle.sb_plain.specs.Bags.{KeepsBuffers}
 use Rattle.sb_calls.specs.Bags.{HasBag}
@@ -39,11 +39,11 @@ module _ (old new : PortView) (call : Call) (answer : BusAnswer) (a : PortAnswer
   }
 
 module _ (old new : PortView) (has : HasBag old.seen old.app old.bag) (rest : new.bag ≡ record old.bag { buffers = new.bag.buffers }) where
-  pub given : (size : ℕ) (result : Result ℕ SbStatus) → PortAnswers old new (calls.Allocate size) (allocated result) → MayCall old.seen old.app (calls.Allocate size) →
+  pub given : (size : ℕ) (result : Result ℕ SbStatus) → PortAnswers old new (calls.Allocate size) (numbered result) → MayCall old.seen old.app (calls.Allocate size) →
       length new.bag.buffers ≤ length old.bag.buffers + 1 → IfOk result (λ number. bytes_at new.bag number ≡ replicate size 0) → IfOk result (KeepsBuffers old.bag new.bag) →
-      OnErr result (new.bag ≡ old.bag) → LeavesBuffers old.bag new.bag (calls.Allocate size) (allocated result)
+      OnErr result (new.bag ≡ old.bag) → LeavesBuffers old.bag new.bag (calls.Allocate size) (numbered result)
   given size result a may count zeros keeps refused =
-      leaves-given a.between new.seen old.app size old.bag new.bag result (called old new (calls.Allocate size) (allocated result) a may has rest count) zeros keeps refused
+      leaves-given a.between new.seen old.app size old.bag new.bag result (called old new (calls.Allocate size) (numbered result) a may has rest count) zeros keeps refused
 
   pub gone : (buf : ℕ) (bytes : List ℕ) (inc : Bool) (result : Result Sent SbStatus) → PortAnswers old new (calls.TransmitBuffer buf bytes inc) (sent result) →
       MayCall old.seen old.app (calls.TransmitBuffer buf bytes inc) → length new.bag.buffers ≤ length old.bag.buffers → KeepsBuffers old.bag new.bag buf →

@@ -27,7 +27,7 @@ use Rattle.bus_words.proofs.UnsentSteps.{all_gone-unsent}
 use Rattle.bus_words.specs.Pipes.{last_on}
 use Rattle.bus_store.specs.Words.{loan_of, desc_of}
 use Rattle.sb_calls.specs.declared.results.Sent.{Sent}
-use Rattle.sb_plain.specs.Answers.{created, found, bits_told, named, done, pool_told, grant_back, figures_told, event_told}
+use Rattle.sb_plain.specs.Answers.{numbered, named, done, pool_told, grant_back, figures_told, event_told}
 use Rattle.sb_calls.specs.Answers.{sent}
 use Rattle.sb_plain.specs.Bags.{HasBag, KeepsAllLoans, KeepsLoans, KeepsOtherLoans, KeepsAllDescs, KeepsOtherDescs}
 use Rattle.sb_plain.specs.Core.{Plain, Acts}
@@ -40,15 +40,15 @@ use Rattle.sb_calls.proofs.Over.{Made, bus_is, step_is, waiters_in}
 
 -- Calls that give no message note nothing. --
 
-pub created-nothing : (told : Result ℕ SbStatus) (depth : ℕ) (text : List ℕ) (name : ℕ) → note_due (created told) (Create depth text) name ≡ Nothing
+pub created-nothing : (told : Result ℕ SbStatus) (depth : ℕ) (text : List ℕ) (name : ℕ) → note_due (numbered told) (Create depth text) name ≡ Nothing
 created-nothing (Ok n) depth text name = refl
 created-nothing (Err status) depth text name = refl
 
-pub found-nothing : (told : Result ℕ SbStatus) (text : List ℕ) (name : ℕ) → note_due (found told) (Find text) name ≡ Nothing
+pub found-nothing : (told : Result ℕ SbStatus) (text : List ℕ) (name : ℕ) → note_due (numbered told) (Find text) name ≡ Nothing
 found-nothing (Ok n) text name = refl
 found-nothing (Err status) text name = refl
 
-pub bits-nothing : (told : Result ℕ SbStatus) (pipe : ℕ) (name : ℕ) → note_due (bits_told told) (GetOpts pipe) name ≡ Nothing
+pub bits-nothing : (told : Result ℕ SbStatus) (pipe : ℕ) (name : ℕ) → note_due (numbered told) (GetOpts pipe) name ≡ Nothing
 bits-nothing (Ok n) pipe name = refl
 bits-nothing (Err status) pipe name = refl
 

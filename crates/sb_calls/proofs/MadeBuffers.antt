@@ -23,7 +23,7 @@ use Rattle.bus_store.specs.Bag.{Shape, shape_of}
 use Rattle.bus_store.specs.Store.{BufferDesc}
 use Rattle.bus_store.specs.Words.{desc_of, size_for}
 use Rattle.sb_calls.specs.declared.results.Sent.{Sent as SentTo}
-use Rattle.sb_plain.specs.Answers.{allocated, done}
+use Rattle.sb_plain.specs.Answers.{numbered, done}
 use Rattle.sb_calls.specs.Answers.{sent}
 use Rattle.sb_plain.specs.Bags.{HasBag, KeepsAllLoans, KeepsDescs}
 use Rattle.sb_plain.specs.Core.{Plain, Acts, with_tick}
@@ -46,10 +46,10 @@ held-desc descs sizes number None (Some buffer) some is = absurd (cc is)
 held-desc descs sizes number (Some block) (Some buffer) some is = ap (λ (o : Option Shape). option_map_or (λ (s : Shape). Desc s.desc) o Nothing) is
 
 pub made_allocate : (a : Inside) (core : Plain) (next : NotedLog) (app size : ℕ) (result : Result ℕ SbStatus) (told : BusAnswer) (note : Note) (bag : Holding LentBytes) →
-    Stands a → app ≤ length a.noted.log.budgets → HasBag core app bag → Acts a.core core app (Allocate size) (allocated result) → told ≡ allocated result →
+    Stands a → app ≤ length a.noted.log.budgets → HasBag core app bag → Acts a.core core app (Allocate size) (numbered result) → told ≡ numbered result →
     OnErr result (core ≡ with_tick a.core Send) → IfOk result (KeepsDescs a.core core) → KeepsAllLoans a.core core → note ≡ note_told result (buffer_at bag) →
     next ≡ record { log = with_entry a.noted.log (record { app = app; call = Allocate size; answer = told }); notes = a.noted.notes ++ note ∷ [] } →
-    Made a core next app (Allocate size) (allocated result)
+    Made a core next app (Allocate size) (numbered result)
 made_allocate a core next app size (Err status) told note bag stands known has acts as_told same descs loans noted pushed = record {
   acts = acts;
   makes = refl;

@@ -1,35 +1,15 @@
 //! The answers of the calls, as the journal has them.
 ghost use Rattle.std.specs.Prelude.{◌≡◌};
-ghost use Rattle.sb_plain.specs.Answers.{created, allocated, found, bits_told, named, done, got, pool_told, grant_back, figures_told, event_told};
+ghost use Rattle.sb_plain.specs.Answers.{numbered, named, done, got, pool_told, grant_back, figures_told, event_told};
 ghost use Rattle.sb_calls.specs.Answers.{sent, pended};
 
 use crate::results::{Pended, Sent};
 use bus_words::{BusAnswer, PipeText};
 use fsw_base::{EsStatus, EvsStatus, PoolStats, SbStatus};
 
-/// Of the creation of a pipe.
-pub(crate) fn of_created(told: &Result<u32, SbStatus>) -> BusAnswer
-    ensures { result ≡ created told.now }
-{
-    match told {
-        Ok(number) => BusAnswer::Number(*number),
-        Err(status) => BusAnswer::Sb(*status),
-    }
-}
-
-/// Of a request for a buffer.
-pub(crate) fn of_allocated(told: &Result<u32, SbStatus>) -> BusAnswer
-    ensures { result ≡ allocated told.now }
-{
-    match told {
-        Ok(number) => BusAnswer::Number(*number),
-        Err(status) => BusAnswer::Sb(*status),
-    }
-}
-
-/// Of a search for a pipe.
-pub(crate) fn of_found(told: &Result<u32, SbStatus>) -> BusAnswer
-    ensures { result ≡ found told.now }
+/// Of a call that answers the number of a pipe or of a buffer.
+pub(crate) fn of_number(told: &Result<u32, SbStatus>) -> BusAnswer
+    ensures { result ≡ numbered told.now }
 {
     match told {
         Ok(number) => BusAnswer::Number(*number),
@@ -39,7 +19,7 @@ pub(crate) fn of_found(told: &Result<u32, SbStatus>) -> BusAnswer
 
 /// Of a question for option bits.
 pub(crate) fn of_bits(told: &Result<u8, SbStatus>) -> BusAnswer
-    ensures { result ≡ bits_told told.now }
+    ensures { result ≡ numbered told.now }
 {
     match told {
         Ok(bits) => BusAnswer::Number(*bits as u32),

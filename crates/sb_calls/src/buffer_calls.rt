@@ -5,14 +5,14 @@ ghost use Rattle.std.specs.Prelude.{◌≡◌, ℕ, ◌+◌, ◌*◌, ◌<◌, �
 ghost use Rattle.buf_desc.specs.Held.{bytes_at};
 ghost use Rattle.ccsds_msg.specs.Message.{message_id};
 ghost use Rattle.bus_words.specs.Bus.{route};
-ghost use Rattle.sb_plain.specs.Answers.{allocated, done};
+ghost use Rattle.sb_plain.specs.Answers.{numbered, done};
 ghost use Rattle.sb_calls.specs.Answers.{sent};
 ghost use Rattle.sb_plain.specs.Bags.{KeepsBuffers};
 ghost use Rattle.sb_calls.specs.Bags.{HasBag, KeepsOtherBags};
 ghost use Rattle.sb_calls.specs.Core.{MayCall, Does, state_of};
 ghost use Rattle.sb_plain.specs.Core.{drops_for};
 
-use crate::answers::{of_allocated, of_done, of_sent};
+use crate::answers::{of_done, of_number, of_sent};
 use crate::bus_core::BusCore;
 use crate::noted::{bytes_of, note_of_buffer};
 use crate::results::Sent;
@@ -43,7 +43,7 @@ impl<'r> BusCore<'r> {
         requires may { MayCall self.old app (Call.Allocate size) }
         requires bag { HasBag self.old app held.old }
         requires room { length held.old.buffers < held.old.buffer_room }
-        ensures does { Does self.old self.new app (Call.Allocate size) (allocated result) }
+        ensures does { Does self.old self.new app (Call.Allocate size) (numbered result) }
         ensures bag { HasBag self.new app held.new }
         ensures other_bags { KeepsOtherBags self.old self.new app }
         ensures zeros { IfOk result (λ number. bytes_at held.new number ≡ replicate size 0) }
@@ -58,7 +58,7 @@ impl<'r> BusCore<'r> {
         let entry = BusEntry {
             app,
             call: BusCall::Allocate { size },
-            answer: of_allocated(&result),
+            answer: of_number(&result),
         };
         self.noted.push(&entry, note);
         result

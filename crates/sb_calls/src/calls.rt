@@ -5,11 +5,11 @@ ghost use Rattle.ccsds_msg.specs.Message.{message_id};
 ghost use Rattle.bus_words.specs.Bus.{owns, route};
 ghost use Rattle.sb_calls.specs.Bags.{HasBag, KeepsBags, KeepsOtherBags};
 ghost use Rattle.sb_calls.specs.Core.{MayCall, Does, GotAlone, state_of};
-ghost use Rattle.sb_plain.specs.Answers.{created, done, got};
+ghost use Rattle.sb_plain.specs.Answers.{numbered, done, got};
 ghost use Rattle.sb_calls.specs.Answers.{sent};
 ghost use Rattle.sb_plain.specs.Core.{drops_for};
 
-use crate::answers::{of_created, of_done, of_got, of_sent};
+use crate::answers::{of_done, of_got, of_number, of_sent};
 use crate::bus_core::BusCore;
 use crate::noted::note_of;
 use crate::results::Sent;
@@ -30,14 +30,14 @@ impl<'r> BusCore<'r> {
     /// `PipeCrErr` where a live pipe has the name. The first that applies.
     pub fn create_pipe(&mut self, app: AppNo, depth: u32, name: &[u8]) -> Result<u32, SbStatus>
         requires may { MayCall self.old app (Call.Create depth name.now) }
-        ensures does { Does self.old self.new app (Call.Create depth name.now) (created result) }
+        ensures does { Does self.old self.new app (Call.Create depth name.now) (numbered result) }
         ensures bags { KeepsBags self.old self.new }
     {
         let result = self.core.create_pipe(app, depth, name);
         let entry = BusEntry {
             app,
             call: BusCall::Create { depth, name },
-            answer: of_created(&result),
+            answer: of_number(&result),
         };
         self.noted.push(&entry, Note::Nothing);
         result

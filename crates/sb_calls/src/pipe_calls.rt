@@ -3,9 +3,9 @@
 ghost use Rattle.std.specs.Prelude.{◌≡◌, OnErr};
 ghost use Rattle.sb_calls.specs.Bags.{HasBag, KeepsBags, KeepsOtherBags};
 ghost use Rattle.sb_calls.specs.Core.{MayCall, Does};
-ghost use Rattle.sb_plain.specs.Answers.{done, found, bits_told, named};
+ghost use Rattle.sb_plain.specs.Answers.{done, numbered, named};
 
-use crate::answers::{of_bits, of_done, of_found, of_named};
+use crate::answers::{of_bits, of_done, of_named, of_number};
 use crate::bus_core::BusCore;
 use buf_desc::Held;
 use bus_words::{BusCall, BusEntry, Call, PipeText};
@@ -74,7 +74,7 @@ impl<'r> BusCore<'r> {
     /// `BadArgument` for a pipe that isn't live.
     pub fn get_opts(&mut self, app: AppNo, pipe: u32) -> Result<u8, SbStatus>
         requires may { MayCall self.old app (Call.GetOpts pipe) }
-        ensures does { Does self.old self.new app (Call.GetOpts pipe) (bits_told result) }
+        ensures does { Does self.old self.new app (Call.GetOpts pipe) (numbered result) }
         ensures bags { KeepsBags self.old self.new }
     {
         let result = self.core.get_opts(pipe);
@@ -93,14 +93,14 @@ impl<'r> BusCore<'r> {
     /// `BadArgument` where no live pipe has the name.
     pub fn find_pipe(&mut self, app: AppNo, name: &[u8]) -> Result<u32, SbStatus>
         requires may { MayCall self.old app (Call.Find name.now) }
-        ensures does { Does self.old self.new app (Call.Find name.now) (found result) }
+        ensures does { Does self.old self.new app (Call.Find name.now) (numbered result) }
         ensures bags { KeepsBags self.old self.new }
     {
         let result = self.core.find_pipe(name);
         let entry = BusEntry {
             app,
             call: BusCall::Find { name },
-            answer: of_found(&result),
+            answer: of_number(&result),
         };
         self.noted.push(&entry, Note::Nothing);
         result

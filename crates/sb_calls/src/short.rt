@@ -8,7 +8,7 @@ ghost use Rattle.pool_words.specs.Grants.{pool_in};
 ghost use Rattle.bus_words.specs.declared.history.Call.TheVariants.{Transmit, Receive, Pend, Look, Allocate, TransmitBuffer, PoolGet, Housekeeping};
 ghost use Rattle.bus_words.specs.Bus.{owns, route};
 ghost use Rattle.sb_plain.specs.Core.{MayAct, Acts, with_tick, drops_for};
-ghost use Rattle.sb_plain.specs.Answers.{allocated, got, pool_told};
+ghost use Rattle.sb_plain.specs.Answers.{numbered, got, pool_told};
 ghost use Rattle.sb_plain.specs.Bags.{HasBag, KeepsBags, KeepsOtherBags, KeepsBuffers, KeepsAllLoans, KeepsLoans, KeepsAllDescs, KeepsDescs};
 ghost use Rattle.sb_calls.specs.Answers.{sent, waited, pended};
 
@@ -90,7 +90,7 @@ pub(crate) fn allocate<'r, L: Ledger>(
     requires few { core.old.whole.bus.numbers_given + 1 < 2 ^ 32 }
     requires bag { HasBag core.old app held.old }
     requires room { length held.old.buffers < held.old.buffer_room }
-    ensures does { Acts core.old core.new app (Allocate size) (allocated result) }
+    ensures does { Acts core.old core.new app (Allocate size) (numbered result) }
     ensures refused { OnErr result (core.new ≡ with_tick core.old CounterName.Send) }
     ensures bag_refused { OnErr result (held.new ≡ held.old) }
     ensures zeros { IfOk result (λ number. bytes_at held.new number ≡ replicate size 0) }

@@ -10,20 +10,10 @@ use Rattle.sb_plain.specs.declared.calls.Sent.{Sent}
 use Rattle.sb_plain.specs.declared.pending.Pended.{Pended}
 use Rattle.sb_plain.specs.declared.pending.Pended.TheVariants as waits
 
--- the number of a pipe, or the refusal
-abbrev pub created : Result ℕ SbStatus → BusAnswer
-created (Ok number) = answers.Number number
-created (Err status) = answers.Sb status
-
--- the number of the pipe that was found, or the refusal
-abbrev pub found : Result ℕ SbStatus → BusAnswer
-found (Ok number) = answers.Number number
-found (Err status) = answers.Sb status
-
--- the option bits, or the refusal
-abbrev pub bits_told : Result ℕ SbStatus → BusAnswer
-bits_told (Ok bits) = answers.Number bits
-bits_told (Err status) = answers.Sb status
+-- the number of a pipe or of a buffer, or the option bits; or the refusal
+abbrev pub numbered : Result ℕ SbStatus → BusAnswer
+numbered (Ok number) = answers.Number number
+numbered (Err status) = answers.Sb status
 
 -- the name, or the refusal
 abbrev pub named : Result (List ℕ) SbStatus → BusAnswer
@@ -34,11 +24,6 @@ named (Err status) = answers.Sb status
 abbrev pub done : Result (Unit {0}) SbStatus → BusAnswer
 done (Ok nothing) = answers.Done
 done (Err status) = answers.Sb status
-
--- the number of a buffer, or the refusal
-abbrev pub allocated : Result ℕ SbStatus → BusAnswer
-allocated (Ok number) = answers.Number number
-allocated (Err status) = answers.Sb status
 
 -- what a send was answered
 abbrev pub sent : Result Sent SbStatus → BusAnswer

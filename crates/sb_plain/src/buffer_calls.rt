@@ -8,7 +8,7 @@ ghost use Rattle.bus_words.specs.Bus.{route};
 ghost use Rattle.bus_words.specs.Machine.{allocate_cause};
 ghost use Rattle.buf_desc.specs.Held.{buffer_at, bytes_at};
 ghost use Rattle.sb_plain.specs.Core.{MayAct, Acts, with_tick, drops_for, has_send_number};
-ghost use Rattle.sb_plain.specs.Answers.{allocated, sent, done};
+ghost use Rattle.sb_plain.specs.Answers.{numbered, sent, done};
 ghost use Rattle.sb_plain.specs.Bags.{HasBag, KeepsOtherBags, KeepsBuffers, KeepsAllLoans, KeepsDescs};
 ghost use Rattle.sb_plain.specs.Rows.{buffer_cause};
 
@@ -69,7 +69,7 @@ impl<'r> PlainBus<'r> {
         requires bag { HasBag self.old app held.old }
         requires room { length held.old.buffers < held.old.buffer_room }
         ensures does { IsTrue (has_send_number self.old.whole.bus) →
-            Acts self.old self.new app (Allocate size) (allocated result) }
+            Acts self.old self.new app (Allocate size) (numbered result) }
         ensures spent { has_send_number self.old.whole.bus ≡ false →
             result ≡ Err SbStatus.BufAlocErr }
         ensures number { IfOk result

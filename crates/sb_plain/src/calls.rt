@@ -7,7 +7,7 @@ ghost use Rattle.bus_words.specs.declared.history.Call.TheVariants.{Create, Subs
 ghost use Rattle.bus_words.specs.Bus.{owns, route};
 ghost use Rattle.bus_store.specs.Blocks.{IsGiven};
 ghost use Rattle.sb_plain.specs.Core.{MayAct, Acts, with_tick, drops_for, has_pipe_number, has_subscription_number, has_send_number};
-ghost use Rattle.sb_plain.specs.Answers.{created, done, sent, got};
+ghost use Rattle.sb_plain.specs.Answers.{numbered, done, sent, got};
 ghost use Rattle.sb_plain.specs.Bags.{HasBag, KeepsBags, KeepsOtherBags, KeepsAllLoans, KeepsAllDescs, KeepsLoans, KeepsOtherLoans, KeepsOtherDescs};
 
 use crate::activities::Activity;
@@ -43,7 +43,7 @@ impl<'r> PlainBus<'r> {
     pub fn create_pipe(&mut self, app: AppNo, depth: u32, name: &[u8]) -> Result<u32, SbStatus>
         requires may { MayAct self.old app (Create depth name.now) }
         requires number { IsTrue (has_pipe_number self.old.whole.bus) }
-        ensures does { Acts self.old self.new app (Create depth name.now) (created result) }
+        ensures does { Acts self.old self.new app (Create depth name.now) (numbered result) }
         ensures bags { KeepsBags self.old self.new }
         ensures loans { KeepsAllLoans self.old self.new }
         ensures descs { KeepsAllDescs self.old self.new }

@@ -3,7 +3,7 @@ ghost use Rattle.std.specs.Prelude.{◌≡◌, ℕ, false, OnErr};
 ghost use Rattle.bus_words.specs.declared.history.Call.TheVariants.{Delete, SetOpts, GetOpts, Find, PipeName};
 ghost use Rattle.bus_words.specs.Bus.{owns};
 ghost use Rattle.sb_plain.specs.Core.{MayAct, Acts, with_tick};
-ghost use Rattle.sb_plain.specs.Answers.{done, found, bits_told, named};
+ghost use Rattle.sb_plain.specs.Answers.{done, numbered, named};
 ghost use Rattle.sb_plain.specs.Bags.{HasBag, KeepsBags, KeepsOtherBags, KeepsAllLoans, KeepsAllDescs, KeepsLoans};
 
 use crate::plain::PlainBus;
@@ -80,7 +80,7 @@ impl<'r> PlainBus<'r> {
     /// # Errors
     /// `BadArgument` for a pipe that isn't live; it is counted.
     pub fn get_opts(&mut self, pipe: u32) -> Result<u8, SbStatus>
-        ensures does { (app : ℕ) → Acts self.old self.new app (GetOpts pipe) (bits_told result) }
+        ensures does { (app : ℕ) → Acts self.old self.new app (GetOpts pipe) (numbered result) }
         ensures bags { KeepsBags self.old self.new }
         ensures loans { KeepsAllLoans self.old self.new }
         ensures descs { KeepsAllDescs self.old self.new }
@@ -97,7 +97,7 @@ impl<'r> PlainBus<'r> {
     /// # Errors
     /// `BadArgument` where no live pipe has the name; it is counted.
     pub fn find_pipe(&mut self, name: &[u8]) -> Result<u32, SbStatus>
-        ensures does { (app : ℕ) → Acts self.old self.new app (Find name.now) (found result) }
+        ensures does { (app : ℕ) → Acts self.old self.new app (Find name.now) (numbered result) }
         ensures bags { KeepsBags self.old self.new }
         ensures loans { KeepsAllLoans self.old self.new }
         ensures descs { KeepsAllDescs self.old self.new }

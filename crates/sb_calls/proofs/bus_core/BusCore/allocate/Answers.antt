@@ -19,16 +19,16 @@ pub invariant_of-self : goal.invariant_of-self
 invariant_of-self g c =
     let known : c.args.app ≤ length c.self.inside.noted.log.budgets = subst (λ (o : Core). c.args.app ≤ apps_of o) (sym c.self.view_is) c.requires.may.known in
     stands_over c.self.inside c.allocate-result.new.core c.push.new.self c.args.self.now c.args.app (Allocate c.args.size) _ c.self.view_is c.self.invariant c.requires.may
-    (made_allocate c.self.inside c.allocate-result.new.core c.push.new.self c.args.app c.args.size c.allocate-result.result c.of_allocated.result c.note_of_buffer-note.result c.allocate-result.new.held
-    c.self.invariant known c.allocate-result.ensures.bag c.allocate-result.ensures.does c.of_allocated.ensures c.allocate-result.ensures.refused c.allocate-result.ensures.descs c.allocate-result.ensures.loans
+    (made_allocate c.self.inside c.allocate-result.new.core c.push.new.self c.args.app c.args.size c.allocate-result.result c.of_number.result c.note_of_buffer-note.result c.allocate-result.new.held
+    c.self.invariant known c.allocate-result.ensures.bag c.allocate-result.ensures.does c.of_number.ensures c.allocate-result.ensures.refused c.allocate-result.ensures.descs c.allocate-result.ensures.loans
     c.note_of_buffer-note.ensures c.push.ensures)
 
 pub returns-clause-does : goal.returns-clause-does
 returns-clause-does g c =
     let known : c.args.app ≤ length c.self.inside.noted.log.budgets = subst (λ (o : Core). c.args.app ≤ apps_of o) (sym c.self.view_is) c.requires.may.known in
     does_over c.self.inside c.allocate-result.new.core c.push.new.self c.args.self.now c.args.app (Allocate c.args.size) _ c.self.view_is c.self.invariant c.requires.may
-    (made_allocate c.self.inside c.allocate-result.new.core c.push.new.self c.args.app c.args.size c.allocate-result.result c.of_allocated.result c.note_of_buffer-note.result c.allocate-result.new.held
-    c.self.invariant known c.allocate-result.ensures.bag c.allocate-result.ensures.does c.of_allocated.ensures c.allocate-result.ensures.refused c.allocate-result.ensures.descs c.allocate-result.ensures.loans
+    (made_allocate c.self.inside c.allocate-result.new.core c.push.new.self c.args.app c.args.size c.allocate-result.result c.of_number.result c.note_of_buffer-note.result c.allocate-result.new.held
+    c.self.invariant known c.allocate-result.ensures.bag c.allocate-result.ensures.does c.of_number.ensures c.allocate-result.ensures.refused c.allocate-result.ensures.descs c.allocate-result.ensures.loans
     c.note_of_buffer-note.ensures c.push.ensures)
 
 pub returns-clause-bag : goal.returns-clause-bag

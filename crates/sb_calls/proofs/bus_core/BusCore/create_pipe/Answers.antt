@@ -11,13 +11,13 @@ create_pipe-result-requires c = record { may = may_act c.self.inside c.args.self
 pub invariant_of-self : goal.invariant_of-self
 invariant_of-self c =
     stands_over c.self.inside c.create_pipe-result.new.self c.push.new.self c.args.self.now c.args.app (Create c.args.depth c.args.name.now) _ c.self.view_is c.self.invariant c.requires.may
-    (made_plain c.self.inside c.create_pipe-result.new.self c.push.new.self c.args.app (Create c.args.depth c.args.name.now) _ c.of_created.result c.create_pipe-result.ensures.does refl refl c.of_created.ensures
+    (made_plain c.self.inside c.create_pipe-result.new.self c.push.new.self c.args.app (Create c.args.depth c.args.name.now) _ c.of_number.result c.create_pipe-result.ensures.does refl refl c.of_number.ensures
     c.push.ensures (created-nothing c.create_pipe-result.result c.args.depth c.args.name.now 0) (λ pipe. refl) (λ number. refl) c.create_pipe-result.ensures.loans c.create_pipe-result.ensures.descs)
 
 pub returns-clause-does : goal.returns-clause-does
 returns-clause-does c =
     does_over c.self.inside c.create_pipe-result.new.self c.push.new.self c.args.self.now c.args.app (Create c.args.depth c.args.name.now) _ c.self.view_is c.self.invariant c.requires.may
-    (made_plain c.self.inside c.create_pipe-result.new.self c.push.new.self c.args.app (Create c.args.depth c.args.name.now) _ c.of_created.result c.create_pipe-result.ensures.does refl refl c.of_created.ensures
+    (made_plain c.self.inside c.create_pipe-result.new.self c.push.new.self c.args.app (Create c.args.depth c.args.name.now) _ c.of_number.result c.create_pipe-result.ensures.does refl refl c.of_number.ensures
     c.push.ensures (created-nothing c.create_pipe-result.result c.args.depth c.args.name.now 0) (λ pipe. refl) (λ number. refl) c.create_pipe-result.ensures.loans c.create_pipe-result.ensures.descs)
 
 pub returns-clause-bags : goal.returns-clause-bags

@@ -8,13 +8,13 @@ use Rattle.sb_calls.proofs.bus_core.BusCore.find_pipe.Goals as goal
 pub invariant_of-self : goal.invariant_of-self
 invariant_of-self c =
     stands_over c.self.inside c.find_pipe-result.new.self c.push.new.self c.args.self.now c.args.app (Find c.args.name.now) _ c.self.view_is c.self.invariant c.requires.may
-    (made_plain c.self.inside c.find_pipe-result.new.self c.push.new.self c.args.app (Find c.args.name.now) _ c.of_found.result (c.find_pipe-result.ensures.does c.args.app) refl refl c.of_found.ensures
+    (made_plain c.self.inside c.find_pipe-result.new.self c.push.new.self c.args.app (Find c.args.name.now) _ c.of_number.result (c.find_pipe-result.ensures.does c.args.app) refl refl c.of_number.ensures
     c.push.ensures (found-nothing c.find_pipe-result.result c.args.name.now 0) (λ pipe. refl) (λ number. refl) c.find_pipe-result.ensures.loans c.find_pipe-result.ensures.descs)
 
 pub returns-clause-does : goal.returns-clause-does
 returns-clause-does c =
     does_over c.self.inside c.find_pipe-result.new.self c.push.new.self c.args.self.now c.args.app (Find c.args.name.now) _ c.self.view_is c.self.invariant c.requires.may
-    (made_plain c.self.inside c.find_pipe-result.new.self c.push.new.self c.args.app (Find c.args.name.now) _ c.of_found.result (c.find_pipe-result.ensures.does c.args.app) refl refl c.of_found.ensures
+    (made_plain c.self.inside c.find_pipe-result.new.self c.push.new.self c.args.app (Find c.args.name.now) _ c.of_number.result (c.find_pipe-result.ensures.does c.args.app) refl refl c.of_number.ensures
     c.push.ensures (found-nothing c.find_pipe-result.result c.args.name.now 0) (λ pipe. refl) (λ number. refl) c.find_pipe-result.ensures.loans c.find_pipe-result.ensures.descs)
 
 pub returns-clause-bags : goal.returns-clause-bags
