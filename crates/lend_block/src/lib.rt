@@ -22,7 +22,7 @@
 //!
 //! Proved: a view shows the sealed bytes; a block is open again only if no view is out, and then it
 //! is the same borrow with its bytes; a root and its views have one name, and two roots that exist
-//! at once have different ones (the private `tell_apart`). Views may go to other threads. All raw
+//! at once have different ones (`Root::tell_apart`). Views may go to other threads. All raw
 //! pointers are in `src/part.rt`: seven small functions, each with a proof by hand, and one for a
 //! name.
 //!

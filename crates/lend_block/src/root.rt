@@ -143,9 +143,8 @@ impl<'r> Root<'r> {
         self.part.name()
     }
 
-    /// Two roots that exist at the same time are of different loans. This does nothing, and is
-    /// there for what it ensures.
-    pub(crate) fn tell_apart(&mut self, other: &mut Root<'_>)
+    /// Two roots that exist at the same time are of different loans. Does nothing.
+    pub fn tell_apart(&mut self, other: &mut Root<'_>)
         ensures apart { self.old.loan ≢ other.old.loan }
         ensures same { self.new ≡ self.old }
         ensures same_other { other.new ≡ other.old }

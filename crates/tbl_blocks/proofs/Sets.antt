@@ -3,7 +3,7 @@ use Rattle.std.proofs.Common.{◌≡◌, ◌≢◌, ℕ, ◌+◌, ◌<◌, ◌�
 use Rattle.std.specs.Option.{option_map_or, is_some}
 use Rattle.std.proofs.lemmas.Bool.{cases_eq, cases_lt}
 use Rattle.std.proofs.lemmas.Bool.Decides.{nat_tests}
-use Rattle.std.proofs.lemmas.List.{get_or_past, get_or-set_same, get_or-set_other}
+use Rattle.std.proofs.lemmas.List.{get_or_past, get_or-set_same, get_or-set_other, set-get_or, set_comm}
 use Rattle.tbl_blocks.specs.Contents.{Content, kept_at, is_open, content_at, no_content, is_double, version_at, with_value, older_in, beside, lent}
 use Rattle.tbl_blocks.specs.declared.next.Next.TheVariants.{Nothing, Inactive}
 
@@ -42,6 +42,26 @@ put_back tables new key t part told h e is =
     let put : new ≡ set tables key (Some t) = e ∙ set_set tables key None (Some t) in
     let found : content_at new key ≡ t = ap (λ l. content_at l key) put ∙ content_set tables key t h in
     put ∙ ap (λ c. set tables key (Some c)) (is ∙ ap (λ c. told (part c)) (sym found))
+
+-- a table that was taken out is put back as it was
+pub one_back : (tables : List (Option Content)) (key : ℕ) → is_open tables key ≡ true → set (set tables key None) key (Some (content_at tables key)) ≡ tables
+one_back tables key e = set_set tables key None (Some (content_at tables key)) ∙ ap (set tables key) (sym (kept_content tables key e)) ∙ set-get_or tables key None
+
+-- and so are two
+pub two_back : (tables : List (Option Content)) (key other : ℕ) → key ≢ other → is_open tables key ≡ true → is_open tables other ≡ true →
+    set (set (set (set tables key None) other None) other (Some (content_at tables other))) key (Some (content_at tables key)) ≡ tables
+two_back tables key other apart e its =
+    let x = Some (content_at tables key) in
+    let y = Some (content_at tables other) in
+    ap (λ l. set l key x) (set_set (set tables key None) other None y)
+    ∙ set_comm (set tables key None) other key y x (λ same. apart (sym same))
+    ∙ ap (λ l. set l other y) (one_back tables key e)
+    ∙ ap (set tables other) (sym (kept_content tables other its))
+    ∙ set-get_or tables other None
+
+-- another one is there meanwhile
+pub still_kept : (tables : List (Option Content)) (key other : ℕ) → key ≢ other → kept_at (set tables key None) other ≡ kept_at tables other
+still_kept tables key other apart = get_or-set_other tables key other None None (λ e. apart (sym e))
 
 is_same : (a b : ℕ) → a ≡ b → eqb a b ≡ true
 is_same a b e = grind (arith, nat_tests)

@@ -1,6 +1,6 @@
 -- What is kept for one table: its blocks, the present version, and beside it the version before or
 -- a staged value.
-use Rattle.std.specs.Prelude.{ℕ, ◌+◌, ◌-◌, ◌==◌, Bool, true, false, List, [], ◌∷◌, if◌then◌else◌, Option, None, is_some, slice_index_or}
+use Rattle.std.specs.Prelude.{◌≡◌, ◌≢◌, ℕ, ◌+◌, ◌-◌, ◌==◌, Bool, true, false, List, [], ◌∷◌, if◌then◌else◌, Option, None, is_some, slice_index_or}
 use Rattle.std.specs.Option.{option_map_or}
 use Rattle.tbl_words.specs.Machine.{with_range}
 use Rattle.tbl_blocks.specs.Versions.{LentVersion, StagedValue}
@@ -122,6 +122,21 @@ with_value c loan value =
       present = lent loan value c.present.whole;
       next = beside c c.present;
     }
+
+-- Loans. --
+
+-- the two versions of a table, where it has two, are of two loans
+abbrev pub HasTwoLoans : Content → Type 0
+HasTwoLoans c = is_inactive c.next ≡ true → (older_in c.next).loan ≢ c.present.loan
+
+-- No loan is of a version of the one table and of a version of the other.
+pub record ShareNoLoan (c other : Content) : Type 0 where
+  pub present : c.present.loan ≢ other.present.loan
+  pub older : is_inactive c.next ≡ true → (older_in c.next).loan ≢ other.present.loan
+  pub other_older : is_inactive other.next ≡ true →
+      c.present.loan ≢ (older_in other.next).loan
+  pub both_older : is_inactive c.next ≡ true → is_inactive other.next ≡ true →
+      (older_in c.next).loan ≢ (older_in other.next).loan
 
 -- All tables, by key. --
 

@@ -1,15 +1,16 @@
 //! What all tables contain.
-ghost use Rattle.std.specs.Prelude.{◌≡◌, ℕ, ◌==◌, ◌+◌, ◌*◌, ◌<◌, ◌≤◌, ◌↔◌, nat_lt, [], None, true, false, length, replicate, IsTrue, IsOk, IfOk, IfErr, OnOk, OnErr, All, vec_capacity};
+ghost use Rattle.std.specs.Prelude.{◌≡◌, ◌≢◌, ℕ, ◌==◌, ◌+◌, ◌*◌, ◌<◌, ◌≤◌, ◌↔◌, nat_lt, [], None, true, false, length, replicate, IsTrue, IsOk, IfOk, IfErr, OnOk, OnErr, All, vec_capacity};
 ghost use Rattle.es_pool.specs.Pool.{fits};
 ghost use Rattle.tbl_words.specs.Tables.{blocks_for};
 ghost use Rattle.tbl_words.specs.Machine.{with_range};
-ghost use Rattle.tbl_blocks.specs.Contents.{is_open, content_at, is_double, is_staged, older_in, staged_in, version_at, view_given, view_back, validated, with_value};
+ghost use Rattle.tbl_blocks.specs.Contents.{is_open, content_at, is_double, is_staged, older_in, staged_in, version_at, view_given, view_back, validated, with_value, HasTwoLoans, ShareNoLoan};
 ghost use Rattle.tbl_blocks.specs.Blocks.{Opens, IsPlaced, IsWhole, has_block, buffers_taken, with_content, closed, after_stage, after_abort, after_update};
 
 use crate::memory::PoolMemory;
 use crate::rows::{
     abort_in, abort_inactive, copy_over, exchange, lend_view, load_inactive, no_tables, put_table,
-    return_view, stage_in, stage_inactive, table_at, take_table, validate, write_over,
+    return_view, stage_in, stage_inactive, table_at, take_table, tell_tables_apart, tell_versions,
+    validate, write_over,
 };
 use crate::space::Space;
 use crate::table::Table;
@@ -404,6 +405,28 @@ impl<'r> TableBlocks<'r> {
         ensures { self.now.free + buffers_taken self.now.tables ≡ 4 }
     {
         let _ = &self.work;
+    }
+
+    /// The two versions of a table, where it has two, are of two loans. Does nothing.
+    pub fn recall_versions(&mut self, key: u32)
+        requires { is_open self.old.tables key ≡ true }
+        ensures apart { HasTwoLoans (content_at self.old.tables key) }
+        ensures same { self.new ≡ self.old }
+    {
+        tell_versions(&mut self.tables, key);
+    }
+
+    /// Two tables share no loan. Does nothing.
+    pub fn recall_apart(&mut self, key: u32, other: u32)
+        requires open { is_open self.old.tables key ≡ true }
+        requires other_open { is_open self.old.tables other ≡ true }
+        requires two { key ≢ other }
+        ensures apart { ShareNoLoan
+            (content_at self.old.tables key)
+            (content_at self.old.tables other) }
+        ensures same { self.new ≡ self.old }
+    {
+        tell_tables_apart(&mut self.tables, key, other);
     }
 
     // Opens a table with one block.

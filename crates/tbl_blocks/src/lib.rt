@@ -43,6 +43,7 @@
 //! - `recall_table`: a table's blocks are out of the pool, and its values have its size.
 //!   `recall_buffers`: four buffers are free or taken. `recall_update`: an update leaves the
 //!   version before under its number. `recall_change`: a change of one table leaves every other.
+//!   `recall_versions` and `recall_apart`: two versions, and two tables, share no loan.
 //!   [`HeldTables`] is a finite map from handles to views. At most 16 steps a call.
 //!
 //! By reading: a staged value and a load write each byte once; an update exchanges the blocks of a

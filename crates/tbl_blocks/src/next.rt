@@ -1,5 +1,5 @@
 //! What lies beside the present version of a table.
-ghost use Rattle.std.specs.Prelude.{◌≡◌, true, length};
+ghost use Rattle.std.specs.Prelude.{◌≡◌, ◌≢◌, true, length};
 ghost use Rattle.tbl_blocks.specs.Contents.{older_in, staged_in, is_inactive, is_staged};
 
 use crate::space::Space;
@@ -41,6 +41,35 @@ impl<'r> Next<'r> {
             Next::Staged(staged) => staged,
             Next::Nothing => unreachable!(),
             Next::Inactive(_) => unreachable!(),
+        }
+    }
+
+    /// The version in the inactive block, where there is one, is of another loan than this one.
+    /// Does nothing.
+    pub fn tell_apart(&mut self, version: &mut Version<'_>)
+        ensures apart { is_inactive self.old ≡ true → (older_in self.old).loan ≢ version.old.loan }
+        ensures same { self.new ≡ self.old }
+        ensures same_version { version.new ≡ version.old }
+    {
+        match self {
+            Next::Inactive(older) => older.tell_apart(version),
+            Next::Nothing => {}
+            Next::Staged(_) => {}
+        }
+    }
+
+    /// The versions in two inactive blocks are of two loans. Does nothing.
+    pub fn tell_older_apart(&mut self, other: &mut Next<'_>)
+        ensures apart { is_inactive self.old ≡ true →
+            is_inactive other.old ≡ true →
+            (older_in self.old).loan ≢ (older_in other.old).loan }
+        ensures same { self.new ≡ self.old }
+        ensures same_other { other.new ≡ other.old }
+    {
+        match other {
+            Next::Inactive(older) => self.tell_apart(older),
+            Next::Nothing => {}
+            Next::Staged(_) => {}
         }
     }
 }

@@ -1,7 +1,7 @@
 //! The tables by key, and the changes of one of them.
-ghost use Rattle.std.specs.Prelude.{◌≡◌, ◌+◌, ◌<◌, ◌≤◌, ℕ, Some, None, true, false, length, replicate, slice_set, IfOk};
+ghost use Rattle.std.specs.Prelude.{◌≡◌, ◌≢◌, ◌+◌, ◌<◌, ◌≤◌, ℕ, Some, None, true, false, length, replicate, slice_set, IfOk};
 ghost use Rattle.tbl_words.specs.Machine.{with_range};
-ghost use Rattle.tbl_blocks.specs.Contents.{is_open, content_at, is_double, is_staged, older_in, staged_in, version_at, view_given, view_back, validated, staged_by, without_staged, with_value};
+ghost use Rattle.tbl_blocks.specs.Contents.{is_open, content_at, is_double, is_staged, older_in, staged_in, version_at, view_given, view_back, validated, staged_by, without_staged, with_value, HasTwoLoans, ShareNoLoan};
 
 use crate::space::Space;
 use crate::table::Table;
@@ -54,6 +54,37 @@ pub fn put_table<'r>(tables: &mut Vec<Option<Table<'r>>>, key: u32, table: Table
     ensures after { tables.new.items ≡ slice_set tables.old.items key (Some table.entry) }
 {
     tables[key as usize] = Some(table);
+}
+
+/// The two versions of a table, where it has two, are of two loans. Does nothing.
+pub fn tell_versions(tables: &mut Vec<Option<Table<'_>>>, key: u32)
+    requires within { key < length tables.old.items }
+    requires open { is_open tables.old.items key ≡ true }
+    ensures apart { HasTwoLoans (content_at tables.old.items key) }
+    ensures same { tables.new.items ≡ tables.old.items }
+{
+    let mut table = take_table(tables, key);
+    table.tell_versions();
+    put_table(tables, key, table);
+}
+
+/// Two tables share no loan. Does nothing.
+pub fn tell_tables_apart(tables: &mut Vec<Option<Table<'_>>>, key: u32, other: u32)
+    requires within { key < length tables.old.items }
+    requires open { is_open tables.old.items key ≡ true }
+    requires other_within { other < length tables.old.items }
+    requires other_open { is_open tables.old.items other ≡ true }
+    requires two { key ≢ other }
+    ensures apart { ShareNoLoan
+        (content_at tables.old.items key)
+        (content_at tables.old.items other) }
+    ensures same { tables.new.items ≡ tables.old.items }
+{
+    let mut table = take_table(tables, key);
+    let mut its = take_table(tables, other);
+    table.tell_apart(&mut its);
+    put_table(tables, other, its);
+    put_table(tables, key, table);
 }
 
 /// Gives a view of a table's present version.

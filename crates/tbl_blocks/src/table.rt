@@ -17,7 +17,7 @@
 //! ```
 ghost use Rattle.std.specs.Prelude.{◌≡◌, ◌==◌, ℕ, ◌+◌, ◌-◌, ◌<◌, ◌≤◌, true, false, length, take, replicate};
 ghost use Rattle.tbl_words.specs.Machine.{with_range};
-ghost use Rattle.tbl_blocks.specs.Contents.{is_double, older_in, staged_in, is_staged, is_inactive, version_at, view_given, view_back, lent, staged_by, validated, without_staged, with_value};
+ghost use Rattle.tbl_blocks.specs.Contents.{is_double, older_in, staged_in, is_staged, is_inactive, version_at, view_given, view_back, lent, staged_by, validated, without_staged, with_value, HasTwoLoans, ShareNoLoan};
 ghost use Rattle.tbl_blocks.specs.declared.next.Next.TheVariants.{Nothing, Inactive};
 
 use crate::next::Next;
@@ -253,6 +253,26 @@ impl<'r> Table<'r> {
             is_inactive self.now.next ≡ is_double self.now }
     {
         let _ = &self.next;
+    }
+
+    /// The two versions of a table, where it has two, are of two loans. Does nothing.
+    pub fn tell_versions(&mut self)
+        ensures apart { HasTwoLoans self.old }
+        ensures same { self.new ≡ self.old }
+    {
+        self.next.tell_apart(&mut self.present);
+    }
+
+    /// Two tables share no loan. Does nothing.
+    pub fn tell_apart(&mut self, other: &mut Table<'_>)
+        ensures apart { ShareNoLoan self.old other.old }
+        ensures same { self.new ≡ self.old }
+        ensures same_other { other.new ≡ other.old }
+    {
+        self.present.tell_apart(&mut other.present);
+        self.next.tell_apart(&mut other.present);
+        other.next.tell_apart(&mut self.present);
+        self.next.tell_older_apart(&mut other.next);
     }
 
     /// Gives a view of the present version.

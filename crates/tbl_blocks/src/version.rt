@@ -1,5 +1,5 @@
 //! A version of a table, in a block that is sealed.
-ghost use Rattle.std.specs.Prelude.{◌≡◌, ◌+◌, ◌-◌, ◌<◌, ◌≤◌, length, take};
+ghost use Rattle.std.specs.Prelude.{◌≡◌, ◌≢◌, ◌+◌, ◌-◌, ◌<◌, ◌≤◌, length, take};
 ghost use Rattle.tbl_blocks.specs.Versions.{LentVersion};
 
 use crate::space::Space;
@@ -90,5 +90,14 @@ impl<'r> Version<'r> {
         ensures one_less { self.new ≡ record self.old { views = self.old.views - 1 } }
     {
         self.root.give_back(view);
+    }
+
+    /// Two versions that are sealed at the same time are of different loans. Does nothing.
+    pub fn tell_apart(&mut self, other: &mut Version<'_>)
+        ensures apart { self.old.loan ≢ other.old.loan }
+        ensures same { self.new ≡ self.old }
+        ensures same_other { other.new ≡ other.old }
+    {
+        self.root.tell_apart(&mut other.root);
     }
 }

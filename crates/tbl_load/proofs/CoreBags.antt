@@ -1,5 +1,5 @@
 -- The bags of the core are those of the history, since what handles hold is lent by the loans that were noted.
-use Rattle.std.proofs.Common.{◌≡◌, ℕ, true, Option, Some, None, length, is_some, refl, ap, sym, ◌∙◌, subst}
+use Rattle.std.proofs.Common.{◌≡◌, ℕ, true, List, Option, Some, None, length, is_some, refl, ap, sym, ◌∙◌, subst}
 use Rattle.std.specs.Option.{IsSomeAnd, option_map, option_and_then}
 use Rattle.tbl_words.specs.Holds.{hold_of}
 use Rattle.tbl_words.specs.Tables.{Handle, Hold, State, handle_at}
@@ -8,7 +8,7 @@ use Rattle.tbl_blocks.specs.Held.{HeldViews}
 use Rattle.tbl_plain.specs.Core as plain
 use Rattle.tbl_plain.specs.Core.{Holds, HoldsVersion, loan_of, view_due, views_due}
 use Rattle.tbl_load.specs.declared.tables.TblCore.TheInside.{Inside}
-use Rattle.tbl_load.specs.Bags.{HasBag, KeepsBags, AreOneLoan, lent_tables, loans_of}
+use Rattle.tbl_load.specs.Bags.{HasBag, KeepsBags, AreOneLoan, AreTwoLoans, lent_tables, loans_of}
 use Rattle.tbl_load.specs.Core.{Core, state_of}
 use Rattle.tbl_load.specs.Inside.{core_of, Stands}
 use Rattle.tbl_load.specs.Notes.{noted}
@@ -54,27 +54,37 @@ bag_out a app bag stands has = record {
 pub bags_over : (a next : Inside) (old : Core) → core_of a ≡ old → Stands a → Stands next → ((app : ℕ) (bag : HeldViews) → Holds a.core app bag → Holds next.core app bag) → KeepsBags old (core_of next)
 bags_over a next old is stands stands_next keeps app bag has = bag_out next app bag stands_next (keeps app bag (bag_in a old app bag is stands has))
 
+-- a handle that holds a version holds something
+held_one : (handles : List Handle) (n table version : ℕ) → HoldsVersion handles n table version → is_some (hold_of handles n) ≡ true
+held_one handles n table version its = by_found (handle_at handles n) its
+  where
+    by_hold : (o : Option Hold) → option_map (λ (hold : Hold). hold.version) o ≡ Some version → is_some o ≡ true
+    by_hold None never = absurd (cc (never))
+    by_hold (Some hold) is = refl
+
+    by_found : (o : Option Handle) → IsSomeAnd o (λ (h : Handle). (h.table ≡ table) × (option_map (λ (hold : Hold). hold.version) h.hold ≡ Some version)) → is_some (option_and_then (λ (h : Handle). h.hold) o) ≡ true
+    by_found None never = absurd never
+    by_found (Some h) its = by_hold h.hold its.1
+
+-- what the history's handles hold the core's do
+holds_in : (a : Inside) → Stands a → (n table version : ℕ) → HoldsVersion (state_of (core_of a)).handles n table version → HoldsVersion a.core.state.handles n table version
+holds_in a stands n table version holds = subst (λ (s : State). HoldsVersion s.handles n table version) (sym stands.state) holds
+
 -- handles that hold one version of one table have one loan noted, as the core's loans are one
 pub one_loan : (a : Inside) → Stands a → plain.AreOneLoan a.core → AreOneLoan (core_of a)
 one_loan a stands told number other table version holds too =
-    sym (stands.loans number (held_one number here)) ∙ told number other table version here there ∙ stands.loans other (held_one other there)
-  where
-    P : ℕ → State → Type 0
-    P n s = HoldsVersion s.handles n table version
+    let here = holds_in a stands number table version holds in
+    let there = holds_in a stands other table version too in
+    sym (stands.loans number (held_one a.core.state.handles number table version here))
+    ∙ told number other table version here there
+    ∙ stands.loans other (held_one a.core.state.handles other table version there)
 
-    here : HoldsVersion a.core.state.handles number table version
-    here = subst (P number) (sym stands.state) holds
-
-    there : HoldsVersion a.core.state.handles other table version
-    there = subst (P other) (sym stands.state) too
-
-    held_one : (n : ℕ) → HoldsVersion a.core.state.handles n table version → is_some (hold_of a.core.state.handles n) ≡ true
-    held_one n its = by_found (handle_at a.core.state.handles n) its
-      where
-        by_hold : (o : Option Hold) → option_map (λ (hold : Hold). hold.version) o ≡ Some version → is_some o ≡ true
-        by_hold None never = absurd (cc (never))
-        by_hold (Some hold) is = refl
-
-        by_found : (o : Option Handle) → IsSomeAnd o (λ (h : Handle). (h.table ≡ table) × (option_map (λ (hold : Hold). hold.version) h.hold ≡ Some version)) → is_some (option_and_then (λ (h : Handle). h.hold) o) ≡ true
-        by_found None never = absurd never
-        by_found (Some h) its = by_hold h.hold its.1
+-- and what two hold of two tables, or of two versions, has two, as the core's loans are two
+pub two_loans : (a : Inside) → Stands a → (number other : ℕ) → plain.AreTwoLoans a.core number other → AreTwoLoans (core_of a) number other
+two_loans a stands number other told table its version second holds too differ same =
+    let here = holds_in a stands number table version holds in
+    let there = holds_in a stands other its second too in
+    told table its version second here there differ
+    (stands.loans number (held_one a.core.state.handles number table version here)
+    ∙ same
+    ∙ sym (stands.loans other (held_one a.core.state.handles other its second there)))

@@ -52,6 +52,13 @@ AreOneLoan core =
     HoldsVersion (state_of core).handles other table version →
     noted number core.log.entries core.notes ≡ noted other core.log.entries core.notes
 
+-- what two handles hold of two tables, or of two versions of one, has two loans noted
+abbrev pub AreTwoLoans : Core → ℕ → ℕ → Type 0
+AreTwoLoans core number other =
+    (table its version second : ℕ) → HoldsVersion (state_of core).handles number table version →
+    HoldsVersion (state_of core).handles other its second → (table ≡ its → version ≢ second) →
+    noted number core.log.entries core.notes ≢ noted other core.log.entries core.notes
+
 -- Only others called meanwhile: their entries, each with the note that is due, stand behind those
 -- that were there, and none of this application's own.
 pub record CalledByOthers (old new : Core) (app : ℕ) : Type 0 where

@@ -9,7 +9,7 @@ ghost use Rattle.tbl_words.specs.Log.{left_of};
 ghost use Rattle.tbl_words.specs.Tables.{account_of, bytes_in_use};
 ghost use Rattle.tbl_words.specs.Uses.{use_of, peak_after};
 ghost use Rattle.tbl_plain.specs.Blocks.{AreTableBlocks, IsTablePool};
-ghost use Rattle.tbl_load.specs.Bags.{AreOneLoan, lent_tables};
+ghost use Rattle.tbl_load.specs.Bags.{AreOneLoan, AreTwoLoans, lent_tables};
 ghost use Rattle.tbl_load.specs.Core.{IsLegalCore, IsNoted, apps_of, state_of};
 ghost use Rattle.tbl_load.specs.Notes.{IsDue};
 
@@ -113,6 +113,15 @@ impl<'r> TblCore<'r> {
         // Does nothing; the proof learns of it that there is one loan for a version.
         self.core.recall_loans();
         self.noted.journal()
+    }
+
+    /// What two live handles hold of two tables, or of two versions of one, has two loans noted:
+    /// it lies in two blocks. Does nothing.
+    pub fn recall_apart(&mut self, handle: u32, other: u32)
+        ensures apart { AreTwoLoans self.old handle other }
+        ensures same { self.new ≡ self.old }
+    {
+        self.core.recall_apart(handle, other);
     }
 
     /// What was noted beside the journal's entry of this number, from 0: a loan where its call gave

@@ -12,7 +12,7 @@ use Rattle.tbl_registry.specs.declared.rows.Handle.{Handle}
 use Rattle.tbl_registry.specs.Listing.{Table, IsTied, handle_at, table_named}
 use Rattle.tbl_plain.specs.declared.plain.PlainTables.TheInside.{Inside}
 use Rattle.tbl_plain.specs.Inside.{means, table_in}
-use Rattle.tbl_plain.specs.Refusals.{own_handle}
+use Rattle.tbl_plain.specs.Refusals.{unless, own_handle}
 use Rattle.tbl_plain.proofs.Meaning.{alike, named_here}
 
 pub any_found : {X : Type 0} (p : X → Bool) (xs : List X) → list_any p xs ≡ is_some (find p xs)
@@ -48,7 +48,7 @@ pub refused_here : (o : Option Handle) (app : ℕ) (status : TblStatus) (others 
 refused_here None app status others is = ap (λ r. Some (err_of r)) is
 refused_here (Some h) app status others is = by_test (eqb h.app app) is
   where
-    by_test : (b : Bool) → cond {A = Result Handle TblStatus} b (Ok h) (Err ErrNoAccess) ≡ Err status → refused_if (not b) ErrNoAccess others ≡ Some status
+    by_test : (b : Bool) → unless (refused_if (not b) ErrNoAccess None) (Some h) ≡ Err status → refused_if (not b) ErrNoAccess others ≡ Some status
     by_test true never = absurd (cc (never))
     by_test false same = ap (λ r. Some (err_of r)) same
 
@@ -65,7 +65,7 @@ pub owned_here : (o : Option Handle) (app : ℕ) (h : Handle) → own_handle app
 owned_here None app h is = absurd (cc (is))
 owned_here (Some k) app h is = by_test (eqb k.app app) refl is
   where
-    by_test : (b : Bool) → eqb k.app app ≡ b → cond {A = Result Handle TblStatus} b (Ok k) (Err ErrNoAccess) ≡ Ok h → IsOwned (Some k) app h
+    by_test : (b : Bool) → eqb k.app app ≡ b → unless (refused_if (not b) ErrNoAccess None) (Some k) ≡ Ok h → IsOwned (Some k) app h
     by_test true same here = record {
       found = ap (λ r. Some (ok_of k r)) here;
       own = λ others. ap (λ b. refused_if (not b) ErrNoAccess others) same;
@@ -80,7 +80,7 @@ app_of (Some k) app h is = by_test (eqb k.app app) refl is
     is_same : eqb k.app app ≡ true → k.app ≡ app
     is_same same = grind (arith, nat_tests)
 
-    by_test : (b : Bool) → eqb k.app app ≡ b → cond {A = Result Handle TblStatus} b (Ok k) (Err ErrNoAccess) ≡ Ok h → h.app ≡ app
+    by_test : (b : Bool) → eqb k.app app ≡ b → unless (refused_if (not b) ErrNoAccess None) (Some k) ≡ Ok h → h.app ≡ app
     by_test true same here = sym (ap (λ r. (ok_of k r).app) here) ∙ is_same same
     by_test false other never = absurd (cc (never))
 

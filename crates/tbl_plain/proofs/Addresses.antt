@@ -56,7 +56,7 @@ module _ (a : Inside) (keeps : Keeps a) (tied : IsTied a.registry) (n : ℕ) (h 
   pub release_keeps : (r : Listing) → r ≡ released → Keeps (record a { registry = r; blocks = b })
   release_keeps r is =
       subst (λ (l : Listing). let x : Inside = record a { registry = l; blocks = b } in Keeps x) (sym is)
-      (reheld_keeps a keeps tied n h found has without_hold (λ k. (refl, refl, refl, refl)) b (with_back content h.held) back_at back_pool_at back_most_at relends_back (told_before a keeps tied n h found has))
+      (reheld_keeps a keeps tied n h found has without_hold (λ k. (refl, refl, refl, refl)) b (with_back content h.held) back_at back_pool_at back_most_at relends_back (told_before a keeps tied n h found has) tt)
 
   release_does : handle_with (without_hold h) (content_at b.tables h.key) ≡ machine.without_hold (handle_in a.blocks.tables h)
   release_does =
@@ -72,14 +72,14 @@ module _ (a : Inside) (keeps : Keeps a) (tied : IsTied a.registry) (n : ℕ) (h 
       Acts old (plain_of (record a { registry = r; blocks = b })) app (ReleaseAddress n) answers.Done
   release_acts r is old viewed app own free =
       subst (λ (l : Listing). let x : Inside = record a { registry = l; blocks = b } in Acts old (plain_of x) app (ReleaseAddress n) answers.Done) (sym is)
-      (reheld_acts a keeps tied n h found has without_hold (λ k. (refl, refl, refl, refl)) b (with_back content h.held) back_at back_pool_at back_most_at relends_back (told_before a keeps tied n h found has)
+      (reheld_acts a keeps tied n h found has without_hold (λ k. (refl, refl, refl, refl)) b (with_back content h.held) back_at back_pool_at back_most_at relends_back (told_before a keeps tied n h found has) tt
       machine.without_hold release_does old viewed app own (ReleaseAddress n) answers.Done refl free refl)
 
   pub release_bag : (r : Listing) → r ≡ released → (app : ℕ) → h.app ≡ app → (bag new : HeldViews) → ((m : ℕ) → held_at new m ≡ cond {A = Option LentBytes} (eqb n m) None (held_at bag m)) → length new.views + views_of h ≡ length bag.views → new.room ≡ bag.room →
       Holds (plain_of a) app bag → Holds (plain_of (record a { registry = r; blocks = b })) app new
   release_bag r is app own bag new seen fewer room holds =
       subst (λ (l : Listing). let x : Inside = record a { registry = l; blocks = b } in Holds (plain_of x) app new) (sym is)
-      (reheld_bag a keeps tied n h found has without_hold (λ k. (refl, refl, refl, refl)) b (with_back content h.held) back_at back_pool_at back_most_at relends_back (told_before a keeps tied n h found has)
+      (reheld_bag a keeps tied n h found has without_hold (λ k. (refl, refl, refl, refl)) b (with_back content h.held) back_at back_pool_at back_most_at relends_back (told_before a keeps tied n h found has) tt
       app own bag new seen (omega (arith, fewer)) room holds)
 
 -- An address. --
@@ -162,7 +162,7 @@ module _ (a : Inside) (keeps : Keeps a) (tied : IsTied a.registry) (n : ℕ) (h 
     pub address_keeps : (r : Listing) → r ≡ addressed → Keeps (record a { registry = r; blocks = b })
     address_keeps r here =
         subst (λ (l : Listing). let x : Inside = record a { registry = l; blocks = b } in Keeps x) (sym here)
-        (reheld_keeps a keeps tied n h found has (with_hold v) (λ k. (refl, refl, refl, refl)) b (view_given left) given_at given_pool given_most so (omega (arith, version_is)))
+        (reheld_keeps a keeps tied n h found has (with_hold v) (λ k. (refl, refl, refl, refl)) b (view_given left) given_at given_pool given_most so (omega (arith, version_is)) (λ apart. absurd (apart version_is)))
 
     abbrev F : state.Handle → state.Handle
     F = machine.with_hold old.version old.present.bytes
@@ -199,7 +199,7 @@ module _ (a : Inside) (keeps : Keeps a) (tied : IsTied a.registry) (n : ℕ) (h 
         Acts core (plain_of (record a { registry = r; blocks = b })) app (GetAddress n) (answers.Address told v)
     address_acts r here core viewed app own free told telling =
         subst (λ (l : Listing). let x : Inside = record a { registry = l; blocks = b } in Acts core (plain_of x) app (GetAddress n) (answers.Address told v)) (sym here)
-        (reheld_acts a keeps tied n h found has (with_hold v) (λ k. (refl, refl, refl, refl)) b (view_given left) given_at given_pool given_most so (omega (arith, version_is))
+        (reheld_acts a keeps tied n h found has (with_hold v) (λ k. (refl, refl, refl, refl)) b (view_given left) given_at given_pool given_most so (omega (arith, version_is)) (λ apart. absurd (apart version_is))
         F address_does core viewed app own (GetAddress n) (answers.Address told v) refl free
         (address_accepted (limits_of a.config) app
         ∙ sym (ap (λ x. (answers.Address x v, after_of)) telling ∙ ap (λ u. (answers.Address (told_by h.told u) u, after_of)) version_is)))
@@ -213,7 +213,7 @@ module _ (a : Inside) (keeps : Keeps a) (tied : IsTied a.registry) (n : ℕ) (h 
         Holds (plain_of a) app bag → Holds (plain_of (record a { registry = r; blocks = b })) app new
     address_bag r here app own view shows bag out new gone seen fewer more same_room room holds =
         subst (λ (l : Listing). let x : Inside = record a { registry = l; blocks = b } in Holds (plain_of x) app new) (sym here)
-        (reheld_bag a keeps tied n h found has (with_hold v) (λ k. (refl, refl, refl, refl)) b (view_given left) given_at given_pool given_most so (omega (arith, version_is))
+        (reheld_bag a keeps tied n h found has (with_hold v) (λ k. (refl, refl, refl, refl)) b (view_given left) given_at given_pool given_most so (omega (arith, version_is)) (λ apart. absurd (apart version_is))
         app own bag new sees (omega (arith, fewer, more)) (room ∙ same_room) holds)
       where
         view_is : Some view ≡ held_by (view_given left) (with_hold v h)

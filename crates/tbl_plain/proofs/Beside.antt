@@ -22,7 +22,7 @@ use Rattle.tbl_blocks.specs.Held.{HeldViews}
 use Rattle.tbl_blocks.specs.Contents.{Content, no_content, version_at, kept_at, content_at, older_in}
 use Rattle.tbl_plain.specs.declared.plain.PlainTables.TheInside.{Inside}
 use Rattle.tbl_plain.specs.Core.{Plain, Holds, Acts}
-use Rattle.tbl_plain.specs.Inside.{plain_of, means, table_in, table_with, handle_in, handle_with, hold_of, each_below, is_this, is_other, IsFilled, Keeps}
+use Rattle.tbl_plain.specs.Inside.{plain_of, means, table_in, table_with, handle_in, handle_with, hold_of, each_below, is_this, is_other, IsRecent, IsFilled, Keeps}
 use Rattle.tbl_plain.proofs.After.{step_by, acts_from}
 use Rattle.tbl_plain.proofs.Bags.{held_view, bags_still}
 use Rattle.tbl_plain.proofs.Changes.{tables_changed, handles_still, views_still}
@@ -212,6 +212,7 @@ module _ (a : Inside) (keeps : Keeps a) (tied : IsTied a.registry) (h : Handle) 
           ap (λ (x : Content). (older_in x.next).views) now_c ∙ stays.none_after ∙ sym stays.none_before ∙ has.filled.older_views
           ∙ ap (λ v. count_by (λ (k : Handle). eqb k.table t.number && is_other v k.held) a.registry.handles) (sym version_now);
       told = subst (λ v. All (λ (k : Handle). k.table ≡ t.number → k.told ≤ v) a.registry.handles) (sym version_now) has.filled.told;
+      recent = subst (λ v. All (λ (k : Handle). k.table ≡ t.number → IsRecent v k.held) a.registry.handles) (sym version_now) has.filled.recent;
       unstaged = λ gone. absurd (cc (sym live ∙ ap (is_live a.registry.handles) (sym has.number) ∙ gone));
     }
 

@@ -22,7 +22,7 @@ use Rattle.tbl_blocks.specs.Held.{HeldViews}
 use Rattle.tbl_blocks.specs.Contents.{Content, no_content, version_at, kept_at, content_at, is_open, is_staged, older_in}
 use Rattle.tbl_plain.specs.declared.plain.PlainTables.TheInside.{Inside}
 use Rattle.tbl_plain.specs.Core.{Holds}
-use Rattle.tbl_plain.specs.Inside.{plain_of, means, table_in, table_with, handle_in, handle_with, each_below, is_this, is_other, IsFilled, Keeps}
+use Rattle.tbl_plain.specs.Inside.{plain_of, means, table_in, table_with, handle_in, handle_with, each_below, is_this, is_other, IsRecent, IsFilled, Keeps}
 use Rattle.tbl_plain.specs.Views.{held_by}
 use Rattle.tbl_plain.proofs.Bags.{due_by, is_due, known_handle, bags_go_on}
 use Rattle.tbl_plain.proofs.Beside.{itself}
@@ -234,6 +234,9 @@ module _ (a : Inside) (keeps : Keeps a) (tied : IsTied a.registry) (n : ℕ) (h 
           told =
               subst (λ (x : Content). All (λ (k : Handle). k.table ≡ u.number → k.told ≤ x.version) left) (sym content)
               (All-filter (λ (k : Handle). not (eqb k.number n)) (λ (k : Handle). k.table ≡ u.number → k.told ≤ (content_at a.blocks.tables u.key).version) a.registry.handles filled.told);
+          recent =
+              subst (λ (x : Content). All (λ (k : Handle). k.table ≡ u.number → IsRecent x.version k.held) left) (sym content)
+              (All-filter (λ (k : Handle). not (eqb k.number n)) (λ (k : Handle). k.table ≡ u.number → IsRecent (content_at a.blocks.tables u.key).version k.held) a.registry.handles filled.recent);
           unstaged = λ gone. ap (λ (x : Content). is_staged x.next) content ∙ none gone;
         }
 

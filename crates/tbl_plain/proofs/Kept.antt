@@ -19,7 +19,7 @@ use Rattle.tbl_registry.specs.Listing.{Table, IsTied, handle_at, table_at, is_re
 use Rattle.tbl_blocks.specs.Blocks.{Stored}
 use Rattle.tbl_blocks.specs.Contents.{Content, no_content, kept_at, content_at, is_open, is_staged, older_in}
 use Rattle.tbl_plain.specs.declared.plain.PlainTables.TheInside.{Inside}
-use Rattle.tbl_plain.specs.Inside.{means, table_in, each_below, is_this, is_other, IsFilled, Keeps}
+use Rattle.tbl_plain.specs.Inside.{means, table_in, each_below, is_this, is_other, IsRecent, IsFilled, Keeps}
 use Rattle.tbl_plain.proofs.Access.{IsOwned, access_by}
 use Rattle.tbl_plain.proofs.Meaning.{table_here}
 
@@ -82,6 +82,7 @@ module _ (a : Inside) (keeps : Keeps a) (tied : IsTied a.registry) (t : Table) (
         views = ap (λ (x : Content). x.present.views) same ∙ filled.views ∙ ap (λ (x : Content). count_by (λ (k : Handle). eqb k.table u.number && is_this x.version k.held) a.registry.handles) (sym same);
         older_views = ap (λ (x : Content). (older_in x.next).views) same ∙ filled.older_views ∙ ap (λ (x : Content). count_by (λ (k : Handle). eqb k.table u.number && is_other x.version k.held) a.registry.handles) (sym same);
         told = subst (λ (x : Content). All (λ (k : Handle). k.table ≡ u.number → k.told ≤ x.version) a.registry.handles) (sym same) filled.told;
+        recent = subst (λ (x : Content). All (λ (k : Handle). k.table ≡ u.number → IsRecent x.version k.held) a.registry.handles) (sym same) filled.recent;
         unstaged = λ gone. ap (λ (x : Content). is_staged x.next) same ∙ filled.unstaged gone;
       }
 

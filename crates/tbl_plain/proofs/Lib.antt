@@ -31,6 +31,7 @@ pub mod Returns
 pub mod Shares
 pub mod Stagings
 pub mod Standing
+pub mod TwoLoans
 pub mod Unregisters
 pub mod Updates
 pub mod Validations

@@ -31,6 +31,7 @@ pub record Lends (a : Inside) (number table version : ℕ) : Type 0 where
   pub h : Handle
   pub here : handle_at a.registry.handles number ≡ Some h
   pub of_table : h.table ≡ table
+  pub held : h.held ≡ Some version
   pub loan : loan_of (plain_of a).lent number ≡ (version_at (content_at a.blocks.tables h.key) version).loan
 
 pub lends : (a : Inside) (number table version : ℕ) → HoldsVersion (means a).handles number table version → Lends a number table version
@@ -49,9 +50,14 @@ lends a number table version holds =
       h = h;
       here = at;
       of_table = its.0;
+      held = held_so h.held its.1;
       loan = loan_here ∙ ap (λ (o : Option Handle). option_map_or (λ (one : Lent). one.loan) (option_map (lent_in a.blocks.tables) o) 0) at ∙ by_held h.held its.1;
     }
       where
+        held_so : (held : Option ℕ) → option_map (λ (hold : state.Hold). hold.version) (option_map (hold_of (content_at a.blocks.tables h.key)) held) ≡ Some version → held ≡ Some version
+        held_so None never = absurd (cc (never))
+        held_so (Some v) is = is
+
         by_held : (held : Option ℕ) → option_map (λ (hold : state.Hold). hold.version) (option_map (hold_of (content_at a.blocks.tables h.key)) held) ≡ Some version →
             option_map_or (λ v. (version_at (content_at a.blocks.tables h.key) v).loan) held 0 ≡ (version_at (content_at a.blocks.tables h.key) version).loan
         by_held None never = absurd (cc (never))

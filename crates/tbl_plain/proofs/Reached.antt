@@ -9,7 +9,7 @@ use Rattle.tbl_registry.specs.declared.rows.Handle.{Handle}
 use Rattle.tbl_registry.specs.Listing.{Table, IsTied, handle_at, is_live, table_at}
 use Rattle.tbl_plain.specs.declared.plain.PlainTables.TheInside.{Inside}
 use Rattle.tbl_plain.specs.Inside.{means, table_in}
-use Rattle.tbl_plain.specs.Refusals.{own_handle, registered_one, own_table}
+use Rattle.tbl_plain.specs.Refusals.{unless, own_handle, registered_one, own_table}
 use Rattle.tbl_plain.proofs.Access.{IsOwned, any_found, access_by, err_of, ok_of, app_of, refused_here, owned_here}
 use Rattle.tbl_plain.proofs.Kept.{table_cause_by}
 use Rattle.tbl_plain.proofs.Meaning.{its_table}
@@ -23,7 +23,7 @@ module _ (a : Inside) (tied : IsTied a.registry) (app n : ℕ) where
   live_by h b is = any_found (λ (k : Handle). eqb k.number h.table) a.registry.handles ∙ is
 
   abbrev or_unregistered : Handle → Bool → Result Handle TblStatus
-  or_unregistered h b = cond {A = Result Handle TblStatus} b (Ok h) (Err ErrUnregistered)
+  or_unregistered h b = unless (refused_if (not b) ErrUnregistered None) (Some h)
 
   pub reaches : (h : Handle) → own_table app n a.registry.handles ≡ Ok h → Reaches a app n h
   reaches h is = by_own (own_handle app (handle_at a.registry.handles n)) refl is

@@ -12,14 +12,13 @@ use Rattle.tbl_words.specs.declared.calls.TblAnswer.TheVariants as answers
 use Rattle.tbl_words.specs.declared.history.Call.TheVariants.{Register}
 use Rattle.tbl_rules.specs.Rules.{has_misfit}
 use Rattle.tbl_words.specs.Tables as state
-use Rattle.tbl_words.specs.Machine.{register_cause, new_table_cause, duplicate_cause, refused_if, with_new_table}
+use Rattle.tbl_words.specs.Machine.{unfit_cause, register_cause, new_table_cause, duplicate_cause, refused_if, with_new_table}
 use Rattle.tbl_registry.specs.declared.rows.TableRow.{TableRow}
 use Rattle.tbl_registry.specs.Listing.{Table, IsTied, is_live, table_named, owner_handle, Tells}
 use Rattle.tbl_blocks.specs.Held.{HeldViews}
 use Rattle.tbl_plain.specs.declared.plain.PlainTables.TheInside.{Inside}
 use Rattle.tbl_plain.specs.Core.{Plain, Holds, Acts}
 use Rattle.tbl_plain.specs.Inside.{plain_of, means, table_in, Keeps}
-use Rattle.tbl_plain.specs.Refusals.{unfit_cause}
 use Rattle.tbl_plain.proofs.After.{step_by, acts_from, acts_still, acts_refused}
 use Rattle.tbl_plain.proofs.Meaning.{alike, named_here}
 use Rattle.tbl_plain.proofs.Pools.{fits_alike}

@@ -7,7 +7,7 @@ use Rattle.tbl_rules.specs.declared.rules.Rule.{Rule}
 use Rattle.tbl_words.specs.declared.calls.TblAnswer.TheVariants as answers
 use Rattle.tbl_words.specs.declared.history.Call.TheVariants.{Register}
 use Rattle.tbl_words.specs.Tables as state
-use Rattle.tbl_words.specs.Machine.{new_table_cause}
+use Rattle.tbl_words.specs.Machine.{unfit_cause, new_table_cause}
 use Rattle.tbl_registry.specs.Listing.{Table, Listing, IsTied, table_named, AddsTable}
 use Rattle.tbl_blocks.specs.Blocks.{Stored, Opens}
 use Rattle.tbl_blocks.specs.Contents.{Content}
@@ -16,7 +16,6 @@ use Rattle.std.specs.Result.{IsOk, OnOk}
 use Rattle.tbl_plain.specs.declared.plain.PlainTables.TheInside.{Inside}
 use Rattle.tbl_plain.specs.Core.{Plain, Acts}
 use Rattle.tbl_plain.specs.Inside.{plain_of, means, Keeps}
-use Rattle.tbl_plain.specs.Refusals.{unfit_cause}
 use Rattle.tbl_plain.proofs.Bags.{bags_grown}
 use Rattle.tbl_plain.proofs.Pools.{HasClass, has_class, fits_alike}
 use Rattle.tbl_plain.proofs.Registers.{one, added, registered_means, registered_views, registered_keeps}

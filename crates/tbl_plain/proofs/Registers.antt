@@ -27,7 +27,7 @@ use Rattle.tbl_blocks.specs.declared.next.Next.TheVariants.{Nothing, Inactive, S
 use Rattle.tbl_blocks.specs.Blocks.{Stored, Opens}
 use Rattle.tbl_blocks.specs.Contents.{Content, no_content, kept_at, content_at, is_open, is_staged, older_in}
 use Rattle.tbl_plain.specs.declared.plain.PlainTables.TheInside.{Inside}
-use Rattle.tbl_plain.specs.Inside.{means, table_in, table_with, handle_in, handle_with, staged_of, each_below, is_this, is_other, IsFilled, Keeps}
+use Rattle.tbl_plain.specs.Inside.{means, table_in, table_with, handle_in, handle_with, staged_of, each_below, is_this, is_other, IsRecent, IsFilled, Keeps}
 use Rattle.tbl_plain.specs.Views.{held_by}
 use Rattle.tbl_plain.proofs.Bags.{held_view}
 use Rattle.tbl_plain.proofs.Meaning.{found_all}
@@ -224,6 +224,7 @@ module _ (a : Inside) (keeps : Keeps a) (tied : IsTied a.registry) (app : ℕ) (
             views = ap (λ (x : Content). x.present.views) same ∙ filled.views ∙ ap (λ (x : Content). count_by (λ (k : Handle). eqb k.table t.number && is_this x.version k.held) a.registry.handles) (sym same);
             older_views = ap (λ (x : Content). (older_in x.next).views) same ∙ filled.older_views ∙ ap (λ (x : Content). count_by (λ (k : Handle). eqb k.table t.number && is_other x.version k.held) a.registry.handles) (sym same);
             told = subst (λ (x : Content). All (λ (k : Handle). k.table ≡ t.number → k.told ≤ x.version) a.registry.handles) (sym same) filled.told;
+            recent = subst (λ (x : Content). All (λ (k : Handle). k.table ≡ t.number → IsRecent x.version k.held) a.registry.handles) (sym same) filled.recent;
             unstaged = λ gone. ap (λ (x : Content). is_staged x.next) same ∙ filled.unstaged gone;
           }
 
@@ -247,6 +248,8 @@ module _ (a : Inside) (keeps : Keeps a) (tied : IsTied a.registry) (app : ℕ) (
         older_views = ap (λ (x : Content). (older_in x.next).views) new_at ∙ opens.no_older_view ∙ sym (none_holds is_other (λ v. refl) (content_at b.tables adds.key).version);
         told = All-push (λ (k : Handle). k.table ≡ a.registry.made + 1 → k.told ≤ (content_at b.tables adds.key).version) a.registry.handles one
             (λ k d inside same. absurd (omega (arith, same, handles_before k d inside))) (λ same. omega arith);
+        recent = All-push (λ (k : Handle). k.table ≡ a.registry.made + 1 → IsRecent (content_at b.tables adds.key).version k.held) a.registry.handles one
+            (λ k d inside same. absurd (omega (arith, same, handles_before k d inside))) (λ same. tt);
         unstaged = λ gone. ap (λ (x : Content). is_staged x.next) new_at ∙ opens.not_staged;
       }
 

@@ -23,7 +23,7 @@ use Rattle.tbl_blocks.specs.Held.{HeldViews, held_at}
 use Rattle.tbl_blocks.specs.Contents.{Content, no_content, kept_at, content_at, is_open, is_staged, older_in}
 use Rattle.tbl_plain.specs.declared.plain.PlainTables.TheInside.{Inside}
 use Rattle.tbl_plain.specs.Core.{Plain, Holds, Acts, changes_bag}
-use Rattle.tbl_plain.specs.Inside.{plain_of, means, table_in, table_with, handle_in, handle_with, each_below, is_this, is_other, IsFilled, Keeps}
+use Rattle.tbl_plain.specs.Inside.{plain_of, means, table_in, table_with, handle_in, handle_with, each_below, is_this, is_other, IsRecent, IsFilled, Keeps}
 use Rattle.tbl_plain.specs.Views.{held_by, views_of}
 use Rattle.tbl_plain.proofs.After.{step_by, acts_from}
 use Rattle.tbl_plain.proofs.Bags.{held_view, due_by, is_due, known_handle, bags_go_on, due_here, dues_here}
@@ -114,7 +114,7 @@ module _ (f : Handle → Handle) (n : ℕ) (keeps_number : (k : Handle) → (f k
 module _ (a : Inside) (keeps : Keeps a) (tied : IsTied a.registry) (n : ℕ) (h : Handle) (found : handle_at a.registry.handles n ≡ Some h) (has : HasContent a h)
     (f : Handle → Handle) (same : (k : Handle) → ((f k).number ≡ k.number) × ((f k).app ≡ k.app) × ((f k).table ≡ k.table) × ((f k).key ≡ k.key))
     (b : Stored) (c : Content) (changed : b.tables ≡ set a.blocks.tables h.key (Some c)) (pool : b.pool ≡ a.blocks.pool) (most : b.most ≡ a.blocks.most)
-    (so : Relends (content_at a.blocks.tables h.key) c h.held (f h).held) (told : (f h).told ≤ (content_at a.blocks.tables h.key).version) where
+    (so : Relends (content_at a.blocks.tables h.key) c h.held (f h).held) (told : (f h).told ≤ (content_at a.blocks.tables h.key).version) (recent : IsRecent (content_at a.blocks.tables h.key).version (f h).held) where
   abbrev t : Table
   t = has.t
 
@@ -232,16 +232,17 @@ module _ (a : Inside) (keeps : Keeps a) (tied : IsTied a.registry) (n : ℕ) (h 
         ap (λ x. one_if (x && p (f h).held)) (same_number (f h).table t.number ((same h).2 ∙ sym has.number)),
       )
 
-  told_now : (number version : ℕ) → version ≡ version → All (λ (k : Handle). k.table ≡ number → k.told ≤ version) a.registry.handles → (h.table ≡ number → (f h).told ≤ version) → All (λ (k : Handle). k.table ≡ number → k.told ≤ version) handles
-  told_now number version is all here =
-      All-map (λ (k : Handle). k.table ≡ number → k.told ≤ version) one a.registry.handles
+  -- what is so of a table's handles
+  still_so : (P : Handle → Type 0) (number : ℕ) → All (λ (k : Handle). k.table ≡ number → P k) a.registry.handles → (h.table ≡ number → P (f h)) → All (λ (k : Handle). k.table ≡ number → P k) handles
+  still_so P number all here =
+      All-map (λ (k : Handle). k.table ≡ number → P k) one a.registry.handles
       (λ i d within. by_number (get_or a.registry.handles i d) (eqb (get_or a.registry.handles i d).number n) refl (the_one i d within) (all i d within))
     where
-      by_number : (k : Handle) (x : Bool) → eqb k.number n ≡ x → (k.number ≡ n → k ≡ h) → (k.table ≡ number → k.told ≤ version) → (cond {A = Handle} x (f k) k).table ≡ number → (cond {A = Handle} x (f k) k).told ≤ version
-      by_number k true at the le of =
+      by_number : (k : Handle) (x : Bool) → eqb k.number n ≡ x → (k.number ≡ n → k ≡ h) → (k.table ≡ number → P k) → (cond {A = Handle} x (f k) k).table ≡ number → P (cond {A = Handle} x (f k) k)
+      by_number k true at the so of =
           let k_is = the (is_same k.number n at) in
-          subst (λ (y : Handle). (f y).told ≤ version) (sym k_is) (here (sym (ap (λ (y : Handle). y.table) k_is) ∙ sym (same k).2 ∙ of))
-      by_number k false at the le of = le of
+          subst (λ (y : Handle). P (f y)) (sym k_is) (here (sym (ap (λ (y : Handle). y.table) k_is) ∙ sym (same k).2 ∙ of))
+      by_number k false at the so of = so of
 
   filled_here : IsFilled handles b.tables t
   filled_here = record {
@@ -258,7 +259,10 @@ module _ (a : Inside) (keeps : Keeps a) (tied : IsTied a.registry) (n : ℕ) (h 
         ∙ ap (λ v. count_by (λ (k : Handle). eqb k.table t.number && is_other v k.held) handles) (sym version_now);
     told =
         subst (λ v. All (λ (k : Handle). k.table ≡ t.number → k.told ≤ v) handles) (sym version_now)
-        (told_now t.number old.version refl has.filled.told (λ is. subst (λ key. (f h).told ≤ (content_at a.blocks.tables key).version) (sym has.known) told));
+        (still_so (λ (k : Handle). k.told ≤ old.version) t.number has.filled.told (λ is. subst (λ key. (f h).told ≤ (content_at a.blocks.tables key).version) (sym has.known) told));
+    recent =
+        subst (λ v. All (λ (k : Handle). k.table ≡ t.number → IsRecent v k.held) handles) (sym version_now)
+        (still_so (λ (k : Handle). IsRecent old.version k.held) t.number has.filled.recent (λ is. subst (λ key. IsRecent (content_at a.blocks.tables key).version (f h).held) (sym has.known) recent));
     unstaged = λ gone. ap (λ (x : Content). is_staged x.next) now_c ∙ so_old.is_staged ∙ has.filled.unstaged (sym (live_still t.number) ∙ gone);
   }
 
@@ -273,7 +277,10 @@ module _ (a : Inside) (keeps : Keeps a) (tied : IsTied a.registry) (n : ℕ) (h 
         older_views = ap (λ (x : Content). (older_in x.next).views) is ∙ filled.older_views ∙ sym (uncounted (is_other (content_at b.tables u.key).version) ∙ ap (λ (x : Content). count_by (λ (k : Handle). eqb k.table u.number && is_other x.version k.held) a.registry.handles) is);
         told =
             subst (λ (x : Content). All (λ (k : Handle). k.table ≡ u.number → k.told ≤ x.version) handles) (sym is)
-            (told_now u.number (content_at a.blocks.tables u.key).version refl filled.told (λ of. absurd (number (sym of ∙ sym has.number))));
+            (still_so (λ (k : Handle). k.told ≤ (content_at a.blocks.tables u.key).version) u.number filled.told (λ of. absurd (number (sym of ∙ sym has.number))));
+        recent =
+            subst (λ (x : Content). All (λ (k : Handle). k.table ≡ u.number → IsRecent x.version k.held) handles) (sym is)
+            (still_so (λ (k : Handle). IsRecent (content_at a.blocks.tables u.key).version k.held) u.number filled.recent (λ of. absurd (number (sym of ∙ sym has.number))));
         unstaged = λ gone. ap (λ (x : Content). is_staged x.next) is ∙ filled.unstaged (sym (live_still u.number) ∙ gone);
       }
     where

@@ -12,7 +12,7 @@ use Rattle.tbl_blocks.specs.Held.{HeldViews, held_at}
 use Rattle.tbl_blocks.specs.Contents.{Content, no_content, version_at, content_at, kept_at, is_open, older_in}
 use Rattle.tbl_plain.specs.declared.plain.PlainTables.TheInside.{Inside}
 use Rattle.tbl_plain.specs.Core.{Holds}
-use Rattle.tbl_plain.specs.Inside.{plain_of, is_this, is_other, Keeps}
+use Rattle.tbl_plain.specs.Inside.{plain_of, is_this, is_other, IsRecent, Keeps}
 use Rattle.tbl_plain.specs.Views.{held_by, views_of, after_back, with_back}
 use Rattle.tbl_plain.proofs.Bags.{held_view, due_by, is_due, due_here, dues_here}
 use Rattle.tbl_plain.proofs.Figures.{HasContent}
@@ -117,6 +117,11 @@ module _ (a : Inside) (keeps : Keeps a) (tied : IsTied a.registry) (n : ℕ) (h 
   told_before =
       subst (λ key. h.told ≤ (content_at a.blocks.tables key).version) has.known
       (found_all (λ (k : Handle). k.table ≡ has.t.number → k.told ≤ (content_at a.blocks.tables has.t.key).version) (λ k. eqb k.number n) a.registry.handles h has.filled.told found (sym has.number))
+
+  pub recent_here : IsRecent (content_at a.blocks.tables h.key).version h.held
+  recent_here =
+      subst (λ key. IsRecent (content_at a.blocks.tables key).version h.held) has.known
+      (found_all (λ (k : Handle). k.table ≡ has.t.number → IsRecent (content_at a.blocks.tables has.t.key).version k.held) (λ k. eqb k.number n) a.registry.handles h has.filled.recent found (sym has.number))
 
   pub few_views : (content_at a.blocks.tables h.key).present.views ≤ 1024
   few_views =

@@ -22,7 +22,7 @@ use Rattle.tbl_registry.proofs.Numbered.{same_number, other_number}
 use Rattle.tbl_blocks.specs.Contents.{Content, content_at}
 use Rattle.tbl_plain.specs.declared.plain.PlainTables.TheInside.{Inside}
 use Rattle.tbl_plain.specs.Core.{Plain, Acts, has_handle_number}
-use Rattle.tbl_plain.specs.Inside.{plain_of, means, table_in, table_with, handle_in, is_this, is_other, IsFilled, Keeps}
+use Rattle.tbl_plain.specs.Inside.{plain_of, means, table_in, table_with, handle_in, is_this, is_other, IsRecent, IsFilled, Keeps}
 use Rattle.tbl_plain.proofs.After.{step_by, acts_from, acts_refused}
 use Rattle.tbl_plain.proofs.Access.{share_checked}
 use Rattle.tbl_plain.proofs.Bags.{bags_grown}
@@ -129,6 +129,7 @@ module _ (contents : List (Option Content)) (made : ℕ) (handles : List Handle)
     views = filled.views ∙ sym (none_more is_this (λ v. refl) (content_at contents u.key).version u.number);
     older_views = filled.older_views ∙ sym (none_more is_other (λ v. refl) (content_at contents u.key).version u.number);
     told = All-push (λ (k : Handle). k.table ≡ u.number → k.told ≤ (content_at contents u.key).version) handles one filled.told (λ same. omega arith);
+    recent = All-push (λ (k : Handle). k.table ≡ u.number → IsRecent (content_at contents u.key).version k.held) handles one filled.recent (λ same. tt);
     unstaged = λ gone. filled.unstaged (sym (live_still made handles one refl u.number below) ∙ gone);
   }
 

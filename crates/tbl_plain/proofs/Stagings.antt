@@ -6,9 +6,8 @@ use Rattle.std.proofs.lemmas.Bool.Decides.{nat_tests}
 use Rattle.std.proofs.lemmas.List.Sums.{sum_by-cons}
 use Rattle.fsw_base.proofs.Lists.{count_by-map}
 use Rattle.tbl_words.specs.declared.statuses.TblStatus.{TblStatus}
-use Rattle.tbl_words.specs.declared.statuses.TblStatus.TheVariants.{ErrDumpOnly, ErrFileTooLarge, ErrPartialLoad, ErrLoadInProgress, InfoTableLocked, ErrNoBufferAvail}
 use Rattle.tbl_words.specs.Tables as state
-use Rattle.tbl_words.specs.Machine.{refused_if, stage_cause, is_locked}
+use Rattle.tbl_words.specs.Machine.{Bars, barred_cause, stage_cause, is_locked}
 use Rattle.tbl_registry.specs.declared.rows.Handle.{Handle}
 use Rattle.tbl_registry.specs.Listing.{IsTied}
 use Rattle.tbl_blocks.specs.declared.next.Next.{Next}
@@ -17,65 +16,56 @@ use Rattle.tbl_blocks.specs.Blocks.{Stored, with_content, buffers_taken, after_s
 use Rattle.tbl_blocks.specs.Contents.{Content, content_at, is_double, is_staged, is_inactive, older_in, staged_by}
 use Rattle.tbl_plain.specs.declared.plain.PlainTables.TheInside.{Inside}
 use Rattle.tbl_plain.specs.Inside.{means, handle_in, hold_of, staged_of, is_other, Keeps}
-use Rattle.tbl_plain.specs.Refusals.{is_partial, is_lent_apart, is_lent, lacks_buffer, unstaged_cause}
+use Rattle.tbl_plain.specs.Refusals.{is_partial, is_lent_apart, is_lent, lacks_buffer, bars_in}
 use Rattle.tbl_plain.proofs.Beside.{KeepsPresent}
 use Rattle.tbl_plain.proofs.Buffers.{staged_alike, taken_alike, all_taken}
 use Rattle.tbl_plain.proofs.Called.{table_by}
 use Rattle.tbl_plain.proofs.Figures.{HasContent, holds_here}
 use Rattle.tbl_plain.proofs.Meaning.{count_alike}
 
--- Six refusals in order. --
+-- What bars a load, in order. --
+
+abbrev six : Bool → Bool → Bool → Bool → Bool → Bool → Bars
+six u v w x y z = record { dump_only = u; past_end = v; partial = w; in_progress = x; held_apart = y; no_buffer = z }
 
 abbrev pub by_six : ℕ → ℕ → Bool → Bool → Bool → Bool → ℕ → List ℕ → Option TblStatus → Option TblStatus
 by_six option size unloaded staged apart full offset bytes others =
-    refused_if (eqb option 2) ErrDumpOnly
-    (refused_if (ltb size (offset + length bytes)) ErrFileTooLarge
-    (refused_if (unloaded && not (eqb offset 0 && eqb (length bytes) size)) ErrPartialLoad
-    (refused_if staged ErrLoadInProgress
-    (refused_if (eqb option 1 && apart) InfoTableLocked
-    (refused_if (not (eqb option 1) && full) ErrNoBufferAvail others)))))
+    barred_cause
+    (six (eqb option 2) (ltb size (offset + length bytes)) (unloaded && not (eqb offset 0 && eqb (length bytes) size)) staged (eqb option 1 && apart) (not (eqb option 1) && full)) others
 
-first_of_six : (u v w x y z : Bool) (e f g i j k status : TblStatus) (others : Option TblStatus) →
-    refused_if u e (refused_if v f (refused_if w g (refused_if x i (refused_if y j (refused_if z k None))))) ≡ Some status →
-    refused_if u e (refused_if v f (refused_if w g (refused_if x i (refused_if y j (refused_if z k others))))) ≡ Some status
-first_of_six true v w x y z e f g i j k status others is = is
-first_of_six false true w x y z e f g i j k status others is = is
-first_of_six false false true x y z e f g i j k status others is = is
-first_of_six false false false true y z e f g i j k status others is = is
-first_of_six false false false false true z e f g i j k status others is = is
-first_of_six false false false false false true e f g i j k status others is = is
-first_of_six false false false false false false e f g i j k status others never = absurd (cc (never))
+first_of_six : (u v w x y z : Bool) (status : TblStatus) (others : Option TblStatus) → barred_cause (six u v w x y z) None ≡ Some status → barred_cause (six u v w x y z) others ≡ Some status
+first_of_six true v w x y z status others is = is
+first_of_six false true w x y z status others is = is
+first_of_six false false true x y z status others is = is
+first_of_six false false false true y z status others is = is
+first_of_six false false false false true z status others is = is
+first_of_six false false false false false true status others is = is
+first_of_six false false false false false false status others never = absurd (cc (never))
 
-pub record AreNone (u v w x y z : Bool) (e f g i j k : TblStatus) : Type 0 where
-  pub large : v ≡ false
-  pub staged : x ≡ false
-  pub apart : y ≡ false
-  pub full : z ≡ false
-  pub passed : (others : Option TblStatus) → refused_if u e (refused_if v f (refused_if w g (refused_if x i (refused_if y j (refused_if z k others))))) ≡ others
+-- a load that nothing bars
+pub record AreNone (bars : Bars) : Type 0 where
+  pub large : bars.past_end ≡ false
+  pub staged : bars.in_progress ≡ false
+  pub apart : bars.held_apart ≡ false
+  pub full : bars.no_buffer ≡ false
+  pub passed : (others : Option TblStatus) → barred_cause bars others ≡ others
 
-none_of_six : (u v w x y z : Bool) (e f g i j k : TblStatus) → refused_if u e (refused_if v f (refused_if w g (refused_if x i (refused_if y j (refused_if z k None))))) ≡ None → AreNone u v w x y z e f g i j k
-none_of_six true v w x y z e f g i j k never = absurd (cc (never))
-none_of_six false true w x y z e f g i j k never = absurd (cc (never))
-none_of_six false false true x y z e f g i j k never = absurd (cc (never))
-none_of_six false false false true y z e f g i j k never = absurd (cc (never))
-none_of_six false false false false true z e f g i j k never = absurd (cc (never))
-none_of_six false false false false false true e f g i j k never = absurd (cc (never))
-none_of_six false false false false false false e f g i j k is = record { large = refl; staged = refl; apart = refl; full = refl; passed = λ others. refl }
+none_of_six : (u v w x y z : Bool) → barred_cause (six u v w x y z) None ≡ None → AreNone (six u v w x y z)
+none_of_six true v w x y z never = absurd (cc (never))
+none_of_six false true w x y z never = absurd (cc (never))
+none_of_six false false true x y z never = absurd (cc (never))
+none_of_six false false false true y z never = absurd (cc (never))
+none_of_six false false false false true z never = absurd (cc (never))
+none_of_six false false false false false true never = absurd (cc (never))
+none_of_six false false false false false false is = record { large = refl; staged = refl; apart = refl; full = refl; passed = λ others. refl }
 
-pub staging_refused : (free : ℕ) (c : Content) (offset : ℕ) (bytes : List ℕ) (status : TblStatus) (others : Option TblStatus) → unstaged_cause free c offset bytes None ≡ Some status → unstaged_cause free c offset bytes others ≡ Some status
+pub staging_refused : (free : ℕ) (c : Content) (offset : ℕ) (bytes : List ℕ) (status : TblStatus) (others : Option TblStatus) → barred_cause (bars_in free c offset bytes) None ≡ Some status → barred_cause (bars_in free c offset bytes) others ≡ Some status
 staging_refused free c offset bytes status others is =
-    first_of_six (eqb c.option 2) (ltb c.size (offset + length bytes)) (is_partial c offset bytes) (is_staged c.next) (is_lent_apart c) (lacks_buffer free c)
-    ErrDumpOnly ErrFileTooLarge ErrPartialLoad ErrLoadInProgress InfoTableLocked ErrNoBufferAvail status others is
+    first_of_six (eqb c.option 2) (ltb c.size (offset + length bytes)) (is_partial c offset bytes) (is_staged c.next) (is_lent_apart c) (lacks_buffer free c) status others is
 
-abbrev pub CanStage : ℕ → Content → ℕ → List ℕ → Type 0
-CanStage free c offset bytes =
-    AreNone (eqb c.option 2) (ltb c.size (offset + length bytes)) (is_partial c offset bytes) (is_staged c.next) (is_lent_apart c) (lacks_buffer free c)
-    ErrDumpOnly ErrFileTooLarge ErrPartialLoad ErrLoadInProgress InfoTableLocked ErrNoBufferAvail
-
-pub can_stage : (free : ℕ) (c : Content) (offset : ℕ) (bytes : List ℕ) → unstaged_cause free c offset bytes None ≡ None → CanStage free c offset bytes
+pub can_stage : (free : ℕ) (c : Content) (offset : ℕ) (bytes : List ℕ) → barred_cause (bars_in free c offset bytes) None ≡ None → AreNone (bars_in free c offset bytes)
 can_stage free c offset bytes is =
-    none_of_six (eqb c.option 2) (ltb c.size (offset + length bytes)) (is_partial c offset bytes) (is_staged c.next) (is_lent_apart c) (lacks_buffer free c)
-    ErrDumpOnly ErrFileTooLarge ErrPartialLoad ErrLoadInProgress InfoTableLocked ErrNoBufferAvail is
+    none_of_six (eqb c.option 2) (ltb c.size (offset + length bytes)) (is_partial c offset bytes) (is_staged c.next) (is_lent_apart c) (lacks_buffer free c) is
 
 -- What it leaves room for. --
 
@@ -177,7 +167,7 @@ module _ (a : Inside) (h : Handle) (has : HasContent a h) where
   twice false = refl
 
   pub stage_alike : Keeps a → IsTied a.registry → a.blocks.free + buffers_taken a.blocks.tables ≡ 4 → (offset : ℕ) (bytes : List ℕ) (others : Option TblStatus) →
-      stage_cause (means a) offset bytes others (table_by a h has.t) ≡ unstaged_cause a.blocks.free c offset bytes others
+      stage_cause (means a) offset bytes others (table_by a h has.t) ≡ barred_cause (bars_in a.blocks.free c offset bytes) others
   stage_alike keeps tied four offset bytes others =
       ap (λ o. by_six o has.t.size (not (not (eqb c.version 0))) (is_some (staged_of c.next)) (state.is_held_apart (means a).handles has.t.number c.version) (leb 4 (state.buffers_taken (means a).tables)) offset bytes others) (sym option_alike)
       ∙ ap (λ n. by_six c.option n (not (not (eqb c.version 0))) (is_some (staged_of c.next)) (state.is_held_apart (means a).handles has.t.number c.version) (leb 4 (state.buffers_taken (means a).tables)) offset bytes others) (sym size_alike)

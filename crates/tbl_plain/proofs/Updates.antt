@@ -18,7 +18,7 @@ use Rattle.tbl_blocks.specs.Versions.{LentVersion}
 use Rattle.tbl_blocks.specs.Contents.{Content, is_double, older_in, beside, lent, version_at, content_at, with_value}
 use Rattle.tbl_plain.specs.declared.plain.PlainTables.TheInside.{Inside}
 use Rattle.tbl_plain.specs.Core.{Plain, Acts}
-use Rattle.tbl_plain.specs.Inside.{plain_of, means, table_in, table_with, handle_with, hold_of, staged_of, is_this, is_other, IsFilled, Keeps}
+use Rattle.tbl_plain.specs.Inside.{plain_of, means, table_in, table_with, handle_with, hold_of, staged_of, is_this, is_other, IsRecent, IsFilled, Keeps}
 use Rattle.tbl_plain.proofs.Aborts.{nothing_beside}
 use Rattle.tbl_plain.proofs.After.{step_by, acts_from}
 use Rattle.tbl_plain.proofs.Beside.{itself, key_room, of_table, of_others, holds_present, tables_now, kept_now, now, means_by, none_counted}
@@ -85,6 +85,18 @@ held_still g c loan value (Some v) is none =
     by_double true off = refl
     by_double false off = absurd (cc (sym (off refl) ∙ is_so (eqb v c.version) is))
 
+-- what is held of no other version is held of the one before once there is one more
+was_present : (version : ℕ) (held : Option ℕ) → is_other version held ≡ false → IsRecent (version + 1) held
+was_present version None none = tt
+was_present version (Some v) none = λ apart. by_test (eqb v version) refl none
+  where
+    is_same : eqb v version ≡ true → v ≡ version
+    is_same same = grind (arith, nat_tests)
+
+    by_test : (b : Bool) → eqb v version ≡ b → not b ≡ false → v + 1 ≡ version + 1
+    by_test true same off = ap (λ n. n + 1) (is_same same)
+    by_test false other never = absurd (cc (never))
+
 module _ (a : Inside) (keeps : Keeps a) (tied : IsTied a.registry) (h : Handle) (has : HasContent a h) (live : is_live a.registry.handles h.table ≡ true) (b : Stored) (loan : ℕ) (value : List ℕ)
     (changed : b.tables ≡ set a.blocks.tables h.key (Some (with_value (content_at a.blocks.tables h.key) loan value))) (pool : b.pool ≡ a.blocks.pool) (most : b.most ≡ a.blocks.most)
     (none_older : (older_in (content_at a.blocks.tables h.key).next).views ≡ 0) (none_held : is_double (content_at a.blocks.tables h.key) ≡ false → (content_at a.blocks.tables h.key).present.views ≡ 0) where
@@ -137,6 +149,10 @@ module _ (a : Inside) (keeps : Keeps a) (tied : IsTied a.registry) (h : Handle) 
   and_then true y z w so off = so off
   and_then false y z w so off = refl
 
+  and_first : (x y : Bool) → x ≡ true → (x && y) ≡ false → y ≡ false
+  and_first true y is off = off
+  and_first false y never off = absurd (cc (never))
+
   version_now : (content_at b.tables t.key).version ≡ old.version + 1
   version_now = ap (λ (c : Content). c.version) now_c
 
@@ -162,6 +178,10 @@ module _ (a : Inside) (keeps : Keeps a) (tied : IsTied a.registry) (h : Handle) 
         and_then (eqb x.table t.number) (is_other old.version x.held) (is_other (old.version + 1) x.held) (is_this old.version x.held) (then_other old.version x.held) (none_others k d within)))
         ∙ ap (λ v. count_by (λ (k : Handle). eqb k.table t.number && is_other v k.held) a.registry.handles) (sym version_now);
     told = λ k d within same. omega (arith, version_now, has.filled.told k d within same);
+    recent = λ k d within same.
+        let x = get_or a.registry.handles k d in
+        subst (λ v. IsRecent v x.held) (sym version_now)
+        (was_present old.version x.held (and_first (eqb x.table t.number) (is_other old.version x.held) (same_number x.table t.number same) (none_others k d within)));
     unstaged = λ gone. absurd (cc (sym live ∙ ap (is_live a.registry.handles) (sym has.number) ∙ gone));
   }
 

@@ -67,6 +67,13 @@ AreOneLoan core =
     HoldsVersion core.state.handles other table version →
     loan_of core.lent number ≡ loan_of core.lent other
 
+-- what two handles hold of two tables, or of two versions of one, is lent by two loans
+abbrev pub AreTwoLoans : Plain → ℕ → ℕ → Type 0
+AreTwoLoans core number other =
+    (table its version second : ℕ) → HoldsVersion core.state.handles number table version →
+    HoldsVersion core.state.handles other its second → (table ≡ its → version ≢ second) →
+    loan_of core.lent number ≢ loan_of core.lent other
+
 -- Calls. --
 
 -- a range of 1 to 65536 bytes, from an offset of at most 65536 on

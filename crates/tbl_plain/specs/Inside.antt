@@ -1,5 +1,5 @@
 -- What the core's fields stand for, and what is always true of them.
-use Rattle.std.specs.Prelude.{◌≡◌, ℕ, zero, suc, ◌+◌, ◌≤◌, ◌==◌, ◌&&◌, not, Bool, true, false, List, [], ◌∷◌, length, map, count_by, All, Option, Some, None, IsSome}
+use Rattle.std.specs.Prelude.{◌≡◌, ◌≢◌, ℕ, zero, suc, ◌+◌, ◌≤◌, ◌==◌, ◌&&◌, not, Bool, true, false, List, [], ◌∷◌, length, map, count_by, All, Option, Some, None, IsSome, IfSome}
 use Rattle.std.specs.Option.{option_map, option_map_or}
 use Rattle.fsw_base.specs.Limits.{limits_of}
 use Rattle.es_pool.specs.Pool.{made_in}
@@ -109,9 +109,13 @@ abbrev pub is_other : ℕ → Option ℕ → Bool
 is_other version None = false
 is_other version (Some held) = not (held == version)
 
+-- a version that is held is this one or the one before
+abbrev pub IsRecent : ℕ → Option ℕ → Type 0
+IsRecent version held = IfSome held (λ v. v ≢ version → v + 1 ≡ version)
+
 -- Of a table: it has contents of its size and option; of each of its two versions as many views are
--- out as handles hold it; no handle was told of a version that is still to come; and nothing is
--- staged where it is unregistered.
+-- out as handles hold it; no handle was told of a version that is still to come, or holds one
+-- before these two; and nothing is staged where it is unregistered.
 pub record IsFilled (handles : List Handle) (contents : List (Option Content))
     (t : Table) : Type 0 where
   pub there : is_open contents t.key ≡ true
@@ -124,6 +128,8 @@ pub record IsFilled (handles : List Handle) (contents : List (Option Content))
       count_by (λ h. h.table == t.number && is_other (content_at contents t.key).version h.held)
       handles
   pub told : All (λ h. h.table ≡ t.number → h.told ≤ (content_at contents t.key).version) handles
+  pub recent : All (λ h. h.table ≡ t.number → IsRecent (content_at contents t.key).version h.held)
+      handles
   pub unstaged : is_live handles t.number ≡ false →
       is_staged (content_at contents t.key).next ≡ false
 

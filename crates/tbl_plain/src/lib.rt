@@ -45,8 +45,8 @@
 //!   last call leaves no view (`empty`).
 //! - `new` opens with no table; `pool` has the blocks of the tables out and no others, and `in_use`
 //!   the numbers in use. `recall_loans`: handles that hold one version of one table are lent it by
-//!   one loan. A registration and a handle that is given back take at most 16 steps, an end 16 for
-//!   each handle.
+//!   one loan; `recall_apart`: two versions, and two tables, share none. A registration and a
+//!   handle that is given back take at most 16 steps, an end 16 for each handle.
 //! - Behind version 2^64 - 1 `update` and `load` change nothing (`spent`) and answer their refusal,
 //!   or `InfoTableLocked` if there is none (`behind_last`).
 //!

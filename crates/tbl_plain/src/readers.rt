@@ -6,7 +6,7 @@ ghost use Rattle.tbl_words.specs.Machine.{may_call};
 ghost use Rattle.tbl_words.specs.Tables.{account_of, bytes_in_use};
 ghost use Rattle.tbl_words.specs.Uses.{use_of};
 ghost use Rattle.tbl_plain.specs.Blocks.{AreTableBlocks, IsTablePool};
-ghost use Rattle.tbl_plain.specs.Core.{AreOneLoan, has_handle_number};
+ghost use Rattle.tbl_plain.specs.Core.{AreOneLoan, AreTwoLoans, has_handle_number};
 
 use crate::plain::PlainTables;
 use es_pool::Pool;
@@ -51,6 +51,26 @@ impl<'r> PlainTables<'r> {
         ensures { AreOneLoan self.now }
     {
         self.registry.recall_ties();
+    }
+
+    /// What two live handles hold of two tables, or of two versions of one, is lent by two loans:
+    /// it lies in two blocks. Does nothing.
+    pub fn recall_apart(&mut self, handle: u32, other: u32)
+        ensures apart { AreTwoLoans self.old handle other }
+        ensures same { self.new ≡ self.old }
+    {
+        self.registry.recall_ties();
+        let Some(row) = self.registry.find(handle) else {
+            return;
+        };
+        let Some(its) = self.registry.find(other) else {
+            return;
+        };
+        if row.key == its.key {
+            self.blocks.recall_versions(row.key as u32);
+            return;
+        }
+        self.blocks.recall_apart(row.key as u32, its.key as u32);
     }
 
     /// The blocks in which the tables lie: of each table its present value in one, what is held of

@@ -2,10 +2,9 @@
 ghost use Rattle.std.specs.Prelude.{◌≡◌, ◌==◌, ◌||◌, ◌+◌, ◌≤◌, None, nat_lt, length, IsTrue};
 ghost use Rattle.tbl_words.specs.declared.history.Call.TheVariants.{Register};
 ghost use Rattle.tbl_rules.specs.Rules.{is_misfit, has_misfit};
-ghost use Rattle.tbl_words.specs.Machine.{new_table_cause};
+ghost use Rattle.tbl_words.specs.Machine.{unfit_cause, new_table_cause};
 ghost use Rattle.tbl_plain.specs.Core.{MayAct, Acts, has_handle_number};
 ghost use Rattle.tbl_plain.specs.Answers.{registered};
-ghost use Rattle.tbl_plain.specs.Refusals.{unfit_cause};
 
 use crate::plain::PlainTables;
 use fsw_base::AppNo;

@@ -1,7 +1,8 @@
 //! Whether bytes can be staged for a table.
 ghost use Rattle.std.specs.Prelude.{◌≡◌, ◌+◌, ◌≤◌, ◌^◌, ◌<◌, None, true, length};
 ghost use Rattle.tbl_blocks.specs.Contents.{is_open, content_at};
-ghost use Rattle.tbl_plain.specs.Refusals.{is_partial, is_lent_apart, is_lent, lacks_buffer, unstaged_cause};
+ghost use Rattle.tbl_words.specs.Machine.{barred_cause};
+ghost use Rattle.tbl_plain.specs.Refusals.{is_partial, is_lent_apart, is_lent, lacks_buffer, bars_in};
 
 use tbl_blocks::TableBlocks;
 use tbl_words::TblStatus;
@@ -17,7 +18,9 @@ pub(crate) fn unstaged_cause(
     requires offset { offset ≤ 65536 }
     requires few { length bytes.now ≤ 65536 }
     ensures { result ≡
-        unstaged_cause blocks.now.free (content_at blocks.now.tables key) offset bytes.now None }
+        barred_cause
+        (bars_in blocks.now.free (content_at blocks.now.tables key) offset bytes.now)
+        None }
 {
     if blocks.option(key) == 2 {
         return Some(TblStatus::ErrDumpOnly);

@@ -46,16 +46,22 @@ duplicate_cause app size t =
     refused_if (not (t.owner == app)) ErrDuplicateNotOwned
     (refused_if (not (t.size == size)) ErrDuplicateDiffSize None)
 
--- a registration: the name has 1 to 15 bytes, the size is from 1 to the largest there may be, the
--- option is one of three, and the rules fit the size; then by whether a registered table has the
--- name
+-- no table can have this name, this size, or this option with these rules: a name has 1 to 15
+-- bytes, a size is from 1 to the largest there may be, an option is one of three, and rules fit the
+-- size; then the others
+abbrev pub unfit_cause : ℕ → List ℕ → ℕ → ℕ → List Rule → Option TblStatus → Option TblStatus
+unfit_cause most name size option rules others =
+    refused_if (length name == 0 || nat_lt 15 (length name)) ErrInvalidName
+    (refused_if (size == 0 || nat_lt most size) ErrInvalidSize
+    (refused_if (nat_lt 2 option || has_misfit size rules) ErrInvalidOptions others))
+
+-- a registration: no table can have this name, size, option or rules; then by whether a registered
+-- table has the name
 abbrev pub register_cause : Limits → State → ℕ → List ℕ → ℕ → ℕ → List Rule → Option TblStatus
 register_cause limits s app name size option rules =
-    refused_if (length name == 0 || nat_lt 15 (length name)) ErrInvalidName
-    (refused_if (size == 0 || nat_lt limits.tablemax size) ErrInvalidSize
-    (refused_if (nat_lt 2 option || has_misfit size rules) ErrInvalidOptions
+    unfit_cause limits.tablemax name size option rules
     (option_map_or (duplicate_cause app size) (table_named s.tables name)
-    (new_table_cause limits s size option))))
+    (new_table_cause limits s size option))
 
 -- a share: a registered table has the name, and there may be one handle more
 abbrev pub share_cause : Limits → State → List ℕ → Option TblStatus
@@ -63,36 +69,66 @@ share_cause limits s name =
     refused_if (not (is_some (table_named s.tables name))) ErrInvalidName
     (refused_if (nat_le limits.handles (length s.handles)) ErrHandlesFull None)
 
+-- a handle isn't live, or isn't the application's own; then the others
+abbrev pub handle_cause : Bool → Bool → Option TblStatus → Option TblStatus
+handle_cause live own others =
+    refused_if (not live) ErrInvalidHandle (refused_if (not own) ErrNoAccess others)
+
+-- a table is registered no more; then the others
+abbrev pub unregistered_cause : Bool → Option TblStatus → Option TblStatus
+unregistered_cause registered others = refused_if (not registered) ErrUnregistered others
+
 -- the handle isn't live, or is another application's; then the others
 abbrev pub access_cause : State → ℕ → ℕ → Option TblStatus → Option TblStatus
 access_cause s app handle others =
-    refused_if (not (is_live s.handles handle)) ErrInvalidHandle
-    (refused_if (not (owns s.handles app handle)) ErrNoAccess others)
+    handle_cause (is_live s.handles handle) (owns s.handles app handle) others
 
 -- so, or the handle's table is unregistered; then what its table says
 abbrev pub table_cause : State → ℕ → ℕ → (Table → Option TblStatus) → Option TblStatus
 table_cause s app handle others =
     access_cause s app handle
-    (option_map_or (λ t. refused_if (not t.registered) ErrUnregistered (others t))
-    (table_of s handle) None)
+    (option_map_or (λ t. unregistered_cause t.registered (others t)) (table_of s handle) None)
 
 -- the range that a load gives isn't the whole table
 abbrev pub is_partial : Table → ℕ → List ℕ → Bool
 is_partial t offset bytes = not (offset == 0 && length bytes == t.size)
 
--- a load: the table is dump only; the bytes go past its end; it was never loaded and they aren't
--- all of it; a load is staged already; it is double buffered and a version other than the present
--- one is held, which lies where the load would; it is single buffered and all four working buffers
--- are taken; then the others
+-- What may bar a load: the table is dump only; the bytes go past its end; it was never loaded and
+-- they aren't all of it; a load is staged already; it is double buffered and a version other than
+-- the present one is held, which lies where the load would; it is single buffered and all four
+-- working buffers are taken.
+pub record Bars : Type 0 where
+  pub dump_only : Bool
+  pub past_end : Bool
+  pub partial : Bool
+  pub in_progress : Bool
+  pub held_apart : Bool
+  pub no_buffer : Bool
+
+-- the first of what bars a load; then the others
+abbrev pub barred_cause : Bars → Option TblStatus → Option TblStatus
+barred_cause bars others =
+    refused_if bars.dump_only ErrDumpOnly
+    (refused_if bars.past_end ErrFileTooLarge
+    (refused_if bars.partial ErrPartialLoad
+    (refused_if bars.in_progress ErrLoadInProgress
+    (refused_if bars.held_apart InfoTableLocked
+    (refused_if bars.no_buffer ErrNoBufferAvail others)))))
+
+-- what bars a load of these bytes from an offset on
+abbrev pub bars_of : State → ℕ → List ℕ → Table → Bars
+bars_of s offset bytes t = record {
+  dump_only = t.option == 2;
+  past_end = nat_lt t.size (offset + length bytes);
+  partial = not t.loaded && is_partial t offset bytes;
+  in_progress = is_some t.staged;
+  held_apart = is_double t && is_held_apart s.handles t.number t.version;
+  no_buffer = not (is_double t) && nat_le 4 (buffers_taken s.tables);
+}
+
+-- a load is barred; then the others
 abbrev pub stage_cause : State → ℕ → List ℕ → Option TblStatus → Table → Option TblStatus
-stage_cause s offset bytes others t =
-    refused_if (t.option == 2) ErrDumpOnly
-    (refused_if (nat_lt t.size (offset + length bytes)) ErrFileTooLarge
-    (refused_if (not t.loaded && is_partial t offset bytes) ErrPartialLoad
-    (refused_if (is_some t.staged) ErrLoadInProgress
-    (refused_if (is_double t && is_held_apart s.handles t.number t.version) InfoTableLocked
-    (refused_if (not (is_double t) && nat_le 4 (buffers_taken s.tables)) ErrNoBufferAvail
-    others)))))
+stage_cause s offset bytes others t = barred_cause (bars_of s offset bytes t) others
 
 -- the value fails a rule; then what one that meets them all says
 abbrev pub rules_cause : List Rule → List ℕ → Option TblStatus → Option TblStatus
