@@ -2,7 +2,7 @@
 -- number that is held, and no others; and how sends are numbered.
 use Rattle.std.specs.Prelude.{◌≡◌, ℕ, ◌≤◌, true, List, sum_by, Some}
 use Rattle.std.specs.List.{All}
-use Rattle.es_pool.specs.Pool.{size_at}
+use Rattle.es_pool.specs.Pool.{PoolState, size_at}
 use Rattle.buf_desc.specs.Block.{Sealed}
 use Rattle.buf_desc.specs.Desk.{Buffers}
 use Rattle.buf_desc.specs.Slots.{slot_at, sealed_at, is_sealed, is_open, number_in, asked_in, HaveOwnNumbers}
@@ -81,3 +81,10 @@ pub record AreBlocks (buffers : Buffers) (pipes : List Pipe) (loans : List LastL
   pub all_sends : (number : ℕ) → is_on_pipes pipes number ≡ true → HasBlock buffers.slots number
   pub all_buffers : (number : ℕ) → is_unsent unsent number ≡ true → HasBuffer buffers.slots number
   pub one : HaveOwnNumbers buffers.slots
+
+-- a pool is the one that such blocks are drawn from
+pub record IsBlockPool (pool : PoolState) (pipes : List Pipe) (loans : List LastLoan)
+    (unsent : List (List Buffer)) (descs : List BufferDesc) : Type 0 where
+  pub buffers : Buffers
+  pub are : AreBlocks buffers pipes loans unsent descs
+  pub is : pool ≡ buffers.pool

@@ -9,7 +9,7 @@ ghost use Rattle.buf_desc.specs.Desk.{Buffers};
 ghost use Rattle.buf_desc.specs.Held.{Holding, view_at};
 ghost use Rattle.bus_store.specs.Bag.{HoldsViews};
 ghost use Rattle.bus_store.specs.Store.{LastLoan, BufferDesc};
-ghost use Rattle.bus_store.specs.Blocks.{IsGiven, AreOfOneSend, AreBlocks};
+ghost use Rattle.bus_store.specs.Blocks.{IsGiven, AreOfOneSend, AreBlocks, IsBlockPool};
 ghost use Rattle.bus_words.specs.Pipes.{last_on};
 ghost use Rattle.bus_store.specs.Words.{loan_of, with_held};
 
@@ -93,9 +93,11 @@ impl<'r> BusStore<'r> {
         &self.desk
     }
 
-    /// The pool that the blocks are drawn from: its bytes in use are those of the blocks for the
-    /// numbers that are held, one for each.
+    /// The pool that the blocks of `desk` are drawn from: its bytes in use are those of the blocks
+    /// for the numbers that are held, one for each.
     pub fn pool(&self) -> &Pool
+        ensures blocks { IsBlockPool result.now self.now.pipes self.now.loans self.now.unsent
+            self.now.descs }
         ensures account { IsAccountOf result.now self.now.account }
         ensures in_use { in_use_by result.now.sizes result.now.blocks ≡
             sum_by (block_of self.now.account.sizes self.now.pipes self.now.unsent)

@@ -4,7 +4,8 @@ use Rattle.std.proofs.Common.{is_some, ap, ◌∙◌, subst}
 use Rattle.buf_desc.specs.Desk.{Buffers}
 use Rattle.buf_desc.specs.Slots.{slot_at, number_in}
 use Rattle.bus_words.specs.Bus.{State}
-use Rattle.bus_store.specs.Blocks.{AreBlocks}
+use Rattle.es_pool.specs.Pool.{PoolState}
+use Rattle.bus_store.specs.Blocks.{AreBlocks, IsBlockPool}
 use Rattle.sb_calls.specs.declared.bus_core.BusCore.TheInside.{Inside}
 use Rattle.sb_calls.specs.Bags.{loans_of, descs_of}
 use Rattle.sb_calls.specs.Core.{state_of}
@@ -41,3 +42,7 @@ blocks_over a b stands are = subst (λ (s : State). AreBlocks b s.pipes (loans_o
       all_buffers = are.all_buffers;
       one = are.one;
     }
+
+pub pool_over : (a : Inside) (p : PoolState) → Stands a → IsBlockPool p a.core.whole.bus.pipes a.core.loans a.core.whole.bus.unsent a.core.descs →
+    IsBlockPool p (state_of (core_of a)).pipes (loans_of (core_of a)) (state_of (core_of a)).unsent (descs_of (core_of a))
+pool_over a p stands of = record { buffers = of.buffers; are = blocks_over a of.buffers stands of.are; is = of.is }

@@ -7,7 +7,7 @@ ghost use Rattle.es_pool.specs.Pool.{in_use_by};
 ghost use Rattle.bus_words.specs.Held.{account_of, items_of, held, block_of};
 ghost use Rattle.bus_words.specs.Log.{left_of};
 ghost use Rattle.sb_calls.specs.Core.{IsLegalCore, IsNoted, StandAlone, apps_of, state_of};
-ghost use Rattle.bus_store.specs.Blocks.{IsGiven, AreOfOneSend, AreBlocks};
+ghost use Rattle.bus_store.specs.Blocks.{IsGiven, AreOfOneSend, AreBlocks, IsBlockPool};
 ghost use Rattle.sb_calls.specs.Bags.{AreOneLoan, loans_of, descs_of};
 
 use crate::noted::NotedJournal;
@@ -128,10 +128,12 @@ impl<'r> BusCore<'r> {
         self.noted.note(i)
     }
 
-    /// The pool that the blocks of messages and buffers are drawn from. As many blocks of each size
-    /// are out as numbers are held whose block has that size: by a pipe that names the send, or by
-    /// an unsent buffer. Its bytes in use are those of these blocks.
+    /// The pool that the blocks of `desk` are drawn from. As many blocks of each size are out as
+    /// numbers are held whose block has that size: by a pipe that names the send, or by an unsent
+    /// buffer. Its bytes in use are those of these blocks.
     pub fn pool(&self) -> &Pool
+        ensures blocks { IsBlockPool result.now (state_of self.now).pipes (loans_of self.now)
+            (state_of self.now).unsent (descs_of self.now) }
         ensures account { IsAccountOf result.now
             (account_of self.now.limits (state_of self.now)) }
         ensures in_use { in_use_by result.now.sizes result.now.blocks ≡

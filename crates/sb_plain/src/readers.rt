@@ -4,7 +4,7 @@ ghost use Rattle.es_pool.specs.Account.{IsAccountOf};
 ghost use Rattle.es_pool.specs.Pool.{in_use_by};
 ghost use Rattle.bus_words.specs.Bus.{Item};
 ghost use Rattle.bus_words.specs.Held.{account_of, items_of, held, block_of};
-ghost use Rattle.bus_store.specs.Blocks.{IsGiven, AreOfOneSend, AreBlocks};
+ghost use Rattle.bus_store.specs.Blocks.{IsGiven, AreOfOneSend, AreBlocks, IsBlockPool};
 ghost use Rattle.bus_words.specs.Pipes.{last_on};
 ghost use Rattle.bus_store.specs.Words.{loan_of};
 
@@ -33,9 +33,11 @@ impl<'r> PlainBus<'r> {
         self.store.desk()
     }
 
-    /// The pool that the blocks are drawn from: its bytes in use are those of the blocks for the
-    /// numbers that are held, one for each.
+    /// The pool that the blocks of `desk` are drawn from: its bytes in use are those of the blocks
+    /// for the numbers that are held, one for each.
     pub fn pool(&self) -> &Pool
+        ensures blocks { IsBlockPool result.now self.now.whole.bus.pipes self.now.loans
+            self.now.whole.bus.unsent self.now.descs }
         ensures account { IsAccountOf result.now
             (account_of self.now.limits self.now.whole.bus) }
         ensures in_use { in_use_by result.now.sizes result.now.blocks ≡

@@ -2,9 +2,21 @@ use Rattle.std.proofs.Common.{◌≡◌, ap, sum_by, subst, sym, ◌∙◌}
 use Rattle.es_pool.specs.Pool.{PoolState, in_use_by}
 use Rattle.es_pool.specs.Account.{IsAccountOf}
 use Rattle.bus_words.specs.Held.{held, block_of}
+use Rattle.bus_store.specs.Blocks.{IsBlockPool}
 use Rattle.bus_store.specs.Store.{Store}
 use Rattle.bus_store.proofs.Blocked.{in_use_held}
+use Rattle.bus_store.proofs.BlocksShown.{are_blocks}
 use Rattle.bus_store.proofs.store.BusStore.pool.Goals as goal
+
+pub returns-clause-blocks : goal.returns-clause-blocks
+returns-clause-blocks c =
+    let a = c.self.inside in
+    subst (λ (o : Store). IsBlockPool c.pool.result.now o.pipes o.loans o.unsent o.descs) c.self.view_is
+    (record {
+      buffers = a.desk;
+      are = are_blocks a.desk a.tables.pipes a.lists.lists a.given c.self.invariant.backed c.self.invariant.listed c.recall_live.ensures.whole;
+      is = c.pool.ensures;
+    })
 
 pub returns-clause-account : goal.returns-clause-account
 returns-clause-account c =

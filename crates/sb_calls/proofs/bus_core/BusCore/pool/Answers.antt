@@ -3,9 +3,17 @@ use Rattle.es_pool.specs.Account.{IsAccountOf}
 use Rattle.es_pool.specs.Pool.{in_use_by}
 use Rattle.bus_words.specs.Bus.{State}
 use Rattle.bus_words.specs.Held.{account_of, held, block_of}
+use Rattle.bus_store.specs.Blocks.{IsBlockPool}
+use Rattle.sb_calls.specs.Bags.{loans_of, descs_of}
 use Rattle.sb_calls.specs.Core.{Core, state_of}
+use Rattle.sb_calls.proofs.CoreBlocks.{pool_over}
 use Rattle.sb_calls.proofs.Over.{bus_is}
 use Rattle.sb_calls.proofs.bus_core.BusCore.pool.Goals as goal
+
+pub returns-clause-blocks : goal.returns-clause-blocks
+returns-clause-blocks c =
+    let P : Core → Type 0 = λ core. IsBlockPool c.pool.result.now (state_of core).pipes (loans_of core) (state_of core).unsent (descs_of core) in
+    subst P c.self.view_is (pool_over c.self.inside c.pool.result.now c.self.invariant c.pool.ensures.blocks)
 
 pub returns-clause-account : goal.returns-clause-account
 returns-clause-account c =
