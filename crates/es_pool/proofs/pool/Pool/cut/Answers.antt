@@ -84,6 +84,7 @@ invariant_of-self c =
       kept = kept_at _ (to c.push_reserved.new.self.items) (s.rest - (c.at-size.result + 16)) (s.in_use + c.at-size.result) (set s.made.items k (c.index_mut.result.now + 1)) _ c.add_node-block.new.self _ (vec_capacity c.push_reserved.new.self)
           (ap to c.push_reserved.ensures.items) c.add_node-block.ensures.after c.push_reserved.ensures.capacity done.kept;
       out = ap (λ (n : ℕ). n + 1) c.self.invariant.out ∙ sym (ap out_among c.push_reserved.ensures.items ∙ done.out);
+      recent = h;
     }
 
 pub overflow_add-self-3 : goal.overflow_add-self-3

@@ -19,7 +19,7 @@ invariant_of-self g c =
     let s = c.self.inside in
     let h : c.args.class < length s.sizes = omega (arith, c.requires.class, ap (λ v. length v.sizes) c.self.view_is) in
     let done = reused_read (state_of s) s.rest s.in_use s.made.items s.free c.pop.new.self s.blocks.cap c.args.class c.in-Some.block c.at.result c.saturating_add-self-inside.result c.self.invariant.kept h c.in-Some.ensures.front c.in-Some.ensures.after c.at.ensures in
-    record { kept = done.kept; out = ap (λ (n : ℕ). n + 1) c.self.invariant.out ∙ sym done.out }
+    record { kept = done.kept; out = ap (λ (n : ℕ). n + 1) c.self.invariant.out ∙ sym done.out; recent = h }
 
 pub returns-clause-drawn : goal.returns-clause-drawn
 returns-clause-drawn g c =

@@ -27,6 +27,7 @@ invariant_of-self g c =
     record {
       kept = kept_at now now s.rest (s.in_use - c.at.result) s.made.items _ c.push.new.self s.blocks.cap s.blocks.cap refl c.push.ensures.after refl done.kept;
       out = omega (arith, done.out, c.self.invariant.out);
+      recent = c.self.invariant.recent;
     }
 
 pub overflow_sub-self-2 : goal.overflow_sub-self-2
