@@ -1,7 +1,8 @@
 -- A turn that begins after the seat slept or stayed awake, which left what it knows: it is found as from the seat before that.
 use Rattle.std.proofs.Common.{◌≡◌, ap₂, sym, ◌∙◌, subst}
 use Rattle.turn_lock.specs.Seats.{Known, entered_view}
-use Rattle.bus_service.specs.Histories.{Fixed, Guarded, history_of}
+use Rattle.bus_service.specs.Histories.{Fixed, history_of}
+use Rattle.bus_service.specs.Inside.{Guarded}
 use Rattle.bus_service.specs.Turns.{Entered}
 use Rattle.bus_service.specs.declared.boxed.NotedCall.{NotedCall}
 

@@ -12,8 +12,8 @@ use Rattle.buf_desc.specs.Held.{Holding}
 use Rattle.sb_calls.specs.Bags.{AreOneLoan}
 use Rattle.sb_calls.specs.Core.{Core, MayCall, Looks, StandAlone, state_of}
 use Rattle.sb_calls.proofs.Looks.{pending_is}
-use Rattle.bus_service.specs.Histories.{Guarded, fixed_of, history_of}
-use Rattle.bus_service.specs.Inside.{IsPort, Tells, port_in, seen_in}
+use Rattle.bus_service.specs.Histories.{fixed_of, history_of}
+use Rattle.bus_service.specs.Inside.{Guarded, IsPort, Tells, port_in, seen_in}
 use Rattle.bus_service.specs.Ports.{PortView, AnswersLook}
 use Rattle.bus_service.proofs.Entering.{entered_from, view_from}
 use Rattle.bus_service.proofs.Found.{may_found, bag_found}

@@ -4,8 +4,8 @@ use Rattle.turn_lock.proofs.Callers.{ready_in}
 use Rattle.journal_store.specs.Budgets.{allowance_of}
 use Rattle.bus_words.specs.Log.{left_of}
 use Rattle.sb_calls.specs.Core.{MayCall}
-use Rattle.bus_service.specs.Histories.{Guarded, history_of}
-use Rattle.bus_service.specs.Inside.{Tells, port_in}
+use Rattle.bus_service.specs.Histories.{history_of}
+use Rattle.bus_service.specs.Inside.{Guarded, Tells, port_in}
 use Rattle.bus_service.specs.Ports.{PortView, Answers, FindsRoom}
 use Rattle.bus_service.proofs.Entering.{entered_from, view_from}
 use Rattle.bus_service.proofs.Found.{may_found, bag_found}
