@@ -1,4 +1,4 @@
-//! What holds of every bag, whoever has it, and of the peaks.
+//! What holds of every bag.
 ghost use Rattle.std.specs.Prelude.{◌≡◌, ◌≢◌, ◌≤◌, ℕ, []};
 ghost use Rattle.fsw_base.specs.Limits.{Limits};
 ghost use Rattle.tbl_words.specs.declared.calls.TblAnswer.{TblAnswer};

@@ -99,7 +99,8 @@ impl<'r> PlainTables<'r> {
     /// application; `ErrUnregistered` where the table is registered no more; `InfoNoUpdatePending`
     /// where nothing is staged; `NotValidated` where the staged value wasn't validated;
     /// `InfoTableLocked` where the table is single buffered, and an application holds it. The first
-    /// that applies. Behind version 2^64 - 1 there is none: then it is `InfoTableLocked`, too.
+    /// that applies. At version 2^64 - 1, the last, a call that nothing else refuses is refused
+    /// with `InfoTableLocked`.
     pub fn update(&mut self, app: AppNo, handle: u32) -> Result<(), TblStatus>
         requires may { MayAct self.old app (Update handle) }
         ensures does { HasNextVersion self.old.state handle →
@@ -121,7 +122,7 @@ impl<'r> PlainTables<'r> {
             return Err(TblStatus::InfoTableLocked);
         }
         if !self.blocks.has_next_version(key) {
-            // Nothing refuses it; but versions have 64 bits.
+            // No other refusal holds, but there is no later version.
             return Err(TblStatus::InfoTableLocked);
         }
         self.blocks.recall_table(key);
@@ -137,8 +138,8 @@ impl<'r> PlainTables<'r> {
     /// # Errors
     /// Those of [`PlainTables::stage`]; then `Validation` with the number, from 1, of the first
     /// rule that the new value fails; then `InfoTableLocked` where the table is single buffered,
-    /// and an application holds it. The first that applies. Behind version 2^64 - 1 there is none:
-    /// then it is `InfoTableLocked`, too.
+    /// and an application holds it. The first that applies. At version 2^64 - 1, the last, a call
+    /// that nothing else refuses is refused with `InfoTableLocked`.
     pub fn load(
         &mut self,
         app: AppNo,
