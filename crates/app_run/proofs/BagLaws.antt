@@ -1,16 +1,11 @@
 -- The bags of all applications: at the opening, and through one application's turn.
-use Rattle.std.proofs.Common.{◌≡◌, ℕ, zero, suc, ◌+◌, ◌-◌, ◌==◌, ◌<◌, ◌≤◌, Bool, true, false, List, [], ◌∷◌, length, map, replicate, slice_set, slice_index_or, get_or, refl, ap, sym, subst, inl, inr, arith}
-use Rattle.std.specs.Prelude.{find}
-use Rattle.std.specs.Option.{option_map}
+use Rattle.std.proofs.Common.{◌≡◌, ℕ, zero, suc, ◌+◌, ◌<◌, ◌≤◌, Bool, true, false, List, [], ◌∷◌, length, map, slice_set, get_or, refl, ap, sym, subst, inl, inr, arith}
 use Rattle.lend_block.specs.Loan.{LentBytes}
 use Rattle.buf_desc.specs.Held.{Holding}
 use Rattle.bus_words.specs.declared.calls.BusAnswer.{BusAnswer}
 use Rattle.bus_words.specs.declared.history.Call.{Call}
-use Rattle.sb_calls.specs.Bags.{HasBag, KeepsOtherBags, descs_of}
-use Rattle.sb_calls.specs.Core.{Core, Does, apps_of}
-use Rattle.bus_words.specs.Bus.{Buffer}
-use Rattle.bus_store.specs.Bag.{Shape}
-use Rattle.bus_store.specs.Words.{desc_of, size_for}
+use Rattle.sb_calls.specs.Bags.{HasBag, KeepsOtherBags}
+use Rattle.sb_calls.specs.Core.{Core, Does}
 use Rattle.script_settings.specs.Accounts.{budget_of}
 use Rattle.app_script.specs.Script.{Application, ScriptText}
 use Rattle.app_run.specs.Openings.{opened, opened_tables, empty_bag}
@@ -64,28 +59,12 @@ hold-at core n (suc i) (bag ∷ bags) d holds within =
 
 -- Before the first call. --
 
-no-buffers : (n i : ℕ) → slice_index_or (replicate {A = List Buffer} n []) i [] ≡ []
-no-buffers zero i = refl
-no-buffers (suc n) zero = refl
-no-buffers (suc n) (suc i) = no-buffers n i
-
-abbrev the_shape : ℕ → ℕ → ℕ → Shape
-the_shape desc size asked = record { desc = desc; size = size; asked = asked }
-
-has-empty : (script : ScriptText) (app buffers : ℕ) → 1 ≤ app → HasBag (opened script) app (empty_bag script.limits.pipes buffers)
-has-empty script app buffers first = record {
-  views = record { seen = λ pipe. refl; counted = refl; room = omega arith };
-  buffers = record {
-    known = first;
-    due = λ number. ap (λ bs. option_map (λ (buffer : Buffer). the_shape (desc_of (descs_of (opened script)) number) (size_for script.limits.sizes buffer.size) buffer.size) (find (λ (buffer : Buffer). buffer.number == number) bs))
-        (sym (no-buffers (apps_of (opened script)) (app - 1)));
-  };
-}
-
-pub hold-empty : (script : ScriptText) (n : ℕ) (apps : List Application) → 1 ≤ n →
-    AllHold (opened script) n (map (λ a. empty_bag script.limits.pipes (budget_of a.lines).buffers) apps)
-hold-empty script n [] first = tt
-hold-empty script n (a ∷ apps) first = (has-empty script n (budget_of a.lines).buffers first, hold-empty script (n + 1) apps (omega arith))
+module _ (opens : (core : Core) (app : ℕ) (bag : Holding LentBytes) → core.log.entries ≡ [] → 1 ≤ app → bag.views ≡ [] → bag.buffers ≡ [] → core.limits.pipes ≤ bag.view_room → HasBag core app bag) where
+  pub hold-empty : (script : ScriptText) (n : ℕ) (apps : List Application) → 1 ≤ n →
+      AllHold (opened script) n (map (λ a. empty_bag script.limits.pipes (budget_of a.lines).buffers) apps)
+  hold-empty script n [] first = tt
+  hold-empty script n (a ∷ apps) first =
+      (opens (opened script) n (empty_bag script.limits.pipes (budget_of a.lines).buffers) refl first refl refl (omega arith), hold-empty script (n + 1) apps (omega arith))
 
 -- The same at the tables. --
 
@@ -128,10 +107,8 @@ held-at core n (suc i) (held ∷ helds) d holds within =
     subst (λ k. HasTableBag core k (get_or helds i d)) there (held-at core (n + 1) i helds d holds.1 (omega (arith, within)))
 
 -- before the first call nothing is held
-has-nothing : (script : ScriptText) (app : ℕ) → HasTableBag (opened_tables script) app (record { views = []; room = script.limits.handles })
-has-nothing script app = record { seen = λ number. refl; counted = refl; room = omega arith }
-
-pub held-nothing : (script : ScriptText) (n : ℕ) (apps : List Application) →
-    AllHoldTables (opened_tables script) n (map (λ a. record { views = []; room = script.limits.handles }) apps)
-held-nothing script n [] = tt
-held-nothing script n (a ∷ apps) = (has-nothing script n, held-nothing script (n + 1) apps)
+module _ (opens : (core : TableCore) (app : ℕ) (bag : HeldViews) → core.log.entries ≡ [] → bag.views ≡ [] → core.limits.handles ≤ bag.room → HasTableBag core app bag) where
+  pub held-nothing : (script : ScriptText) (n : ℕ) (apps : List Application) →
+      AllHoldTables (opened_tables script) n (map (λ a. record { views = []; room = script.limits.handles }) apps)
+  held-nothing script n [] = tt
+  held-nothing script n (a ∷ apps) = (opens (opened_tables script) n (record { views = []; room = script.limits.handles }) refl refl (omega arith), held-nothing script (n + 1) apps)

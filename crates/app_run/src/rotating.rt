@@ -152,6 +152,9 @@ fn run<'r>(script: &Script, services: OpenedServices<'r>, apps: OpenedApps<'_, '
         map (receipts_told script.now (rotation script.now))
         (range_with_len 1 (length script.now.apps)) }
 {
+    // Do nothing; the proof learns of them that new bags are the applications' own.
+    bags_stay();
+    table_bags_stay();
     let OpenedServices {
         mut bus,
         mut tables,

@@ -1,6 +1,7 @@
 mod Active
 mod Allowed
 pub mod Crossing
+mod Entering
 mod Few
 mod Found
 mod Histories

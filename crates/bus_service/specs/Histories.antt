@@ -1,6 +1,6 @@
 -- What the lock knows of the core: what never changes, and its history, each call with its answer
 -- and note beside its application.
-use Rattle.std.specs.Prelude.{ℕ, Bool, List, [], ◌∷◌, map, Option, Some, None}
+use Rattle.std.specs.Prelude.{ℕ, List, [], ◌∷◌, map, Option, Some, None}
 use Rattle.fsw_base.specs.Limits.{Limits, usual_limits}
 use Rattle.fsw_base.specs.declared.config.Budget.{Budget}
 use Rattle.lend_block.specs.declared.note.Note.{Note}
@@ -8,11 +8,6 @@ use Rattle.bus_words.specs.declared.history.Entry.{Entry}
 pub use Rattle.bus_words.specs.Runs.{own_entries}
 use Rattle.sb_calls.specs.Core.{Core}
 use Rattle.bus_service.specs.declared.boxed.NotedCall.{NotedCall}
-
--- what the lock guards: the core, and whether somebody sleeps until it has news
-pub record Guarded : Type 0 where
-  pub core : Core
-  pub asleep : Bool
 
 -- what never changes: the limits, and the budgets of the applications 1, 2, 3 and so on
 pub record Fixed : Type 0 where

@@ -1,5 +1,5 @@
--- What the fields of a port, a finished port and the main part stand for, and what is always true
--- of them.
+-- What the lock guards, what contracts see of a port, a finished port and the main part, and what
+-- is always true of these.
 use Rattle.std.specs.Prelude.{◌≡◌, ◌↔◌, ℕ, ◌≤◌, nat_eq, Bool, false, IsTrue, List, [], ◌∷◌, length, map, All, Contains}
 use Rattle.std.specs.List.{IsDistinct}
 use Rattle.fsw_base.specs.declared.config.Budget.{Budget}
@@ -18,6 +18,11 @@ use Rattle.bus_service.specs.Histories.{Fixed, core_with, entries_in, own_entrie
 use Rattle.bus_service.specs.Ports.{PortView, DoneView, MainView}
 use Rattle.bus_service.specs.declared.boxed.NotedCall.{NotedCall}
 use Rattle.bus_service.specs.declared.permits.Permits.{Permits}
+
+-- what the lock guards: the core, and whether somebody sleeps until it has news
+pub record Guarded : Type 0 where
+  pub core : Core
+  pub asleep : Bool
 
 -- the core with the history that a seat has seen
 abbrev pub seen_in : SeatView Fixed NotedCall → Core

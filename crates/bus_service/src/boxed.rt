@@ -64,7 +64,7 @@ pub(crate) struct BoxedCore<'r> {
 
 impl<'r> Model for BoxedCore<'r> {
     ghost use Rattle.std.specs.Prelude.{box_value};
-    ghost use Rattle.bus_service.specs.Histories.{Guarded};
+    ghost use Rattle.bus_service.specs.Inside.{Guarded};
 
     ghost Value = { Guarded };
 
@@ -193,7 +193,7 @@ impl<'r> BoxedCore<'r> {
     }
 
     /// Whether the sleepers are to be woken: there are some, and a waiting application would be
-    /// answered if it looked now. All are woken then, so that nobody sleeps any more.
+    /// answered if it looked now. All are woken then, so none is noted any more.
     pub(crate) fn take_sleepers(&mut self) -> bool
         ensures woken { result ≡ self.old.asleep && has_news (state_of self.old.core) }
         ensures asleep { self.new.asleep ≡ (if result then false else self.old.asleep) }

@@ -15,7 +15,7 @@ use crate::boxed::{NotedCall, Opening};
 use crate::bus::Bus;
 use crate::calls::PortCall;
 use crate::permits::Permits;
-use crate::turns::{begin, begin_look, finish, pause};
+use crate::turns::{begin, finish, pause};
 use crate::unsent::MessageView;
 use buf_desc::{Bag, Memory};
 use bus_words::Allowance;
@@ -173,6 +173,8 @@ impl<'r> BusPort<'r> {
         ensures answers { Answers self.old self.new (C.call call self.old.bag) (C.answer result) }
         ensures left { C.leaves call self.old.bag self.new.bag result }
     {
+        // An application that waits makes one other call than a look, its end, and sleeps no more.
+        bus.lock.stay_awake(&mut self.seat);
         let mut turn = begin(bus, rt, &mut self.seat);
         let told = turn
             .value_mut()
@@ -197,7 +199,8 @@ impl<'r> BusPort<'r> {
         ensures still { result ≡ Pended.Pending → self.new.bag ≡ self.old.bag }
         ensures buffers { self.new.bag ≡ record self.old.bag { views = self.new.bag.views } }
     {
-        let mut turn = begin_look(bus, rt, &mut self.seat);
+        bus.lock.sleep(rt, &mut self.seat);
+        let mut turn = begin(bus, rt, &mut self.seat);
         let told = turn.value_mut().look(self.app, &mut self.bag);
         if told.is_pending() {
             self.permits = turn.value().permits(self.app);

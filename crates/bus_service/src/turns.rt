@@ -11,41 +11,20 @@ use crate::bus::Bus;
 use std::sync::Wait;
 use turn_lock::{Seat, Turn};
 
-/// Waits for a turn of the seat for a call, also if its application looked in vain in the last one:
-/// the end of an application that waits.
+/// Waits for a turn of the seat. If its application looked in vain in the last one, it slept since,
+/// or stays awake.
 pub(crate) fn begin<'r, R: Wait>(
     bus: &Bus<'r>,
     rt: &R,
     seat: &mut Seat<Opening, NotedCall>,
 ) -> Turn<BoxedCore<'r>>
-    requires { IsIn seat.old bus.now }
+    requires { IsReady seat.old bus.now }
     ensures out { IsOut seat.new }
     ensures lock { result.lock ≡ bus.now }
     ensures found { result.found ≡ result.value }
     ensures entered { Entered (view_of seat.old) result.value.core }
     ensures view { result.view ≡ entered_view (view_of seat.old) (history_of result.value.core) }
 {
-    bus.lock.stay_awake(seat);
-    let turn = bus.lock.enter(rt, seat);
-    turn.value().recall();
-    turn
-}
-
-/// Waits for a turn of the seat for a look. If its application looked in vain in the last one, it
-/// sleeps before, until there is news.
-pub(crate) fn begin_look<'r, R: Wait>(
-    bus: &Bus<'r>,
-    rt: &R,
-    seat: &mut Seat<Opening, NotedCall>,
-) -> Turn<BoxedCore<'r>>
-    requires { IsIn seat.old bus.now }
-    ensures out { IsOut seat.new }
-    ensures lock { result.lock ≡ bus.now }
-    ensures found { result.found ≡ result.value }
-    ensures entered { Entered (view_of seat.old) result.value.core }
-    ensures view { result.view ≡ entered_view (view_of seat.old) (history_of result.value.core) }
-{
-    bus.lock.sleep(rt, seat);
     let turn = bus.lock.enter(rt, seat);
     turn.value().recall();
     turn

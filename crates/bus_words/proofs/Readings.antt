@@ -24,7 +24,7 @@ use Rattle.bus_words.specs.Refusals.{Refusal, OfBus, OfPools, OfEvents, refusal_
 use Rattle.bus_words.specs.Bus.{Subscription, State, Sending, Waiting, Active, ArePools, opening, route, is_empty, is_subscribed, others_idle, with_standing}
 use Rattle.bus_words.specs.Sends.{Reads, sending_from, sending_in, packet_in}
 use Rattle.bus_words.specs.Machine.{LegalFrom, IsLegal, accept_with, buffer_gone, cause, decided_with, passed_along, by_pools, pool_get_cause, pool_put_cause, reads_after, received, refused_if, refused_state, sent_along, state_after, state_from, step}
-use Rattle.bus_words.specs.Readings.{gets_grant, is_refused_return, times, account_after}
+use Rattle.bus_words.specs.Readings.{gets_grant, is_refused_return, count_of, account_after}
 use Rattle.bus_words.proofs.PoolGrants.{ArePools-step, ArePools-opening}
 use Rattle.bus_words.proofs.Steps.{after_choice, refused_receive, with_subscription}
 
@@ -440,12 +440,12 @@ counts-after limits apps pool history legal from =
 
 -- a pool's requests are the entries that it gave a grant
 pub requests_are_read : (limits : Limits) (apps pool : ℕ) (history : List Entry) → IsLegal limits apps history → 1 ≤ pool →
-    (account_after limits apps history pool).requests ≡ times (gets_grant pool) history
+    (account_after limits apps history pool).requests ≡ count_of (gets_grant pool) history
 requests_are_read limits apps pool history legal from =
     (counts-after limits apps pool history legal from).requests ∙ ap (λ n. min n (2 ^ 32 - 1)) (zero-add (count_by (λ e. gets_grant pool e.call e.answer) history))
 
 -- and its errors those whose return it refused
 pub errors_are_read : (limits : Limits) (apps pool : ℕ) (history : List Entry) → IsLegal limits apps history → 1 ≤ pool →
-    (account_after limits apps history pool).errors ≡ times (is_refused_return pool) history
+    (account_after limits apps history pool).errors ≡ count_of (is_refused_return pool) history
 errors_are_read limits apps pool history legal from =
     (counts-after limits apps pool history legal from).errors ∙ ap (λ n. min n (2 ^ 32 - 1)) (zero-add (count_by (λ e. is_refused_return pool e.call e.answer) history))

@@ -12,20 +12,20 @@ use Rattle.bus_words.specs.declared.history.Call.TheVariants.{PoolGet, PoolPut}
 use Rattle.bus_words.specs.declared.history.Entry.{Entry}
 use Rattle.bus_words.specs.Machine.{state_after}
 
--- whether a call so answered was given a grant of this pool
+-- whether a call with this answer got a grant of this pool
 abbrev pub gets_grant : ℕ → Call → BusAnswer → Bool
 gets_grant pool (PoolGet number size) (Number grant) = number == pool
 gets_grant pool call answer = false
 
--- whether a call so answered is a return that this pool refused
+-- whether a call with this answer is a return that this pool refused
 abbrev pub is_refused_return : ℕ → Call → BusAnswer → Bool
 is_refused_return pool (PoolPut number grant) (Es BufferNotInPool) = number == pool
 is_refused_return pool (PoolPut number grant) (Es PoolBlockInvalid) = number == pool
 is_refused_return pool call answer = false
 
 -- how many entries are of this kind, at most what a count of 32 bits holds
-abbrev pub times : (Call → BusAnswer → Bool) → List Entry → ℕ
-times kind history = min (count_by (λ e. kind e.call e.answer) history) (2 ^ 32 - 1)
+abbrev pub count_of : (Call → BusAnswer → Bool) → List Entry → ℕ
+count_of kind history = min (count_by (λ e. kind e.call e.answer) history) (2 ^ 32 - 1)
 
 -- the account of the pool of this number after a history
 abbrev pub account_after : Limits → ℕ → List Entry → ℕ → Account

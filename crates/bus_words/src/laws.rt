@@ -1,4 +1,4 @@
-//! What holds of every history of the bus, whoever kept it.
+//! What holds of every history of the bus.
 ghost use Rattle.std.specs.Prelude.{◌≡◌, ◌≢◌, ℕ, ◌≤◌, All, List, [], ◌∷◌, ◌++◌, length, sum_by, true, false, IsTrue};
 ghost use Rattle.fsw_base.specs.Limits.{Limits};
 ghost use Rattle.fsw_base.specs.declared.config.Budget.{Budget};
@@ -90,8 +90,7 @@ pub fn states_are_enough()
         (state_after limits apps history) }
     ensures causes { (limits : Limits) (apps : ℕ) (history : List Entry) (app : ℕ) (call : Call) →
         IsLegal limits apps history →
-        cause limits
-        (whole_after limits apps history).bus app call
+        cause limits (whole_after limits apps history).bus app call
         ≡ cause limits (state_after limits apps history) app call }
     ensures acts { (limits : Limits) (apps : ℕ) (history : List Entry) (app : ℕ) (call : Call) →
         IsLegal limits apps history →

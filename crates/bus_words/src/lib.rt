@@ -31,7 +31,8 @@
 //! - `states_are_enough`: the bus with the next count of each routed id is enough without the
 //!   history.
 //! - `pools_are_counted`, `draws_are_counted`, `bytes_are_of_sends`: the accounts of applications'
-//!   pools and of the bus's pool add up after every history.
+//!   pools and of the bus's pool add up after every history. `pool_counts_are_read`: a pool's
+//!   requests and errors are counted off the history.
 //! - `ends_leave_nothing`: an application that has ended owns no live pipe; if all have ended, no
 //!   send is held and every block is back.
 //! - `events_are_told`, `statistics_are_counted`: the event desk, counters and peaks are those of

@@ -1,4 +1,3 @@
 pub mod Loading
 pub mod Making
-pub mod Opening
 pub mod Written

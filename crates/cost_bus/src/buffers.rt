@@ -1,6 +1,5 @@
 //! Buffers that are written where they are sent from.
 ghost use Rattle.std.specs.Prelude.{◌≡◌, ◌*◌, ◌+◌, ◌<◌, ◌≤◌, [], length};
-ghost use Rattle.fsw_base.specs.Limits.{limits_of};
 ghost use Rattle.bus_words.specs.Acts.{opening_whole};
 ghost use Rattle.buf_desc.specs.Held.{bytes_at};
 ghost use Rattle.sb_plain.specs.Bags.{HasBag};
@@ -47,14 +46,13 @@ fn run_buffers<L: Ledger>(
     requires rounds { rounds ≤ 100000000 }
 {
     let mut core = PlainBus::new(alloc, cfg, 1, region)?;
-    carry_buffers::<L>(alloc, cfg, &mut core, rounds, blank)
+    carry_buffers::<L>(alloc, &mut core, rounds, blank)
 }
 
 // Sends the buffers on a bus on which no call was made. It is apart from the making of the bus,
 // since every way out behind that lets the bus go, and each is proved.
 fn carry_buffers<'r, L: Ledger>(
     alloc: Global,
-    cfg: &Config,
     core: &mut PlainBus<'r>,
     rounds: u32,
     blank: Blank,
@@ -64,14 +62,14 @@ fn carry_buffers<'r, L: Ledger>(
     requires some_part { 0 < blank.parts }
     requires unused { core.old ≡
         record {
-          limits = limits_of cfg.now;
-          whole = opening_whole (limits_of cfg.now) 1;
+          limits = core.old.limits;
+          whole = opening_whole core.old.limits 1;
           loans = [];
           descs = [];
         } }
     requires rounds { rounds ≤ 100000000 }
 {
-    let mut held = Held::new(alloc, cfg.pipes, 1)?;
+    let mut held = core.new_bag(alloc, AppNo::try_new(1).unwrap(), 1)?;
     let received = carry::<L>(core, &mut held, rounds, blank);
     Ok((received, core.pool().blocks_in_use()))
 }

@@ -16,7 +16,6 @@
 #![tactic(auto)]
 
 ghost use Rattle.std.specs.Prelude.{◌≡◌, ◌<◌, ◌≤◌, ◌*◌, [], length};
-ghost use Rattle.fsw_base.specs.Limits.{limits_of};
 ghost use Rattle.bus_words.specs.Acts.{opening_whole};
 
 mod buffers;
@@ -25,9 +24,8 @@ mod pipes;
 mod sends;
 mod turns;
 
-use buf_desc::Held;
 use buffers::time_buffers;
-use fsw_base::Config;
+use fsw_base::{AppNo, Config};
 use loads::time_loads;
 use sb_plain::PlainBus;
 use sends::{Sends, sends_of};
@@ -101,14 +99,13 @@ fn run_load<L: Ledger>(
     requires load { (load.turns ≤ 100000000) × (load.dests ≤ 16) × (load.reads ≤ 16) }
 {
     let mut core = PlainBus::new(alloc, cfg, 1, region)?;
-    carry_load::<L>(alloc, cfg, &mut core, message, load, blank)
+    carry_load::<L>(alloc, &mut core, message, load, blank)
 }
 
 // Sends the message on a bus on which no call was made, and receives it. It is apart from the
 // making of the bus, since every way out behind that lets the bus go, and each is proved.
 fn carry_load<'r, L: Ledger>(
     alloc: Global,
-    cfg: &Config,
     core: &mut PlainBus<'r>,
     message: &mut [u8],
     load: Load,
@@ -119,15 +116,15 @@ fn carry_load<'r, L: Ledger>(
     requires some_part { 0 < blank.parts }
     requires unused { core.old ≡
         record {
-          limits = limits_of cfg.now;
-          whole = opening_whole (limits_of cfg.now) 1;
+          limits = core.old.limits;
+          whole = opening_whole core.old.limits 1;
           loans = [];
           descs = [];
         } }
     requires message { (7 ≤ length message.old) × (length message.old ≤ 65542) }
     requires load { (load.turns ≤ 100000000) × (load.dests ≤ 16) × (load.reads ≤ 16) }
 {
-    let mut held = Held::new(alloc, cfg.pipes, 0)?;
+    let mut held = core.new_bag(alloc, AppNo::try_new(1).unwrap(), 0)?;
     let received = carry::<L>(core, &mut held, message, load, blank);
     Ok((received, core.pool().blocks_in_use()))
 }

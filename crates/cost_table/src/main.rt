@@ -16,7 +16,7 @@ use std::alloc::{AllocError, Global};
 use std::marker::Brand;
 use std::{env, io};
 use step_count::{Blank, Ledger, Steps};
-use tbl_load::{HeldTables, TblCore};
+use tbl_load::{HeldTables, TblCore, bags_stay};
 
 // What the application may add: the entries of all loads and addresses, and the bytes of all loads.
 static BUDGETS: [Budget; 1] = [Budget {
@@ -96,6 +96,8 @@ fn load_and_address<'r, L: Ledger>(
     requires unused { core.old.log.entries ≡ [] }
     requires value { length value.now ≤ 65536 }
 {
+    // Does nothing; the proof learns of it that a new bag is an application's own.
+    bags_stay();
     let mut steps = Steps::<L>::new(blank);
     let mut held = HeldTables::new(alloc, cfg.handles)?;
     let app = AppNo::try_new(1).unwrap();

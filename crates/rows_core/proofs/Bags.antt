@@ -1,16 +1,11 @@
 -- The bags of a bus's applications, at its opening and after a call.
-use Rattle.std.proofs.Common.{◌≡◌, ◌≢◌, ℕ, zero, suc, ◌+◌, ◌-◌, ◌==◌, ◌≤◌, ◌⊎◌, inl, inr, List, [], ◌∷◌, set, replicate, length, ◌<◌, slice_index_or, get_or, Some, refl, ap, sym, ◌∙◌, subst, arith}
+use Rattle.std.proofs.Common.{◌≡◌, ◌≢◌, ℕ, zero, suc, ◌+◌, ◌≤◌, ◌⊎◌, inl, inr, List, [], ◌∷◌, set, replicate, length, ◌<◌, get_or, Some, refl, ap, sym, ◌∙◌, subst, arith}
 use Rattle.std.specs.List.{slice_get}
-use Rattle.std.specs.Prelude.{find}
-use Rattle.std.specs.Option.{option_map, option_map_or}
-use Rattle.fsw_base.specs.declared.config.Budget.{Budget}
-use Rattle.fsw_base.specs.Limits.{Limits}
+use Rattle.std.specs.Option.{option_map_or}
 use Rattle.lend_block.specs.Loan.{LentBytes}
 use Rattle.buf_desc.specs.Held.{Holding}
-use Rattle.bus_words.specs.Bus.{Buffer}
-use Rattle.bus_store.specs.Bag.{HoldsViews, Shape}
-use Rattle.bus_store.specs.Words.{desc_of, size_for}
-use Rattle.sb_calls.specs.Bags.{HasBag, KeepsOtherBags, descs_of, loans_of}
+use Rattle.bus_store.specs.Bag.{HoldsViews}
+use Rattle.sb_calls.specs.Bags.{HasBag, KeepsOtherBags, loans_of}
 use Rattle.sb_calls.specs.Core.{Core, state_of}
 use Rattle.rows_core.specs.Bags.{IsWrittenOver, empty_bag}
 use Rattle.rows_core.specs.Inside.{HaveBags}
@@ -68,34 +63,9 @@ bags-written core bags place old new over have within value =
     bags_after core core bags place (place + 1) new refl have
     (has-written core (place + 1) old new over (bag-at core bags place (place + 1) old refl have within value)) (λ other bag differ has. has)
 
-no-buffers : (n i : ℕ) → slice_index_or (replicate {A = List Buffer} n []) i [] ≡ []
-no-buffers zero i = refl
-no-buffers (suc n) zero = refl
-no-buffers (suc n) (suc i) = no-buffers n i
-
-abbrev the_shape : ℕ → ℕ → ℕ → Shape
-the_shape desc size asked = record { desc = desc; size = size; asked = asked }
-
-abbrev the_core : Limits → List Budget → Core
-the_core limits budgets = record { limits = limits; log = record { budgets = budgets; entries = [] }; notes = [] }
-
--- before the first call an empty bag is anyone's
-pub has-empty : (limits : Limits) (budgets : List Budget) (app room buffers : ℕ) → 1 ≤ app → limits.pipes ≤ room → HasBag (the_core limits budgets) app (empty_bag room buffers)
-has-empty limits budgets app room buffers first enough = record {
-  views = record { seen = λ pipe. refl; counted = refl; room = enough };
-  buffers = record {
-    known = first;
-    due = λ number. ap (λ bs. option_map (λ (buffer : Buffer). the_shape (desc_of (descs_of (the_core limits budgets)) number) (size_for limits.sizes buffer.size) buffer.size)
-        (find (λ (buffer : Buffer). buffer.number == number) bs)) (sym (no-buffers (length budgets) (app - 1)));
-  };
-}
-
--- so then all have empty bags
-pub have-empty : (core : Core) (limits : Limits) (budgets : List Budget) (room buffers n : ℕ) → core ≡ the_core limits budgets → limits.pipes ≤ room →
-    HaveBags core (replicate n (empty_bag room buffers))
-have-empty core limits budgets room buffers n is enough place bag there =
+-- before the first call all have empty bags, where such a bag is anyone's
+pub have-empty : ((core : Core) (app : ℕ) (bag : Holding LentBytes) → core.log.entries ≡ [] → 1 ≤ app → bag.views ≡ [] → bag.buffers ≡ [] → core.limits.pipes ≤ bag.view_room → HasBag core app bag) →
+    (core : Core) (room buffers n : ℕ) → core.log.entries ≡ [] → core.limits.pipes ≤ room → HaveBags core (replicate n (empty_bag room buffers))
+have-empty opens core room buffers n unused enough place bag there =
     subst (λ b. HasBag core (place + 1) b) (alike (empty_bag room buffers) n place bag there)
-    (subst (λ c. HasBag c (place + 1) (empty_bag room buffers)) (sym is) (has-empty limits budgets (place + 1) room buffers (omega arith) enough))
-
-pub no-more : (n : ℕ) → n ≤ n
-no-more n = omega arith
+    (opens core (place + 1) (empty_bag room buffers) unused (omega arith) refl refl enough)

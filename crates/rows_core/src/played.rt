@@ -14,7 +14,7 @@ use bus_words::{BusAnswer, BusCall, BusJournal, Call, Receipt};
 use ccsds_msg::read_header;
 use fsw_base::{AppNo, Config, MAX_MESSAGE_BYTES};
 use run_report::BusReadings;
-use sb_calls::BusCore;
+use sb_calls::{BusCore, bags_stay};
 use std::alloc::{AllocError, Global};
 use std::marker::Model;
 use step_count::{Ledger, Steps};
@@ -54,6 +54,8 @@ impl<'r> PlayedBus<'r> {
     ) -> Result<PlayedBus<'r>, AllocError>
         requires { config.now.pool ≤ length region.old }
     {
+        // Does nothing; the proof learns of it that a new bag is an application's own.
+        bags_stay();
         let bags = empty_bags(alloc, apps.clamp(1, 16), config.pipes)?;
         let core = BusCore::new(alloc, config, budgets(apps), region)?;
         Ok(PlayedBus { core, bags })

@@ -8,7 +8,7 @@ use run_report::TableReadings;
 use std::alloc::{AllocError, Global};
 use std::marker::Model;
 use step_count::{Ledger, Steps};
-use tbl_load::{HeldTables, TblCore};
+use tbl_load::{HeldTables, TblCore, bags_stay};
 use tbl_words::TblCall;
 
 /// Table Services that nobody uses.
@@ -48,6 +48,8 @@ impl<'r> UnusedTables<'r> {
         requires region { config.now.tablepool ≤ length region.old }
         requires work { 4 * config.now.tablemax ≤ length work.old }
     {
+        // Does nothing; the proof learns of it that a new bag is an application's own.
+        bags_stay();
         let bag = HeldTables::new(alloc, config.handles)?;
         let core = TblCore::new(alloc, config, budgets(apps), region, work)?;
         Ok(UnusedTables { core, bag })

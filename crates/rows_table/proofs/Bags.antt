@@ -2,8 +2,6 @@
 use Rattle.std.proofs.Common.{◌≡◌, ◌≢◌, ℕ, zero, suc, ◌+◌, ◌≤◌, ◌⊎◌, inl, inr, List, [], ◌∷◌, set, replicate, length, ◌<◌, get_or, Some, refl, ap, sym, ◌∙◌, subst, arith}
 use Rattle.std.specs.List.{slice_get}
 use Rattle.std.specs.Option.{option_map_or}
-use Rattle.fsw_base.specs.declared.config.Budget.{Budget}
-use Rattle.fsw_base.specs.Limits.{Limits}
 use Rattle.tbl_blocks.specs.Held.{HeldViews}
 use Rattle.tbl_load.specs.Bags.{HasBag, KeepsOtherBags}
 use Rattle.tbl_load.specs.Core.{Core}
@@ -38,17 +36,12 @@ alike x zero i y is = absurd (cc (is))
 alike x (suc n) zero y is = ap (λ o. option_map_or (λ v. v) o x) is
 alike x (suc n) (suc i) y is = alike x n i y is
 
--- before the first call an empty bag is anyone's
-pub has-empty : (limits : Limits) (budgets : List Budget) (app room : ℕ) → limits.handles ≤ room →
-    HasBag (record { limits = limits; log = record { budgets = budgets; entries = [] }; notes = [] }) app (empty_bag room)
-has-empty limits budgets app room enough = record { seen = λ number. refl; counted = refl; room = enough }
-
--- so then all have empty bags
-pub have-empty : (core : Core) (limits : Limits) (budgets : List Budget) (room n : ℕ) → core ≡ record { limits = limits; log = record { budgets = budgets; entries = [] }; notes = [] } → limits.handles ≤ room →
-    HaveBags core (replicate n (empty_bag room))
-have-empty core limits budgets room n is enough place bag there =
+-- before the first call all have empty bags, where such a bag is anyone's
+pub have-empty : ((core : Core) (app : ℕ) (bag : HeldViews) → core.log.entries ≡ [] → bag.views ≡ [] → core.limits.handles ≤ bag.room → HasBag core app bag) →
+    (core : Core) (room n : ℕ) → core.log.entries ≡ [] → core.limits.handles ≤ room → HaveBags core (replicate n (empty_bag room))
+have-empty opens core room n unused enough place bag there =
     subst (λ b. HasBag core (place + 1) b) (alike (empty_bag room) n place bag there)
-    (subst (λ c. HasBag c (place + 1) (empty_bag room)) (sym is) (has-empty limits budgets (place + 1) room enough))
+    (opens core (place + 1) (empty_bag room) unused refl enough)
 
 -- the bag at a place is that of its application
 there_is : {X : Type 0} (xs : List X) (i : ℕ) (d : X) → i < length xs → slice_get xs i ≡ Some (get_or xs i d)
@@ -60,6 +53,3 @@ pub bag-at : (core : Core) (bags : List HeldViews) (place app : ℕ) (bag : Held
     HasBag core app bag
 bag-at core bags place app bag is have within value =
     subst (λ n. HasBag core n bag) (sym is) (have place bag (there_is bags place bag within ∙ ap (λ b. Some b) (sym value)))
-
-pub no-more : (n : ℕ) → n ≤ n
-no-more n = omega arith

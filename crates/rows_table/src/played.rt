@@ -10,7 +10,7 @@ use fsw_base::{AppNo, Config};
 use std::alloc::{AllocError, Global};
 use std::marker::Model;
 use step_count::{Ledger, Steps};
-use tbl_load::{HeldTables, TblCore, TblUse};
+use tbl_load::{HeldTables, TblCore, TblUse, bags_stay};
 use tbl_words::{TblCall, TblJournal};
 
 /// Tables with the bag of each of their applications.
@@ -50,6 +50,8 @@ impl<'r> PlayedTables<'r> {
         requires region { config.now.tablepool ≤ length region.old }
         requires work { 4 * config.now.tablemax ≤ length work.old }
     {
+        // Does nothing; the proof learns of it that a new bag is an application's own.
+        bags_stay();
         let bags = empty_bags(alloc, apps.clamp(1, 16), config.handles)?;
         let core = TblCore::new(alloc, config, budgets(apps), region, work)?;
         Ok(PlayedTables { core, bags })

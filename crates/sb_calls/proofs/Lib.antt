@@ -10,6 +10,7 @@ pub mod Made
 pub mod MadeBuffers
 pub mod Notes
 pub mod Opened
+mod OpeningBags
 pub mod OthersBags
 pub mod Over
 pub mod Pushed

@@ -1,4 +1,4 @@
--- What the core's fields stand for, and what is always true of them.
+-- What contracts see of the core's fields, and what is always true of them.
 use Rattle.std.specs.Prelude.{◌≡◌, ℕ, ◌+◌, ◌^◌, ◌<◌, true, length, is_some}
 use Rattle.bus_words.specs.Acts.{whole_after}
 use Rattle.bus_words.specs.Held.{is_unsent}

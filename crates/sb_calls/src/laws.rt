@@ -1,5 +1,5 @@
 //! What holds of every bag and of every history.
-ghost use Rattle.std.specs.Prelude.{◌≡◌, ◌≢◌, ℕ, List};
+ghost use Rattle.std.specs.Prelude.{◌≡◌, ◌≢◌, ◌≤◌, ℕ, List, []};
 ghost use Rattle.fsw_base.specs.Limits.{Limits};
 ghost use Rattle.lend_block.specs.Loan.{LentBytes};
 ghost use Rattle.buf_desc.specs.Held.{Holding, with_bytes_at};
@@ -11,11 +11,15 @@ ghost use Rattle.sb_calls.specs.Bags.{HasBag, KeepsOtherBags, CalledByOthers, la
 ghost use Rattle.sb_calls.specs.Core.{Core, Does, drops_for, state_of};
 ghost use Rattle.sb_calls.specs.Views.{bytes_seen};
 
-/// An application's bag shows the bytes of the last message of each of its pipes, and nothing of
-/// any other pipe; and it stays its bag whatever others call, by one entry or by many, and whatever
-/// the application writes over the bytes of its buffers. A call of another is one of others, and so
-/// is one that follows such calls. Does nothing.
+/// A new bag, with room for a view of each pipe, is the bag of any application of a bus on which no
+/// call was made. An application's bag shows the bytes of the last message of each of its pipes,
+/// and nothing of any other pipe; and it stays its bag whatever others call, by one entry or by
+/// many, and whatever the application writes over the bytes of its buffers. A call of another is
+/// one of others, and so is one that follows such calls. Does nothing.
 pub fn bags_stay()
+    ensures opens { (core : Core) (app : ℕ) (bag : Holding LentBytes) → core.log.entries ≡ [] →
+        1 ≤ app → bag.views ≡ [] → bag.buffers ≡ [] → core.limits.pipes ≤ bag.view_room →
+        HasBag core app bag }
     ensures shown { (core : Core) (app pipe : ℕ) (bag : Holding LentBytes) → HasBag core app bag →
         bytes_seen bag pipe ≡ last_message (state_of core) app pipe }
     ensures other_bags { (old new : Core) (app : ℕ) (call : Call) (answer : BusAnswer) →

@@ -54,10 +54,10 @@
 //!   pipe leave the whole bag (`bag_refused`), and so does a look that answers Pending
 //!   (`bag_still`). A receive that finds no message takes the pipe's view away. A buffer that was
 //!   given is zeros (`zeros`), and its transmission's entry has all its bytes.
-//! - The bags of all others are unchanged at each call (`other_bags`, `bags`). `bags_stay`: a bag
-//!   shows the bytes of these messages and of no other pipe, behind any entries of others that have
-//!   their notes (`CalledByOthers`; clauses `called`, `further`), whatever is written into its
-//!   buffers.
+//! - The bags of all others are unchanged at each call (`other_bags`, `bags`). `bags_stay`: a new
+//!   bag is any application's on a new bus (`opens`); a bag shows the bytes of these messages and
+//!   of no other pipe, behind any entries of others that have their notes (`CalledByOthers`;
+//!   clauses `called`, `further`), whatever is written into its buffers.
 //! - A message that `receive`, `pend` or `look` gives is what the bag then shows of the pipe, and
 //!   the newest that this pipe alone gives (`alone`).
 //! - The note of an entry that gave a message has the loan of the view, that of one that gave a
@@ -69,6 +69,8 @@
 //!   noted (`AreBlocks` of `bus_store`). `recall_sends`: each item has one of the send numbers
 //!   given, and two of one number have one message. `app_pools`, `app_pool` and `pools` show the
 //!   pools of applications.
+//! - `has_news`: whether a waiting application would be answered if it looked now.
+//!   `version_1_drops_nothing`: on a bus of version 1 a full pipe keeps its messages.
 //! - `events` and `counters` are those of the machine's state and of the journal (clauses `told`:
 //!   `desk_after`, `statistics_after`). None of `in_use` is above its peak (`peaks`).
 //! - Steps (`cost`): a send, of bytes, of a buffer or of the housekeeping packet, takes at most 4

@@ -9,7 +9,7 @@ ghost use Rattle.bus_words.specs.declared.history.Call.TheVariants.{Transmit, Re
 ghost use Rattle.bus_words.specs.Bus.{owns, route};
 ghost use Rattle.sb_plain.specs.Core.{MayAct, Acts, with_tick, drops_for};
 ghost use Rattle.sb_plain.specs.Answers.{numbered, got, pool_told};
-ghost use Rattle.sb_plain.specs.Bags.{HasBag, KeepsBags, KeepsOtherBags, KeepsBuffers, KeepsAllLoans, KeepsLoans, KeepsAllDescs, KeepsDescs};
+ghost use Rattle.sb_plain.specs.Bags.{HasBag, KeepsBags, KeepsBuffers, KeepsAllLoans, KeepsLoans, KeepsAllDescs, KeepsDescs};
 ghost use Rattle.sb_calls.specs.Answers.{sent, waited, pended};
 
 use crate::results::{Pended, Sent};
@@ -30,7 +30,7 @@ fn short_sent(sent: sb_plain::Sent) -> Sent
     }
 }
 
-/// `PlainBus::transmit`.
+/// [`PlainBus::transmit`], with the message's number in 32 bits.
 pub(crate) fn transmit<L: Ledger>(
     core: &mut PlainBus<'_>,
     app: AppNo,
@@ -55,7 +55,7 @@ pub(crate) fn transmit<L: Ledger>(
     }
 }
 
-/// `PlainBus::send_housekeeping`.
+/// [`PlainBus::send_housekeeping`], with the message's number in 32 bits.
 pub(crate) fn send_housekeeping<L: Ledger>(
     core: &mut PlainBus<'_>,
     app: AppNo,
@@ -78,7 +78,7 @@ pub(crate) fn send_housekeeping<L: Ledger>(
     }
 }
 
-/// `PlainBus::allocate`.
+/// [`PlainBus::allocate`], with the number of the buffer in 32 bits.
 pub(crate) fn allocate<'r, L: Ledger>(
     core: &mut PlainBus<'r>,
     app: AppNo,
@@ -108,7 +108,7 @@ pub(crate) fn allocate<'r, L: Ledger>(
     }
 }
 
-/// `PlainBus::transmit_buffer`.
+/// [`PlainBus::transmit_buffer`], with the message's number in 32 bits.
 pub(crate) fn transmit_buffer<'r, L: Ledger>(
     core: &mut PlainBus<'r>,
     app: AppNo,
@@ -140,7 +140,7 @@ pub(crate) fn transmit_buffer<'r, L: Ledger>(
     }
 }
 
-/// `PlainBus::receive`.
+/// [`PlainBus::receive`], with the message's number in 32 bits.
 pub(crate) fn receive<'r, L: Ledger>(
     core: &mut PlainBus<'r>,
     app: AppNo,
@@ -167,7 +167,7 @@ pub(crate) fn receive<'r, L: Ledger>(
     }
 }
 
-/// `PlainBus::pend`.
+/// [`PlainBus::pend`], with the message's number in 32 bits.
 pub(crate) fn pend<'r, L: Ledger>(
     core: &mut PlainBus<'r>,
     app: AppNo,
@@ -196,7 +196,7 @@ pub(crate) fn pend<'r, L: Ledger>(
     }
 }
 
-/// `PlainBus::look`.
+/// [`PlainBus::look`], with the message's number in 32 bits.
 pub(crate) fn look<'r>(
     core: &mut PlainBus<'r>,
     app: AppNo,
@@ -221,7 +221,7 @@ pub(crate) fn look<'r>(
     }
 }
 
-/// `PlainBus::pool_get`.
+/// [`PlainBus::pool_get`], with the number of the grant in 32 bits.
 pub(crate) fn pool_get<L: Ledger>(
     core: &mut PlainBus<'_>,
     app: AppNo,

@@ -41,7 +41,7 @@ waited (waits.Got number) = answers.Got number
 waited waits.TimeOut = answers.TimeOut
 waited waits.Pending = answers.Pending
 
--- that, or the refusal
+-- what a receive that may wait was answered, or its refusal
 abbrev pub pended : Result Pended SbStatus → BusAnswer
 pended (Ok it) = waited it
 pended (Err status) = answers.Sb status

@@ -1,4 +1,4 @@
--- What the core's fields stand for, and what is always true of them.
+-- What contracts see of the core's fields, and what is always true of them.
 use Rattle.std.specs.Prelude.{◌≡◌, ℕ, true, length, map, None, List, All}
 use Rattle.fsw_base.specs.Limits.{Limits, limits_of}
 use Rattle.fsw_base.specs.PoolAccounts.{Account}
@@ -17,7 +17,7 @@ use Rattle.sb_plain.specs.declared.plain.PlainBus.TheInside.{Inside}
 use Rattle.sb_plain.specs.Core.{Plain}
 use Rattle.sb_plain.specs.Rows.{standing_in, activity_at, AreOnce}
 
--- the state that the fields stand for
+-- the state that the fields keep
 abbrev pub means : Inside → Whole
 means a = record {
   bus = record {

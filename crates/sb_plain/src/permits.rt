@@ -47,7 +47,7 @@ impl<'r> PlainBus<'r> {
 
     /// Whether the bus serves the application and it is active. Then it may make each call that
     /// names a buffer or a grant, also by a number too large for a [`BusCall`].
-    pub fn may_name(&self, app: AppNo) -> bool
+    pub fn is_active(&self, app: AppNo) -> bool
         ensures active { IsTrue result ↔ MayAct self.now app Figures }
         ensures transmit { IsTrue result → (buf : ℕ) (bytes : List ℕ) (inc : Bool) →
             MayAct self.now app (TransmitBuffer buf bytes inc) }

@@ -17,6 +17,7 @@ use Rattle.tbl_words.proofs.Ends.{is_closed, ended_by, has_number, closed-other,
 use Rattle.tbl_words.proofs.Replay.{goes_on}
 use Rattle.script_lines.specs.declared.line.Line.{Line}
 use Rattle.script_lines.specs.declared.line.Line.TheVariants as lines
+use Rattle.script_runs.specs.LineCalls.{LineCall, AtTables, bus_call, calls_of, table_call}
 use Rattle.script_runs.specs.Owing.{TableOwes, first_left}
 use Rattle.script_runs.specs.Rotation.{Running, SoFar, answer_to, after_call, after_look, table_answer_to, after_table_call, after_end, behind, other_turn, line_turn, active_turn, turn_in}
 use Rattle.script_runs.specs.TableTrace.{table_call_of, handles_after, TableLineEntries, IsTableEnd, TableTrace}
@@ -26,21 +27,15 @@ use Rattle.script_runs.proofs.OneTurn.{is_ended}
 
 -- The calls of lines. --
 
+-- a call of the bus is none of the tables
+one_service : (handles : List ℕ) (registers : Registers) (written : Written) (made : LineCall) (call : BusCall) → bus_call registers written made ≡ Some call → table_call handles made ≡ None
+one_service handles registers written (AtTables made) call is = absurd (true≢false (sym (ap is_some is)))
+one_service handles registers written made call is = refl
+
 -- a line that the bus sees is none that the tables see
 bus_line : (handles : List ℕ) (registers : Registers) (written : Written) (line : Line) (call : BusCall) → call_of registers written line ≡ Some call → table_call_of handles line ≡ None
 unfolding call_of table_call_of
-bus_line handles registers written (lines.TableRegister handle name size option rules) call is = absurd (true≢false (sym (ap is_some is)))
-bus_line handles registers written (lines.TableShare handle name) call is = absurd (true≢false (sym (ap is_some is)))
-bus_line handles registers written (lines.TableUnregister handle) call is = absurd (true≢false (sym (ap is_some is)))
-bus_line handles registers written (lines.Stage handle offset content) call is = absurd (true≢false (sym (ap is_some is)))
-bus_line handles registers written (lines.Validate handle) call is = absurd (true≢false (sym (ap is_some is)))
-bus_line handles registers written (lines.Update handle) call is = absurd (true≢false (sym (ap is_some is)))
-bus_line handles registers written (lines.Abort handle) call is = absurd (true≢false (sym (ap is_some is)))
-bus_line handles registers written (lines.Load handle offset content) call is = absurd (true≢false (sym (ap is_some is)))
-bus_line handles registers written (lines.GetAddress handle) call is = absurd (true≢false (sym (ap is_some is)))
-bus_line handles registers written (lines.ReleaseAddress handle) call is = absurd (true≢false (sym (ap is_some is)))
-bus_line handles registers written (lines.Status handle) call is = absurd (true≢false (sym (ap is_some is)))
-bus_line handles registers written line call is = refl
+bus_line handles registers written line call is = one_service handles registers written (calls_of line) call is
 
 -- who has ended once this call was made, where one was
 abbrev ended_by_option : ℕ → Option Call → List Bool → List Bool
@@ -49,7 +44,7 @@ ended_by_option app (Some call) ended = ended_by app call ended
 
 -- no line ends its application
 line_ends : (handles : List ℕ) (line : Line) (app : ℕ) (ended : List Bool) → ended_by_option app (table_call_of handles line) ended ≡ ended
-unfolding table_call_of
+unfolding table_call_of calls_of
 line_ends handles (lines.TableRegister handle name size option rules) app ended = refl
 line_ends handles line app ended = refl
 

@@ -1,6 +1,7 @@
 pub mod Histories
 pub mod Messages
 pub mod Written
+pub mod LineCalls
 pub mod Trace
 pub mod TableTrace
 pub mod Merges

@@ -6,6 +6,7 @@ mod Located
 pub mod Made
 pub mod Notes
 pub mod Opened
+mod OpeningBags
 pub mod OthersBags
 pub mod Over
 pub mod Own

@@ -1,4 +1,4 @@
--- What the core's fields stand for, and what is always true of them.
+-- What contracts see of the core's fields, and what is always true of them.
 use Rattle.std.specs.Prelude.{◌≡◌, ℕ, ◌+◌, ◌^◌, ◌<◌, true, length, is_some}
 use Rattle.journal_store.specs.Budgets.{entries_left}
 use Rattle.tbl_words.specs.Log.{left_of}

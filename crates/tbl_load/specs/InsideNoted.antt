@@ -1,4 +1,4 @@
--- What a noted journal's fields stand for, and what is always true of them.
+-- What contracts see of a noted journal's fields, and what is always true of them.
 use Rattle.std.specs.Prelude.{◌+◌, ◌≤◌, length, vec_capacity}
 use Rattle.journal_store.specs.Budgets.{entries_left}
 use Rattle.tbl_words.specs.Log.{left_of}

@@ -43,10 +43,11 @@
 //!   views of one block (`journal`, clause `loans`).
 //! - After each call the caller's bag is its own, by the history, its notes and the bag alone
 //!   (`HasBag`): a view for each of its handles that hold something, with the bytes that were held
-//!   then. The bags of others stay (`KeepsOtherBags`, and `bags_stay` for any calls of others). The
-//!   caller's views for other handles and the bag's room stay (`others`, `room`), and the last call
-//!   leaves no view (`empty`). So held bytes stay until their own application asks for the handle's
-//!   address again, releases it or gives it back.
+//!   then. A new bag is any application's at new tables (`opens` of `bags_stay`). The bags of
+//!   others stay (`KeepsOtherBags`, and `bags_stay` for any calls of others). The caller's views
+//!   for other handles and the bag's room stay (`others`, `room`), and the last call leaves no view
+//!   (`empty`). So held bytes stay until their own application asks for the handle's address again,
+//!   releases it or gives it back.
 //! - `tables_now` and `tables_peak` are the numbers in use of the history, now and at the most
 //!   (`peaks_are_greatest` of `tbl_words`). `pool` has the blocks of the tables out and no others.
 //!   `new` opens with an empty history.

@@ -1,4 +1,4 @@
--- What the core's fields stand for, and what is always true of them.
+-- What contracts see of the core's fields, and what is always true of them.
 use Rattle.std.specs.Prelude.{◌≡◌, ◌≢◌, ℕ, zero, suc, ◌+◌, ◌≤◌, ◌==◌, ◌&&◌, not, Bool, true, false, List, [], ◌∷◌, length, map, count_by, All, Option, Some, None, IsSome, IfSome}
 use Rattle.std.specs.Option.{option_map, option_map_or}
 use Rattle.fsw_base.specs.Limits.{limits_of}
@@ -16,7 +16,7 @@ use Rattle.tbl_plain.specs.declared.plain.PlainTables.TheInside.{Inside}
 pub use Rattle.tbl_plain.specs.Blocks.{staged_of}
 use Rattle.tbl_plain.specs.Core.{Lent, Plain}
 
--- What rows and contents stand for. --
+-- What rows and contents mean. --
 
 -- a table with these contents
 abbrev pub table_with : Bool → Table → Content → state.Table
@@ -77,7 +77,7 @@ abbrev pub each_below : (ℕ → ℕ) → ℕ → List ℕ
 each_below f zero = []
 each_below f (suc n) = f 0 ∷ each_below (λ i. f (suc i)) n
 
--- the state that the fields stand for
+-- the state that the fields keep
 abbrev pub means : Inside → state.State
 means a = record {
   tables = map (table_in a.registry.handles a.blocks.tables) a.registry.tables;

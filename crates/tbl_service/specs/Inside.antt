@@ -1,5 +1,5 @@
--- What the fields of a port, a finished port and the main part stand for, and what is always true
--- of them.
+-- What contracts see of a port, a finished port and the main part, and what is always true of
+-- these.
 use Rattle.std.specs.Prelude.{◌≡◌, ◌↔◌, ℕ, ◌≤◌, nat_eq, Bool, IsTrue, List, [], ◌∷◌, length, map, All, Contains}
 use Rattle.std.specs.List.{IsDistinct}
 use Rattle.fsw_base.specs.declared.config.Budget.{Budget}

@@ -28,7 +28,7 @@ const STEPS: u32 = 100;
 const PACE: u32 = 100;
 
 // How often one that waits looks at most. Behind a look in vain it sleeps until an application that
-// waits has news, or a little less long. Until the message is sent there are 146 entries of others
+// waits has news, or wakes earlier. Until the message is sent there are 146 entries of others
 // that are no news. Where nobody sends, each of the others that ends is news: 15 at most.
 const LOOKS: u32 = 40;
 

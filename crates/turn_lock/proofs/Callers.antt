@@ -2,7 +2,7 @@
 use Rattle.std.proofs.Common.{◌≡◌, ℕ, Bool, true, false, if◌then◌else◌, map, List, [], ◌∷◌, ◌++◌, sym, ◌∙◌, subst, All, Contains, refl, append-nil}
 use Rattle.std.proofs.lemmas.List.Elements.{All-contains_itself}
 use Rattle.atomic_table.specs.Seated.{TableId}
-use Rattle.turn_lock.specs.Seats.{Known, SeatView, AddsOwn, AllJoined, IsIn, IsReady}
+use Rattle.turn_lock.specs.Seats.{Known, SeatView, AddsOwn, AreAllJoined, IsIn, IsReady}
 use Rattle.turn_lock.proofs.Entries.{entries_of-one}
 
 module _ {F E : Type 0} where
@@ -20,7 +20,7 @@ module _ {F E : Type 0} where
   adds_where v log app event false own same = adds_none v log (same ∙ append-nil v.seen)
 
   -- the seats were joined in the order in which they were split off
-  pub joined_in_order : (main : Known F E) → map (λ e. e.0) main.ended ≡ main.apps → AllJoined main
+  pub joined_in_order : (main : Known F E) → map (λ e. e.0) main.ended ≡ main.apps → AreAllJoined main
   joined_in_order main in_order = subst (λ apps. All (Contains apps) main.apps) (sym in_order) (All-contains_itself main.apps)
 
   -- a seat that may begin a turn is one of the lock

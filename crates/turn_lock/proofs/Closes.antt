@@ -9,7 +9,7 @@ use lib.ListN.{get_elem?}
 use Rattle.atomic_table.specs.Table.{State, Final, Seen}
 use Rattle.turn_lock.specs.declared.view.View.{View}
 use Rattle.turn_lock.specs.declared.view.Stage.TheVariants.{Main}
-use Rattle.turn_lock.specs.Views.{entries_of, is_live, is_main, is_there, AreAllBack}
+use Rattle.turn_lock.specs.Views.{entries_of, is_live, is_main, is_there, AreAllJoined}
 use Rattle.turn_lock.specs.Rule.{IsHome, IsOutWithOne, Kept}
 use Rattle.turn_lock.specs.Steps.{Closes}
 use Rattle.turn_lock.proofs.Stages.{off, served_live}
@@ -20,7 +20,7 @@ none_of app ended differs there = All-contains (λ other. app ≢ other) (map (�
 
 module _ {T F E : Type 0} (fixed : T → F) (history : T → List (ℕ × E)) (opening : F) where
   -- once all seats were joined no seat has a turn
-  none_live : (id : ℕ) (v : View F E) → v.stage ≡ Main → AreAllBack v → (s : State (Option T) (View F E)) (h : Kept fixed history opening s) → get_elem? s.views id ≡ some v
+  none_live : (id : ℕ) (v : View F E) → v.stage ≡ Main → AreAllJoined v → (s : State (Option T) (View F E)) (h : Kept fixed history opening s) → get_elem? s.views id ≡ some v
       → (j : ℕ) (u : View F E) → get_elem? s.views j ≡ some u → is_live u.stage ≡ true → ⊥
   none_live id v main all s h at j u e live =
       let idle : is_live v.stage ≡ true → ⊥ = λ c. off (sym (ap is_live main) ∙ c) in
@@ -29,7 +29,7 @@ module _ {T F E : Type 0} (fixed : T → F) (history : T → List (ℕ × E)) (o
       (λ same. idle (subst (λ (x : View F E). is_live x.stage ≡ true) (some-injective u v (sym e ∙ (ap (get_elem? s.views) same ∙ at))) live))
       (λ away. none_of u.app v.ended ((h.differ j id u v away e at).left live) (All-contains (Contains (map (λ x. x.0) v.ended)) v.apps u.app all (among.live live)))
 
-  closes : (id : ℕ) (v : View F E) (words : List ℕ) (slots : List (Option T)) → v.stage ≡ Main → AreAllBack v → Final (Seen (Kept fixed history opening) id v) words slots
+  closes : (id : ℕ) (v : View F E) (words : List ℕ) (slots : List (Option T)) → v.stage ≡ Main → AreAllJoined v → Final (Seen (Kept fixed history opening) id v) words slots
       → (x : T) × (get_elem? slots 0 ≡ some (Some x)) × Closes fixed history v x
   closes id v words slots main all final =
       let s = final.0 in
@@ -52,7 +52,7 @@ module _ {T F E : Type 0} (fixed : T → F) (history : T → List (ℕ × E)) (o
       h.value
 
   -- the slot that was taken has that value
-  pub closes_as : (id : ℕ) (v : View F E) (words : List ℕ) (slots : List (Option T)) (taken : Option T) → v.stage ≡ Main → AreAllBack v → Final (Seen (Kept fixed history opening) id v) words slots → get_elem? slots 0 ≡ some taken
+  pub closes_as : (id : ℕ) (v : View F E) (words : List ℕ) (slots : List (Option T)) (taken : Option T) → v.stage ≡ Main → AreAllJoined v → Final (Seen (Kept fixed history opening) id v) words slots → get_elem? slots 0 ≡ some taken
       → (x : T) × (taken ≡ Some x) × Closes fixed history v x
   closes_as id v words slots taken main all final there =
       let r = closes id v words slots main all final in (r.0, some-injective taken (Some r.0) (sym there ∙ r.1), r.2)

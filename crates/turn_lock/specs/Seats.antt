@@ -123,5 +123,5 @@ module _ {F E : Type 0} where
     pub others : (app : ℕ) → app ≢ v.app → entries_of app more ≡ []
 
   -- the seat of each application that was split off was joined
-  abbrev pub AllJoined : Known F E → Type 0
-  AllJoined main = All (Contains (map (λ e. e.0) main.ended)) main.apps
+  abbrev pub AreAllJoined : Known F E → Type 0
+  AreAllJoined main = All (Contains (map (λ e. e.0) main.ended)) main.apps

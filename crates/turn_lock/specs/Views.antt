@@ -1,4 +1,4 @@
--- What seats know, and what each kind of step makes of it.
+-- What the table keeps of a seat, its place, and what each kind of step makes of it.
 use Rattle.std.specs.Prelude.{ℕ, ◌==◌, Bool, true, false, List, [], ◌∷◌, ◌++◌, filter, Some, None, map, All, Contains}
 use Rattle.turn_lock.specs.declared.view.View.{View}
 use Rattle.turn_lock.specs.declared.view.Stage.{Stage}
@@ -97,5 +97,5 @@ module _ {F E : Type 0} where
       }
 
   -- the seat of each application that was split off was joined
-  abbrev pub AreAllBack : View F E → Type 0
-  AreAllBack main = All (Contains (map (λ e. e.0) main.ended)) main.apps
+  abbrev pub AreAllJoined : View F E → Type 0
+  AreAllJoined main = All (Contains (map (λ e. e.0) main.ended)) main.apps

@@ -1,7 +1,7 @@
 //! The lock's two words and its slot, and a method for each kind of atomic step.
 ghost use Rattle.std.specs.Prelude.{◌≡◌, ℕ, ◌<◌, List, [], ◌∷◌, length, Contains};
 ghost use Rattle.std.specs.Prelude.{IfOk, IfSome, IfNone, Some, None};
-ghost use Rattle.turn_lock.specs.Views.{main_place, seat_place, with_seat, joined_place, AreAllBack};
+ghost use Rattle.turn_lock.specs.Views.{main_place, seat_place, with_seat, joined_place, AreAllJoined};
 ghost use Rattle.turn_lock.specs.Steps.{Seizes, IsServed, Passes, Meets, Grows};
 ghost use Rattle.turn_lock.specs.Steps.{Stays, Closes};
 ghost use Rattle.turn_lock.specs.declared.view.Stage.TheVariants.{Main, Away, Has};
@@ -53,8 +53,8 @@ pub(crate) struct Board<T: Historied> {
 }
 
 /// The place of a seat that has passed its turn on, and whether another may sleep until the turn
-/// is free. Only `Board::wake` gives the place back; this can't be dropped, so that each seat that
-/// passes its turn on wakes, and wakes afterwards.
+/// is free. Only `Board::wake` gives the place back; this can't be dropped, so each seat that
+/// passes its turn on then wakes one that sleeps, if there may be one.
 pub(crate) struct PassedTurn<T: Historied> {
     // The seat's place, which waking gives back.
     place: Place<T>,
@@ -108,8 +108,8 @@ impl<T: Historied> Board<T> {
             .compare_exchange::<Seize>(place, TURN, FREE, TAKEN)
     }
 
-    // Takes the turn if it is free, and else has the seat that leaves it wake one that sleeps;
-    // answers what the word was.
+    // Takes the turn if it is free. Otherwise notes that it is awaited, so that the seat that
+    // leaves it wakes one that sleeps. Answers what the word was.
     fn seize_or_await(&self, place: &mut Place<T>) -> u64
         requires table { place.old.table_id ≡ self.now.table.shared.table_id }
         requires away { (place.old.me.0.stage ≡ Away) × (place.old.me.1 ≡ []) }
@@ -294,7 +294,7 @@ impl<T: Historied> Board<T> {
     pub(crate) fn close(self, main: Place<T>) -> T
         requires table { main.table_id ≡ self.table.shared.table_id }
         requires main { (main.me.0.stage ≡ Main) × (main.me.1 ≡ []) }
-        requires joined { AreAllBack main.me.0 }
+        requires joined { AreAllJoined main.me.0 }
         ensures { Closes T.fixed T.history main.me.0 result }
     {
         let Board { table } = self;

@@ -5,7 +5,7 @@ ghost use mathlib.Core.List.{IsPrefix};
 ghost use Rattle.turn_lock.specs.Views.{entries_of};
 ghost use Rattle.turn_lock.specs.Seats.{main_view, seat_view, with_app, entered_view, left_view};
 ghost use Rattle.turn_lock.specs.Seats.{view_of, IsOut, IsMain, IsIn, IsReady, AddsOwn};
-ghost use Rattle.turn_lock.specs.Seats.{KeepsLonger, AllJoined};
+ghost use Rattle.turn_lock.specs.Seats.{KeepsLonger, AreAllJoined};
 ghost use Rattle.turn_lock.specs.Inside.{known};
 ghost use Rattle.turn_lock.specs.declared.view.Stage.TheVariants.{Away};
 
@@ -238,7 +238,7 @@ impl<T: Historied> TurnLock<T> {
     /// application just the entries of its ended seat, in order, and has no others.
     pub fn close(self, main: Seat<T::Fixed, T::Event>) -> T
         requires main { IsMain main self.name }
-        requires joined { AllJoined (view_of main) }
+        requires joined { AreAllJoined (view_of main) }
         ensures opening { Some (T.fixed result) ≡ (view_of main).fixed }
         ensures extends { IsPrefix (view_of main).seen (T.history result) }
         ensures ended { All (λ e. entries_of e.0 (T.history result) ≡ e.1) (view_of main).ended }

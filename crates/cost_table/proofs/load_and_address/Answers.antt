@@ -1,8 +1,12 @@
-use Rattle.fsw_base.specs.Limits.{limits_of}
-use Rattle.cost_table.proofs.Opened.{has-empty}
+use Rattle.std.proofs.Common.{ap, arith}
+use Rattle.fsw_base.specs.Limits.{Limits}
+use Rattle.tbl_blocks.specs.Held.{HeldViews}
 use Rattle.cost_table.proofs.load_and_address.Goals as goal
 
 pub address_all-requires : goal.address_all-requires
-address_all-requires g c = record {
-  bag = c.load_all.ensures.bags _ _ (c.register.ensures.bags _ _ (has-empty _ (limits_of c.args.cfg.now) _ _ c.requires.limits c.requires.unused c.in_ok-held.ensures));
-}
+address_all-requires g c =
+    let empty = c.in_ok-held.ensures in
+    record {
+      bag = c.load_all.ensures.bags _ _ (c.register.ensures.bags _ _ (c.bags_stay.ensures.opens _ _ c.in_ok-held.held c.requires.unused (ap (λ (bag : HeldViews). bag.views) empty)
+          (omega (arith, ap (λ (limits : Limits). limits.handles) c.requires.limits, ap (λ (bag : HeldViews). bag.room) empty))));
+    }

@@ -22,7 +22,7 @@ run_counted-requires-clause-bags c =
     let begun : IsBegun script (both c.args.services.bus c.args.services.tables) c.args.apps.runners.items c.args.apps.bags.items c.args.apps.held.items =
     record { bus = c.requires.bus; tables = c.requires.tables; runners = c.requires.runners; its_bags = c.requires.bags; its_helds = c.requires.held } in
     from-begun (λ services runners bags helds. AllEquipped services bags helds) script c.args.services.bus c.args.services.tables c.args.apps.runners.items c.args.apps.bags.items c.args.apps.held.items begun
-    (record { at_bus = hold-empty script 1 script.apps (omega arith); at_tables = held-nothing script 1 script.apps })
+    (record { at_bus = hold-empty c.bags_stay.ensures.opens script 1 script.apps (omega arith); at_tables = held-nothing c.bags_stay-2.ensures.opens script 1 script.apps })
 
 pub run_counted-requires-clause-as_many : goal.run_counted-requires-clause-as_many
 run_counted-requires-clause-as_many c = as-many-from c.args.script.now c.args.apps.runners.items c.args.apps.bags.items c.requires.runners c.requires.bags

@@ -3,7 +3,8 @@ use Rattle.turn_lock.specs.Seats.{AddsOwn}
 use Rattle.turn_lock.proofs.Callers.{adds_one}
 use Rattle.sb_plain.specs.News.{has_news}
 use Rattle.sb_calls.specs.Core.{Core, state_of}
-use Rattle.bus_service.specs.Histories.{Guarded, fixed_of, history_of}
+use Rattle.bus_service.specs.Histories.{fixed_of, history_of}
+use Rattle.bus_service.specs.Inside.{Guarded}
 use Rattle.bus_service.proofs.turns.finish.Goals as goal
 
 both : (a b : Bool) → (a && b) ≡ true → (a ≡ true) × (b ≡ true)

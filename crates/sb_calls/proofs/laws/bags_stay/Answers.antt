@@ -1,6 +1,10 @@
 use Rattle.sb_calls.proofs.Alone.{shown}
+use Rattle.sb_calls.proofs.OpeningBags.{opens}
 use Rattle.sb_calls.proofs.OthersBags.{others_keep, others_behind, called_by, called_further}
 use Rattle.sb_calls.proofs.laws.bags_stay.Goals as goal
+
+pub returns-clause-opens : goal.returns-clause-opens
+returns-clause-opens c = opens
 
 pub returns-clause-shown : goal.returns-clause-shown
 returns-clause-shown c = shown

@@ -1,7 +1,7 @@
 use Rattle.std.proofs.Common.{◌∙◌, ◌&&◌, Bool, ap, ap₂, sym}
 use Rattle.sb_plain.specs.News.{has_news}
 use Rattle.sb_calls.specs.Core.{Core, state_of}
-use Rattle.bus_service.specs.Histories.{Guarded}
+use Rattle.bus_service.specs.Inside.{Guarded}
 use Rattle.bus_service.proofs.boxed.BoxedCore.take_sleepers.Goals as goal
 
 pub returns-clause-woken : goal.returns-clause-woken

@@ -1,8 +1,8 @@
 use Rattle.std.proofs.Common.{ap, sym, ◌∙◌, subst, List, ℕ}
 use Rattle.fsw_base.specs.declared.config.Budget.{Budget}
 use Rattle.sb_calls.specs.Core.{Core}
-use Rattle.bus_service.specs.Histories.{Guarded, fixed_of}
-use Rattle.bus_service.specs.Inside.{IsMainPart}
+use Rattle.bus_service.specs.Histories.{fixed_of}
+use Rattle.bus_service.specs.Inside.{Guarded, IsMainPart}
 use Rattle.bus_service.proofs.Mains.{opens}
 use Rattle.bus_service.proofs.bus.Bus.new.Goals as goal
 

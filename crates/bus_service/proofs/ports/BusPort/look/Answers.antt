@@ -12,10 +12,10 @@ use Rattle.buf_desc.specs.Held.{Holding}
 use Rattle.sb_calls.specs.Bags.{AreOneLoan}
 use Rattle.sb_calls.specs.Core.{Core, MayCall, Looks, StandAlone, state_of}
 use Rattle.sb_calls.proofs.Looks.{pending_is}
-use Rattle.bus_service.specs.Histories.{Guarded, fixed_of, history_of}
-use Rattle.bus_service.specs.Inside.{IsPort, Tells, port_in, seen_in}
+use Rattle.bus_service.specs.Histories.{fixed_of, history_of}
+use Rattle.bus_service.specs.Inside.{Guarded, IsPort, Tells, port_in, seen_in}
 use Rattle.bus_service.specs.Ports.{PortView, AnswersLook}
-use Rattle.bus_service.specs.Turns.{Entered}
+use Rattle.bus_service.proofs.Entering.{entered_from, view_from}
 use Rattle.bus_service.proofs.Found.{may_found, bag_found}
 use Rattle.bus_service.proofs.Visits.{made_one, stays_port, stays_telling, visited, looked, look_answered, waited_found, idle, stays_idle, idle_telling}
 use Rattle.bus_service.proofs.ports.BusPort.look.Goals as goal
@@ -24,14 +24,14 @@ pub look-told-requires-clause-may : goal.look-told-requires-clause-may
 look-told-requires-clause-may g c =
     let s = c.self.inside.seat in
     let app = c.self.inside.app in
-    let entered = subst (λ (k : Guarded). Entered (view_of s) k.core) (sym c.value_mut.ensures.value) c.begin_look-turn.ensures.entered in
+    let entered = entered_from _ _ _ _ c.sleep.ensures.view c.value_mut.ensures.value c.begin-turn.ensures.entered in
     subst (λ (n : ℕ). MayCall c.value_mut.result.now.core app (Look n)) (sym (waited_found s app c.self.inside.left c.self.inside.bag c.self.invariant.0 c.value_mut.result.now.core entered))
     (may_found s app c.self.inside.left c.self.inside.bag c.self.invariant.0 c.value_mut.result.now.core entered (Look (waited_on (standing_of (state_of (seen_in s)) app)))
     (subst (λ (p : PortView). MayCall p.seen p.app (Look (waited_on (standing_of (state_of p.seen) p.app)))) (sym c.self.view_is) c.requires.may))
 
 pub look-told-requires-clause-bag : goal.look-told-requires-clause-bag
 look-told-requires-clause-bag g c =
-    let entered = subst (λ (k : Guarded). Entered (view_of c.self.inside.seat) k.core) (sym c.value_mut.ensures.value) c.begin_look-turn.ensures.entered in
+    let entered = entered_from _ _ _ _ c.sleep.ensures.view c.value_mut.ensures.value c.begin-turn.ensures.entered in
     bag_found c.self.inside.seat c.self.inside.app c.self.inside.left c.self.inside.bag c.self.invariant.0 c.value_mut.result.now.core entered
 
 -- In vain. --
@@ -41,8 +41,8 @@ pause-requires-clause-opening g c =
     let s = c.self.inside.seat in
     let old = c.value_mut.result.now.core in
     let new = c.look-told.new.self.core in
-    let entered = subst (λ (k : Guarded). Entered (view_of s) k.core) (sym c.value_mut.ensures.value) c.begin_look-turn.ensures.entered in
-    let view = c.begin_look-turn.ensures.view ∙ ap (λ (k : Guarded). entered_view (view_of s) (history_of k.core)) (sym c.value_mut.ensures.value) in
+    let entered = entered_from _ _ _ _ c.sleep.ensures.view c.value_mut.ensures.value c.begin-turn.ensures.entered in
+    let view = view_from _ _ _ _ c.sleep.ensures.view c.value_mut.ensures.value _ c.begin-turn.ensures.view in
     let vain = pending_is c.look-told.result (sym c.is_pending.ensures ∙ c.if-is_pending.true) in
     let still : new ≡ old = (subst (λ (p : Pended). Looks old new c.self.inside.app (waited_on (standing_of (state_of old) c.self.inside.app)) p) vain c.look-told.ensures.looks).0 in
     ap (λ (core : Core). Some (fixed_of core)) still ∙ entered.opening ∙ sym (ap (λ w. w.fixed) view)
@@ -52,7 +52,7 @@ pause-requires-clause-none g c =
     let s = c.self.inside.seat in
     let old = c.value_mut.result.now.core in
     let new = c.look-told.new.self.core in
-    let view = c.begin_look-turn.ensures.view ∙ ap (λ (k : Guarded). entered_view (view_of s) (history_of k.core)) (sym c.value_mut.ensures.value) in
+    let view = view_from _ _ _ _ c.sleep.ensures.view c.value_mut.ensures.value _ c.begin-turn.ensures.view in
     let vain = pending_is c.look-told.result (sym c.is_pending.ensures ∙ c.if-is_pending.true) in
     let still : new ≡ old = (subst (λ (p : Pended). Looks old new c.self.inside.app (waited_on (standing_of (state_of old) c.self.inside.app)) p) vain c.look-told.ensures.looks).0 in
     ap history_of still ∙ sym (ap (λ w. w.seen) view)
@@ -63,8 +63,8 @@ invariant_of-self g c =
     let app = c.self.inside.app in
     let old = c.value_mut.result.now.core in
     let new = c.look-told.new.self.core in
-    let entered = subst (λ (k : Guarded). Entered (view_of s) k.core) (sym c.value_mut.ensures.value) c.begin_look-turn.ensures.entered in
-    let view = c.begin_look-turn.ensures.view ∙ ap (λ (k : Guarded). entered_view (view_of s) (history_of k.core)) (sym c.value_mut.ensures.value) in
+    let entered = entered_from _ _ _ _ c.sleep.ensures.view c.value_mut.ensures.value c.begin-turn.ensures.entered in
+    let view = view_from _ _ _ _ c.sleep.ensures.view c.value_mut.ensures.value _ c.begin-turn.ensures.view in
     let vain = pending_is c.look-told.result (sym c.is_pending.ensures ∙ c.if-is_pending.true) in
     let still : new ≡ old = (subst (λ (p : Pended). Looks old new app (waited_on (standing_of (state_of old) app)) p) vain c.look-told.ensures.looks).0 in
     let now = c.pause.ensures.view ∙ ap (λ w. left_view w (history_of new)) view ∙ ap (λ (core : Core). left_view (entered_view (view_of s) (history_of old)) (history_of core)) still in (
@@ -81,8 +81,8 @@ returns-then-is_pending-clause-answers g c =
     let old = c.value_mut.result.now.core in
     let new = c.look-told.new.self.core in
     let pipe = waited_on (standing_of (state_of (seen_in s)) app) in
-    let entered = subst (λ (k : Guarded). Entered (view_of s) k.core) (sym c.value_mut.ensures.value) c.begin_look-turn.ensures.entered in
-    let view = c.begin_look-turn.ensures.view ∙ ap (λ (k : Guarded). entered_view (view_of s) (history_of k.core)) (sym c.value_mut.ensures.value) in
+    let entered = entered_from _ _ _ _ c.sleep.ensures.view c.value_mut.ensures.value c.begin-turn.ensures.entered in
+    let view = view_from _ _ _ _ c.sleep.ensures.view c.value_mut.ensures.value _ c.begin-turn.ensures.view in
     let vain = pending_is c.look-told.result (sym c.is_pending.ensures ∙ c.if-is_pending.true) in
     let still : new ≡ old = (subst (λ (p : Pended). Looks old new app (waited_on (standing_of (state_of old) app)) p) vain c.look-told.ensures.looks).0 in
     let now = c.pause.ensures.view ∙ ap (λ w. left_view w (history_of new)) view ∙ ap (λ (core : Core). left_view (entered_view (view_of s) (history_of old)) (history_of core)) still in
@@ -102,11 +102,11 @@ finish-requires-clause-made g c =
     let old = c.value_mut.result.now.core in
     let new = c.look-told.new.self.core in
     let pipe = waited_on (standing_of (state_of (seen_in s)) app) in
-    let entered = subst (λ (k : Guarded). Entered (view_of s) k.core) (sym c.value_mut.ensures.value) c.begin_look-turn.ensures.entered in
-    let view = c.begin_look-turn.ensures.view ∙ ap (λ (k : Guarded). entered_view (view_of s) (history_of k.core)) (sym c.value_mut.ensures.value) in
+    let entered = entered_from _ _ _ _ c.sleep.ensures.view c.value_mut.ensures.value c.begin-turn.ensures.entered in
+    let view = view_from _ _ _ _ c.sleep.ensures.view c.value_mut.ensures.value _ c.begin-turn.ensures.view in
     let looks = subst (λ (n : ℕ). Looks old new app n c.look-told.result) (waited_found s app c.self.inside.left c.self.inside.bag c.self.invariant.0 old entered) c.look-told.ensures.looks in
     made_one s app c.self.inside.left c.self.inside.bag c.self.invariant.0 old entered new (Look pipe) (waited c.look-told.result)
-    (looked old new app pipe c.look-told.result (sym c.is_pending.ensures ∙ c.if-is_pending.false) looks) c.begin_look-turn.result.view new view refl
+    (looked old new app pipe c.look-told.result (sym c.is_pending.ensures ∙ c.if-is_pending.false) looks) c.begin-turn.result.view new view refl
 
 pub invariant_of-self-2 : goal.invariant_of-self-2
 invariant_of-self-2 g c =
@@ -115,8 +115,8 @@ invariant_of-self-2 g c =
     let old = c.value_mut.result.now.core in
     let new = c.look-told.new.self.core in
     let pipe = waited_on (standing_of (state_of (seen_in s)) app) in
-    let entered = subst (λ (k : Guarded). Entered (view_of s) k.core) (sym c.value_mut.ensures.value) c.begin_look-turn.ensures.entered in
-    let view = c.begin_look-turn.ensures.view ∙ ap (λ (k : Guarded). entered_view (view_of s) (history_of k.core)) (sym c.value_mut.ensures.value) in
+    let entered = entered_from _ _ _ _ c.sleep.ensures.view c.value_mut.ensures.value c.begin-turn.ensures.entered in
+    let view = view_from _ _ _ _ c.sleep.ensures.view c.value_mut.ensures.value _ c.begin-turn.ensures.view in
     let looks = subst (λ (n : ℕ). Looks old new app n c.look-told.result) (waited_found s app c.self.inside.left c.self.inside.bag c.self.invariant.0 old entered) c.look-told.ensures.looks in
     let does = looked old new app pipe c.look-told.result (sym c.is_pending.ensures ∙ c.if-is_pending.false) looks in
     let after = c.finish.ensures.view ∙ ap (λ w. left_view w (history_of new)) view in (
@@ -137,8 +137,8 @@ returns-clause-answers g c =
     let new = c.look-told.new.self.core in
     let pipe = waited_on (standing_of (state_of (seen_in s)) app) in
     let found = sym c.is_pending.ensures ∙ c.if-is_pending.false in
-    let entered = subst (λ (k : Guarded). Entered (view_of s) k.core) (sym c.value_mut.ensures.value) c.begin_look-turn.ensures.entered in
-    let view = c.begin_look-turn.ensures.view ∙ ap (λ (k : Guarded). entered_view (view_of s) (history_of k.core)) (sym c.value_mut.ensures.value) in
+    let entered = entered_from _ _ _ _ c.sleep.ensures.view c.value_mut.ensures.value c.begin-turn.ensures.entered in
+    let view = view_from _ _ _ _ c.sleep.ensures.view c.value_mut.ensures.value _ c.begin-turn.ensures.view in
     let looks = subst (λ (n : ℕ). Looks old new app n c.look-told.result) (waited_found s app c.self.inside.left c.self.inside.bag c.self.invariant.0 old entered) c.look-told.ensures.looks in
     let lock = c.finish.ensures.seat.lock ∙ sym (ap (λ (p : PortView). p.lock) c.self.view_is ∙ c.requires.bus) in
     subst (λ (p : PortView). AnswersLook p (port_in c.finish.new.seat app c.look-told.new.bag) (waited_on (standing_of (state_of p.seen) p.app)) c.look-told.result) c.self.view_is

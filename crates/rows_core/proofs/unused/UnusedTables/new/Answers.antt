@@ -1,8 +1,15 @@
-use Rattle.fsw_base.specs.Limits.{limits_of}
-use Rattle.rows_core.proofs.UnusedBags.{no-less, unused-opened}
+use Rattle.std.proofs.Common.{ap, arith}
+use Rattle.tbl_blocks.specs.Held.{HeldViews}
+use Rattle.tbl_load.specs.Core.{Core}
 use Rattle.rows_core.proofs.unused.UnusedTables.new.Goals as goal
 
 pub invariant_of-result : goal.invariant_of-result
 invariant_of-result c =
-    unused-opened c.in_ok-core.core (limits_of c.args.config.now) c.budgets.result.now c.in_ok-bag.bag c.args.config.now.handles c.in_ok-core.ensures
-    c.in_ok-bag.ensures (no-less c.args.config.now.handles)
+    let is = c.in_ok-core.ensures in
+    let empty = c.in_ok-bag.ensures in
+    let blank = ap (λ (bag : HeldViews). bag.views) empty in
+    record {
+      blank = blank;
+      of_all = λ app. c.bags_stay.ensures.opens c.in_ok-core.core app c.in_ok-bag.bag (ap (λ (core : Core). core.log.entries) is) blank
+          (omega (arith, ap (λ (core : Core). core.limits.handles) is, ap (λ (bag : HeldViews). bag.room) empty));
+    }

@@ -1,7 +1,7 @@
 use Rattle.std.proofs.Common.{refl}
 use Rattle.bus_words.specs.declared.history.Call.TheVariants.{TransmitBuffer, Release, PoolPut}
 use Rattle.sb_plain.proofs.Actives.{of_active}
-use Rattle.sb_plain.proofs.plain.PlainBus.may_name.Goals as goal
+use Rattle.sb_plain.proofs.plain.PlainBus.is_active.Goals as goal
 
 pub returns-clause-transmit : goal.returns-clause-transmit
 returns-clause-transmit c = λ is buf bytes inc. of_active c.args.self.now c.args.app (TransmitBuffer buf bytes inc) refl refl (c.may_make.ensures.0 is)
