@@ -183,7 +183,7 @@ ReportsRunFront how part script old new =
 abbrev pub EndsScript : HostStatus → Way → Part → ScriptText → Made → Made → Type 0
 EndsScript result how part script old new =
     Ends status.Done result (ReportsRun how part script old new)
-        (ReportsRunFront how part script old new) (MakesNothing old new)
+    (ReportsRunFront how part script old new) (MakesNothing old new)
 
 -- how an input ends that is no script: the line of its fault is due
 abbrev pub EndsRefused : HostStatus → ScriptFault → Made → Made → Type 0
@@ -307,8 +307,10 @@ pub record Outside : Type 0 where
 abbrev pub outside : {S K A : Type 0} → (S → Option (List ℕ)) → (S → ℕ) → (K → Option (List ℕ)) →
     (K → ℕ) → (A → Option (List Histories)) → S → K → A → Outside
 outside left source_faults written sink_faults shown source sink audit =
-    record { fed = fed_by left source_faults source;
-        made = made_by written sink_faults shown sink audit }
+    record {
+      fed = fed_by left source_faults source;
+      made = made_by written sink_faults shown sink audit;
+    }
 
 -- What the top call did, by what the words asked for.
 pub record Served (wanted : Option Task) (result : HostStatus)

@@ -1,5 +1,5 @@
 //! The memory that the program takes.
-ghost use Rattle.std.specs.Prelude.{◌≡◌, [], false, true, length, map, vec_capacity, IfSome};
+ghost use Rattle.std.specs.Prelude.{◌≡◌, [], false, true, length, map, vec_capacity, IfOk, IfSome};
 ghost use Rattle.std.specs.List.{range_with_len};
 ghost use Rattle.std.specs.Option.{is_none};
 ghost use Rattle.std.specs.Result.{result_ok};
@@ -29,13 +29,13 @@ pub struct MemoryRefusal {
     _refused: (),
 }
 
-/// The memory of one call of the program, and whether its newest request for some was refused. By
-/// the code, each of its calls that answers None was refused memory by the allocator.
+/// The memory of one call of the program, and whether its newest request for some was refused.
 ///
-/// Who has only this takes memory in no other way.
+/// It has the only allocator below the top call, and a run takes it away: nothing asks for memory
+/// behind a run. By reading: each call that answers None, or a refusal, was refused memory.
 #[derive(Drop)]
 pub struct Memory {
-    // What memory is taken of.
+    // Gives memory; private, so that no other file asks it.
     alloc: Global,
     // Whether the newest request was refused.
     refused: bool,
@@ -60,7 +60,7 @@ impl Memory {
         }
     }
 
-    /// That the newest request was refused.
+    /// The evidence that the newest request was refused.
     pub fn refusal(&self) -> MemoryRefusal
         requires { self.now.refused ≡ true }
     {
@@ -111,59 +111,73 @@ impl Memory {
 
     /// Both services and the receipts after a run of the script in rotation. All memory is taken
     /// before its first call.
+    ///
+    /// # Errors
+    /// If memory was refused; by reading, no application ran then.
     pub fn run_in_rotation<'r>(
-        &mut self,
+        mut self,
         script: &Script,
         regions: &'r mut Regions,
-    ) -> Option<Finished<'r>>
+    ) -> Result<Finished<'r>, MemoryRefusal>
         requires { HaveRoom regions.old script.now.limits }
-        ensures left { IfSome result
+        ensures left { IfOk result
             (λ finished. IsLeftBy Rotating script.now (histories_of finished.bus finished.tables)) }
-        ensures limits { IfSome result (λ finished. finished.bus.limits ≡ script.now.limits) }
-        ensures table_limits { IfSome result
+        ensures limits { IfOk result (λ finished. finished.bus.limits ≡ script.now.limits) }
+        ensures table_limits { IfOk result
             (λ finished. finished.tables.limits ≡ script.now.limits) }
-        ensures apps { IfSome result (λ finished. apps_of finished.bus ≡ length script.now.apps) }
-        ensures table_apps { IfSome result
+        ensures apps { IfOk result (λ finished. apps_of finished.bus ≡ length script.now.apps) }
+        ensures table_apps { IfOk result
             (λ finished. table_apps_of finished.tables ≡ length script.now.apps) }
-        ensures receipts { IfSome result
+        ensures receipts { IfOk result
             (λ finished. map (λ list. list.receipts) finished.receipts.items ≡
             map (receipts_told script.now (histories_of finished.bus finished.tables))
             (range_with_len 1 (length script.now.apps))) }
-        ensures refused { self.new.refused ≡ is_none result }
     {
-        let taken = lockstep(self.alloc, script, regions);
-        self.note(taken)
+        match lockstep(self.alloc, script, regions) {
+            Ok(finished) => Ok(finished),
+            Err(AllocError) => {
+                self.refused = true;
+                Err(self.refusal())
+            }
+        }
     }
 
     /// The same after a run on threads, with the gate's calls round each line. It may wait.
+    ///
+    /// # Errors
+    /// If memory was refused; by reading, no application ran then.
     pub fn run_on_threads<'r, R: Threads + Wait + Sync, G: Gate>(
-        &mut self,
+        mut self,
         rt: &R,
         script: &Script,
         regions: &'r mut Regions,
         gate: &G,
-    ) -> Option<Finished<'r>>
+    ) -> Result<Finished<'r>, MemoryRefusal>
         requires { HaveRoom regions.old script.now.limits }
-        ensures left { IfSome result
+        ensures left { IfOk result
             (λ finished. IsLeftBy OnThreads script.now
             (histories_of finished.bus finished.tables)) }
-        ensures limits { IfSome result (λ finished. finished.bus.limits ≡ script.now.limits) }
-        ensures table_limits { IfSome result
+        ensures limits { IfOk result (λ finished. finished.bus.limits ≡ script.now.limits) }
+        ensures table_limits { IfOk result
             (λ finished. finished.tables.limits ≡ script.now.limits) }
-        ensures apps { IfSome result (λ finished. apps_of finished.bus ≡ length script.now.apps) }
-        ensures table_apps { IfSome result
+        ensures apps { IfOk result (λ finished. apps_of finished.bus ≡ length script.now.apps) }
+        ensures table_apps { IfOk result
             (λ finished. table_apps_of finished.tables ≡ length script.now.apps) }
-        ensures receipts { IfSome result
+        ensures receipts { IfOk result
             (λ finished. map (λ list. list.receipts) finished.receipts.items ≡
             map (receipts_told script.now (histories_of finished.bus finished.tables))
             (range_with_len 1 (length script.now.apps))) }
-        ensures refused { self.new.refused ≡ is_none result }
     {
-        let taken = run_threads(rt, self.alloc, script, regions, gate);
-        self.note(taken)
+        match run_threads(rt, self.alloc, script, regions, gate) {
+            Ok(finished) => Ok(finished),
+            Err(AllocError) => {
+                self.refused = true;
+                Err(self.refusal())
+            }
+        }
     }
 
-    // What was taken, unless the request was refused, which is kept.
+    // What was taken; None if the request was refused, which is kept.
     fn note<T>(&mut self, taken: Result<T, AllocError>) -> Option<T>
         ensures value { result ≡ result_ok taken }
         ensures refused { self.new.refused ≡ is_none result }

@@ -16,7 +16,6 @@ use crate::reading::{INPUT_ROOM, Reading, read_all};
 use crate::reporting::{Part, write_part};
 use crate::status::HostStatus;
 use crate::words::{Task, Words};
-use app_run::Finished;
 use app_script::Script;
 use bus_words::ReceiptList;
 use fsw_base::{FaultKind, Gate, ScriptFault, Sink, SinkGuard, Source, SourceGuard, WriteFault};
@@ -83,15 +82,14 @@ pub fn serve<R: Threads + Wait + Sync, S: Source, K: Sink, G: Gate, A: Audit>(
         Served (task_of words.now) result before after }
 {
     let threads = ByThreads { rt, gate };
-    let mut memory = Memory::new(alloc);
-    serve_guarded(&threads, &mut memory, words, source, sink, audit)
+    serve_guarded(&threads, Memory::new(alloc), words, source, sink, audit)
 }
 
 // Does what the words say, with the source, the sink and the audit behind guards: below here they
 // are reached in no other way.
 fn serve_guarded<R: Threads + Wait + Sync, G: Gate, S: Source, K: Sink, A: Audit>(
     threads: &ByThreads<'_, R, G>,
-    memory: &mut Memory,
+    memory: Memory,
     words: &Words,
     source: &mut S,
     sink: &mut K,
@@ -115,7 +113,7 @@ fn serve_guarded<R: Threads + Wait + Sync, G: Gate, S: Source, K: Sink, A: Audit
 // Does what the words say. Only `run` may wait: what all other words do has no runtime, so it ends.
 fn serve_words<R: Threads + Wait + Sync, G: Gate, S: Source, K: Sink, A: Audit>(
     threads: &ByThreads<'_, R, G>,
-    memory: &mut Memory,
+    memory: Memory,
     words: &Words,
     source: &mut SourceGuard<'_, S>,
     sink: &mut SinkGuard<'_, K>,
@@ -143,7 +141,7 @@ fn serve_words<R: Threads + Wait + Sync, G: Gate, S: Source, K: Sink, A: Audit>(
 // Runs the script that the source gives, each application on a thread.
 fn serve_on_threads<R: Threads + Wait + Sync, G: Gate, S: Source, K: Sink, A: Audit>(
     threads: &ByThreads<'_, R, G>,
-    memory: &mut Memory,
+    mut memory: Memory,
     source: &mut SourceGuard<'_, S>,
     sink: &mut SinkGuard<'_, K>,
     audit: &mut AuditGuard<'_, A>,
@@ -159,7 +157,7 @@ fn serve_on_threads<R: Threads + Wait + Sync, G: Gate, S: Source, K: Sink, A: Au
     ensures same_sink { sink.new.sink ≡ sink.old.sink }
     ensures same_audit { audit.new.audit ≡ audit.old.audit }
 {
-    match read_input(memory, source, sink) {
+    match read_input(&mut memory, source, sink) {
         Ok(script) => serve_script_on_threads(threads, memory, &script, sink, audit),
         Err(status) => status,
     }
@@ -167,7 +165,7 @@ fn serve_on_threads<R: Threads + Wait + Sync, G: Gate, S: Source, K: Sink, A: Au
 
 // Does what all words but `run` say.
 fn serve_alone<S: Source, K: Sink, A: Audit>(
-    memory: &mut Memory,
+    mut memory: Memory,
     words: &Words,
     source: &mut SourceGuard<'_, S>,
     sink: &mut SinkGuard<'_, K>,
@@ -188,7 +186,7 @@ fn serve_alone<S: Source, K: Sink, A: Audit>(
 {
     match words.task() {
         Some(Task::Lockstep) => rotate(memory, source, sink, audit),
-        Some(Task::Generate(number)) => write_generated(memory, number, sink),
+        Some(Task::Generate(number)) => write_generated(&mut memory, number, sink),
         Some(Task::Soak(number)) => soak(memory, number, sink, audit),
         None => tell_usage(sink),
         Some(Task::Run) => unreachable!(),
@@ -197,7 +195,7 @@ fn serve_alone<S: Source, K: Sink, A: Audit>(
 
 // Runs the script that the source gives in rotation.
 fn rotate<S: Source, K: Sink, A: Audit>(
-    memory: &mut Memory,
+    mut memory: Memory,
     source: &mut SourceGuard<'_, S>,
     sink: &mut SinkGuard<'_, K>,
     audit: &mut AuditGuard<'_, A>,
@@ -213,7 +211,7 @@ fn rotate<S: Source, K: Sink, A: Audit>(
     ensures same_sink { sink.new.sink ≡ sink.old.sink }
     ensures same_audit { audit.new.audit ≡ audit.old.audit }
 {
-    match read_input(memory, source, sink) {
+    match read_input(&mut memory, source, sink) {
         Ok(script) => rotate_script(memory, &script, Part::Whole, sink, audit),
         Err(status) => status,
     }
@@ -298,7 +296,7 @@ fn write_generated<K: Sink>(
 
 // Runs the generated script of a number in rotation, and writes the end of its report.
 fn soak<K: Sink, A: Audit>(
-    memory: &mut Memory,
+    mut memory: Memory,
     number: u32,
     sink: &mut SinkGuard<'_, K>,
     audit: &mut AuditGuard<'_, A>,
@@ -320,7 +318,7 @@ fn soak<K: Sink, A: Audit>(
 
 // Runs the script in rotation, shows both services to the audit, and writes so much of its report.
 fn rotate_script<K: Sink, A: Audit>(
-    memory: &mut Memory,
+    mut memory: Memory,
     script: &Script,
     part: Part,
     sink: &mut SinkGuard<'_, K>,
@@ -338,23 +336,19 @@ fn rotate_script<K: Sink, A: Audit>(
     let Some(mut regions) = memory.regions(script.config()) else {
         return HostStatus::NoMemory(memory.refusal());
     };
-    let Some(
-        Finished {
-            bus,
-            tables,
-            receipts,
-        },
-    ) = memory.run_in_rotation(script, &mut regions)
-    else {
-        return HostStatus::NoMemory(memory.refusal());
-    };
-    tell_run(&bus, &tables, receipts.as_slice(), part, sink, audit)
+    match memory.run_in_rotation(script, &mut regions) {
+        Ok(run) => {
+            let receipts = run.receipts.as_slice();
+            tell_run(&run.bus, &run.tables, receipts, part, sink, audit)
+        }
+        Err(refusal) => HostStatus::NoMemory(refusal),
+    }
 }
 
 // Runs the script on threads, shows both services to the audit, and writes its report.
 fn serve_script_on_threads<R: Threads + Wait + Sync, G: Gate, K: Sink, A: Audit>(
     threads: &ByThreads<'_, R, G>,
-    memory: &mut Memory,
+    mut memory: Memory,
     script: &Script,
     sink: &mut SinkGuard<'_, K>,
     audit: &mut AuditGuard<'_, A>,
@@ -371,17 +365,13 @@ fn serve_script_on_threads<R: Threads + Wait + Sync, G: Gate, K: Sink, A: Audit>
     let Some(mut regions) = memory.regions(script.config()) else {
         return HostStatus::NoMemory(memory.refusal());
     };
-    let Some(
-        Finished {
-            bus,
-            tables,
-            receipts,
-        },
-    ) = memory.run_on_threads(threads.rt, script, &mut regions, threads.gate)
-    else {
-        return HostStatus::NoMemory(memory.refusal());
-    };
-    tell_run(&bus, &tables, receipts.as_slice(), Part::Whole, sink, audit)
+    match memory.run_on_threads(threads.rt, script, &mut regions, threads.gate) {
+        Ok(run) => {
+            let receipts = run.receipts.as_slice();
+            tell_run(&run.bus, &run.tables, receipts, Part::Whole, sink, audit)
+        }
+        Err(refusal) => HostStatus::NoMemory(refusal),
+    }
 }
 
 // Shows both services to the audit, and writes so much of their report. It has no memory to take,
