@@ -1,26 +1,22 @@
 -- What the program does: what it reads, what it writes and what it shows an audit, by how it ended.
 use Rattle.std.specs.Prelude.{◌≡◌, ◌⊎◌, ℕ, List, ◌++◌, length, map, codes, decimal, Option, Some, None, Result, Ok, Err}
-use Rattle.std.specs.List.{range_with_len}
 use Rattle.fsw_base.specs.Guards.{GuardedSink, GuardedSource}
 use Rattle.fsw_base.specs.Outside.{Rose}
 use Rattle.fsw_base.specs.ScriptFaults.{fault_name}
 use Rattle.fsw_base.specs.declared.script_faults.FaultKind.TheVariants.{TooLarge}
 use Rattle.fsw_base.specs.declared.script_faults.ScriptFault.{ScriptFault}
-use Rattle.bus_words.specs.declared.history.Entry.{Entry}
-use Rattle.bus_words.specs.Machine.{state_after}
 use Rattle.bus_words.specs.ReceiptLists.{Receipts}
-use Rattle.fsw_base.specs.Limits.{Limits}
 use Rattle.sb_calls.specs.Core.{Core, state_of}
 use Rattle.tbl_load.specs.Core.{Core as TableCore, apps_of as table_apps_of}
 use Rattle.text_page.specs.Pieces.{Grew, CutShort}
 use Rattle.run_report.specs.CounterText.{BusFigures, TableFigures}
 use Rattle.run_report.specs.Report.{ending_text, figures_shown, table_figures_shown, report_text}
+use Rattle.run_report.specs.ScriptReport.{figures_after, report}
 use Rattle.app_script.specs.Grammar.{grammar}
 use Rattle.script_runs.specs.Histories.{Histories}
 use Rattle.script_runs.specs.Runs.{IsRunOf, Guarantees}
 use Rattle.script_runs.specs.Rotation.{rotation}
 use Rattle.app_script.specs.Script.{ScriptText}
-use Rattle.script_runs.specs.Told.{receipts_told}
 use Rattle.script_generate.specs.Generated.{generated}
 use Rattle.script_printing.specs.ScriptSpelling.{spelled_script}
 use Rattle.host_run.specs.Audit.{IsShown, GuardedAudit}
@@ -49,20 +45,7 @@ fault_text fault =
 abbrev pub too_large : ScriptFault
 too_large = record { line = 0; kind = TooLarge }
 
--- what a report shows of the bus after a history of so many applications, beside the history
-abbrev pub figures_after : Limits → ℕ → List Entry → BusFigures
-figures_after limits apps history = figures_shown limits (state_after limits apps history)
-
--- the report of a script's histories, with what each of its applications tells of what it received
--- and held, and with the figures of both services after them
-abbrev pub report : ScriptText → Histories → List ℕ
-report script histories =
-    report_text histories.bus histories.tables
-    (map (receipts_told script histories) (range_with_len 1 (length script.apps)))
-    (figures_after script.limits (length script.apps) histories.bus)
-    (table_figures_shown script.limits (length script.apps) histories.tables)
-
--- the end of this report, from its line `counters` on
+-- the end of the report of a script's histories, from its line `counters` on
 abbrev pub report_ending : ScriptText → Histories → List ℕ
 report_ending script histories =
     ending_text (figures_after script.limits (length script.apps) histories.bus)

@@ -32,7 +32,7 @@ pub struct MemoryRefusal {
 /// The memory of one call of the program, and whether its newest request for some was refused.
 ///
 /// It has the only allocator below the top call, and a run takes it away: nothing asks for memory
-/// behind a run. By reading: each call that answers None, or a refusal, was refused memory.
+/// after a run. By the code, each call that answers None or a refusal was refused memory.
 #[derive(Drop)]
 pub struct Memory {
     // Gives memory; private, so that no other file asks it.
@@ -113,7 +113,7 @@ impl Memory {
     /// before its first call.
     ///
     /// # Errors
-    /// If memory was refused; by reading, no application ran then.
+    /// If memory was refused; by the code, no application ran then.
     pub fn run_in_rotation<'r>(
         mut self,
         script: &Script,
@@ -145,7 +145,7 @@ impl Memory {
     /// The same after a run on threads, with the gate's calls round each line. It may wait.
     ///
     /// # Errors
-    /// If memory was refused; by reading, no application ran then.
+    /// If memory was refused; by the code, no application ran then.
     pub fn run_on_threads<'r, R: Threads + Wait + Sync, G: Gate>(
         mut self,
         rt: &R,

@@ -58,7 +58,7 @@ struct ByThreads<'a, R, G> {
 /// - `WriteFault`, only where the sink's count of faults rose, or stands at its last value: a front
 ///   of the text due is written.
 /// - `NoMemory`, never on other words, and only after a request for memory was refused: nothing is
-///   written, and no application ran.
+///   written; by the code, no application ran.
 ///
 /// It returns on all words but `run`: what they do waits for nothing. On `gen N` and `soak N` no
 /// answer but `Done`, `WriteFault` and `NoMemory` comes.
@@ -110,7 +110,7 @@ fn serve_guarded<R: Threads + Wait + Sync, G: Gate, S: Source, K: Sink, A: Audit
     status
 }
 
-// Does what the words say. Only `run` may wait: what all other words do has no runtime, so it ends.
+// Does what the words say. What all of them but `run` do has no runtime, so it ends.
 fn serve_words<R: Threads + Wait + Sync, G: Gate, S: Source, K: Sink, A: Audit>(
     threads: &ByThreads<'_, R, G>,
     memory: Memory,
@@ -163,7 +163,7 @@ fn serve_on_threads<R: Threads + Wait + Sync, G: Gate, S: Source, K: Sink, A: Au
     }
 }
 
-// Does what all words but `run` say.
+// Does what all words but `run` say. It has no runtime, so it waits for nothing.
 fn serve_alone<S: Source, K: Sink, A: Audit>(
     mut memory: Memory,
     words: &Words,
@@ -374,8 +374,8 @@ fn serve_script_on_threads<R: Threads + Wait + Sync, G: Gate, K: Sink, A: Audit>
     }
 }
 
-// Shows both services to the audit, and writes so much of their report. It has no memory to take,
-// so nothing is refused once a run was made.
+// Shows both services to the audit, and writes so much of their report. The run took the memory, so
+// nothing can be refused any more.
 fn tell_run<K: Sink, A: Audit>(
     bus: &BusCore<'_>,
     tables: &TblCore<'_>,

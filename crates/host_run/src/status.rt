@@ -21,7 +21,7 @@ pub enum HostStatus {
     ReadFault,
     /// The sink failed; what was written is a front of what was due.
     WriteFault,
-    /// There was no memory; nothing was written, and no application ran.
+    /// There was no memory; nothing was written, and, by the code, no application ran.
     NoMemory(MemoryRefusal),
 }
 
