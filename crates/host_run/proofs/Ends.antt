@@ -1,11 +1,10 @@
 -- Why the program ended as it did, and that a script is run where nothing fails.
-use Rattle.std.proofs.Common.{◌≡◌, ◌⊎◌, ℕ, true, true≢false, ◌<◌, List, ◌++◌, length, map, Option, Some, None, Result, Ok, Err, IfOk, IfSome, inl, inr, refl, sym, ap, subst, ◌∙◌, arith, length-append}
+use Rattle.std.proofs.Common.{◌≡◌, ◌⊎◌, ℕ, true, true≢false, ◌<◌, List, ◌++◌, length, map, Option, Some, None, Result, Ok, Err, IfOk, IfErr, IfSome, inl, inr, refl, sym, ap, subst, ◌∙◌, arith, length-append}
 use Rattle.std.specs.List.{range_with_len}
 use Rattle.fsw_base.specs.declared.script_faults.ScriptFault.{ScriptFault}
 use Rattle.bus_words.specs.declared.history.Entry.{Entry}
 use Rattle.bus_words.specs.ReceiptLists.{Receipts}
 use Rattle.tbl_words.specs.declared.history.Entry.{Entry as TableEntry}
-use Rattle.run_report.specs.ScriptReport.{figures_after}
 use Rattle.run_report.specs.Report.{ending_text, figures_shown, table_figures_shown, report_text}
 use Rattle.app_script.specs.Grammar.{grammar}
 use Rattle.script_runs.specs.Histories.{Histories}
@@ -24,8 +23,10 @@ use Rattle.app_run.specs.Runners.{histories_of}
 use Rattle.host_run.specs.Input.{most_input, IsWhole, IsTooLarge}
 use Rattle.sb_calls.specs.Core.{Core, apps_of, state_of}
 use Rattle.tbl_load.specs.Core.{Core as TableCore, apps_of as table_apps_of}
-use Rattle.host_run.specs.Serve.{Fed, Made, Outside, Served, Runs, IsLeftBy, Read, TooLong, SourceFailed, NoRoom, OtherWords, Serves, Ends, EndsInput, EndsScript, EndsRun, EndsText, EndsRefused, IsRead, HasCauses, Completes, CompletesUnread, Headline, MakesNothing, Reports, ReportsRun, Way, Rotating, OnThreads, too_large, report_part, part_shown}
+use Rattle.host_run.specs.Serve.{Fed, Made, Outside, Served, Runs, IsLeftBy, Read, TooLong, SourceFailed, NoRoom, OtherWords, Serves, Ends, EndsInput, EndsScript, EndsRun, EndsText, EndsRefused, IsRead, HasCauses, Completes, CompletesUnread, Headline, MakesNothing, Reports, ReportsRun, Way, Rotating, OnThreads, too_large, figures_after, report_part, part_shown}
+use Rattle.host_run.specs.Audit.{GuardedAudit}
 use Rattle.host_run.specs.Status.{IsNoMemory}
+use Rattle.host_run.specs.declared.memory.MemoryRefusal.{MemoryRefusal}
 use Rattle.host_run.specs.Words.{needs_threads}
 use Rattle.host_run.specs.declared.reporting.Part.{Part}
 use Rattle.host_run.specs.declared.reporting.Part.TheVariants.{Whole, Ending}
@@ -129,6 +130,26 @@ ends-other (Refused fault) fed fed' old new words = inl words.usage.0
 ends-other ReadFault fed fed' old new words = inl words.usage.0
 ends-other WriteFault fed fed' old new words = inr refl
 ends-other (NoMemory refused) fed fed' old new words = absurd words.usage
+
+-- a text that was read whole, and is this script
+pub read-script : (result : Result ScriptText HostStatus) (bytes text : List ℕ) (left left' : Option (List ℕ)) → text ≡ bytes → IsWhole bytes left left' →
+    IfOk result (λ script. grammar text ≡ Ok script) → IfOk result (λ script. IsRead script left left')
+read-script (Ok script) bytes text left left' same whole is = (bytes, whole, ap grammar (sym same) ∙ is)
+read-script (Err status) bytes text left left' same whole is = tt
+
+-- a text that was read whole, and is none
+pub read-end : (result : Result ScriptText HostStatus) (bytes text : List ℕ) (fed fed' : Fed) (old new : GuardedAudit → Made) → text ≡ bytes →
+    IsWhole bytes fed.left fed'.left →
+    IfErr result (λ status. (how : Way) (audit : GuardedAudit) → EndsInput status how (grammar text) (old audit) (new audit)) →
+    IfErr result (λ status. (how : Way) (audit : GuardedAudit) → Runs how status fed fed' (old audit) (new audit))
+read-end (Ok script) bytes text fed fed' old new same whole ends = tt
+read-end (Err status) bytes text fed fed' old new same whole ends =
+    λ how audit. Read bytes whole (subst (λ b. EndsInput status how (grammar b) (old audit) (new audit)) same (ends how audit))
+
+-- without memory for a script nothing is made, whatever the text is
+pub none-input : (refused : MemoryRefusal) (how : Way) (found : Result ScriptText ScriptFault) (old : Made) → EndsInput (NoMemory refused) how found old old
+none-input refused how (Ok script) old = refl
+none-input refused how (Err fault) old = refl
 
 -- what the run of a script makes that was read
 pub runs-read : (how : Way) (result : HostStatus) (script : ScriptText) (fed fed' : Fed) (old mid new : Made) → IsRead script fed.left fed'.left → mid ≡ old →
@@ -239,24 +260,9 @@ ends-run result how part script core tables lists old new limits table_limits ap
     (part-run part script core tables lists limits table_limits apps table_apps told) ends
 
 -- the same histories, one by one and as a pair
-same-histories : (bus : List Entry) (tables : List TableEntry) (histories : Histories) → bus ≡ histories.bus → tables ≡ histories.tables →
+pub same-histories : (bus : List Entry) (tables : List TableEntry) (histories : Histories) → bus ≡ histories.bus → tables ≡ histories.tables →
     (let pair : Histories = record { bus = bus; tables = tables } in pair) ≡ histories
 same-histories bus tables histories one two = λ i. record { bus = one i; tables = two i }
-
--- what rotation leaves, in both services of what it gives
-pub left-rotating : {T E : Type 0} (r : Result T E) (bus : T → Core) (tables : T → TableCore) (script : ScriptText) →
-    IfOk r (λ x. (bus x).log.entries ≡ (rotation script).bus) → IfOk r (λ x. (tables x).log.entries ≡ (rotation script).tables) →
-    IfOk r (λ x. IsLeftBy Rotating script (histories_of (bus x) (tables x)))
-left-rotating (Ok x) bus tables script one two = same-histories (bus x).log.entries (tables x).log.entries (rotation script) one two
-left-rotating (Err e) bus tables script one two = tt
-
--- and what is told of the rotation is told of them
-pub told-rotating : {T E X : Type 0} (r : Result T E) (bus : T → Core) (tables : T → TableCore) (lists : T → X) (told : Histories → X) (script : ScriptText) →
-    IfOk r (λ x. (bus x).log.entries ≡ (rotation script).bus) → IfOk r (λ x. (tables x).log.entries ≡ (rotation script).tables) →
-    IfOk r (λ x. lists x ≡ told (rotation script)) → IfOk r (λ x. lists x ≡ told (histories_of (bus x) (tables x)))
-told-rotating (Ok x) bus tables lists told script one two three =
-    three ∙ ap told (sym (same-histories (bus x).log.entries (tables x).log.entries (rotation script) one two))
-told-rotating (Err e) bus tables lists told script one two three = tt
 
 -- the same in other words, where what guards told is what the traits tell
 pub serves-as : {wanted : Option Task} {result : HostStatus} {fed fed' fed₂ fed₂' : Fed} {old new old₂ new₂ : Made} → fed₂ ≡ fed → fed₂' ≡ fed' → old₂ ≡ old → new₂ ≡ new →

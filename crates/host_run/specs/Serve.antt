@@ -5,13 +5,16 @@ use Rattle.fsw_base.specs.Outside.{Rose}
 use Rattle.fsw_base.specs.ScriptFaults.{fault_name}
 use Rattle.fsw_base.specs.declared.script_faults.FaultKind.TheVariants.{TooLarge}
 use Rattle.fsw_base.specs.declared.script_faults.ScriptFault.{ScriptFault}
+use Rattle.bus_words.specs.declared.history.Entry.{Entry}
+use Rattle.bus_words.specs.Machine.{state_after}
 use Rattle.bus_words.specs.ReceiptLists.{Receipts}
+use Rattle.fsw_base.specs.Limits.{Limits}
 use Rattle.sb_calls.specs.Core.{Core, state_of}
 use Rattle.tbl_load.specs.Core.{Core as TableCore, apps_of as table_apps_of}
 use Rattle.text_page.specs.Pieces.{Grew, CutShort}
 use Rattle.run_report.specs.CounterText.{BusFigures, TableFigures}
 use Rattle.run_report.specs.Report.{ending_text, figures_shown, table_figures_shown, report_text}
-use Rattle.run_report.specs.ScriptReport.{figures_after, report}
+use Rattle.run_check.specs.Openings.{report}
 use Rattle.app_script.specs.Grammar.{grammar}
 use Rattle.script_runs.specs.Histories.{Histories}
 use Rattle.script_runs.specs.Runs.{IsRunOf, Guarantees}
@@ -44,6 +47,10 @@ fault_text fault =
 -- the fault of an input that is longer than any script
 abbrev pub too_large : ScriptFault
 too_large = record { line = 0; kind = TooLarge }
+
+-- what a report shows of the bus after a history of so many applications, beside the history
+abbrev pub figures_after : Limits → ℕ → List Entry → BusFigures
+figures_after limits apps history = figures_shown limits (state_after limits apps history)
 
 -- the end of the report of a script's histories, from its line `counters` on
 abbrev pub report_ending : ScriptText → Histories → List ℕ

@@ -11,8 +11,7 @@ use Rattle.script_runs.specs.Histories.{Histories}
 use Rattle.run_check.specs.Begun.{AreBegunTables, AreWholeTables, IsBegun, IsWhole}
 use Rattle.run_check.specs.Checks.{Beginning}
 use Rattle.run_check.specs.Judged.{entries_part}
-use Rattle.run_report.specs.ScriptReport.{report}
-use Rattle.run_check.specs.Openings.{Opens, WithAll, WithBus, WithTables, bus_part, head, tables_part}
+use Rattle.run_check.specs.Openings.{Opens, WithAll, WithBus, WithTables, bus_part, head, report, tables_part}
 use Rattle.run_check.proofs.Begun.{begun_front, begun_tables_front}
 use Rattle.run_check.proofs.Entries.{bus_follows, none_behind}
 use Rattle.run_check.proofs.Reports.{behind_tables, figures_in, receipts_in, report_of, uses_in}

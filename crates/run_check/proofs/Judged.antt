@@ -15,8 +15,7 @@ use Rattle.run_check.specs.Begun.{AreBegunTables, AreWholeTables, IsBegun, IsWho
 use Rattle.run_check.specs.Checks.{Beginning, IsAnswer, IsGood}
 use Rattle.run_check.specs.Fronts.{EndsLine, IsForced, IsReached, wrong_line}
 use Rattle.run_check.specs.Judged.{Begins, JudgedIsAnswered, NobodysEntry, NobodysTableEntry, NoHead, NoTables, Right, WrongEnd, WrongEntry, WrongTableEntry, entries_part, entry_head}
-use Rattle.run_report.specs.ScriptReport.{report}
-use Rattle.run_check.specs.Openings.{Opens, WithAll, WithBus, WithTables, bus_part, head, tables_part}
+use Rattle.run_check.specs.Openings.{Opens, WithAll, WithBus, WithTables, bus_part, head, report, tables_part}
 use Rattle.run_check.proofs.Begun.{begun_front, begun_no_tables, begun_nothing, begun_tables_front}
 use Rattle.run_check.proofs.Behind.{Next, NextAtTables, NextEntry, NextRest, NextTableEntry, NextTables, opening_at, opening_at_tables, report_at, report_at_tables}
 use Rattle.run_check.proofs.Entries.{app_range, entries_one, none_behind}

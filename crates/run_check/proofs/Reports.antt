@@ -21,8 +21,7 @@ use Rattle.script_runs.specs.TableTrace.{own_table_entries}
 use Rattle.script_runs.specs.Trace.{own_entries}
 use Rattle.run_check.specs.Begun.{AreAllOf, AreAllTablesOf, AreBegunTables, IsBegun}
 use Rattle.run_check.specs.Determined.{NextEntriesAreOne, NextTableEntriesAreOne, ReportsTellRuns}
-use Rattle.run_report.specs.ScriptReport.{report}
-use Rattle.run_check.specs.Openings.{head}
+use Rattle.run_check.specs.Openings.{head, report}
 use Rattle.run_check.proofs.Entries.{bus_follows, entries_one, none_behind}
 use Rattle.run_check.proofs.TableEntries.{no_table_behind, table_entries_one, tables_follow}
 

@@ -6,8 +6,7 @@ use Rattle.script_runs.specs.Runs.{IsRunOf}
 use Rattle.run_check.specs.declared.verdict.Verdict.{Verdict}
 use Rattle.run_check.specs.declared.verdict.Verdict.TheVariants.{Yes, No}
 use Rattle.run_check.specs.Begun.{IsBegun, AreBegunTables}
-use Rattle.run_report.specs.ScriptReport.{report}
-use Rattle.run_check.specs.Openings.{Opens, first_lines}
+use Rattle.run_check.specs.Openings.{Opens, first_lines, report}
 
 -- The bytes are the report of a run of the script.
 pub record IsGood (script : ScriptText) (bytes : List ℕ) : Type 0 where

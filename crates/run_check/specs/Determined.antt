@@ -7,7 +7,7 @@ use Rattle.app_script.specs.ScriptRanges.{IsScript}
 use Rattle.script_runs.specs.Histories.{Histories}
 use Rattle.script_runs.specs.Runs.{IsRunOf}
 use Rattle.run_check.specs.Begun.{IsBegun, AreBegunTables}
-use Rattle.run_report.specs.ScriptReport.{report}
+use Rattle.run_check.specs.Openings.{report}
 
 -- two runs of a script have the same report only where they have the same histories
 abbrev pub ReportsTellRuns : Type 0

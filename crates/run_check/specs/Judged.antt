@@ -14,8 +14,7 @@ use Rattle.run_check.specs.declared.verdict.Verdict.TheVariants.{Yes, No}
 use Rattle.run_check.specs.Begun.{AreBegunTables, IsBegun, IsWhole, AreWholeTables}
 use Rattle.run_check.specs.Checks.{IsAnswer}
 use Rattle.run_check.specs.Fronts.{wrong_line}
-use Rattle.run_report.specs.ScriptReport.{report}
-use Rattle.run_check.specs.Openings.{bus_part, head, tables_part}
+use Rattle.run_check.specs.Openings.{bus_part, head, report, tables_part}
 
 -- the text begins with this one
 abbrev pub Begins : List ℕ → List ℕ → Type 0

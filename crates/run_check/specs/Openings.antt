@@ -1,16 +1,28 @@
 -- The reports of runs, and how the report of a run that is under way begins.
-use Rattle.std.specs.Prelude.{◌≡◌, ℕ, zero, suc, ◌==◌, List, [], ◌∷◌, ◌++◌, codes, decimal, Option, Some, None, if◌then◌else◌}
+use Rattle.std.specs.Prelude.{◌≡◌, ℕ, zero, suc, ◌==◌, List, [], ◌∷◌, ◌++◌, length, map, codes, decimal, Option, Some, None, if◌then◌else◌}
+use Rattle.std.specs.List.{range_with_len}
 use Rattle.std.specs.Option.{option_map}
 use Rattle.bus_words.specs.declared.history.Entry.{Entry}
+use Rattle.bus_words.specs.Machine.{state_after}
 use Rattle.tbl_words.specs.declared.history.Entry.{Entry as TableEntry}
 use Rattle.app_script.specs.Script.{ScriptText}
 use Rattle.script_runs.specs.Histories.{Histories}
+use Rattle.script_runs.specs.Told.{receipts_told}
 use Rattle.run_report.specs.BusText.{entries_text}
-use Rattle.run_report.specs.ScriptReport.{report}
+use Rattle.run_report.specs.Report.{figures_shown, table_figures_shown, report_text}
 use Rattle.run_report.specs.TableText.{table_entries_text}
 use Rattle.run_check.specs.Begun.{IsWhole, AreWholeTables}
 
--- the first two lines of a report
+-- the report of a script's histories, with what each of its applications tells of what it received
+-- and held, and with the figures of both services after them
+abbrev pub report : ScriptText → Histories → List ℕ
+report script histories =
+    report_text histories.bus histories.tables
+    (map (receipts_told script histories) (range_with_len 1 (length script.apps)))
+    (figures_shown script.limits (state_after script.limits (length script.apps) histories.bus))
+    (table_figures_shown script.limits (length script.apps) histories.tables)
+
+-- its first two lines
 abbrev pub head : ScriptText → List ℕ
 head script = codes "fsw " ++ decimal script.limits.version ++ codes "\nbus\n"
 

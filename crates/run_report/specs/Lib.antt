@@ -4,6 +4,5 @@ pub mod EventText
 pub mod ReadBack
 pub mod ReceiptText
 pub mod Report
-pub mod ScriptReport
 pub mod TableReadBack
 pub mod TableText
