@@ -1,5 +1,5 @@
 -- Why the program ended as it did, and that a script is run where nothing fails.
-use Rattle.std.proofs.Common.{◌≡◌, ◌⊎◌, ℕ, ◌<◌, List, ◌++◌, length, map, Option, Some, None, Result, Ok, Err, IfOk, IfSome, inl, inr, refl, sym, ap, subst, ◌∙◌, arith, length-append}
+use Rattle.std.proofs.Common.{◌≡◌, ◌⊎◌, ℕ, true, true≢false, ◌<◌, List, ◌++◌, length, map, Option, Some, None, Result, Ok, Err, IfOk, IfErr, IfSome, inl, inr, refl, sym, ap, subst, ◌∙◌, arith, length-append}
 use Rattle.std.specs.List.{range_with_len}
 use Rattle.fsw_base.specs.declared.script_faults.ScriptFault.{ScriptFault}
 use Rattle.bus_words.specs.declared.history.Entry.{Entry}
@@ -16,80 +16,86 @@ use Rattle.script_runs.proofs.EndsCome.{run-guarantees}
 use Rattle.script_runs.proofs.Merged.{rotation-legal}
 use Rattle.script_runs.proofs.TablesMerged.{rotation-legal_tables, rotation-merges_both}
 use Rattle.host_run.proofs.Sizes.{length-grammar}
+use Rattle.fsw_base.specs.Outside.{Rose}
+use Rattle.std.specs.Result.{result_ok}
 use Rattle.text_page.specs.Pieces.{Grew, CutShort}
 use Rattle.app_run.specs.Runners.{histories_of}
 use Rattle.host_run.specs.Input.{most_input, IsWhole, IsTooLarge}
 use Rattle.sb_calls.specs.Core.{Core, apps_of, state_of}
 use Rattle.tbl_load.specs.Core.{Core as TableCore, apps_of as table_apps_of}
-use Rattle.host_run.specs.Serve.{Fed, Made, Runs, IsLeftBy, Read, TooLong, SourceFailed, NoRoom, OtherWords, Serves, EndsInput, EndsScript, EndsRun, EndsText, EndsRefused, HasCauses, Completes, CompletesUnread, Headline, too_large, figures_after, report_part, part_shown}
+use Rattle.host_run.specs.Serve.{Fed, Made, Outside, Served, Runs, IsLeftBy, Read, TooLong, SourceFailed, NoRoom, OtherWords, Serves, Ends, EndsInput, EndsScript, EndsRun, EndsText, EndsRefused, IsRead, HasCauses, Completes, CompletesUnread, Headline, MakesNothing, Reports, ReportsRun, Way, Rotating, OnThreads, too_large, figures_after, report_part, part_shown}
+use Rattle.host_run.specs.Audit.{GuardedAudit}
+use Rattle.host_run.specs.Status.{IsNoMemory}
+use Rattle.host_run.specs.declared.memory.MemoryRefusal.{MemoryRefusal}
+use Rattle.host_run.specs.Words.{needs_threads}
 use Rattle.host_run.specs.declared.reporting.Part.{Part}
 use Rattle.host_run.specs.declared.reporting.Part.TheVariants.{Whole, Ending}
-use Rattle.host_run.specs.declared.running.Way.{Way}
-use Rattle.host_run.specs.declared.running.Way.TheVariants as way
 use Rattle.host_run.specs.declared.words.Task.{Task}
 use Rattle.host_run.specs.declared.words.Task.TheVariants as task
 use Rattle.host_run.specs.declared.status.HostStatus.{HostStatus}
 use Rattle.host_run.specs.declared.status.HostStatus.TheVariants.{Done, Usage, Script as Refused, ReadFault, WriteFault, NoMemory}
 
+-- an end has its cause, where the wanted one has and a front is written of a failed sink alone
+causes-ends : (wanted result : HostStatus) {Whole Front Without : Type 0} (fed fed' : Fed) (old new : Made) → HasCauses wanted fed fed' old new →
+    (Front → Rose old.faults new.faults) → Ends wanted result Whole Front Without → HasCauses result fed fed' old new
+causes-ends wanted Done fed fed' old new wants rose ends = tt
+causes-ends wanted Usage fed fed' old new wants rose ends = subst (λ r. HasCauses r fed fed' old new) (sym ends.0) wants
+causes-ends wanted (Refused fault) fed fed' old new wants rose ends = tt
+causes-ends wanted ReadFault fed fed' old new wants rose ends = subst (λ r. HasCauses r fed fed' old new) (sym ends.0) wants
+causes-ends wanted WriteFault fed fed' old new wants rose ends = rose ends
+causes-ends wanted (NoMemory refused) fed fed' old new wants rose ends = tt
+
 causes-refused : (result : HostStatus) (fault : ScriptFault) (fed fed' : Fed) (old new : Made) → EndsRefused result fault old new → HasCauses result fed fed' old new
-causes-refused Done fault fed fed' old new ends = tt
-causes-refused Usage fault fed fed' old new ends = ends
-causes-refused (Refused told) fault fed fed' old new ends = tt
-causes-refused ReadFault fault fed fed' old new ends = absurd ends
-causes-refused WriteFault fault fed fed' old new ends = ends.cause
-causes-refused NoMemory fault fed fed' old new ends = tt
+causes-refused result fault fed fed' old new ends = causes-ends (Refused fault) result fed fed' old new tt (λ front. front.cause) ends
 
 causes-script : (result : HostStatus) (how : Way) (part : Part) (script : ScriptText) (fed fed' : Fed) (old new : Made) → EndsScript result how part script old new → HasCauses result fed fed' old new
-causes-script Done how part script fed fed' old new ends = tt
-causes-script Usage how part script fed fed' old new ends = ends
-causes-script (Refused fault) how part script fed fed' old new ends = tt
-causes-script ReadFault how part script fed fed' old new ends = absurd ends
-causes-script WriteFault how part script fed fed' old new ends = ends.2.cause
-causes-script NoMemory how part script fed fed' old new ends = tt
+causes-script result how part script fed fed' old new ends = causes-ends Done result fed fed' old new tt (λ front. front.2.cause) ends
 
-causes-text : (result : HostStatus) (text : List ℕ) (fed fed' : Fed) (old new : Made) → EndsText result text old new → HasCauses result fed fed' old new
-causes-text Done text fed fed' old new ends = tt
-causes-text Usage text fed fed' old new ends = ends
-causes-text (Refused fault) text fed fed' old new ends = tt
-causes-text ReadFault text fed fed' old new ends = absurd ends
-causes-text WriteFault text fed fed' old new ends = ends.cause
-causes-text NoMemory text fed fed' old new ends = tt
+causes-text : (result : HostStatus) (text : List ℕ) (fed fed' : Fed) (old new : Made) → EndsText Done result text (MakesNothing old new) old new → HasCauses result fed fed' old new
+causes-text result text fed fed' old new ends = causes-ends Done result fed fed' old new tt (λ front. front.cause) ends
 
 causes-input : (result : HostStatus) (how : Way) (found : Result ScriptText ScriptFault) (fed fed' : Fed) (old new : Made) → EndsInput result how found old new → HasCauses result fed fed' old new
 causes-input result how (Ok script) fed fed' old new ends = causes-script result how Whole script fed fed' old new ends
 causes-input result how (Err fault) fed fed' old new ends = causes-refused result fault fed fed' old new ends
+
+causes-none : (result : HostStatus) (fed fed' : Fed) (old new : Made) → IsNoMemory result → HasCauses result fed fed' old new
+causes-none Done fed fed' old new is = absurd is
+causes-none Usage fed fed' old new is = is
+causes-none (Refused fault) fed fed' old new is = absurd is
+causes-none ReadFault fed fed' old new is = absurd is
+causes-none WriteFault fed fed' old new is = absurd is
+causes-none (NoMemory refused) fed fed' old new is = tt
 
 -- each end has its cause
 causes-runs : (result : HostStatus) (how : Way) (fed fed' : Fed) (old new : Made) → Runs how result fed fed' old new → HasCauses result fed fed' old new
 causes-runs result how fed fed' old new (Read bytes whole ends) = causes-input result how (grammar bytes) fed fed' old new ends
 causes-runs result how fed fed' old new (TooLong large ends) = causes-refused result too_large fed fed' old new ends
 causes-runs result how fed fed' old new (SourceFailed is rose part nothing) = subst (λ r. HasCauses r fed fed' old new) (sym is) rose
-causes-runs result how fed fed' old new (NoRoom is unread nothing) = subst (λ r. HasCauses r fed fed' old new) (sym is) tt
+causes-runs result how fed fed' old new (NoRoom is unread nothing) = causes-none result fed fed' old new is
 
 pub causes-task : (wanted : Option Task) (result : HostStatus) (fed fed' : Fed) (old new : Made) → Serves wanted result fed fed' old new →
     (asked : Task) → wanted ≡ Some asked → HasCauses result fed fed' old new
-causes-task wanted result fed fed' old new serves task.Run is = causes-runs result way.OnThreads fed fed' old new (serves.on_threads is)
-causes-task wanted result fed fed' old new serves task.Lockstep is = causes-runs result way.Rotating fed fed' old new (serves.lockstep is)
+causes-task wanted result fed fed' old new serves task.Run is = causes-runs result OnThreads fed fed' old new (serves.on_threads is)
+causes-task wanted result fed fed' old new serves task.Lockstep is = causes-runs result Rotating fed fed' old new (serves.lockstep is)
 causes-task wanted result fed fed' old new serves (task.Generate number) is = causes-text result _ fed fed' old new (serves.generates number is).ends
-causes-task wanted result fed fed' old new serves (task.Soak number) is = causes-script result way.Rotating Ending _ fed fed' old new (serves.soaks number is).ends
+causes-task wanted result fed fed' old new serves (task.Soak number) is = causes-script result Rotating Ending _ fed fed' old new (serves.soaks number is).ends
 
--- a script ends done, or without memory, where the sink didn't fail
+-- what was to be done is done, or there was no memory, where the sink didn't fail
+done-ends : (result : HostStatus) {Whole Front Without : Type 0} (old new : Made) → (Front → Rose old.faults new.faults) → Ends Done result Whole Front Without →
+    CompletesUnread result old new
+done-ends Done old new rose ends = λ clean. inl ends.0
+done-ends Usage old new rose ends = λ clean. inl ends.0
+done-ends (Refused fault) old new rose ends = λ clean. inl ends.0
+done-ends ReadFault old new rose ends = λ clean. inl ends.0
+done-ends WriteFault old new rose ends = λ clean. absurd (clean (rose ends))
+done-ends (NoMemory refused) old new rose ends = λ clean. inr tt
+
 pub script-done : (result : HostStatus) (how : Way) (part : Part) (script : ScriptText) (old new : Made) → EndsScript result how part script old new → CompletesUnread result old new
-script-done Done how part script old new ends = λ clean. inl refl
-script-done Usage how part script old new ends = λ clean. absurd ends
-script-done (Refused fault) how part script old new ends = λ clean. absurd ends
-script-done ReadFault how part script old new ends = λ clean. absurd ends
-script-done WriteFault how part script old new ends = λ clean. absurd (clean ends.2.cause)
-script-done NoMemory how part script old new ends = λ clean. inr refl
+script-done result how part script old new ends = done-ends result old new (λ front. front.2.cause) ends
 
 -- and so does the writing of a text
-pub text-done : (result : HostStatus) (text : List ℕ) (old new : Made) → EndsText result text old new → CompletesUnread result old new
-text-done Done text old new ends = λ clean. inl refl
-text-done Usage text old new ends = λ clean. absurd ends
-text-done (Refused fault) text old new ends = λ clean. absurd ends
-text-done ReadFault text old new ends = λ clean. absurd ends
-text-done WriteFault text old new ends = λ clean. absurd (clean ends.cause)
-text-done NoMemory text old new ends = λ clean. inr refl
+pub text-done : (result : HostStatus) (text : List ℕ) (old new : Made) → EndsText Done result text (MakesNothing old new) old new → CompletesUnread result old new
+text-done result text old new ends = done-ends result old new (λ front. front.cause) ends
 
 -- the input that was read whole is the one that was told
 whole-told : (bytes input : List ℕ) (left left' : Option (List ℕ)) → IsWhole bytes left left' → left ≡ Some input → bytes ≡ input
@@ -118,11 +124,54 @@ completes-runs result how fed fed' old new (SourceFailed is rose part nothing) =
 completes-runs result how fed fed' old new (NoRoom is unread nothing) = λ input script told form source sink. inr is
 
 pub ends-other : (result : HostStatus) (fed fed' : Fed) (old new : Made) → OtherWords result fed fed' old new → (result ≡ Usage) ⊎ (result ≡ WriteFault)
-ends-other result fed fed' old new words = either words.usage
-  where
-    either : {A B : Type 0} → ((result ≡ Usage) × A) ⊎ ((result ≡ WriteFault) × B) → (result ≡ Usage) ⊎ (result ≡ WriteFault)
-    either (inl told) = inl told.0
-    either (inr failed) = inr failed.0
+ends-other Done fed fed' old new words = inl words.usage.0
+ends-other Usage fed fed' old new words = inl refl
+ends-other (Refused fault) fed fed' old new words = inl words.usage.0
+ends-other ReadFault fed fed' old new words = inl words.usage.0
+ends-other WriteFault fed fed' old new words = inr refl
+ends-other (NoMemory refused) fed fed' old new words = absurd words.usage
+
+-- a text that was read whole, and is this script
+pub read-script : (result : Result ScriptText HostStatus) (bytes text : List ℕ) (left left' : Option (List ℕ)) → text ≡ bytes → IsWhole bytes left left' →
+    IfOk result (λ script. grammar text ≡ Ok script) → IfOk result (λ script. IsRead script left left')
+read-script (Ok script) bytes text left left' same whole is = (bytes, whole, ap grammar (sym same) ∙ is)
+read-script (Err status) bytes text left left' same whole is = tt
+
+-- a text that was read whole, and is none
+pub read-end : (result : Result ScriptText HostStatus) (bytes text : List ℕ) (fed fed' : Fed) (old new : GuardedAudit → Made) → text ≡ bytes →
+    IsWhole bytes fed.left fed'.left →
+    IfErr result (λ status. (how : Way) (audit : GuardedAudit) → EndsInput status how (grammar text) (old audit) (new audit)) →
+    IfErr result (λ status. (how : Way) (audit : GuardedAudit) → Runs how status fed fed' (old audit) (new audit))
+read-end (Ok script) bytes text fed fed' old new same whole ends = tt
+read-end (Err status) bytes text fed fed' old new same whole ends =
+    λ how audit. Read bytes whole (subst (λ b. EndsInput status how (grammar b) (old audit) (new audit)) same (ends how audit))
+
+-- without memory for a script nothing is made, whatever the text is
+pub none-input : (refused : MemoryRefusal) (how : Way) (found : Result ScriptText ScriptFault) (old : Made) → EndsInput (NoMemory refused) how found old old
+none-input refused how (Ok script) old = refl
+none-input refused how (Err fault) old = refl
+
+-- what the run of a script makes that was read
+pub runs-read : (how : Way) (result : HostStatus) (script : ScriptText) (fed fed' : Fed) (old mid new : Made) → IsRead script fed.left fed'.left → mid ≡ old →
+    EndsScript result how Whole script mid new → Runs how result fed fed' old new
+runs-read how result script fed fed' old mid new read same ends =
+    Read read.0 read.1.0
+    (subst (λ found. EndsInput result how found old new) (sym read.1.1) (subst (λ m. EndsScript result how Whole script m new) same ends))
+
+-- on `run` what happens is what was asked for
+pub serves-run : (wanted : Option Task) (result : HostStatus) (fed fed' : Fed) (old new : Made) → needs_threads wanted ≡ true → Runs OnThreads result fed fed' old new →
+    Serves wanted result fed fed' old new
+serves-run (Some task.Run) result fed fed' old new needs runs = record {
+  on_threads = λ words. runs;
+  lockstep = λ words. absurd (cc words);
+  generates = λ number words. absurd (cc words);
+  soaks = λ number words. absurd (cc words);
+  other_words = λ words. absurd (cc words);
+}
+serves-run (Some task.Lockstep) result fed fed' old new needs runs = absurd (true≢false (sym needs))
+serves-run (Some (task.Generate number)) result fed fed' old new needs runs = absurd (true≢false (sym needs))
+serves-run (Some (task.Soak number)) result fed fed' old new needs runs = absurd (true≢false (sym needs))
+serves-run None result fed fed' old new needs runs = absurd (true≢false (sym needs))
 
 -- what happens on words that the program doesn't know is what happens
 pub serves-other : (wanted : Option Task) (result : HostStatus) (fed fed' : Fed) (old new : Made) → wanted ≡ None → OtherWords result fed fed' old new → Serves wanted result fed fed' old new
@@ -136,25 +185,25 @@ serves-other wanted result fed fed' old new none other = record {
 
 -- what a run leaves, in either way, is left by a run of the script
 run-left : (how : Way) (script : ScriptText) (histories : Histories) → IsLeftBy how script histories → IsRunOf script histories
-run-left way.Rotating script histories is =
+run-left Rotating script histories is =
     subst (λ h. IsRunOf script h) (sym is)
     (record { legal = rotation-legal script; legal_tables = rotation-legal_tables script; merges = rotation-merges_both script })
-run-left way.OnThreads script histories run = run
+run-left OnThreads script histories run = run
 
 -- where all was done the headline holds
 headline-input : (how : Way) (found : Result ScriptText ScriptFault) (bytes : List ℕ) (fed fed' : Fed) (old new : Made) → grammar bytes ≡ found →
     IsWhole bytes fed.left fed'.left → EndsInput Done how found old new → Headline Done fed fed' old new
-headline-input how (Err fault) bytes fed fed' old new built whole ends = absurd ends
+headline-input how (Err fault) bytes fed fed' old new built whole ends = absurd (cc ends.0)
 headline-input how (Ok script) bytes fed fed' old new built whole ends =
-    let run = run-left how script ends.0 ends.1 in
-    λ done. (bytes, script, ends.0, whole, built, run, run-guarantees script ends.0 run, ends.2.shown, ends.2.written)
+    let run = run-left how script ends.1.0 ends.1.1 in
+    λ done. (bytes, script, ends.1.0, whole, built, run, run-guarantees script ends.1.0 run, ends.1.2.shown, ends.1.2.written)
 
 pub headline-runs : (result : HostStatus) (how : Way) (fed fed' : Fed) (old new : Made) → Runs how result fed fed' old new → Headline result fed fed' old new
 headline-runs result how fed fed' old new (Read bytes whole ends) = λ done.
     headline-input how (grammar bytes) bytes fed fed' old new refl whole (subst (λ r. EndsInput r how (grammar bytes) old new) done ends) refl
-headline-runs result how fed fed' old new (TooLong large ends) = λ done. absurd (subst (λ r. EndsRefused r too_large old new) done ends)
+headline-runs result how fed fed' old new (TooLong large ends) = λ done. absurd (cc (subst (λ r. EndsRefused r too_large old new) done ends).0)
 headline-runs result how fed fed' old new (SourceFailed is rose part nothing) = λ done. absurd (cc (is, done))
-headline-runs result how fed fed' old new (NoRoom is unread nothing) = λ done. absurd (cc (is, done))
+headline-runs result how fed fed' old new (NoRoom is unread nothing) = λ done. absurd (subst IsNoMemory done is)
 
 -- what a report shows of a core with the script's limits and applications
 figures-run : (script : ScriptText) (core : Core) → core.limits ≡ script.limits → apps_of core ≡ length script.apps →
@@ -185,17 +234,21 @@ part-run Ending script core tables lists limits table_limits apps table_apps tol
     ap (λ f. ending_text f (table_figures_shown tables.limits (table_apps_of tables) tables.log.entries)) (figures-run script core limits apps)
     ∙ ap (ending_text (figures_after script.limits (length script.apps) core.log.entries)) (table-figures-run script tables table_limits table_apps)
 
+whole-as : (how : Way) (part : Part) (script : ScriptText) (histories : Histories) (text : List ℕ) (old new : Made) →
+    IsLeftBy how script histories → text ≡ report_part part script histories → Reports old new histories text → ReportsRun how part script old new
+whole-as how part script histories text old new left is reports =
+    (histories, left, record { written = subst (Grew old.written new.written) is reports.written; shown = reports.shown })
+
 -- where what a run left is shown and its text is due of the script, the script ended so
 ends-as : (result : HostStatus) (how : Way) (part : Part) (script : ScriptText) (histories : Histories) (text : List ℕ) (old new : Made) →
     IsLeftBy how script histories → text ≡ report_part part script histories → EndsRun result histories text old new → EndsScript result how part script old new
-ends-as Done how part script histories text old new left is ends =
-    (histories, left, record { written = subst (Grew old.written new.written) is ends.written; shown = ends.shown })
-ends-as Usage how part script histories text old new left is ends = ends
-ends-as (Refused fault) how part script histories text old new left is ends = ends
-ends-as ReadFault how part script histories text old new left is ends = ends
+ends-as Done how part script histories text old new left is ends = (ends.0, whole-as how part script histories text old new left is ends.1)
+ends-as Usage how part script histories text old new left is ends = (ends.0, whole-as how part script histories text old new left is ends.1)
+ends-as (Refused fault) how part script histories text old new left is ends = (ends.0, whole-as how part script histories text old new left is ends.1)
+ends-as ReadFault how part script histories text old new left is ends = (ends.0, whole-as how part script histories text old new left is ends.1)
 ends-as WriteFault how part script histories text old new left is ends =
     (histories, left, record { front = subst (CutShort old.written new.written) is ends.front; cause = ends.cause; shown = ends.shown })
-ends-as NoMemory how part script histories text old new left is ends = absurd ends
+ends-as (NoMemory refused) how part script histories text old new left is ends = absurd ends
 
 pub ends-run : (result : HostStatus) (how : Way) (part : Part) (script : ScriptText) (core : Core) (tables : TableCore) (lists : List Receipts) (old new : Made) →
     core.limits ≡ script.limits → tables.limits ≡ script.limits → apps_of core ≡ length script.apps → table_apps_of tables ≡ length script.apps →
@@ -207,26 +260,9 @@ ends-run result how part script core tables lists old new limits table_limits ap
     (part-run part script core tables lists limits table_limits apps table_apps told) ends
 
 -- the same histories, one by one and as a pair
-same-histories : (bus : List Entry) (tables : List TableEntry) (histories : Histories) → bus ≡ histories.bus → tables ≡ histories.tables →
+pub same-histories : (bus : List Entry) (tables : List TableEntry) (histories : Histories) → bus ≡ histories.bus → tables ≡ histories.tables →
     (let pair : Histories = record { bus = bus; tables = tables } in pair) ≡ histories
 same-histories bus tables histories one two = λ i. record { bus = one i; tables = two i }
-
--- what rotation leaves, in both services of what it gives
-pub left-rotating : {T E : Type 0} (r : Result T E) (bus : T → Core) (tables : T → TableCore) (how : Way) (script : ScriptText) → how ≡ way.Rotating →
-    IfOk r (λ x. (bus x).log.entries ≡ (rotation script).bus) → IfOk r (λ x. (tables x).log.entries ≡ (rotation script).tables) →
-    IfOk r (λ x. IsLeftBy how script (histories_of (bus x) (tables x)))
-left-rotating (Ok x) bus tables how script is one two =
-    subst (λ h. IsLeftBy h script (histories_of (bus x) (tables x))) (sym is)
-    (same-histories (bus x).log.entries (tables x).log.entries (rotation script) one two)
-left-rotating (Err e) bus tables how script is one two = tt
-
--- and what is told of the rotation is told of them
-pub told-rotating : {T E X : Type 0} (r : Result T E) (bus : T → Core) (tables : T → TableCore) (lists : T → X) (told : Histories → X) (script : ScriptText) →
-    IfOk r (λ x. (bus x).log.entries ≡ (rotation script).bus) → IfOk r (λ x. (tables x).log.entries ≡ (rotation script).tables) →
-    IfOk r (λ x. lists x ≡ told (rotation script)) → IfOk r (λ x. lists x ≡ told (histories_of (bus x) (tables x)))
-told-rotating (Ok x) bus tables lists told script one two three =
-    three ∙ ap told (sym (same-histories (bus x).log.entries (tables x).log.entries (rotation script) one two))
-told-rotating (Err e) bus tables lists told script one two three = tt
 
 -- the same in other words, where what guards told is what the traits tell
 pub serves-as : {wanted : Option Task} {result : HostStatus} {fed fed' fed₂ fed₂' : Fed} {old new old₂ new₂ : Made} → fed₂ ≡ fed → fed₂' ≡ fed' → old₂ ≡ old → new₂ ≡ new →
@@ -242,3 +278,27 @@ fed-as one two = cc
 pub made-as : {written written' : Option (List ℕ)} {faults faults' : ℕ} {shown shown' : Option (List Histories)} → written ≡ written' → faults ≡ faults' → shown ≡ shown' →
     (let m : Made = record { written = written; faults = faults; shown = shown } in m) ≡ record { written = written'; faults = faults'; shown = shown' }
 made-as one two three = cc
+
+-- what was taken is what the call that takes it gave
+pub some-of : {T E : Type 0} (r : Result T E) (o : Option T) (P : T → Type 0) → o ≡ result_ok r → IfOk r P → IfSome o P
+some-of (Ok x) o P is holds = subst (λ q. IfSome q P) (sym is) holds
+some-of (Err e) o P is holds = subst (λ q. IfSome q P) (sym is) tt
+
+-- all that the top call did, by what happened
+pub served : (wanted : Option Task) (result : HostStatus) (before after : Outside) → Serves wanted result before.fed after.fed before.made after.made →
+    Served wanted result before after
+served wanted result before after serves = record {
+  headline_on_run = λ words. headline-runs _ _ _ _ _ _ (serves.on_threads words);
+  headline = λ words. headline-runs _ _ _ _ _ _ (serves.lockstep words);
+  on_threads = serves.on_threads;
+  lockstep = serves.lockstep;
+  generates = serves.generates;
+  soaks = serves.soaks;
+  other_words = serves.other_words;
+  causes = causes-task _ _ _ _ _ _ serves;
+  usage_or_fault = λ words. ends-other _ _ _ _ _ (serves.other_words words);
+  complete_on_run = λ words. completes-runs _ _ _ _ _ _ (serves.on_threads words);
+  complete = λ words. completes-runs _ _ _ _ _ _ (serves.lockstep words);
+  complete_generates = λ number words. text-done _ _ _ _ (serves.generates number words).ends;
+  complete_soaks = λ number words. script-done _ _ _ _ _ _ (serves.soaks number words).ends;
+}

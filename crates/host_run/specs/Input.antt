@@ -6,7 +6,7 @@ use Rattle.fsw_base.specs.Outside.{Rose, IsCountOf}
 use Rattle.fsw_base.specs.declared.outside.ReadAnswer.{ReadAnswer}
 use Rattle.fsw_base.specs.declared.outside.ReadAnswer.TheVariants.{Got, End, Failed}
 use Rattle.host_run.specs.declared.reading.Reading.{Reading}
-use Rattle.host_run.specs.declared.reading.Reading.TheVariants.{Whole, TooLarge, Fault, NoMemory}
+use Rattle.host_run.specs.declared.reading.Reading.TheVariants.{Whole, TooLarge, Fault}
 
 -- the most bytes that an input may have
 abbrev pub most_input : ℕ
@@ -36,21 +36,18 @@ abbrev pub ReadsAll : Reading → Option (List ℕ) → Option (List ℕ) → Ty
 ReadsAll (Whole v) old new = IsWhole v.items old new
 ReadsAll TooLarge old new = IsTooLarge old new
 ReadsAll Fault old new = IsPartRead old new
-ReadsAll NoMemory old new = new ≡ old
 
 -- What the count of faults did, by the answer of the reading.
 abbrev pub HasCause : Reading → ℕ → ℕ → Type 0
 HasCause (Whole v) before now = before ≤ now
 HasCause TooLarge before now = before ≤ now
 HasCause Fault before now = (before ≤ now) × Rose before now
-HasCause NoMemory before now = now ≡ before
 
 -- whether the reading answers that the source failed
 abbrev pub is_fault : Reading → Bool
 is_fault (Whole v) = false
 is_fault TooLarge = false
 is_fault Fault = true
-is_fault NoMemory = false
 
 -- what one read adds to the bytes kept, of which so many more are asked for
 abbrev pub Adds : ReadAnswer → ℕ → List ℕ → List ℕ → Option (List ℕ) → Type 0

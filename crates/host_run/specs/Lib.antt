@@ -1,6 +1,7 @@
 pub mod Audit
 pub mod Copies
 pub mod Input
+pub mod Memory
 pub mod Serve
 pub mod Status
 pub mod Words

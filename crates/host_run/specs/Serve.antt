@@ -1,6 +1,5 @@
 -- What the program does: what it reads, what it writes and what it shows an audit, by how it ended.
 use Rattle.std.specs.Prelude.{◌≡◌, ◌⊎◌, ℕ, List, ◌++◌, length, map, codes, decimal, Option, Some, None, Result, Ok, Err}
-use Rattle.std.specs.List.{range_with_len}
 use Rattle.fsw_base.specs.Guards.{GuardedSink, GuardedSource}
 use Rattle.fsw_base.specs.Outside.{Rose}
 use Rattle.fsw_base.specs.ScriptFaults.{fault_name}
@@ -15,21 +14,20 @@ use Rattle.tbl_load.specs.Core.{Core as TableCore, apps_of as table_apps_of}
 use Rattle.text_page.specs.Pieces.{Grew, CutShort}
 use Rattle.run_report.specs.CounterText.{BusFigures, TableFigures}
 use Rattle.run_report.specs.Report.{ending_text, figures_shown, table_figures_shown, report_text}
+use Rattle.run_check.specs.Openings.{report}
 use Rattle.app_script.specs.Grammar.{grammar}
 use Rattle.script_runs.specs.Histories.{Histories}
 use Rattle.script_runs.specs.Runs.{IsRunOf, Guarantees}
 use Rattle.script_runs.specs.Rotation.{rotation}
 use Rattle.app_script.specs.Script.{ScriptText}
-use Rattle.script_runs.specs.Told.{receipts_told}
 use Rattle.script_generate.specs.Generated.{generated}
 use Rattle.script_printing.specs.ScriptSpelling.{spelled_script}
 use Rattle.host_run.specs.Audit.{IsShown, GuardedAudit}
 use Rattle.app_run.specs.Runners.{histories_of}
+use Rattle.host_run.specs.Status.{IsNoMemory}
 use Rattle.host_run.specs.Input.{IsWhole, IsTooLarge, IsPartRead}
 use Rattle.host_run.specs.declared.reporting.Part.{Part}
 use Rattle.host_run.specs.declared.reporting.Part.TheVariants.{Whole, Ending}
-use Rattle.host_run.specs.declared.running.Way.{Way}
-use Rattle.host_run.specs.declared.running.Way.TheVariants as way
 use Rattle.host_run.specs.declared.words.Task.{Task}
 use Rattle.host_run.specs.declared.words.Task.TheVariants as task
 use Rattle.host_run.specs.declared.status.HostStatus.{HostStatus}
@@ -54,16 +52,7 @@ too_large = record { line = 0; kind = TooLarge }
 abbrev pub figures_after : Limits → ℕ → List Entry → BusFigures
 figures_after limits apps history = figures_shown limits (state_after limits apps history)
 
--- the report of a script's histories, with what each of its applications tells of what it received
--- and held, and with the figures of both services after them
-abbrev pub report : ScriptText → Histories → List ℕ
-report script histories =
-    report_text histories.bus histories.tables
-    (map (receipts_told script histories) (range_with_len 1 (length script.apps)))
-    (figures_after script.limits (length script.apps) histories.bus)
-    (table_figures_shown script.limits (length script.apps) histories.tables)
-
--- the end of this report, from its line `counters` on
+-- the end of the report of a script's histories, from its line `counters` on
 abbrev pub report_ending : ScriptText → Histories → List ℕ
 report_ending script histories =
     ending_text (figures_after script.limits (length script.apps) histories.bus)
@@ -144,18 +133,29 @@ pub record ReportsFront (old new : Made) (histories : Histories) (text : List �
   pub cause : Rose old.faults new.faults
   pub shown : IsShown old.shown new.shown histories
 
--- what a wanted end, or a failing sink in its place, made of a text
-abbrev pub EndsTelling : HostStatus → HostStatus → Made → Made → List ℕ → Type 0
-EndsTelling wanted result old new text =
-    ((result ≡ wanted) × Tells old new text) ⊎
-    ((result ≡ status.WriteFault) × TellsFront old new text)
+-- What was made, by how a call ended: all that was due, at the wanted end; a front of it, where the
+-- sink failed; what is made without memory, where some was refused. There is no other end.
+abbrev pub Ends : HostStatus → HostStatus → Type 0 → Type 0 → Type 0 → Type 0
+Ends wanted status.WriteFault whole front without = front
+Ends wanted (status.NoMemory refused) whole front without = without
+Ends wanted result whole front without = (result ≡ wanted) × whole
+
+-- how a call ends of which a text is due
+abbrev pub EndsText : HostStatus → HostStatus → List ℕ → Type 0 → Made → Made → Type 0
+EndsText wanted result text without old new =
+    Ends wanted result (Tells old new text) (TellsFront old new text) without
+
+-- How the applications of a script are run: in strict rotation, or each on a thread of its own.
+pub data Way : Type 0 where
+  Rotating : Way
+  OnThreads : Way
 
 -- the histories that a run of a script leaves: in rotation those of its rotation; on threads,
 -- whatever the interleaving, ones that both services can have and that merge the calls of its
 -- applications
 abbrev pub IsLeftBy : Way → ScriptText → Histories → Type 0
-IsLeftBy way.Rotating script histories = histories ≡ rotation script
-IsLeftBy way.OnThreads script histories = IsRunOf script histories
+IsLeftBy Rotating script histories = histories ≡ rotation script
+IsLeftBy OnThreads script histories = IsRunOf script histories
 
 -- the histories that a run of a script left were shown, and this part of their report written
 abbrev pub ReportsRun : Way → Part → ScriptText → Made → Made → Type 0
@@ -169,47 +169,35 @@ ReportsRunFront how part script old new =
     (histories : Histories) × IsLeftBy how script histories ×
     ReportsFront old new histories (report_part part script histories)
 
--- what was made of a script that was run in a way, and of which this much is reported, by how it
--- ended
+-- how the run of a script ends, of whose report this much is due
 abbrev pub EndsScript : HostStatus → Way → Part → ScriptText → Made → Made → Type 0
-EndsScript status.Done how part script old new = ReportsRun how part script old new
-EndsScript status.WriteFault how part script old new = ReportsRunFront how part script old new
-EndsScript status.NoMemory how part script old new = MakesNothing old new
-EndsScript status.Usage how part script old new = ⊥
-EndsScript (status.Script fault) how part script old new = ⊥
-EndsScript status.ReadFault how part script old new = ⊥
+EndsScript result how part script old new =
+    Ends status.Done result (ReportsRun how part script old new)
+    (ReportsRunFront how part script old new) (MakesNothing old new)
 
--- what was made of a run that went through: its histories were shown, and a text written
-abbrev pub EndsRun : HostStatus → Histories → List ℕ → Made → Made → Type 0
-EndsRun status.Done histories text old new = Reports old new histories text
-EndsRun status.WriteFault histories text old new = ReportsFront old new histories text
-EndsRun status.NoMemory histories text old new = ⊥
-EndsRun status.Usage histories text old new = ⊥
-EndsRun (status.Script fault) histories text old new = ⊥
-EndsRun status.ReadFault histories text old new = ⊥
-
--- what was made of a text that takes memory, by how it ended
-abbrev pub EndsText : HostStatus → List ℕ → Made → Made → Type 0
-EndsText status.Done text old new = Tells old new text
-EndsText status.WriteFault text old new = TellsFront old new text
-EndsText status.NoMemory text old new = MakesNothing old new
-EndsText status.Usage text old new = ⊥
-EndsText (status.Script fault) text old new = ⊥
-EndsText status.ReadFault text old new = ⊥
-
--- what was made of an input that is no script, by how it ended
+-- how an input ends that is no script: the line of its fault is due
 abbrev pub EndsRefused : HostStatus → ScriptFault → Made → Made → Type 0
-EndsRefused (status.Script told) fault old new = (told ≡ fault) × Tells old new (fault_text fault)
-EndsRefused status.WriteFault fault old new = TellsFront old new (fault_text fault)
-EndsRefused status.NoMemory fault old new = MakesNothing old new
-EndsRefused status.Done fault old new = ⊥
-EndsRefused status.Usage fault old new = ⊥
-EndsRefused status.ReadFault fault old new = ⊥
+EndsRefused result fault old new =
+    EndsText (status.Script fault) result (fault_text fault) (MakesNothing old new) old new
+
+-- how the telling of a run ends that went through: its histories are shown, and a text is due; no
+-- memory is taken any more
+abbrev pub EndsRun : HostStatus → Histories → List ℕ → Made → Made → Type 0
+EndsRun result histories text old new =
+    Ends status.Done result (Reports old new histories text) (ReportsFront old new histories text) ⊥
+
+-- how words end that the program doesn't know: the usage line is due, and no memory is taken
+abbrev pub EndsUsage : HostStatus → Made → Made → Type 0
+EndsUsage result old new = EndsText status.Usage result usage_text ⊥ old new
 
 -- what was made of an input, by what it is: a script, which was run in this way, or the first fault
 abbrev pub EndsInput : HostStatus → Way → Result ScriptText ScriptFault → Made → Made → Type 0
 EndsInput result how (Ok script) old new = EndsScript result how Whole script old new
 EndsInput result how (Err fault) old new = EndsRefused result fault old new
+
+-- the whole input was read, and is this script
+abbrev pub IsRead : ScriptText → Option (List ℕ) → Option (List ℕ) → Type 0
+IsRead script left left' = (bytes : List ℕ) × IsWhole bytes left left' × (grammar bytes ≡ Ok script)
 
 -- On a word that has a script read and run in this way, one of these happened.
 pub data Runs (how : Way) (result : HostStatus) (fed fed' : Fed) (old new : Made) : Type 0 where
@@ -223,31 +211,31 @@ pub data Runs (how : Way) (result : HostStatus) (fed fed' : Fed) (old new : Made
   SourceFailed : result ≡ status.ReadFault → Rose fed.faults fed'.faults →
       IsPartRead fed.left fed'.left → MakesNothing old new → Runs how result fed fed' old new
   -- no memory for the input, of which nothing was read
-  NoRoom : result ≡ status.NoMemory → fed' ≡ fed → MakesNothing old new →
-      Runs how result fed fed' old new
+  NoRoom : IsNoMemory result → fed' ≡ fed → MakesNothing old new → Runs how result fed fed' old new
 
 -- on `gen` and a number nothing is read, and the generated script of this number is written
 pub record Generates (result : HostStatus) (number : ℕ) (fed fed' : Fed)
     (old new : Made) : Type 0 where
   pub unread : fed' ≡ fed
-  pub ends : EndsText result (spelled_script (generated number)) old new
+  pub ends : EndsText status.Done result (spelled_script (generated number)) (MakesNothing old new)
+      old new
 
 -- on `soak` and a number nothing is read; the generated script of this number is run, and the end
 -- of its report written
 pub record Soaks (result : HostStatus) (number : ℕ) (fed fed' : Fed) (old new : Made) : Type 0 where
   pub unread : fed' ≡ fed
-  pub ends : EndsScript result way.Rotating Ending (generated number) old new
+  pub ends : EndsScript result Rotating Ending (generated number) old new
 
--- on other words nothing is read, and the usage line is written
+-- on other words nothing is read, and the usage line is written; no memory is taken
 pub record OtherWords (result : HostStatus) (fed fed' : Fed) (old new : Made) : Type 0 where
   pub unread : fed' ≡ fed
-  pub usage : EndsTelling status.Usage result old new usage_text
+  pub usage : EndsUsage result old new
 
 -- what happened, by what the words ask for
 pub record Serves (wanted : Option Task) (result : HostStatus) (fed fed' : Fed)
     (old new : Made) : Type 0 where
-  pub on_threads : wanted ≡ Some task.Run → Runs way.OnThreads result fed fed' old new
-  pub lockstep : wanted ≡ Some task.Lockstep → Runs way.Rotating result fed fed' old new
+  pub on_threads : wanted ≡ Some task.Run → Runs OnThreads result fed fed' old new
+  pub lockstep : wanted ≡ Some task.Lockstep → Runs Rotating result fed fed' old new
   pub generates : (number : ℕ) → wanted ≡ Some (task.Generate number) →
       Generates result number fed fed' old new
   pub soaks : (number : ℕ) → wanted ≡ Some (task.Soak number) → Soaks result number fed fed' old new
@@ -263,7 +251,7 @@ HasCauses status.ReadFault fed fed' old new = Rose fed.faults fed'.faults
 HasCauses status.WriteFault fed fed' old new = Rose old.faults new.faults
 HasCauses status.Done fed fed' old new = Unit {0}
 HasCauses (status.Script fault) fed fed' old new = Unit {0}
-HasCauses status.NoMemory fed fed' old new = Unit {0}
+HasCauses (status.NoMemory refused) fed fed' old new = Unit {0}
 
 -- If the input is shown and is a script, and neither count of faults rose, all was done or there
 -- was no memory.
@@ -271,13 +259,13 @@ abbrev pub Completes : HostStatus → Fed → Fed → Made → Made → Type 0
 Completes result fed fed' old new =
     (input : List ℕ) (script : ScriptText) → fed.left ≡ Some input → grammar input ≡ Ok script →
     ¬ Rose fed.faults fed'.faults → ¬ Rose old.faults new.faults →
-    (result ≡ status.Done) ⊎ (result ≡ status.NoMemory)
+    (result ≡ status.Done) ⊎ IsNoMemory result
 
 -- where nothing was read, and the sink's count of faults didn't rise, all was done or there was no
 -- memory
 abbrev pub CompletesUnread : HostStatus → Made → Made → Type 0
 CompletesUnread result old new =
-    ¬ Rose old.faults new.faults → (result ≡ status.Done) ⊎ (result ≡ status.NoMemory)
+    ¬ Rose old.faults new.faults → (result ≡ status.Done) ⊎ IsNoMemory result
 
 -- The headline, of runs on threads and in rotation alike: where all was done, the whole input was
 -- read and is a script, and there are a history of the bus and one of the tables, both legal under
@@ -299,3 +287,49 @@ Headline result fed fed' old new =
     × Guarantees script histories
     × IsShown old.shown new.shown histories
     × Grew old.written new.written (report script histories)
+
+-- What is outside: a source, and what was made.
+pub record Outside : Type 0 where
+  pub fed : Fed
+  pub made : Made
+
+-- a source, a sink and an audit as they are, by what their traits tell
+abbrev pub outside : {S K A : Type 0} → (S → Option (List ℕ)) → (S → ℕ) → (K → Option (List ℕ)) →
+    (K → ℕ) → (A → Option (List Histories)) → S → K → A → Outside
+outside left source_faults written sink_faults shown source sink audit =
+    record {
+      fed = fed_by left source_faults source;
+      made = made_by written sink_faults shown sink audit;
+    }
+
+-- What the top call did, by what the words asked for.
+pub record Served (wanted : Option Task) (result : HostStatus)
+    (before after : Outside) : Type 0 where
+  -- whatever the interleaving, the report prints one history for each service that merges the
+  -- applications' calls, each once and in script order, and what follows of it
+  pub headline_on_run : wanted ≡ Some task.Run →
+      Headline result before.fed after.fed before.made after.made
+  pub headline : wanted ≡ Some task.Lockstep →
+      Headline result before.fed after.fed before.made after.made
+  -- what was read, written and shown, by how it ended
+  pub on_threads : wanted ≡ Some task.Run →
+      Runs OnThreads result before.fed after.fed before.made after.made
+  pub lockstep : wanted ≡ Some task.Lockstep →
+      Runs Rotating result before.fed after.fed before.made after.made
+  pub generates : (number : ℕ) → wanted ≡ Some (task.Generate number) →
+      Generates result number before.fed after.fed before.made after.made
+  pub soaks : (number : ℕ) → wanted ≡ Some (task.Soak number) →
+      Soaks result number before.fed after.fed before.made after.made
+  pub other_words : wanted ≡ None → OtherWords result before.fed after.fed before.made after.made
+  -- why it ended so; these follow from those above
+  pub causes : (asked : Task) → wanted ≡ Some asked →
+      HasCauses result before.fed after.fed before.made after.made
+  pub usage_or_fault : wanted ≡ None → (result ≡ status.Usage) ⊎ (result ≡ status.WriteFault)
+  pub complete_on_run : wanted ≡ Some task.Run →
+      Completes result before.fed after.fed before.made after.made
+  pub complete : wanted ≡ Some task.Lockstep →
+      Completes result before.fed after.fed before.made after.made
+  pub complete_generates : (number : ℕ) → wanted ≡ Some (task.Generate number) →
+      CompletesUnread result before.made after.made
+  pub complete_soaks : (number : ℕ) → wanted ≡ Some (task.Soak number) →
+      CompletesUnread result before.made after.made

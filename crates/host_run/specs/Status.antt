@@ -9,7 +9,7 @@ exit_status Usage = 2
 exit_status (Script fault) = 3
 exit_status ReadFault = 4
 exit_status WriteFault = 5
-exit_status NoMemory = 6
+exit_status (NoMemory refused) = 6
 
 -- whether it tells that the source failed
 abbrev pub is_read_fault : HostStatus → Bool
@@ -18,7 +18,7 @@ is_read_fault Usage = false
 is_read_fault (Script fault) = false
 is_read_fault ReadFault = true
 is_read_fault WriteFault = false
-is_read_fault NoMemory = false
+is_read_fault (NoMemory refused) = false
 
 -- whether it tells that the sink failed
 abbrev pub is_write_fault : HostStatus → Bool
@@ -27,4 +27,13 @@ is_write_fault Usage = false
 is_write_fault (Script fault) = false
 is_write_fault ReadFault = false
 is_write_fault WriteFault = true
-is_write_fault NoMemory = false
+is_write_fault (NoMemory refused) = false
+
+-- it tells that memory was refused
+abbrev pub IsNoMemory : HostStatus → Type 0
+IsNoMemory Done = ⊥
+IsNoMemory Usage = ⊥
+IsNoMemory (Script fault) = ⊥
+IsNoMemory ReadFault = ⊥
+IsNoMemory WriteFault = ⊥
+IsNoMemory (NoMemory refused) = Unit {0}

@@ -1,5 +1,5 @@
 -- The words of a command line, as far as any form of them needs, and what they ask for.
-use Rattle.std.specs.Prelude.{ℕ, ◌&&◌, nat_le, nat_lt, List, [], ◌∷◌, ◌++◌, length, take, codes, Option, Some, None, if◌then◌else◌}
+use Rattle.std.specs.Prelude.{ℕ, Bool, true, false, ◌&&◌, nat_le, nat_lt, List, [], ◌∷◌, ◌++◌, length, take, codes, Option, Some, None, if◌then◌else◌}
 use Rattle.std.specs.Option.{option_map}
 use Rattle.std.specs.Str.{bytes_eq}
 use Rattle.script_words.specs.Numbers.{is_decimal, value_in}
@@ -34,3 +34,11 @@ task_of [] = None
 task_of (word ∷ []) = task_alone word
 task_of (word ∷ number ∷ []) = task_with word number
 task_of (word ∷ number ∷ other ∷ others) = None
+
+-- whether what is asked for needs threads: `run` alone
+abbrev pub needs_threads : Option Task → Bool
+needs_threads None = false
+needs_threads (Some Run) = true
+needs_threads (Some Lockstep) = false
+needs_threads (Some (Generate number)) = false
+needs_threads (Some (Soak number)) = false

@@ -5,13 +5,13 @@
 mod audit;
 mod fault_line;
 mod mem_audit;
+mod memory;
 #[cfg(test)]
 mod pool_tests;
 mod reading;
 mod reporting;
 #[cfg(test)]
 mod run_tests;
-mod running;
 mod serve;
 #[cfg(test)]
 mod serve_tests;
@@ -23,7 +23,7 @@ mod words;
 
 use crate::audit::NoAudit;
 use crate::serve::serve;
-use crate::status::HostStatus;
+use crate::status::NO_MEMORY;
 use crate::words::Words;
 use fsw_base::{OpenGate, StdSink, StdSource};
 use std::process::ExitCode;
@@ -48,9 +48,7 @@ fn main(rt: HostRuntime) -> ExitCode {
             );
             ExitCode::from(status.exit_status())
         }
-        Err(error) if error.kind() == io::ErrorKind::OutOfMemory => {
-            ExitCode::from(HostStatus::NoMemory.exit_status())
-        }
+        Err(error) if error.kind() == io::ErrorKind::OutOfMemory => { ExitCode::from(NO_MEMORY) }
         Err(_) => ExitCode::from(NO_WORDS),
     }
 }

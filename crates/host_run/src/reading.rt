@@ -1,14 +1,16 @@
 //! Reading a source to its end, as far as a script may reach.
-ghost use Rattle.std.specs.Prelude.{◌≡◌, ℕ, ◌+◌, ◌<◌, ◌≤◌, true, false, length, vec_len, vec_capacity};
+ghost use Rattle.std.specs.Prelude.{◌≡◌, ℕ, [], ◌+◌, ◌<◌, ◌≤◌, true, false, length, vec_len, vec_capacity};
 ghost use Rattle.fsw_base.specs.Guards.{is_failed_read};
 ghost use Rattle.fsw_base.specs.Outside.{Rose};
 ghost use Rattle.host_run.specs.Input.{input_of, ReadsAll, HasCause, Adds, is_fault};
 
 use fsw_base::{MAX_SCRIPT_BYTES, ReadAnswer, Source, SourceGuard};
-use std::alloc::Global;
 
 // The most bytes that an input may have.
 const MAX_INPUT: usize = MAX_SCRIPT_BYTES;
+
+/// How many bytes of an input are read at most: one more shows that it is too long.
+pub const INPUT_ROOM: usize = MAX_INPUT + 1;
 
 // The bytes that one read asks for; the last read may ask for fewer.
 const PIECE: usize = 4096;
@@ -22,25 +24,20 @@ pub enum Reading {
     TooLarge,
     /// The source failed.
     Fault,
-    /// There is no memory for an input; nothing was read.
-    NoMemory,
 }
 
 /// Reads a source to its end, at most one byte more than an input may have, and no further after a
-/// failure.
-///
-/// By the code, memory is taken once, before the first read. No read through this guard may have
-/// failed before.
-pub fn read_all<S: Source>(alloc: Global, source: &mut SourceGuard<'_, S>) -> Reading
-    requires { source.old.failed ≡ false }
+/// failure. What is read is put into the list, which is empty and has room for [`INPUT_ROOM`]
+/// bytes. No read through this guard may have failed before.
+pub fn read_all<S: Source>(mut kept: Vec<u8>, source: &mut SourceGuard<'_, S>) -> Reading
+    requires none_failed { source.old.failed ≡ false }
+    requires empty { kept.items ≡ [] }
+    requires room { vec_capacity kept ≡ INPUT_ROOM }
     ensures bytes { ReadsAll result source.old.left source.new.left }
     ensures failed { source.new.failed ≡ is_fault result }
     ensures cause { HasCause result source.old.faults source.new.faults }
     ensures same_source { source.new.source ≡ source.old.source }
 {
-    let Ok(mut kept) = Vec::with_capacity(alloc, MAX_INPUT + 1) else {
-        return Reading::NoMemory;
-    };
     let mut piece = [0; PIECE];
     while kept.len() <= MAX_INPUT {
         let most = PIECE.min(MAX_INPUT + 1 - kept.len());

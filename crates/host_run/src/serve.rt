@@ -1,28 +1,25 @@
 //! The top call: all that the program does.
-ghost use Rattle.std.specs.Prelude.{◌≡◌, ◌≤◌, ◌⊎◌, ℕ, Some, None, true, false};
-ghost use Rattle.app_run.specs.Openings.{HaveRoom};
+ghost use Rattle.std.specs.Prelude.{◌≡◌, Ok, true, false, IfOk, IfErr};
 ghost use Rattle.app_run.specs.Runners.{histories_of};
 ghost use Rattle.app_script.specs.Grammar.{grammar};
 ghost use Rattle.script_generate.specs.Generated.{generated};
 ghost use Rattle.script_printing.specs.ScriptSpelling.{spelled_script};
 ghost use Rattle.host_run.specs.Audit.{GuardedAudit};
-ghost use Rattle.host_run.specs.Serve.{Headline, Runs, Generates, Soaks, OtherWords, Serves, HasCauses, Completes, CompletesUnread, fed_by, made_by, fed_through, made_through, EndsInput, EndsScript, EndsRun, EndsText, EndsRefused, EndsTelling, part_shown, usage_text};
+ghost use Rattle.host_run.specs.Serve.{Served, Serves, Runs, MakesNothing, fed_by, made_by, fed_through, made_through, outside, EndsInput, EndsScript, EndsRun, EndsText, EndsRefused, EndsUsage, IsRead, OnThreads, Rotating, Way, part_shown};
 ghost use Rattle.host_run.specs.Status.{is_read_fault, is_write_fault};
-ghost use Rattle.host_run.specs.Words.{task_of};
+ghost use Rattle.host_run.specs.Words.{needs_threads, task_of};
 
 use crate::audit::{Audit, AuditGuard};
 use crate::fault_line::write_fault;
-use crate::reading::{Reading, read_all};
+use crate::memory::Memory;
+use crate::reading::{INPUT_ROOM, Reading, read_all};
 use crate::reporting::{Part, write_part};
-use crate::running::{Way, run_script_by};
 use crate::status::HostStatus;
 use crate::words::{Task, Words};
-use app_run::{Finished, Regions};
-use app_script::{ReadFail, Script, read_script};
+use app_script::Script;
 use bus_words::ReceiptList;
 use fsw_base::{FaultKind, Gate, ScriptFault, Sink, SinkGuard, Source, SourceGuard, WriteFault};
 use sb_calls::BusCore;
-use script_generate::generate;
 use script_printing::print_script;
 use std::alloc::Global;
 use std::sync::Wait;
@@ -36,11 +33,10 @@ const TOO_LARGE: ScriptFault = ScriptFault {
     kind: FaultKind::TooLarge,
 };
 
-// By what the program runs: its runtime, its memory and the gate round the lines of scripts.
+// By what applications run on threads: the runtime, and the gate round their lines.
 #[derive(Drop)]
-struct Means<'a, R, G> {
+struct ByThreads<'a, R, G> {
     rt: &'a R,
-    alloc: Global,
     gate: &'a G,
 }
 
@@ -61,9 +57,11 @@ struct Means<'a, R, G> {
 ///   nothing is written.
 /// - `WriteFault`, only where the sink's count of faults rose, or stands at its last value: a front
 ///   of the text due is written.
-/// - `NoMemory`, never on other words: nothing is written; by the code, no application ran.
+/// - `NoMemory`, never on other words, and only after a request for memory was refused: nothing is
+///   written; by the code, no application ran.
 ///
-/// On `gen N` and `soak N` no answer but `Done`, `WriteFault` and `NoMemory` comes.
+/// It returns on all words but `run`: what they do waits for nothing. On `gen N` and `soak N` no
+/// answer but `Done`, `WriteFault` and `NoMemory` comes.
 pub fn serve<R: Threads + Wait + Sync, S: Source, K: Sink, G: Gate, A: Audit>(
     rt: &R,
     alloc: Global,
@@ -74,72 +72,24 @@ pub fn serve<R: Threads + Wait + Sync, S: Source, K: Sink, G: Gate, A: Audit>(
     audit: &mut A,
 ) -> HostStatus
     // Whatever the interleaving, the report prints one history for each service that merges the
-    // applications' calls, each once and in script order, and what follows of it.
-    ensures headline_on_run { task_of words.now ≡ Some Task.Run → Headline result
-        (fed_by S.left S.faults source.old) (fed_by S.left S.faults source.new)
-        (made_by K.written K.faults A.shown sink.old audit.old)
-        (made_by K.written K.faults A.shown sink.new audit.new) }
-    ensures headline { task_of words.now ≡ Some Task.Lockstep → Headline result
-        (fed_by S.left S.faults source.old) (fed_by S.left S.faults source.new)
-        (made_by K.written K.faults A.shown sink.old audit.old)
-        (made_by K.written K.faults A.shown sink.new audit.new) }
-
-    // What was read, written and shown, by how it ended.
-    ensures on_threads { task_of words.now ≡ Some Task.Run → Runs Way.OnThreads result
-        (fed_by S.left S.faults source.old) (fed_by S.left S.faults source.new)
-        (made_by K.written K.faults A.shown sink.old audit.old)
-        (made_by K.written K.faults A.shown sink.new audit.new) }
-    ensures lockstep { task_of words.now ≡ Some Task.Lockstep → Runs Way.Rotating result
-        (fed_by S.left S.faults source.old) (fed_by S.left S.faults source.new)
-        (made_by K.written K.faults A.shown sink.old audit.old)
-        (made_by K.written K.faults A.shown sink.new audit.new) }
-    ensures generates { (number : ℕ) → task_of words.now ≡ Some (Task.Generate number) →
-        Generates result number
-        (fed_by S.left S.faults source.old) (fed_by S.left S.faults source.new)
-        (made_by K.written K.faults A.shown sink.old audit.old)
-        (made_by K.written K.faults A.shown sink.new audit.new) }
-    ensures soaks { (number : ℕ) → task_of words.now ≡ Some (Task.Soak number) →
-        Soaks result number
-        (fed_by S.left S.faults source.old) (fed_by S.left S.faults source.new)
-        (made_by K.written K.faults A.shown sink.old audit.old)
-        (made_by K.written K.faults A.shown sink.new audit.new) }
-    ensures other_words { task_of words.now ≡ None → OtherWords result
-        (fed_by S.left S.faults source.old) (fed_by S.left S.faults source.new)
-        (made_by K.written K.faults A.shown sink.old audit.old)
-        (made_by K.written K.faults A.shown sink.new audit.new) }
-
-    // Why it ended so; these follow from those above.
-    ensures causes { (task : Task) → task_of words.now ≡ Some task → HasCauses result
-        (fed_by S.left S.faults source.old) (fed_by S.left S.faults source.new)
-        (made_by K.written K.faults A.shown sink.old audit.old)
-        (made_by K.written K.faults A.shown sink.new audit.new) }
-    ensures usage_or_fault { task_of words.now ≡ None → (result ≡ HostStatus.Usage) ⊎
-        (result ≡ HostStatus.WriteFault) }
-    ensures complete_on_run { task_of words.now ≡ Some Task.Run → Completes result
-        (fed_by S.left S.faults source.old) (fed_by S.left S.faults source.new)
-        (made_by K.written K.faults A.shown sink.old audit.old)
-        (made_by K.written K.faults A.shown sink.new audit.new) }
-    ensures complete { task_of words.now ≡ Some Task.Lockstep → Completes result
-        (fed_by S.left S.faults source.old) (fed_by S.left S.faults source.new)
-        (made_by K.written K.faults A.shown sink.old audit.old)
-        (made_by K.written K.faults A.shown sink.new audit.new) }
-    ensures complete_generates { (number : ℕ) → task_of words.now ≡ Some (Task.Generate number) →
-        CompletesUnread result
-        (made_by K.written K.faults A.shown sink.old audit.old)
-        (made_by K.written K.faults A.shown sink.new audit.new) }
-    ensures complete_soaks { (number : ℕ) → task_of words.now ≡ Some (Task.Soak number) →
-        CompletesUnread result
-        (made_by K.written K.faults A.shown sink.old audit.old)
-        (made_by K.written K.faults A.shown sink.new audit.new) }
+    // applications' calls, each once and in script order, and what follows of it (`headline_on_run`
+    // and `headline`). The other fields say what was read, written and shown, by how it ended, and
+    // why it ended so.
+    ensures { let before = outside S.left S.faults K.written K.faults A.shown
+        source.old sink.old audit.old in
+        let after = outside S.left S.faults K.written K.faults A.shown
+        source.new sink.new audit.new in
+        Served (task_of words.now) result before after }
 {
-    let means = Means { rt, alloc, gate };
-    serve_guarded(&means, words, source, sink, audit)
+    let threads = ByThreads { rt, gate };
+    serve_guarded(&threads, Memory::new(alloc), words, source, sink, audit)
 }
 
 // Does what the words say, with the source, the sink and the audit behind guards: below here they
 // are reached in no other way.
 fn serve_guarded<R: Threads + Wait + Sync, G: Gate, S: Source, K: Sink, A: Audit>(
-    means: &Means<'_, R, G>,
+    threads: &ByThreads<'_, R, G>,
+    memory: Memory,
     words: &Words,
     source: &mut S,
     sink: &mut K,
@@ -153,16 +103,17 @@ fn serve_guarded<R: Threads + Wait + Sync, G: Gate, S: Source, K: Sink, A: Audit
     let mut source = SourceGuard::new(source);
     let mut sink = SinkGuard::new(sink);
     let mut audit = AuditGuard::new(audit);
-    let status = serve_words(means, words, &mut source, &mut sink, &mut audit);
+    let status = serve_words(threads, memory, words, &mut source, &mut sink, &mut audit);
     let _source = source.into_inner();
     let _sink = sink.into_inner();
     let _audit = audit.into_inner();
     status
 }
 
-// Does what the words say.
+// Does what the words say. What all of them but `run` do has no runtime, so it ends.
 fn serve_words<R: Threads + Wait + Sync, G: Gate, S: Source, K: Sink, A: Audit>(
-    means: &Means<'_, R, G>,
+    threads: &ByThreads<'_, R, G>,
+    memory: Memory,
     words: &Words,
     source: &mut SourceGuard<'_, S>,
     sink: &mut SinkGuard<'_, K>,
@@ -180,19 +131,17 @@ fn serve_words<R: Threads + Wait + Sync, G: Gate, S: Source, K: Sink, A: Audit>(
     ensures same_sink { sink.new.sink ≡ sink.old.sink }
     ensures same_audit { audit.new.audit ≡ audit.old.audit }
 {
-    match words.task() {
-        Some(Task::Run) => serve_source(means, Way::OnThreads, source, sink, audit),
-        Some(Task::Lockstep) => serve_source(means, Way::Rotating, source, sink, audit),
-        Some(Task::Generate(number)) => write_generated(means.alloc, number, sink),
-        Some(Task::Soak(number)) => soak(means, number, sink, audit),
-        None => tell_usage(sink),
+    if words.need_threads() {
+        serve_on_threads(threads, memory, source, sink, audit)
+    } else {
+        serve_alone(memory, words, source, sink, audit)
     }
 }
 
-// Runs the script that the source gives, in this way.
-fn serve_source<R: Threads + Wait + Sync, G: Gate, S: Source, K: Sink, A: Audit>(
-    means: &Means<'_, R, G>,
-    way: Way,
+// Runs the script that the source gives, each application on a thread.
+fn serve_on_threads<R: Threads + Wait + Sync, G: Gate, S: Source, K: Sink, A: Audit>(
+    threads: &ByThreads<'_, R, G>,
+    mut memory: Memory,
     source: &mut SourceGuard<'_, S>,
     sink: &mut SinkGuard<'_, K>,
     audit: &mut AuditGuard<'_, A>,
@@ -200,7 +149,7 @@ fn serve_source<R: Threads + Wait + Sync, G: Gate, S: Source, K: Sink, A: Audit>
     requires no_read_failed { source.old.failed ≡ false }
     requires no_write_failed { sink.old.failed ≡ false }
     requires untouched { sink.old.untouched ≡ true }
-    ensures end { Runs way result (fed_through source.old) (fed_through source.new)
+    ensures end { Runs OnThreads result (fed_through source.old) (fed_through source.new)
         (made_through sink.old audit.old) (made_through sink.new audit.new) }
     ensures read_failed { source.new.failed ≡ is_read_fault result }
     ensures write_failed { sink.new.failed ≡ is_write_fault result }
@@ -208,50 +157,136 @@ fn serve_source<R: Threads + Wait + Sync, G: Gate, S: Source, K: Sink, A: Audit>
     ensures same_sink { sink.new.sink ≡ sink.old.sink }
     ensures same_audit { audit.new.audit ≡ audit.old.audit }
 {
-    match read_all(means.alloc, source) {
-        Reading::Whole(text) => serve_text(means, way, &text, sink, audit),
-        Reading::TooLarge => refuse(sink, TOO_LARGE),
-        Reading::Fault => HostStatus::ReadFault,
-        Reading::NoMemory => HostStatus::NoMemory,
+    match read_input(&mut memory, source, sink) {
+        Ok(script) => serve_script_on_threads(threads, memory, &script, sink, audit),
+        Err(status) => status,
     }
 }
 
-// Runs the text in this way, where it is a script.
-fn serve_text<R: Threads + Wait + Sync, G: Gate, K: Sink, A: Audit>(
-    means: &Means<'_, R, G>,
-    way: Way,
-    text: &[u8],
+// Does what all words but `run` say. It has no runtime, so it waits for nothing.
+fn serve_alone<S: Source, K: Sink, A: Audit>(
+    mut memory: Memory,
+    words: &Words,
+    source: &mut SourceGuard<'_, S>,
     sink: &mut SinkGuard<'_, K>,
     audit: &mut AuditGuard<'_, A>,
 ) -> HostStatus
-    requires none_failed { sink.old.failed ≡ false }
+    requires alone { needs_threads (task_of words.now) ≡ false }
+    requires no_read_failed { source.old.failed ≡ false }
+    requires no_write_failed { sink.old.failed ≡ false }
     requires untouched { sink.old.untouched ≡ true }
-    ensures end { EndsInput result way (grammar text.now) (made_through sink.old audit.old)
-        (made_through sink.new audit.new) }
-    ensures failed { sink.new.failed ≡ is_write_fault result }
-    ensures no_read_fault { is_read_fault result ≡ false }
+    ensures serves { Serves (task_of words.now) result
+        (fed_through source.old) (fed_through source.new)
+        (made_through sink.old audit.old) (made_through sink.new audit.new) }
+    ensures read_failed { source.new.failed ≡ is_read_fault result }
+    ensures write_failed { sink.new.failed ≡ is_write_fault result }
+    ensures same_source { source.new.source ≡ source.old.source }
     ensures same_sink { sink.new.sink ≡ sink.old.sink }
     ensures same_audit { audit.new.audit ≡ audit.old.audit }
 {
-    match read_script(means.alloc, text) {
-        Ok(script) => serve_script(means, way, &script, Part::Whole, sink, audit),
-        Err(ReadFail::Fault(fault)) => refuse(sink, fault),
-        Err(ReadFail::Memory(_)) => HostStatus::NoMemory,
+    match words.task() {
+        Some(Task::Lockstep) => rotate(memory, source, sink, audit),
+        Some(Task::Generate(number)) => write_generated(&mut memory, number, sink),
+        Some(Task::Soak(number)) => soak(memory, number, sink, audit),
+        None => tell_usage(sink),
+        Some(Task::Run) => unreachable!(),
+    }
+}
+
+// Runs the script that the source gives in rotation.
+fn rotate<S: Source, K: Sink, A: Audit>(
+    mut memory: Memory,
+    source: &mut SourceGuard<'_, S>,
+    sink: &mut SinkGuard<'_, K>,
+    audit: &mut AuditGuard<'_, A>,
+) -> HostStatus
+    requires no_read_failed { source.old.failed ≡ false }
+    requires no_write_failed { sink.old.failed ≡ false }
+    requires untouched { sink.old.untouched ≡ true }
+    ensures end { Runs Rotating result (fed_through source.old) (fed_through source.new)
+        (made_through sink.old audit.old) (made_through sink.new audit.new) }
+    ensures read_failed { source.new.failed ≡ is_read_fault result }
+    ensures write_failed { sink.new.failed ≡ is_write_fault result }
+    ensures same_source { source.new.source ≡ source.old.source }
+    ensures same_sink { sink.new.sink ≡ sink.old.sink }
+    ensures same_audit { audit.new.audit ≡ audit.old.audit }
+{
+    match read_input(&mut memory, source, sink) {
+        Ok(script) => rotate_script(memory, &script, Part::Whole, sink, audit),
+        Err(status) => status,
+    }
+}
+
+// Reads the source to its end. Where it gives no script the answer is how the program ends, once
+// the fault was written.
+fn read_input<S: Source, K: Sink>(
+    memory: &mut Memory,
+    source: &mut SourceGuard<'_, S>,
+    sink: &mut SinkGuard<'_, K>,
+) -> Result<Script, HostStatus>
+    requires no_read_failed { source.old.failed ≡ false }
+    requires no_write_failed { sink.old.failed ≡ false }
+    ensures script { IfOk result (λ script. IsRead script source.old.left source.new.left) }
+    ensures none_written { IfOk result (λ script. sink.new ≡ sink.old) }
+    ensures not_failed { IfOk result (λ script. source.new.failed ≡ false) }
+    ensures end { IfErr result (λ status. (how : Way) (audit : GuardedAudit) →
+        Runs how status (fed_through source.old) (fed_through source.new)
+        (made_through sink.old audit) (made_through sink.new audit)) }
+    ensures read_failed { IfErr result (λ status. source.new.failed ≡ is_read_fault status) }
+    ensures write_failed { IfErr result (λ status. sink.new.failed ≡ is_write_fault status) }
+    ensures same_source { source.new.source ≡ source.old.source }
+    ensures same_sink { sink.new.sink ≡ sink.old.sink }
+{
+    let Some(room) = memory.room(INPUT_ROOM) else {
+        return Err(HostStatus::NoMemory(memory.refusal()));
+    };
+    match read_all(room, source) {
+        Reading::Whole(text) => script_of(memory, &text, sink),
+        Reading::TooLarge => Err(refuse(sink, TOO_LARGE)),
+        Reading::Fault => Err(HostStatus::ReadFault),
+    }
+}
+
+// The text as a script; where it is none, how the program ends once the fault was written.
+fn script_of<K: Sink>(
+    memory: &mut Memory,
+    text: &[u8],
+    sink: &mut SinkGuard<'_, K>,
+) -> Result<Script, HostStatus>
+    requires { sink.old.failed ≡ false }
+    ensures script { IfOk result (λ script. grammar text.now ≡ Ok script) }
+    ensures none_written { IfOk result (λ script. sink.new ≡ sink.old) }
+    ensures end { IfErr result (λ status. (how : Way) (audit : GuardedAudit) →
+        EndsInput status how (grammar text.now) (made_through sink.old audit)
+        (made_through sink.new audit)) }
+    ensures failed { IfErr result (λ status. sink.new.failed ≡ is_write_fault status) }
+    ensures no_read_fault { IfErr result (λ status. is_read_fault status ≡ false) }
+    ensures same_sink { sink.new.sink ≡ sink.old.sink }
+{
+    match memory.script(text) {
+        Some(Ok(script)) => Ok(script),
+        Some(Err(fault)) => Err(refuse(sink, fault)),
+        None => Err(HostStatus::NoMemory(memory.refusal())),
     }
 }
 
 // Writes the generated script of a number.
-fn write_generated<K: Sink>(alloc: Global, number: u32, sink: &mut SinkGuard<'_, K>) -> HostStatus
+fn write_generated<K: Sink>(
+    memory: &mut Memory,
+    number: u32,
+    sink: &mut SinkGuard<'_, K>,
+) -> HostStatus
     requires { sink.old.failed ≡ false }
     ensures end { (audit : GuardedAudit) →
-        EndsText result (spelled_script (generated number)) (made_through sink.old audit)
-        (made_through sink.new audit) }
+        EndsText HostStatus.Done result (spelled_script (generated number))
+        (MakesNothing (made_through sink.old audit) (made_through sink.new audit))
+        (made_through sink.old audit) (made_through sink.new audit) }
     ensures failed { sink.new.failed ≡ is_write_fault result }
     ensures no_read_fault { is_read_fault result ≡ false }
     ensures same_sink { sink.new.sink ≡ sink.old.sink }
 {
-    let Ok(script) = generate(alloc, number) else {
-        return HostStatus::NoMemory;
+    let Some(script) = memory.generated_script(number) else {
+        return HostStatus::NoMemory(memory.refusal());
     };
     match print_script(&script, sink) {
         Ok(()) => HostStatus::Done,
@@ -260,31 +295,30 @@ fn write_generated<K: Sink>(alloc: Global, number: u32, sink: &mut SinkGuard<'_,
 }
 
 // Runs the generated script of a number in rotation, and writes the end of its report.
-fn soak<R: Threads + Wait + Sync, G: Gate, K: Sink, A: Audit>(
-    means: &Means<'_, R, G>,
+fn soak<K: Sink, A: Audit>(
+    mut memory: Memory,
     number: u32,
     sink: &mut SinkGuard<'_, K>,
     audit: &mut AuditGuard<'_, A>,
 ) -> HostStatus
     requires none_failed { sink.old.failed ≡ false }
     requires untouched { sink.old.untouched ≡ true }
-    ensures end { EndsScript result Way.Rotating Part.Ending (generated number)
+    ensures end { EndsScript result Rotating Part.Ending (generated number)
         (made_through sink.old audit.old) (made_through sink.new audit.new) }
     ensures failed { sink.new.failed ≡ is_write_fault result }
     ensures no_read_fault { is_read_fault result ≡ false }
     ensures same_sink { sink.new.sink ≡ sink.old.sink }
     ensures same_audit { audit.new.audit ≡ audit.old.audit }
 {
-    let Ok(script) = generate(means.alloc, number) else {
-        return HostStatus::NoMemory;
+    let Some(script) = memory.generated_script(number) else {
+        return HostStatus::NoMemory(memory.refusal());
     };
-    serve_script(means, Way::Rotating, &script, Part::Ending, sink, audit)
+    rotate_script(memory, &script, Part::Ending, sink, audit)
 }
 
-// Runs the script in this way, shows both services to the audit, and writes so much of its report.
-fn serve_script<R: Threads + Wait + Sync, G: Gate, K: Sink, A: Audit>(
-    means: &Means<'_, R, G>,
-    way: Way,
+// Runs the script in rotation, shows both services to the audit, and writes so much of its report.
+fn rotate_script<K: Sink, A: Audit>(
+    mut memory: Memory,
     script: &Script,
     part: Part,
     sink: &mut SinkGuard<'_, K>,
@@ -292,53 +326,56 @@ fn serve_script<R: Threads + Wait + Sync, G: Gate, K: Sink, A: Audit>(
 ) -> HostStatus
     requires none_failed { sink.old.failed ≡ false }
     requires untouched { sink.old.untouched ≡ true }
-    ensures end { EndsScript result way part script.now (made_through sink.old audit.old)
+    ensures end { EndsScript result Rotating part script.now (made_through sink.old audit.old)
         (made_through sink.new audit.new) }
     ensures failed { sink.new.failed ≡ is_write_fault result }
     ensures no_read_fault { is_read_fault result ≡ false }
     ensures same_sink { sink.new.sink ≡ sink.old.sink }
     ensures same_audit { audit.new.audit ≡ audit.old.audit }
 {
-    let Ok(mut regions) = Regions::new(means.alloc, script.config()) else {
-        return HostStatus::NoMemory;
+    let Some(mut regions) = memory.regions(script.config()) else {
+        return HostStatus::NoMemory(memory.refusal());
     };
-    run_script(means, way, script, part, &mut regions, sink, audit)
+    match memory.run_in_rotation(script, &mut regions) {
+        Ok(run) => {
+            let receipts = run.receipts.as_slice();
+            tell_run(&run.bus, &run.tables, receipts, part, sink, audit)
+        }
+        Err(refusal) => HostStatus::NoMemory(refusal),
+    }
 }
 
-// The same, with the memory that the messages and the tables of the run lie in.
-fn run_script<R: Threads + Wait + Sync, G: Gate, K: Sink, A: Audit>(
-    means: &Means<'_, R, G>,
-    way: Way,
+// Runs the script on threads, shows both services to the audit, and writes its report.
+fn serve_script_on_threads<R: Threads + Wait + Sync, G: Gate, K: Sink, A: Audit>(
+    threads: &ByThreads<'_, R, G>,
+    mut memory: Memory,
     script: &Script,
-    part: Part,
-    regions: &mut Regions,
     sink: &mut SinkGuard<'_, K>,
     audit: &mut AuditGuard<'_, A>,
 ) -> HostStatus
-    requires regions { HaveRoom regions.old script.now.limits }
     requires none_failed { sink.old.failed ≡ false }
     requires untouched { sink.old.untouched ≡ true }
-    ensures end { EndsScript result way part script.now (made_through sink.old audit.old)
-        (made_through sink.new audit.new) }
+    ensures end { EndsScript result OnThreads Part.Whole script.now
+        (made_through sink.old audit.old) (made_through sink.new audit.new) }
     ensures failed { sink.new.failed ≡ is_write_fault result }
     ensures no_read_fault { is_read_fault result ≡ false }
     ensures same_sink { sink.new.sink ≡ sink.old.sink }
     ensures same_audit { audit.new.audit ≡ audit.old.audit }
 {
-    let Ok(
-        Finished {
-            bus,
-            tables,
-            receipts,
-        },
-    ) = run_script_by(way, means.rt, means.alloc, script, regions, means.gate)
-    else {
-        return HostStatus::NoMemory;
+    let Some(mut regions) = memory.regions(script.config()) else {
+        return HostStatus::NoMemory(memory.refusal());
     };
-    tell_run(&bus, &tables, receipts.as_slice(), part, sink, audit)
+    match memory.run_on_threads(threads.rt, script, &mut regions, threads.gate) {
+        Ok(run) => {
+            let receipts = run.receipts.as_slice();
+            tell_run(&run.bus, &run.tables, receipts, Part::Whole, sink, audit)
+        }
+        Err(refusal) => HostStatus::NoMemory(refusal),
+    }
 }
 
-// Shows both services to the audit, and writes so much of their report.
+// Shows both services to the audit, and writes so much of their report. The run took the memory, so
+// nothing can be refused any more.
 fn tell_run<K: Sink, A: Audit>(
     bus: &BusCore<'_>,
     tables: &TblCore<'_>,
@@ -383,8 +420,7 @@ fn refuse<K: Sink>(sink: &mut SinkGuard<'_, K>, fault: ScriptFault) -> HostStatu
 fn tell_usage<K: Sink>(sink: &mut SinkGuard<'_, K>) -> HostStatus
     requires { sink.old.failed ≡ false }
     ensures end { (audit : GuardedAudit) →
-        EndsTelling HostStatus.Usage result (made_through sink.old audit)
-        (made_through sink.new audit) usage_text }
+        EndsUsage result (made_through sink.old audit) (made_through sink.new audit) }
     ensures failed { sink.new.failed ≡ is_write_fault result }
     ensures no_read_fault { is_read_fault result ≡ false }
     ensures same_sink { sink.new.sink ≡ sink.old.sink }

@@ -2,7 +2,11 @@
 ghost use Rattle.std.specs.Prelude.{◌≡◌};
 ghost use Rattle.host_run.specs.Status.{exit_status};
 
+use crate::memory::MemoryRefusal;
 use fsw_base::ScriptFault;
+
+/// The number with which the program ends where there was no memory.
+pub const NO_MEMORY: u8 = 6;
 
 /// How a run ended.
 #[derive(Clone, Copy, Debug, PartialEq, Eq)]
@@ -18,7 +22,7 @@ pub enum HostStatus {
     /// The sink failed; what was written is a front of what was due.
     WriteFault,
     /// There was no memory; nothing was written, and, by the code, no application ran.
-    NoMemory,
+    NoMemory(MemoryRefusal),
 }
 
 impl HostStatus {
@@ -32,7 +36,7 @@ impl HostStatus {
             HostStatus::Script(_) => 3,
             HostStatus::ReadFault => 4,
             HostStatus::WriteFault => 5,
-            HostStatus::NoMemory => 6,
+            HostStatus::NoMemory(_) => NO_MEMORY,
         }
     }
 }

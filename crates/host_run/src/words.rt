@@ -1,6 +1,6 @@
 //! The words of the command line, as far as any form of them needs, and what they ask for.
 ghost use Rattle.std.specs.Prelude.{◌≡◌, ℕ, ◌≤◌, List, [], length, take};
-ghost use Rattle.host_run.specs.Words.{with_word, decimal_number, task_alone, task_with, task_of};
+ghost use Rattle.host_run.specs.Words.{with_word, decimal_number, task_alone, task_with, task_of, needs_threads};
 
 use arrayvec::ArrayVec;
 use script_words::numbers::number;
@@ -88,6 +88,13 @@ impl Words {
         if self.words.len() < MAX_WORDS {
             self.words.push(Word::front_of(word.as_bytes()));
         }
+    }
+
+    /// Whether they ask for threads, as `run` alone does.
+    pub fn need_threads(&self) -> bool
+        ensures { result ≡ needs_threads (task_of self.now) }
+    {
+        matches!(self.task(), Some(Task::Run))
     }
 
     /// What they ask for; None where the program doesn't know them.

@@ -1,0 +1,7 @@
+use Rattle.std.proofs.Common.{refl, sym, ◌∙◌}
+use Rattle.host_run.proofs.Ends.{serves-other}
+use Rattle.host_run.proofs.serve.serve_alone.Goals as goal
+
+pub returns-in-None-clause-serves : goal.returns-in-None-clause-serves
+returns-in-None-clause-serves g c =
+    serves-other _ _ _ _ _ _ (sym c.task.ensures ∙ c.in-None.is) (record { unread = refl; usage = c.tell_usage.ensures.end c.args.audit.now })

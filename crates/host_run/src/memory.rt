@@ -1,0 +1,188 @@
+//! The memory that the program takes.
+ghost use Rattle.std.specs.Prelude.{◌≡◌, [], false, true, length, map, vec_capacity, IfOk, IfSome};
+ghost use Rattle.std.specs.List.{range_with_len};
+ghost use Rattle.std.specs.Option.{is_none};
+ghost use Rattle.std.specs.Result.{result_ok};
+ghost use Rattle.app_run.specs.Openings.{HaveRoom};
+ghost use Rattle.app_run.specs.Runners.{histories_of};
+ghost use Rattle.app_script.specs.Grammar.{grammar};
+ghost use Rattle.sb_calls.specs.Core.{apps_of};
+ghost use Rattle.script_generate.specs.Generated.{generated};
+ghost use Rattle.script_runs.specs.Told.{receipts_told};
+ghost use Rattle.tbl_load.specs.Core.{apps_of as table_apps_of};
+ghost use Rattle.host_run.specs.Serve.{IsLeftBy, OnThreads, Rotating};
+
+use app_run::{Finished, Regions, lockstep};
+use app_script::{ReadFail, Script, read_script};
+use fsw_base::{Config, Gate, ScriptFault};
+use script_generate::generate;
+use std::alloc::{AllocError, Global};
+use std::marker::Model;
+use std::sync::Wait;
+use std::thread::Threads;
+use thread_run::run_threads;
+
+/// That a request for memory was refused. Only [`Memory::refusal`] makes one.
+#[derive(Clone, Copy, Debug, PartialEq, Eq)]
+pub struct MemoryRefusal {
+    // Private, so that no other file makes one.
+    _refused: (),
+}
+
+/// The memory of one call of the program, and whether its newest request for some was refused.
+///
+/// It has the only allocator below the top call, and a run takes it away: nothing asks for memory
+/// after a run. By the code, each call that answers None or a refusal was refused memory.
+#[derive(Drop)]
+pub struct Memory {
+    // Gives memory; private, so that no other file asks it.
+    alloc: Global,
+    // Whether the newest request was refused.
+    refused: bool,
+}
+
+impl Model for Memory {
+    ghost use Rattle.host_run.specs.Memory.{Requests};
+
+    ghost Value = { Requests };
+
+    ghost view = { λ m. record { refused = m.refused } };
+}
+
+impl Memory {
+    /// Memory of which none was asked for yet.
+    pub fn new(alloc: Global) -> Memory
+        ensures { result.refused ≡ false }
+    {
+        Memory {
+            alloc,
+            refused: false,
+        }
+    }
+
+    /// The evidence that the newest request was refused.
+    pub fn refusal(&self) -> MemoryRefusal
+        requires { self.now.refused ≡ true }
+    {
+        MemoryRefusal { _refused: () }
+    }
+
+    /// A list with room for so many bytes.
+    pub fn room(&mut self, bytes: usize) -> Option<Vec<u8>>
+        ensures empty { IfSome result (λ v. v.items ≡ []) }
+        ensures room { IfSome result (λ v. vec_capacity v ≡ bytes) }
+        ensures refused { self.new.refused ≡ is_none result }
+    {
+        let taken = Vec::with_capacity(self.alloc, bytes);
+        self.note(taken)
+    }
+
+    /// The text as a script, or what is wrong with it.
+    pub fn script(&mut self, text: &[u8]) -> Option<Result<Script, ScriptFault>>
+        ensures script { IfSome result (λ read. read ≡ grammar text.now) }
+        ensures refused { self.new.refused ≡ is_none result }
+    {
+        let read = match read_script(self.alloc, text) {
+            Ok(script) => Some(Ok(script)),
+            Err(ReadFail::Fault(fault)) => Some(Err(fault)),
+            Err(ReadFail::Memory(_)) => None,
+        };
+        self.refused = read.is_none();
+        read
+    }
+
+    /// The generated script of a number.
+    pub fn generated_script(&mut self, number: u32) -> Option<Script>
+        ensures script { IfSome result (λ script. script ≡ generated number) }
+        ensures refused { self.new.refused ≡ is_none result }
+    {
+        let taken = generate(self.alloc, number);
+        self.note(taken)
+    }
+
+    /// The memory in which the messages and the tables of a run lie.
+    pub fn regions(&mut self, cfg: &Config) -> Option<Regions>
+        ensures room { IfSome result (λ regions. HaveRoom regions cfg.now) }
+        ensures refused { self.new.refused ≡ is_none result }
+    {
+        let taken = Regions::new(self.alloc, cfg);
+        self.note(taken)
+    }
+
+    /// Both services and the receipts after a run of the script in rotation. All memory is taken
+    /// before its first call.
+    ///
+    /// # Errors
+    /// If memory was refused; by the code, no application ran then.
+    pub fn run_in_rotation<'r>(
+        mut self,
+        script: &Script,
+        regions: &'r mut Regions,
+    ) -> Result<Finished<'r>, MemoryRefusal>
+        requires { HaveRoom regions.old script.now.limits }
+        ensures left { IfOk result
+            (λ finished. IsLeftBy Rotating script.now (histories_of finished.bus finished.tables)) }
+        ensures limits { IfOk result (λ finished. finished.bus.limits ≡ script.now.limits) }
+        ensures table_limits { IfOk result
+            (λ finished. finished.tables.limits ≡ script.now.limits) }
+        ensures apps { IfOk result (λ finished. apps_of finished.bus ≡ length script.now.apps) }
+        ensures table_apps { IfOk result
+            (λ finished. table_apps_of finished.tables ≡ length script.now.apps) }
+        ensures receipts { IfOk result
+            (λ finished. map (λ list. list.receipts) finished.receipts.items ≡
+            map (receipts_told script.now (histories_of finished.bus finished.tables))
+            (range_with_len 1 (length script.now.apps))) }
+    {
+        match lockstep(self.alloc, script, regions) {
+            Ok(finished) => Ok(finished),
+            Err(AllocError) => {
+                self.refused = true;
+                Err(self.refusal())
+            }
+        }
+    }
+
+    /// The same after a run on threads, with the gate's calls round each line. It may wait.
+    ///
+    /// # Errors
+    /// If memory was refused; by the code, no application ran then.
+    pub fn run_on_threads<'r, R: Threads + Wait + Sync, G: Gate>(
+        mut self,
+        rt: &R,
+        script: &Script,
+        regions: &'r mut Regions,
+        gate: &G,
+    ) -> Result<Finished<'r>, MemoryRefusal>
+        requires { HaveRoom regions.old script.now.limits }
+        ensures left { IfOk result
+            (λ finished. IsLeftBy OnThreads script.now
+            (histories_of finished.bus finished.tables)) }
+        ensures limits { IfOk result (λ finished. finished.bus.limits ≡ script.now.limits) }
+        ensures table_limits { IfOk result
+            (λ finished. finished.tables.limits ≡ script.now.limits) }
+        ensures apps { IfOk result (λ finished. apps_of finished.bus ≡ length script.now.apps) }
+        ensures table_apps { IfOk result
+            (λ finished. table_apps_of finished.tables ≡ length script.now.apps) }
+        ensures receipts { IfOk result
+            (λ finished. map (λ list. list.receipts) finished.receipts.items ≡
+            map (receipts_told script.now (histories_of finished.bus finished.tables))
+            (range_with_len 1 (length script.now.apps))) }
+    {
+        match run_threads(rt, self.alloc, script, regions, gate) {
+            Ok(finished) => Ok(finished),
+            Err(AllocError) => {
+                self.refused = true;
+                Err(self.refusal())
+            }
+        }
+    }
+
+    // What was taken; None if the request was refused, which is kept.
+    fn note<T>(&mut self, taken: Result<T, AllocError>) -> Option<T>
+        ensures value { result ≡ result_ok taken }
+        ensures refused { self.new.refused ≡ is_none result }
+    {
+        self.refused = taken.is_err();
+        taken.ok()
+    }
+}
