@@ -1,10 +1,10 @@
 -- Where the rest holds a block of any size, a block fits for what the last size holds.
-use Rattle.std.proofs.Common.{◌≡◌, ℕ, ◌+◌, ◌*◌, ◌-◌, ◌<◌, ◌≤◌, zero, suc, Bool, true, false, cond, List, [], ◌∷◌, length, get_or, leb, Option, Some, None, refl, ap, sym, ◌∙◌, subst, arith}
+use Rattle.std.proofs.Common.{◌≡◌, ℕ, ◌+◌, ◌*◌, ◌-◌, ◌<◌, ◌≤◌, zero, suc, Bool, true, false, cond, List, [], ◌∷◌, length, get_or, leb, Option, Some, refl, ap, sym, ◌∙◌, arith}
 use Rattle.std.specs.List.{position_from}
 use Rattle.std.proofs.lemmas.Bool.Decides.{nat_tests}
 use Rattle.std.proofs.lemmas.Iterator.Adapters.{position_from-zero}
 use Rattle.fsw_base.specs.PoolAccounts.{overhead}
-use Rattle.fsw_base.specs.Blocks.{are_block_sizes, class_of}
+use Rattle.fsw_base.specs.Blocks.{are_block_sizes}
 use Rattle.es_pool.specs.Pool.{PoolState, fits, fits_if, fits_class, used_by, out_in, free_in, made_in}
 use Rattle.es_pool.proofs.Sizes.{size_small, fits_rest}
 use Rattle.es_pool.proofs.Totals.{made-split}

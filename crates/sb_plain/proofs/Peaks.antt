@@ -11,7 +11,7 @@ use Rattle.bus_records.proofs.Misses.{told_all-is}
 use Rattle.bus_tables.specs.Rows.{RouteRow, ids_of}
 use Rattle.bus_store.specs.Store.{Store}
 use Rattle.sb_plain.specs.declared.plain.PlainBus.TheInside.{Inside}
-use Rattle.sb_plain.specs.Inside.{means, AreInOrder, IsPoolOf, Keeps}
+use Rattle.sb_plain.specs.Inside.{means, IsPoolOf, Keeps}
 use Rattle.sb_plain.specs.Rows.{in_use_at, blocks_in_use_at}
 use Rattle.sb_plain.proofs.Accounts.{IsHeld, in_use_is}
 

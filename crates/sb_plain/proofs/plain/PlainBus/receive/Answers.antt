@@ -1,4 +1,4 @@
-use Rattle.std.proofs.Common.{Some, None, not, length, ap, refl, sym, ◌∙◌, subst}
+use Rattle.std.proofs.Common.{Some, None, not, ap, refl, sym, ◌∙◌, subst}
 use Rattle.fsw_base.specs.declared.statuses.SbStatus.TheVariants.{BadArgument, NoMessage}
 use Rattle.housekeeping.specs.declared.names.CounterName.TheVariants as counters
 use Rattle.bus_words.specs.declared.calls.BusAnswer.TheVariants.{Got, Sb}
