@@ -44,7 +44,7 @@ impl<'r> BusStore<'r> {
             HoldsViews self.old.pipes self.old.loans self.old.room.pipes other bag →
             HoldsViews self.new.pipes self.new.loans self.new.room.pipes other bag }
         ensures buffers { held.new ≡ record held.old { views = held.new.views } }
-        ensures fewer { length (numbers_held self.new.pipes self.new.unsent self.new.numbers_given) ≤
+        ensures held { length (numbers_held self.new.pipes self.new.unsent self.new.numbers_given) ≤
             length (numbers_held self.old.pipes self.old.unsent self.old.numbers_given) }
         ensures less { bytes_in_use self.new.account ≤ bytes_in_use self.old.account }
         ensures cost { steps.new ≤ steps.old + 8 }
