@@ -80,8 +80,8 @@ returns-clause-other_bags g c = λ other bag not_own.
     received_others c.self.inside c.args.self.now c.args.app c.args.pipe c.take-items.result.before c.take-items.result.after c.take-items.new.self (let_go c.self.inside.desk c.take-items.result.before) c.show_next-number.new.desk
     c.self.view_is c.self.invariant c.recall_order.ensures c.recall_live.ensures.live c.take-items.ensures.before c.take-items.ensures.oldest c.take-items.ensures.rows refl c.show_next-number.ensures.desk c.requires.own other not_own bag
 
-pub returns-clause-fewer : goal.returns-clause-fewer
-returns-clause-fewer g c =
+pub returns-clause-held : goal.returns-clause-held
+returns-clause-held g c =
     let a = c.self.inside in
     let b = record a { tables = c.take-items.new.self; desk = c.show_next-number.new.desk } in
     let kept =
