@@ -1,4 +1,5 @@
 mod Keeps
+mod Opened
 mod Opening
 mod Places
 mod Sets
