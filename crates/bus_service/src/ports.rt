@@ -173,7 +173,7 @@ impl<'r> BusPort<'r> {
         ensures answers { Answers self.old self.new (C.call call self.old.bag) (C.answer result) }
         ensures left { C.leaves call self.old.bag self.new.bag result }
     {
-        // An application that waits makes one other call than a look, its end, and sleeps no more.
+        // While an application waits, its only call but looks is its end. It doesn't sleep before.
         bus.lock.stay_awake(&mut self.seat);
         let mut turn = begin(bus, rt, &mut self.seat);
         let told = turn

@@ -11,8 +11,8 @@ use crate::bus::Bus;
 use std::sync::Wait;
 use turn_lock::{Seat, Turn};
 
-/// Waits for a turn of the seat. If its application looked in vain in the last one, it slept since,
-/// or stays awake.
+/// Waits for a turn of the seat. If the application's last look was in vain, it has slept since or
+/// was kept awake.
 pub(crate) fn begin<'r, R: Wait>(
     bus: &Bus<'r>,
     rt: &R,

@@ -2,10 +2,10 @@
 -- number that is held, and no others; and how sends are numbered.
 use Rattle.std.specs.Prelude.{◌≡◌, ℕ, ◌≤◌, true, List, sum_by, Some}
 use Rattle.std.specs.List.{All}
-use Rattle.es_pool.specs.Pool.{PoolState, size_at}
+use Rattle.es_pool.specs.Pool.{PoolState, size_at, is_out}
 use Rattle.buf_desc.specs.Block.{Sealed}
 use Rattle.buf_desc.specs.Desk.{Buffers}
-use Rattle.buf_desc.specs.Slots.{slot_at, sealed_at, is_sealed, is_open, number_in, asked_in, HaveOwnNumbers}
+use Rattle.buf_desc.specs.Slots.{slot_at, sealed_at, is_sealed, is_open, is_live, number_in, asked_in, HaveOwnNumbers}
 use Rattle.buf_desc.specs.declared.slot.Slot.{Slot}
 use Rattle.bus_words.specs.Bus.{Item, Pipe, Buffer}
 use Rattle.bus_words.specs.Held.{names, named_by, is_on_pipes, is_unsent, items_of, size_in}
@@ -82,9 +82,10 @@ pub record AreBlocks (buffers : Buffers) (pipes : List Pipe) (loans : List LastL
   pub all_buffers : (number : ℕ) → is_unsent unsent number ≡ true → HasBuffer buffers.slots number
   pub one : HaveOwnNumbers buffers.slots
 
--- a pool is the one that such blocks are drawn from
+-- a pool is the one that such blocks are drawn from: those of its blocks are out that are live
 pub record IsBlockPool (pool : PoolState) (pipes : List Pipe) (loans : List LastLoan)
     (unsent : List (List Buffer)) (descs : List BufferDesc) : Type 0 where
   pub buffers : Buffers
   pub are : AreBlocks buffers pipes loans unsent descs
   pub is : pool ≡ buffers.pool
+  pub live : (desc : ℕ) → is_live (slot_at buffers.slots desc) ≡ is_out buffers.pool desc

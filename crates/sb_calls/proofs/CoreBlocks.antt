@@ -45,4 +45,4 @@ blocks_over a b stands are = subst (λ (s : State). AreBlocks b s.pipes (loans_o
 
 pub pool_over : (a : Inside) (p : PoolState) → Stands a → IsBlockPool p a.core.whole.bus.pipes a.core.loans a.core.whole.bus.unsent a.core.descs →
     IsBlockPool p (state_of (core_of a)).pipes (loans_of (core_of a)) (state_of (core_of a)).unsent (descs_of (core_of a))
-pool_over a p stands of = record { buffers = of.buffers; are = blocks_over a of.buffers stands of.are; is = of.is }
+pool_over a p stands of = record { buffers = of.buffers; are = blocks_over a of.buffers stands of.are; is = of.is; live = of.live }

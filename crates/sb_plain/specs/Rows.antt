@@ -51,7 +51,8 @@ in_use_at store = record {
   bytes = bytes_in_use store.account;
 }
 
--- the same of the blocks alone: the numbers that are held, and the sizes of their blocks, added up
+-- what is in use of the pool alone: the numbers that are held, and the sizes of their blocks, added
+-- up; the other counts are 0
 abbrev pub blocks_in_use_at : Store → InUse
 blocks_in_use_at store = record {
   msgids = 0;

@@ -18,7 +18,7 @@
 //!
 //! The bus counts each call that it refuses. It logs an event for a second subscription, for one
 //! that wasn't there, for a message that nobody subscribes to, and for each pipe that misses one or
-//! drops its oldest for it. After each call it looks at what is in use, and keeps the peaks.
+//! drops its oldest for it. It keeps the peaks of what is in use.
 //!
 //! ```text
 //! /// One application sends itself a packet and reads it.

@@ -16,6 +16,7 @@ returns-clause-blocks c =
       buffers = a.desk;
       are = are_blocks a.desk a.tables.pipes a.lists.lists a.given c.self.invariant.backed c.self.invariant.listed c.recall_live.ensures.whole;
       is = c.pool.ensures;
+      live = c.recall_live.ensures.live;
     })
 
 pub returns-clause-account : goal.returns-clause-account
