@@ -35,7 +35,7 @@ invariant_of-self g c =
     let active = is_active a c.args.self.now c.args.app (Receive c.args.pipe) c.self.view_is c.requires.may (active_receives c.args.pipe) in
     let order = taken_keeps a next c.self.invariant.order c.args.app c.args.pipe c.recall_order.ensures (sym c.owns.ensures ∙ c.if-not-owns.false) c.receive-received.ensures.after active in
     let many = as_many a next c.args.app c.args.pipe (sym c.owns.ensures ∙ c.if-not-owns.false) c.receive-received.ensures.after in
-    let fewer : AreNoMore a.store next = record { buffers = c.receive-received.ensures.fewer; bytes = c.receive-received.ensures.less } in
+    let fewer : AreNoMore a.store next = record { buffers = c.receive-received.ensures.held; bytes = c.receive-received.ensures.less } in
     record { order = order; covered = none_seen a c.self.invariant c.recall_held.ensures next c.recall_held-2.ensures order.pool many fewer }
 
 pub returns-in_default-clause-does : goal.returns-in_default-clause-does
@@ -46,7 +46,7 @@ returns-in_default-clause-does g c =
     let active = is_active a c.args.self.now c.args.app (Receive c.args.pipe) c.self.view_is c.requires.may (active_receives c.args.pipe) in
     let order = taken_keeps a next c.self.invariant.order c.args.app c.args.pipe c.recall_order.ensures own c.receive-received.ensures.after active in
     let many = as_many a next c.args.app c.args.pipe own c.receive-received.ensures.after in
-    let fewer : AreNoMore a.store next = record { buffers = c.receive-received.ensures.fewer; bytes = c.receive-received.ensures.less } in
+    let fewer : AreNoMore a.store next = record { buffers = c.receive-received.ensures.held; bytes = c.receive-received.ensures.less } in
     acts_quiet a next a.activities a.pools c.args.self.now c.args.app (Receive c.args.pipe) (Sb NoMessage) c.self.view_is
     (none_made a next c.args.app c.args.pipe own c.receive-received.ensures.after (sym c.receive-received.ensures.number ∙ c.in_default.is)) refl refl refl
     (none_seen a c.self.invariant c.recall_held.ensures next c.recall_held-2.ensures order.pool many fewer)
@@ -65,7 +65,7 @@ invariant_of-self-2 g c =
     let active = is_active a c.args.self.now c.args.app (Receive c.args.pipe) c.self.view_is c.requires.may (active_receives c.args.pipe) in
     let order = taken_keeps a next c.self.invariant.order c.args.app c.args.pipe c.recall_order.ensures (sym c.owns.ensures ∙ c.if-not-owns.false) c.receive-received.ensures.after active in
     let many = as_many a next c.args.app c.args.pipe (sym c.owns.ensures ∙ c.if-not-owns.false) c.receive-received.ensures.after in
-    let fewer : AreNoMore a.store next = record { buffers = c.receive-received.ensures.fewer; bytes = c.receive-received.ensures.less } in
+    let fewer : AreNoMore a.store next = record { buffers = c.receive-received.ensures.held; bytes = c.receive-received.ensures.less } in
     record { order = order; covered = none_seen a c.self.invariant c.recall_held.ensures next c.recall_held-2.ensures order.pool many fewer }
 
 pub returns-clause-does : goal.returns-clause-does
@@ -76,7 +76,7 @@ returns-clause-does g c =
     let active = is_active a c.args.self.now c.args.app (Receive c.args.pipe) c.self.view_is c.requires.may (active_receives c.args.pipe) in
     let order = taken_keeps a next c.self.invariant.order c.args.app c.args.pipe c.recall_order.ensures own c.receive-received.ensures.after active in
     let many = as_many a next c.args.app c.args.pipe own c.receive-received.ensures.after in
-    let fewer : AreNoMore a.store next = record { buffers = c.receive-received.ensures.fewer; bytes = c.receive-received.ensures.less } in
+    let fewer : AreNoMore a.store next = record { buffers = c.receive-received.ensures.held; bytes = c.receive-received.ensures.less } in
     acts_quiet a next a.activities a.pools c.args.self.now c.args.app (Receive c.args.pipe) (Got c.in-Some.number) c.self.view_is
     (got_made a next c.args.app c.args.pipe own c.receive-received.ensures.after c.in-Some.number (sym c.receive-received.ensures.number ∙ c.in-Some.is)) refl refl refl
     (none_seen a c.self.invariant c.recall_held.ensures next c.recall_held-2.ensures order.pool many fewer)
