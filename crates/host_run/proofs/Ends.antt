@@ -7,8 +7,9 @@ use Rattle.bus_words.specs.ReceiptLists.{Receipts}
 use Rattle.tbl_words.specs.declared.history.Entry.{Entry as TableEntry}
 use Rattle.run_report.specs.Report.{ending_text, figures_shown, table_figures_shown, report_text}
 use Rattle.app_script.specs.Grammar.{grammar}
+use Rattle.script_generate.specs.Generated.{generated}
+use Rattle.script_printing.specs.ScriptSpelling.{spelled_script}
 use Rattle.script_runs.specs.Histories.{Histories}
-use Rattle.script_runs.specs.Rotation.{rotation}
 use Rattle.app_script.specs.Script.{ScriptText}
 use Rattle.script_runs.specs.Told.{receipts_told}
 use Rattle.script_runs.specs.Runs.{IsRunOf}
@@ -23,7 +24,7 @@ use Rattle.app_run.specs.Runners.{histories_of}
 use Rattle.host_run.specs.Input.{most_input, IsWhole, IsTooLarge}
 use Rattle.sb_calls.specs.Core.{Core, apps_of, state_of}
 use Rattle.tbl_load.specs.Core.{Core as TableCore, apps_of as table_apps_of}
-use Rattle.host_run.specs.Serve.{Fed, Made, Outside, Served, Runs, IsLeftBy, Read, TooLong, SourceFailed, NoRoom, OtherWords, Serves, Ends, EndsInput, EndsScript, EndsRun, EndsText, EndsRefused, IsRead, HasCauses, Completes, CompletesUnread, Headline, MakesNothing, Reports, ReportsRun, Way, Rotating, OnThreads, too_large, figures_after, report_part, part_shown}
+use Rattle.host_run.specs.Serve.{Fed, Made, Outside, Served, Runs, IsLeftBy, Read, TooLong, SourceFailed, NoRoom, OtherWords, Serves, Ends, EndsInput, EndsScript, EndsRun, EndsText, EndsRefused, IsRead, Soaks, Tells, TellsFront, ReportsRunFront, fault_text, HasCauses, Completes, CompletesUnread, Headline, MakesNothing, Reports, ReportsRun, Way, Rotating, OnThreads, too_large, figures_after, report_part, part_shown}
 use Rattle.host_run.specs.Audit.{GuardedAudit}
 use Rattle.host_run.specs.Status.{IsNoMemory}
 use Rattle.host_run.specs.declared.memory.MemoryRefusal.{MemoryRefusal}
@@ -36,23 +37,26 @@ use Rattle.host_run.specs.declared.status.HostStatus.{HostStatus}
 use Rattle.host_run.specs.declared.status.HostStatus.TheVariants.{Done, Usage, Script as Refused, ReadFault, WriteFault, NoMemory}
 
 -- an end has its cause, where the wanted one has and a front is written of a failed sink alone
-causes-ends : (wanted result : HostStatus) {Whole Front Without : Type 0} (fed fed' : Fed) (old new : Made) → HasCauses wanted fed fed' old new →
-    (Front → Rose old.faults new.faults) → Ends wanted result Whole Front Without → HasCauses result fed fed' old new
-causes-ends wanted Done fed fed' old new wants rose ends = tt
-causes-ends wanted Usage fed fed' old new wants rose ends = subst (λ r. HasCauses r fed fed' old new) (sym ends.0) wants
-causes-ends wanted (Refused fault) fed fed' old new wants rose ends = tt
-causes-ends wanted ReadFault fed fed' old new wants rose ends = subst (λ r. HasCauses r fed fed' old new) (sym ends.0) wants
-causes-ends wanted WriteFault fed fed' old new wants rose ends = rose ends
-causes-ends wanted (NoMemory refused) fed fed' old new wants rose ends = tt
+causes-ends : (wanted result : HostStatus) (Due Front Without : Type 0) (fed fed' : Fed) (old new : Made) → HasCauses wanted fed fed' old new →
+    (Front → Rose old.faults new.faults) → Ends wanted result Due Front Without → HasCauses result fed fed' old new
+causes-ends wanted Done Due Front Without fed fed' old new wants rose ends = tt
+causes-ends wanted Usage Due Front Without fed fed' old new wants rose ends = subst (λ r. HasCauses r fed fed' old new) (sym ends.0) wants
+causes-ends wanted (Refused fault) Due Front Without fed fed' old new wants rose ends = tt
+causes-ends wanted ReadFault Due Front Without fed fed' old new wants rose ends = subst (λ r. HasCauses r fed fed' old new) (sym ends.0) wants
+causes-ends wanted WriteFault Due Front Without fed fed' old new wants rose ends = rose ends
+causes-ends wanted (NoMemory refused) Due Front Without fed fed' old new wants rose ends = tt
 
 causes-refused : (result : HostStatus) (fault : ScriptFault) (fed fed' : Fed) (old new : Made) → EndsRefused result fault old new → HasCauses result fed fed' old new
-causes-refused result fault fed fed' old new ends = causes-ends (Refused fault) result fed fed' old new tt (λ front. front.cause) ends
+causes-refused result fault fed fed' old new ends =
+    causes-ends (Refused fault) result (Tells old new (fault_text fault)) (TellsFront old new (fault_text fault)) (MakesNothing old new) fed fed' old new tt (λ front. front.cause) ends
 
 causes-script : (result : HostStatus) (how : Way) (part : Part) (script : ScriptText) (fed fed' : Fed) (old new : Made) → EndsScript result how part script old new → HasCauses result fed fed' old new
-causes-script result how part script fed fed' old new ends = causes-ends Done result fed fed' old new tt (λ front. front.2.cause) ends
+causes-script result how part script fed fed' old new ends =
+    causes-ends Done result (ReportsRun how part script old new) (ReportsRunFront how part script old new) (MakesNothing old new) fed fed' old new tt (λ front. front.2.cause) ends
 
 causes-text : (result : HostStatus) (text : List ℕ) (fed fed' : Fed) (old new : Made) → EndsText Done result text (MakesNothing old new) old new → HasCauses result fed fed' old new
-causes-text result text fed fed' old new ends = causes-ends Done result fed fed' old new tt (λ front. front.cause) ends
+causes-text result text fed fed' old new ends =
+    causes-ends Done result (Tells old new text) (TellsFront old new text) (MakesNothing old new) fed fed' old new tt (λ front. front.cause) ends
 
 causes-input : (result : HostStatus) (how : Way) (found : Result ScriptText ScriptFault) (fed fed' : Fed) (old new : Made) → EndsInput result how found old new → HasCauses result fed fed' old new
 causes-input result how (Ok script) fed fed' old new ends = causes-script result how Whole script fed fed' old new ends
@@ -77,25 +81,26 @@ pub causes-task : (wanted : Option Task) (result : HostStatus) (fed fed' : Fed) 
     (asked : Task) → wanted ≡ Some asked → HasCauses result fed fed' old new
 causes-task wanted result fed fed' old new serves task.Run is = causes-runs result OnThreads fed fed' old new (serves.on_threads is)
 causes-task wanted result fed fed' old new serves task.Lockstep is = causes-runs result Rotating fed fed' old new (serves.lockstep is)
-causes-task wanted result fed fed' old new serves (task.Generate number) is = causes-text result _ fed fed' old new (serves.generates number is).ends
-causes-task wanted result fed fed' old new serves (task.Soak number) is = causes-script result Rotating Ending _ fed fed' old new (serves.soaks number is).ends
+causes-task wanted result fed fed' old new serves (task.Generate number) is = causes-text result (spelled_script (generated number)) fed fed' old new (serves.generates number is).ends
+causes-task wanted result fed fed' old new serves (task.Soak number) is = causes-script result Rotating Ending (generated number) fed fed' old new (serves.soaks number is).ends
 
 -- what was to be done is done, or there was no memory, where the sink didn't fail
-done-ends : (result : HostStatus) {Whole Front Without : Type 0} (old new : Made) → (Front → Rose old.faults new.faults) → Ends Done result Whole Front Without →
+done-ends : (result : HostStatus) (Due Front Without : Type 0) (old new : Made) → (Front → Rose old.faults new.faults) → Ends Done result Due Front Without →
     CompletesUnread result old new
-done-ends Done old new rose ends = λ clean. inl ends.0
-done-ends Usage old new rose ends = λ clean. inl ends.0
-done-ends (Refused fault) old new rose ends = λ clean. inl ends.0
-done-ends ReadFault old new rose ends = λ clean. inl ends.0
-done-ends WriteFault old new rose ends = λ clean. absurd (clean (rose ends))
-done-ends (NoMemory refused) old new rose ends = λ clean. inr tt
+done-ends Done Due Front Without old new rose ends = λ clean. inl ends.0
+done-ends Usage Due Front Without old new rose ends = λ clean. inl ends.0
+done-ends (Refused fault) Due Front Without old new rose ends = λ clean. inl ends.0
+done-ends ReadFault Due Front Without old new rose ends = λ clean. inl ends.0
+done-ends WriteFault Due Front Without old new rose ends = λ clean. absurd (clean (rose ends))
+done-ends (NoMemory refused) Due Front Without old new rose ends = λ clean. inr tt
 
 pub script-done : (result : HostStatus) (how : Way) (part : Part) (script : ScriptText) (old new : Made) → EndsScript result how part script old new → CompletesUnread result old new
-script-done result how part script old new ends = done-ends result old new (λ front. front.2.cause) ends
+script-done result how part script old new ends =
+    done-ends result (ReportsRun how part script old new) (ReportsRunFront how part script old new) (MakesNothing old new) old new (λ front. front.2.cause) ends
 
 -- and so does the writing of a text
 pub text-done : (result : HostStatus) (text : List ℕ) (old new : Made) → EndsText Done result text (MakesNothing old new) old new → CompletesUnread result old new
-text-done result text old new ends = done-ends result old new (λ front. front.cause) ends
+text-done result text old new ends = done-ends result (Tells old new text) (TellsFront old new text) (MakesNothing old new) old new (λ front. front.cause) ends
 
 -- the input that was read whole is the one that was told
 whole-told : (bytes input : List ℕ) (left left' : Option (List ℕ)) → IsWhole bytes left left' → left ≡ Some input → bytes ≡ input
@@ -155,8 +160,8 @@ none-input refused how (Err fault) old = refl
 pub runs-read : (how : Way) (result : HostStatus) (script : ScriptText) (fed fed' : Fed) (old mid new : Made) → IsRead script fed.left fed'.left → mid ≡ old →
     EndsScript result how Whole script mid new → Runs how result fed fed' old new
 runs-read how result script fed fed' old mid new read same ends =
-    Read read.0 read.1.0
-    (subst (λ found. EndsInput result how found old new) (sym read.1.1) (subst (λ m. EndsScript result how Whole script m new) same ends))
+    Read read.0 read.1
+    (subst (λ found. EndsInput result how found old new) (sym read.2) (subst (λ m. EndsScript result how Whole script m new) same ends))
 
 -- on `run` what happens is what was asked for
 pub serves-run : (wanted : Option Task) (result : HostStatus) (fed fed' : Fed) (old new : Made) → needs_threads wanted ≡ true → Runs OnThreads result fed fed' old new →
@@ -181,6 +186,17 @@ serves-other wanted result fed fed' old new none other = record {
   generates = λ number words. absurd (cc (none, words));
   soaks = λ number words. absurd (cc (none, words));
   other_words = λ words. other;
+}
+
+-- what happens on `soak` and a number is what happens
+pub serves-soaks : (wanted : Option Task) (number : ℕ) (result : HostStatus) (fed fed' : Fed) (old new : Made) → wanted ≡ Some (task.Soak number) →
+    Soaks result number fed fed' old new → Serves wanted result fed fed' old new
+serves-soaks wanted number result fed fed' old new is done = record {
+  on_threads = λ words. absurd (cc (is, words));
+  lockstep = λ words. absurd (cc (is, words));
+  generates = λ other words. absurd (cc (is, words));
+  soaks = λ other words. subst (λ n. Soaks result n fed fed' old new) (cc (is, words)) done;
+  other_words = λ words. absurd (cc (is, words));
 }
 
 -- what a run leaves, in either way, is left by a run of the script
@@ -288,17 +304,17 @@ some-of (Err e) o P is holds = subst (λ q. IfSome q P) (sym is) tt
 pub served : (wanted : Option Task) (result : HostStatus) (before after : Outside) → Serves wanted result before.fed after.fed before.made after.made →
     Served wanted result before after
 served wanted result before after serves = record {
-  headline_on_run = λ words. headline-runs _ _ _ _ _ _ (serves.on_threads words);
-  headline = λ words. headline-runs _ _ _ _ _ _ (serves.lockstep words);
+  headline_on_run = λ words. headline-runs result OnThreads before.fed after.fed before.made after.made (serves.on_threads words);
+  headline = λ words. headline-runs result Rotating before.fed after.fed before.made after.made (serves.lockstep words);
   on_threads = serves.on_threads;
   lockstep = serves.lockstep;
   generates = serves.generates;
   soaks = serves.soaks;
   other_words = serves.other_words;
-  causes = causes-task _ _ _ _ _ _ serves;
-  usage_or_fault = λ words. ends-other _ _ _ _ _ (serves.other_words words);
-  complete_on_run = λ words. completes-runs _ _ _ _ _ _ (serves.on_threads words);
-  complete = λ words. completes-runs _ _ _ _ _ _ (serves.lockstep words);
-  complete_generates = λ number words. text-done _ _ _ _ (serves.generates number words).ends;
-  complete_soaks = λ number words. script-done _ _ _ _ _ _ (serves.soaks number words).ends;
+  causes = causes-task wanted result before.fed after.fed before.made after.made serves;
+  usage_or_fault = λ words. ends-other result before.fed after.fed before.made after.made (serves.other_words words);
+  complete_on_run = λ words. completes-runs result OnThreads before.fed after.fed before.made after.made (serves.on_threads words);
+  complete = λ words. completes-runs result Rotating before.fed after.fed before.made after.made (serves.lockstep words);
+  complete_generates = λ number words. text-done result (spelled_script (generated number)) before.made after.made (serves.generates number words).ends;
+  complete_soaks = λ number words. script-done result Rotating Ending (generated number) before.made after.made (serves.soaks number words).ends;
 }

@@ -1,6 +1,6 @@
--- Memory, behind the value through which the program takes it.
+-- What contracts see of the program's memory.
 use Rattle.std.specs.Prelude.{Bool}
 
--- Memory as it is taken: whether the newest request was refused.
+-- Whether the last request for memory was refused.
 pub record Requests : Type 0 where
   pub refused : Bool

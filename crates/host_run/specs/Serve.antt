@@ -180,13 +180,13 @@ abbrev pub EndsRefused : HostStatus → ScriptFault → Made → Made → Type 0
 EndsRefused result fault old new =
     EndsText (status.Script fault) result (fault_text fault) (MakesNothing old new) old new
 
--- how the telling of a run ends that went through: its histories are shown, and a text is due; no
--- memory is taken any more
+-- how a run that went through ends: its histories are shown, and a text is due; no memory is asked
+-- for after it
 abbrev pub EndsRun : HostStatus → Histories → List ℕ → Made → Made → Type 0
 EndsRun result histories text old new =
     Ends status.Done result (Reports old new histories text) (ReportsFront old new histories text) ⊥
 
--- how words end that the program doesn't know: the usage line is due, and no memory is taken
+-- how it ends on words that the program doesn't know: the usage line is due, and no memory is taken
 abbrev pub EndsUsage : HostStatus → Made → Made → Type 0
 EndsUsage result old new = EndsText status.Usage result usage_text ⊥ old new
 

@@ -6,6 +6,7 @@ ghost use Rattle.std.specs.Result.{result_ok};
 ghost use Rattle.app_run.specs.Openings.{HaveRoom};
 ghost use Rattle.app_run.specs.Runners.{histories_of};
 ghost use Rattle.app_script.specs.Grammar.{grammar};
+ghost use Rattle.fsw_base.specs.Limits.{limits_of};
 ghost use Rattle.sb_calls.specs.Core.{apps_of};
 ghost use Rattle.script_generate.specs.Generated.{generated};
 ghost use Rattle.script_runs.specs.Told.{receipts_told};
@@ -29,10 +30,10 @@ pub struct MemoryRefusal {
     _refused: (),
 }
 
-/// The memory of one call of the program, and whether its newest request for some was refused.
+/// The memory of one call of the program, and whether the last request was refused.
 ///
-/// It has the only allocator below the top call, and a run takes it away: nothing asks for memory
-/// after a run. By the code, each call that answers None or a refusal was refused memory.
+/// It has the only allocator below the top call. A run consumes it, so nothing asks for memory after
+/// a run. By the code, a call returns None or a refusal only if the allocator refused.
 #[derive(Drop)]
 pub struct Memory {
     // Gives memory; private, so that no other file asks it.
@@ -102,7 +103,7 @@ impl Memory {
 
     /// The memory in which the messages and the tables of a run lie.
     pub fn regions(&mut self, cfg: &Config) -> Option<Regions>
-        ensures room { IfSome result (λ regions. HaveRoom regions cfg.now) }
+        ensures room { IfSome result (λ regions. HaveRoom regions (limits_of cfg.now)) }
         ensures refused { self.new.refused ≡ is_none result }
     {
         let taken = Regions::new(self.alloc, cfg);
@@ -110,7 +111,7 @@ impl Memory {
     }
 
     /// Both services and the receipts after a run of the script in rotation. All memory is taken
-    /// before its first call.
+    /// before the run's first call.
     ///
     /// # Errors
     /// If memory was refused; by the code, no application ran then.
@@ -177,7 +178,7 @@ impl Memory {
         }
     }
 
-    // What was taken; None if the request was refused, which is kept.
+    // What was taken, or None if the request was refused; notes which.
     fn note<T>(&mut self, taken: Result<T, AllocError>) -> Option<T>
         ensures value { result ≡ result_ok taken }
         ensures refused { self.new.refused ≡ is_none result }

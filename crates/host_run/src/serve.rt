@@ -16,6 +16,7 @@ use crate::reading::{INPUT_ROOM, Reading, read_all};
 use crate::reporting::{Part, write_part};
 use crate::status::HostStatus;
 use crate::words::{Task, Words};
+use app_run::Finished;
 use app_script::Script;
 use bus_words::ReceiptList;
 use fsw_base::{FaultKind, Gate, ScriptFault, Sink, SinkGuard, Source, SourceGuard, WriteFault};
@@ -60,7 +61,7 @@ struct ByThreads<'a, R, G> {
 /// - `NoMemory`, never on other words, and only after a request for memory was refused: nothing is
 ///   written; by the code, no application ran.
 ///
-/// It returns on all words but `run`: what they do waits for nothing. On `gen N` and `soak N` no
+/// On every word but `run` it returns: nothing that it does then waits. On `gen N` and `soak N` no
 /// answer but `Done`, `WriteFault` and `NoMemory` comes.
 pub fn serve<R: Threads + Wait + Sync, S: Source, K: Sink, G: Gate, A: Audit>(
     rt: &R,
@@ -110,7 +111,7 @@ fn serve_guarded<R: Threads + Wait + Sync, G: Gate, S: Source, K: Sink, A: Audit
     status
 }
 
-// Does what the words say. What all of them but `run` do has no runtime, so it ends.
+// Does what the words say. All but `run` go to `serve_alone`, which has no runtime, so it returns.
 fn serve_words<R: Threads + Wait + Sync, G: Gate, S: Source, K: Sink, A: Audit>(
     threads: &ByThreads<'_, R, G>,
     memory: Memory,
@@ -337,10 +338,13 @@ fn rotate_script<K: Sink, A: Audit>(
         return HostStatus::NoMemory(memory.refusal());
     };
     match memory.run_in_rotation(script, &mut regions) {
-        Ok(run) => {
-            let receipts = run.receipts.as_slice();
-            tell_run(&run.bus, &run.tables, receipts, part, sink, audit)
-        }
+        Ok(
+            Finished {
+                bus,
+                tables,
+                receipts,
+            },
+        ) => { tell_run(&bus, &tables, receipts.as_slice(), part, sink, audit) }
         Err(refusal) => HostStatus::NoMemory(refusal),
     }
 }
@@ -366,10 +370,13 @@ fn serve_script_on_threads<R: Threads + Wait + Sync, G: Gate, K: Sink, A: Audit>
         return HostStatus::NoMemory(memory.refusal());
     };
     match memory.run_on_threads(threads.rt, script, &mut regions, threads.gate) {
-        Ok(run) => {
-            let receipts = run.receipts.as_slice();
-            tell_run(&run.bus, &run.tables, receipts, Part::Whole, sink, audit)
-        }
+        Ok(
+            Finished {
+                bus,
+                tables,
+                receipts,
+            },
+        ) => { tell_run(&bus, &tables, receipts.as_slice(), Part::Whole, sink, audit) }
         Err(refusal) => HostStatus::NoMemory(refusal),
     }
 }

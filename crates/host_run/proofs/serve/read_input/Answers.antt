@@ -3,8 +3,8 @@ use Rattle.host_run.specs.Serve.{NoRoom, SourceFailed, TooLong, fed_through, mad
 use Rattle.host_run.proofs.Ends.{read-end, read-script}
 use Rattle.host_run.proofs.serve.read_input.Goals as goal
 
-pub returns-in-None-clause-end : goal.returns-in-None-clause-end
-returns-in-None-clause-end g c = λ how audit. NoRoom tt refl refl
+pub returns-in_default-clause-end : goal.returns-in_default-clause-end
+returns-in_default-clause-end g c = λ how audit. NoRoom tt refl refl
 
 pub returns-in-Whole-clause-script : goal.returns-in-Whole-clause-script
 returns-in-Whole-clause-script g c =

@@ -1,5 +1,4 @@
-use Rattle.std.proofs.Common.{subst, sym, ◌∙◌}
-use Rattle.host_run.specs.Serve.{EndsInput, made_through}
+use Rattle.host_run.specs.Serve.{made_through}
 use Rattle.host_run.proofs.Ends.{none-input}
 use Rattle.host_run.proofs.serve.script_of.Goals as goal
 
