@@ -32,8 +32,8 @@ pub struct MemoryRefusal {
 
 /// The memory of one call of the program, and whether the last request was refused.
 ///
-/// It has the only allocator below the top call. A run consumes it, so nothing asks for memory after
-/// a run. By the code, a call returns None or a refusal only if the allocator refused.
+/// It has the only allocator below the top call. A run consumes it, so nothing asks for memory
+/// after a run. By the code, a call returns None or a refusal only if the allocator refused.
 #[derive(Drop)]
 pub struct Memory {
     // Gives memory; private, so that no other file asks it.
