@@ -70,7 +70,8 @@ pub trait Calls {
     /// As `BusCore::find_pipe`.
     fn find_pipe(&mut self, name: &[u8]) -> Result<u32, SbStatus>
         requires { MayCallBus (caller self.old) (Call.Find name.now) }
-        ensures { Answers (caller self.old) (caller self.new) (Call.Find name.now) (numbered result) };
+        ensures { Answers (caller self.old) (caller self.new) (Call.Find name.now)
+            (numbered result) };
 
     /// Answers a pipe's name.
     ///
