@@ -1,0 +1,7 @@
+use Rattle.std.proofs.Common.{eqb, arith, ap, ◌∙◌}
+use Rattle.list_pipes.specs.Names.{named_on}
+use Rattle.list_pipes.proofs.Naming.{named-cons}
+use Rattle.list_pipes.proofs.pipes.names_of.Goals as goal
+
+pub loop-pipe-preserved : goal.loop-pipe-preserved
+loop-pipe-preserved c = ?
