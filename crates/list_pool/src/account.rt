@@ -63,6 +63,39 @@ impl ListAccount {
         })
     }
 
+    /// The account with these numbers, for those who keep them in another way: of each block size
+    /// how many blocks were made and how many are out, and how many were drawn. No return was
+    /// refused.
+    pub fn read(
+        bytes: u32,
+        sizes: BlockSizes,
+        made: Vec<u32>,
+        out: Vec<u32>,
+        requests: u32,
+    ) -> ListAccount
+        requires made { length made.items ≡ length sizes }
+        requires out { length out.items ≡ length sizes }
+        ensures { result ≡
+            record {
+              bytes = bytes;
+              sizes = sizes;
+              made = made.items;
+              out = out.items;
+              requests = requests;
+              errors = 0;
+            } }
+    {
+        let _ = sizes.count();
+        ListAccount {
+            bytes,
+            sizes,
+            made,
+            out,
+            requests,
+            errors: 0,
+        }
+    }
+
     /// The place of the smallest block size that holds `size` bytes; None exactly where none does.
     pub fn class_of(&self, size: u32) -> Option<u32>
         ensures class { result ≡ class_of size self.now.sizes }

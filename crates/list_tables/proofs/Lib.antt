@@ -1,0 +1,4 @@
+pub mod Accounts
+pub mod Places
+pub mod Calls
+pub mod Validations

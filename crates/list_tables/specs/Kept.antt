@@ -1,0 +1,22 @@
+-- What the machine of lists keeps of Table Services.
+use Rattle.fsw_base.specs.Limits.{Limits}
+use Rattle.tbl_words.specs.declared.calls.TblAnswer.{TblAnswer}
+use Rattle.std.specs.Prelude.{ℕ, List}
+use Rattle.tbl_words.specs.Tables.{State, with_table, all_marked}
+use Rattle.tbl_words.specs.Machine.{with_value}
+
+-- the limits of the run, which never change, and the state of the tables
+pub record Kept : Type 0 where
+  pub limits : Limits
+  pub state : State
+
+-- what is kept once a call was so answered and left this state
+abbrev pub leaves : Kept → TblAnswer × State → Kept
+leaves kept made = record kept { state = made.1 }
+
+-- the tables once the one of a number has this value, and all its handles are to be told
+abbrev pub updated : State → ℕ → List ℕ → State
+updated s number value = record s {
+  tables = with_table (with_value value) number s.tables;
+  handles = all_marked number s.handles;
+}
