@@ -10,7 +10,7 @@ use tbl_words::TblUse;
 use text_page::{Page, put, put_number};
 
 /// Puts a number with its name before it.
-pub(crate) fn put_field<K: Sink>(
+pub fn put_field<K: Sink>(
     sink: &mut SinkGuard<'_, K>,
     page: &mut Page,
     name: &[u8],

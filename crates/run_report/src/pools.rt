@@ -12,7 +12,7 @@ use text_page::{Page, put, put_number};
 
 /// Which pool a line is about.
 #[derive(Clone, Copy, Debug)]
-pub(crate) enum PoolName {
+pub enum PoolName {
     /// The bus's own.
     Bus,
     /// The applications' pool of this number, from 1.
