@@ -1,5 +1,6 @@
 //! What an application reaches by a handle.
 ghost use Rattle.std.specs.Prelude.{◌≡◌, None, Some, MatchOption};
+ghost use Rattle.std.specs.Option.{option_map};
 ghost use Rattle.tbl_words.specs.Tables.{table_of};
 ghost use Rattle.tbl_words.specs.Machine.{access_cause};
 ghost use Rattle.list_tables.specs.Access.{IsAccess};
@@ -29,6 +30,16 @@ impl ListTables {
     {
         match table_number(&self.handles, handle) {
             Some(number) => table_at(&self.tables, number),
+            None => None,
+        }
+    }
+
+    // The number of the table of a live handle.
+    pub(crate) fn number_of(&self, handle: u32) -> Option<u32>
+        ensures { result ≡ option_map (λ t. t.number) (table_of self.now.state handle) }
+    {
+        match self.table_of(handle) {
+            Some(table) => Some(table.number),
             None => None,
         }
     }

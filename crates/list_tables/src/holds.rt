@@ -1,45 +1,32 @@
 //! Handles, and what they hold.
 ghost use Rattle.std.specs.Prelude.{◌≡◌, IfOk};
 ghost use Rattle.std.specs.Result.{OnOk};
-ghost use Rattle.tbl_words.specs.declared.history.Call.TheVariants.{GetAddress, ReleaseAddress, Status};
-ghost use Rattle.tbl_words.specs.Machine.{step, address_of, figures_of};
-ghost use Rattle.list_tables.specs.Kept.{leaves};
+ghost use Rattle.tbl_words.specs.Machine.{address_of, after_address, figures_of, status_of, without_hold};
+ghost use Rattle.tbl_words.specs.Tables.{with_handle};
 
-use crate::access::Access;
 use crate::handles::{handle_at, holds_of, release, take};
 use crate::machine::ListTables;
 use crate::numbers::narrow;
 use crate::rows::ListTable;
 use crate::values::again;
-use fsw_base::AppNo;
 use std::alloc::AllocError;
 use tbl_words::{TblAnswer, TblState, TblStatus};
 
 impl ListTables {
     // The handle holds the present version of its table.
-    pub(crate) fn get_address(&mut self, app: AppNo, handle: u32) -> Result<TblAnswer, AllocError>
-        ensures answer { IfOk result
-            (λ answer. answer ≡
-            (step self.old.limits self.old.state app (GetAddress handle)).0) }
-        ensures after { OnOk result
-            (self.new ≡
-            leaves self.old (step self.old.limits self.old.state app (GetAddress handle))) }
+    pub(crate) fn take_address(&mut self, handle: u32) -> Result<(), AllocError>
+        ensures { OnOk result
+            (self.new ≡ record self.old { state = after_address self.old.state handle }) }
     {
-        match self.access(app, handle) {
-            Access::Refused(why) => Ok(TblAnswer::Refused(why)),
-            Access::Reached(table) => {
-                let answer = self.address_of(handle);
-                let version = table.version;
-                let value = again(&table.value)?;
-                take(&mut self.handles, handle, version, &value)?;
-                Ok(answer)
-            }
-            Access::Nowhere => Ok(self.address_of(handle)),
-        }
+        let (version, value) = match self.table_of(handle) {
+            Some(table) => (table.version, again(&table.value)?),
+            None => return Ok(()),
+        };
+        take(&mut self.handles, handle, version, &value)
     }
 
     // What an address is answered.
-    fn address_of(&self, handle: u32) -> TblAnswer
+    pub(crate) fn address_of(&self, handle: u32) -> TblAnswer
         ensures { result ≡ address_of self.now.state handle }
     {
         let table = match self.table_of(handle) {
@@ -56,27 +43,21 @@ impl ListTables {
     }
 
     // The handle holds nothing.
-    pub(crate) fn release_address(&mut self, app: AppNo, handle: u32) -> TblAnswer
-        ensures answer { result ≡
-            (step self.old.limits self.old.state app (ReleaseAddress handle)).0 }
-        ensures after { self.new ≡
-            leaves self.old (step self.old.limits self.old.state app (ReleaseAddress handle)) }
+    pub(crate) fn release_address(&mut self, handle: u32)
+        ensures { self.new ≡
+            record self.old {
+              state = record self.old.state {
+                handles = with_handle without_hold handle self.old.state.handles;
+              };
+            } }
     {
-        if let Some(why) = self.access_cause(app, handle) {
-            return TblAnswer::Refused(why);
-        }
         release(&mut self.handles, handle);
-        TblAnswer::Done
     }
 
     // The figures of the handle's table.
-    pub(crate) fn status(&self, app: AppNo, handle: u32) -> Result<TblAnswer, AllocError>
-        ensures { IfOk result
-            (λ answer. answer ≡ (step self.now.limits self.now.state app (Status handle)).0) }
+    pub(crate) fn status_of(&self, handle: u32) -> Result<TblAnswer, AllocError>
+        ensures { IfOk result (λ answer. answer ≡ status_of self.now.state handle) }
     {
-        if let Some(why) = self.access_cause(app, handle) {
-            return Ok(TblAnswer::Refused(why));
-        }
         match self.table_of(handle) {
             Some(table) => Ok(TblAnswer::State(self.figures_of(table)?)),
             None => Ok(TblAnswer::Refused(TblStatus::ErrInvalidHandle)),

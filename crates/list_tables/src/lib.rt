@@ -11,6 +11,7 @@
 #![tactic(auto)]
 
 mod access;
+mod causes;
 mod handles;
 mod holds;
 mod leaving;

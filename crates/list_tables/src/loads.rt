@@ -1,19 +1,16 @@
 //! Loads, validation and updates.
-ghost use Rattle.std.specs.Prelude.{◌≡◌, None, IfOk};
+ghost use Rattle.std.specs.Prelude.{◌≡◌, false, None};
 ghost use Rattle.std.specs.Result.{OnOk};
-ghost use Rattle.tbl_words.specs.declared.history.Call.TheVariants.{Stage, Validate, Update, Abort, Load};
-ghost use Rattle.tbl_words.specs.Machine.{step, refused_if, with_range, rules_cause, stage_cause, validate_cause, update_cause, abort_cause, load_cause, is_locked, is_partial};
-ghost use Rattle.list_tables.specs.Kept.{leaves, updated};
+ghost use Rattle.tbl_words.specs.Machine.{refused_if, with_range, with_staged, with_validated, with_table_of, after_update, after_load, rules_cause, stage_cause, validate_cause, update_cause, abort_cause, load_cause, is_locked, is_partial};
+ghost use Rattle.list_tables.specs.Kept.{updated};
 
-use crate::access::Access;
 use crate::handles::{is_held, is_held_apart, mark_all};
 use crate::machine::ListTables;
 use crate::rows::ListTable;
 use crate::tables::{abort, buffers_taken, set_value, stage, validate};
 use crate::values::{Value, again, failed_rule, with_range};
-use fsw_base::AppNo;
 use std::alloc::{AllocError, Global};
-use tbl_words::{TblAnswer, TblStatus};
+use tbl_words::TblStatus;
 
 // How many single-buffered tables may have something staged at once.
 const WORKING_BUFFERS: usize = 4;
@@ -36,7 +33,7 @@ fn rules_cause(table: &ListTable, value: &[u8]) -> Option<TblStatus>
 }
 
 // Why what is staged can't be validated, if it can't.
-fn validate_cause(table: &ListTable) -> Option<TblStatus>
+pub(crate) fn validate_cause(table: &ListTable) -> Option<TblStatus>
     ensures { result ≡ validate_cause table.now }
 {
     match &table.staged {
@@ -46,7 +43,7 @@ fn validate_cause(table: &ListTable) -> Option<TblStatus>
 }
 
 // Why what is staged can't be dropped, if it can't.
-fn abort_cause(table: &ListTable) -> Option<TblStatus>
+pub(crate) fn abort_cause(table: &ListTable) -> Option<TblStatus>
     ensures { result ≡ abort_cause table.now }
 {
     match &table.staged {
@@ -64,7 +61,12 @@ impl ListTables {
     }
 
     // Why these bytes can't be staged for a table, if they can't.
-    fn stage_cause(&self, table: &ListTable, offset: u32, bytes: &[u8]) -> Option<TblStatus>
+    pub(crate) fn stage_cause(
+        &self,
+        table: &ListTable,
+        offset: u32,
+        bytes: &[u8],
+    ) -> Option<TblStatus>
         ensures { result ≡ stage_cause self.now.state offset bytes.now None table.now }
     {
         let end = (offset as usize).saturating_add(bytes.len());
@@ -86,7 +88,7 @@ impl ListTables {
     }
 
     // Why these bytes, which would make this value, can't be loaded in one, if they can't.
-    fn load_cause(
+    pub(crate) fn load_cause(
         &self,
         table: &ListTable,
         offset: u32,
@@ -118,7 +120,7 @@ impl ListTables {
     }
 
     // Why what is staged can't be the table's value, if it can't.
-    fn update_cause(&self, table: &ListTable) -> Option<TblStatus>
+    pub(crate) fn update_cause(&self, table: &ListTable) -> Option<TblStatus>
         ensures { result ≡ update_cause self.now.state table.now }
     {
         match &table.staged {
@@ -152,129 +154,81 @@ impl ListTables {
     pub(crate) fn stage(
         &mut self,
         alloc: Global,
-        app: AppNo,
         handle: u32,
         offset: u32,
         bytes: &[u8],
-    ) -> Result<TblAnswer, AllocError>
-        ensures answer { IfOk result
-            (λ answer. answer ≡
-            (step self.old.limits self.old.state app (Stage handle offset bytes.now)).0) }
-        ensures after { OnOk result
+    ) -> Result<(), AllocError>
+        ensures { OnOk result
             (self.new ≡
-            leaves self.old
-            (step self.old.limits self.old.state app (Stage handle offset bytes.now))) }
+            record self.old {
+              state = with_table_of self.old.state handle
+                  (λ t. with_staged (with_range t.value offset bytes.now) false t);
+            }) }
     {
-        match self.access(app, handle) {
-            Access::Refused(why) => Ok(TblAnswer::Refused(why)),
-            Access::Reached(table) => {
-                if let Some(why) = self.stage_cause(table, offset, bytes) {
-                    return Ok(TblAnswer::Refused(why));
-                }
-                let number = table.number;
-                stage(alloc, &mut self.tables, number, offset, bytes)?;
-                Ok(TblAnswer::Done)
-            }
-            Access::Nowhere => Ok(TblAnswer::Done),
+        match self.number_of(handle) {
+            Some(number) => stage(alloc, &mut self.tables, number, offset, bytes),
+            None => Ok(()),
         }
     }
 
-    // Tries what is staged by the table's rules.
-    pub(crate) fn validate(&mut self, app: AppNo, handle: u32) -> TblAnswer
-        ensures answer { result ≡
-            (step self.old.limits self.old.state app (Validate handle)).0 }
-        ensures after { self.new ≡
-            leaves self.old (step self.old.limits self.old.state app (Validate handle)) }
+    // What is staged is valid.
+    pub(crate) fn validate(&mut self, handle: u32)
+        ensures { self.new ≡
+            record self.old { state = with_table_of self.old.state handle with_validated } }
     {
-        match self.access(app, handle) {
-            Access::Refused(why) => TblAnswer::Refused(why),
-            Access::Reached(table) => {
-                if let Some(why) = validate_cause(table) {
-                    return TblAnswer::Refused(why);
-                }
-                let number = table.number;
-                validate(&mut self.tables, number);
-                TblAnswer::Done
-            }
-            Access::Nowhere => TblAnswer::Done,
-        }
-    }
-
-    // Makes what is staged the table's value.
-    pub(crate) fn update(&mut self, app: AppNo, handle: u32) -> Result<TblAnswer, AllocError>
-        ensures answer { IfOk result
-            (λ answer. answer ≡
-            (step self.old.limits self.old.state app (Update handle)).0) }
-        ensures after { OnOk result
-            (self.new ≡
-            leaves self.old (step self.old.limits self.old.state app (Update handle))) }
-    {
-        match self.access(app, handle) {
-            Access::Refused(why) => Ok(TblAnswer::Refused(why)),
-            Access::Reached(table) => {
-                if let Some(why) = self.update_cause(table) {
-                    return Ok(TblAnswer::Refused(why));
-                }
-                let number = table.number;
-                if let Some(staged) = &table.staged {
-                    let value = again(&staged.value)?;
-                    self.set_value(number, &value)?;
-                }
-                Ok(TblAnswer::Done)
-            }
-            Access::Nowhere => Ok(TblAnswer::Done),
+        if let Some(number) = self.number_of(handle) {
+            validate(&mut self.tables, number);
         }
     }
 
     // Drops what is staged.
-    pub(crate) fn abort(&mut self, app: AppNo, handle: u32) -> TblAnswer
-        ensures answer { result ≡ (step self.old.limits self.old.state app (Abort handle)).0 }
-        ensures after { self.new ≡
-            leaves self.old (step self.old.limits self.old.state app (Abort handle)) }
+    pub(crate) fn abort(&mut self, handle: u32)
+        ensures { self.new ≡
+            record self.old {
+              state = with_table_of self.old.state handle (λ t. record t { staged = None });
+            } }
     {
-        match self.access(app, handle) {
-            Access::Refused(why) => TblAnswer::Refused(why),
-            Access::Reached(table) => {
-                if let Some(why) = abort_cause(table) {
-                    return TblAnswer::Refused(why);
-                }
-                let number = table.number;
-                abort(&mut self.tables, number);
-                TblAnswer::Done
-            }
-            Access::Nowhere => TblAnswer::Done,
+        if let Some(number) = self.number_of(handle) {
+            abort(&mut self.tables, number);
         }
     }
 
-    // Stages, validates and updates in one.
+    // Makes what is staged the table's value.
+    pub(crate) fn update(&mut self, handle: u32) -> Result<(), AllocError>
+        ensures { OnOk result
+            (self.new ≡ record self.old { state = after_update self.old.state handle }) }
+    {
+        let (number, value) = match self.table_of(handle) {
+            Some(table) => match &table.staged {
+                Some(staged) => (table.number, again(&staged.value)?),
+                None => return Ok(()),
+            },
+            None => return Ok(()),
+        };
+        self.set_value(number, &value)
+    }
+
+    // Makes the table's value with these bytes in it the table's value.
     pub(crate) fn load(
         &mut self,
         alloc: Global,
-        app: AppNo,
         handle: u32,
         offset: u32,
         bytes: &[u8],
-    ) -> Result<TblAnswer, AllocError>
-        ensures answer { IfOk result
-            (λ answer. answer ≡
-            (step self.old.limits self.old.state app (Load handle offset bytes.now)).0) }
-        ensures after { OnOk result
+    ) -> Result<(), AllocError>
+        ensures { OnOk result
             (self.new ≡
-            leaves self.old
-            (step self.old.limits self.old.state app (Load handle offset bytes.now))) }
+            record self.old { state = after_load self.old.state handle offset bytes.now }) }
     {
-        match self.access(app, handle) {
-            Access::Refused(why) => Ok(TblAnswer::Refused(why)),
-            Access::Reached(table) => {
-                let value = with_range(alloc, &table.value, offset, bytes)?;
-                if let Some(why) = self.load_cause(table, offset, bytes, &value) {
-                    return Ok(TblAnswer::Refused(why));
-                }
-                let number = table.number;
-                self.set_value(number, &value)?;
-                Ok(TblAnswer::Done)
+        let (number, value) = match self.table_of(handle) {
+            Some(table) => {
+                (
+                    table.number,
+                    with_range(alloc, &table.value, offset, bytes)?,
+                )
             }
-            Access::Nowhere => Ok(TblAnswer::Done),
-        }
+            None => return Ok(()),
+        };
+        self.set_value(number, &value)
     }
 }

@@ -4,9 +4,10 @@ ghost use Rattle.std.specs.Result.{OnOk};
 ghost use Rattle.fsw_base.specs.Limits.{limits_of};
 ghost use Rattle.tbl_words.specs.Entries.{call_of};
 ghost use Rattle.tbl_words.specs.Tables.{opening, has_ended};
-ghost use Rattle.tbl_words.specs.Machine.{step};
-ghost use Rattle.list_tables.specs.Kept.{Kept, leaves};
+ghost use Rattle.tbl_words.specs.Machine.{accept, step};
+ghost use Rattle.list_tables.specs.Kept.{Kept, changed, leaves};
 
+use crate::numbers::one_more;
 use crate::rows::{ListHandle, ListTable};
 use fsw_base::{AppNo, Config};
 use std::alloc::{AllocError, Global};
@@ -83,6 +84,26 @@ impl ListTables {
             (self.new ≡
             leaves self.old (step self.old.limits self.old.state app (call_of call.now))) }
     {
+        match self.cause(alloc, app, call)? {
+            Some(why) => Ok(TblAnswer::Refused(why)),
+            None => self.accept(alloc, app, call),
+        }
+    }
+
+    // What a call answers that isn't refused; the tables are then as the call leaves them.
+    fn accept(
+        &mut self,
+        alloc: Global,
+        app: AppNo,
+        call: &TblCall<'_>,
+    ) -> Result<TblAnswer, AllocError>
+        ensures answer { IfOk result
+            (λ answer. answer ≡
+            (accept self.old.limits self.old.state app (call_of call.now)).0) }
+        ensures after { OnOk result
+            (self.new ≡
+            leaves self.old (accept self.old.limits self.old.state app (call_of call.now))) }
+    {
         match call {
             TblCall::Register {
                 name,
@@ -90,26 +111,52 @@ impl ListTables {
                 option,
                 rules,
             } => self.register(alloc, app, name, *size, *option, rules),
-            TblCall::Share { name } => self.share(app, name),
-            TblCall::Unregister { handle } => Ok(self.unregister(app, *handle)),
+            TblCall::Share { name } => {
+                let number = one_more(self.handles_made)?;
+                self.share(app, name)?;
+                Ok(TblAnswer::Number(number))
+            }
+            TblCall::GetAddress { handle } => {
+                let answer = self.address_of(*handle);
+                self.take_address(*handle)?;
+                Ok(answer)
+            }
+            TblCall::Status { handle } => self.status_of(*handle),
+            _ => {
+                self.change(alloc, app, call)?;
+                Ok(TblAnswer::Done)
+            }
+        }
+    }
+
+    // What a call changes that is answered with no more than that it was done; nothing for others.
+    fn change(&mut self, alloc: Global, app: AppNo, call: &TblCall<'_>) -> Result<(), AllocError>
+        ensures { OnOk result
+            (self.new ≡
+            record self.old {
+              state = changed self.old.limits self.old.state app (call_of call.now);
+            }) }
+    {
+        match call {
+            TblCall::Unregister { handle } => self.unregister(*handle),
             TblCall::Stage {
                 handle,
                 offset,
                 bytes,
-            } => self.stage(alloc, app, *handle, *offset, bytes),
-            TblCall::Validate { handle } => Ok(self.validate(app, *handle)),
-            TblCall::Update { handle } => self.update(app, *handle),
-            TblCall::Abort { handle } => Ok(self.abort(app, *handle)),
+            } => return self.stage(alloc, *handle, *offset, bytes),
+            TblCall::Validate { handle } => self.validate(*handle),
+            TblCall::Update { handle } => return self.update(*handle),
+            TblCall::Abort { handle } => self.abort(*handle),
             TblCall::Load {
                 handle,
                 offset,
                 bytes,
-            } => self.load(alloc, app, *handle, *offset, bytes),
-            TblCall::GetAddress { handle } => self.get_address(app, *handle),
-            TblCall::ReleaseAddress { handle } => Ok(self.release_address(app, *handle)),
-            TblCall::Status { handle } => self.status(app, *handle),
-            TblCall::End => Ok(self.end(app)),
+            } => return self.load(alloc, *handle, *offset, bytes),
+            TblCall::ReleaseAddress { handle } => self.release_address(*handle),
+            TblCall::End => self.end(app),
+            _ => {}
         }
+        Ok(())
     }
 
     /// Whether an application has ended; one that isn't known counts as ended.

@@ -45,13 +45,7 @@ impl ListTables {
         let made = Vec::from_slice(alloc, &self.made)?;
         let out = all_out(alloc, &self.config.sizes, &self.tables)?;
         let sizes = self.config.sizes.again();
-        Ok(ListAccount::read(
-            self.config.tablepool,
-            sizes,
-            made,
-            out,
-            self.drawn,
-        ))
+        Ok(ListAccount::read(self.config.tablepool, sizes, made, out, self.drawn))
     }
 
     /// The receipt of what a live handle of the application holds; None where it holds nothing.
@@ -77,11 +71,7 @@ impl ListTables {
 }
 
 // Of each block size how many blocks the tables have.
-fn all_out(
-    alloc: Global,
-    sizes: &BlockSizes,
-    tables: &[ListTable],
-) -> Result<Vec<u32>, AllocError>
+fn all_out(alloc: Global, sizes: &BlockSizes, tables: &[ListTable]) -> Result<Vec<u32>, AllocError>
     requires { length tables.now < 2 ^ 32 }
     ensures { IfOk result (λ out. out.items ≡ map (blocks_out sizes.now tables.now) sizes.now) }
 {

@@ -1,16 +1,15 @@
 //! Registrations and shares.
-ghost use Rattle.std.specs.Prelude.{◌≡◌, ◌==◌, ◌||◌, ◌<◌, ◌≤◌, ◌^◌, ◌+◌, nat_lt, true, length, slice_index, IfOk, IfSome};
+ghost use Rattle.std.specs.Prelude.{◌≡◌, ◌==◌, ◌||◌, ◌<◌, ◌≤◌, ◌^◌, ◌+◌, nat_lt, length, slice_index, IfOk, IfSome};
 ghost use Rattle.fsw_base.specs.Blocks.{class_of};
 ghost use Rattle.fsw_base.specs.PoolAccounts.{has_room_for};
 ghost use Rattle.std.specs.Result.{OnOk};
-ghost use Rattle.tbl_words.specs.declared.history.Call.TheVariants.{Register, Share};
 ghost use Rattle.tbl_rules.specs.Rules.{is_misfit, has_misfit};
 ghost use Rattle.tbl_words.specs.Tables.{account_of, fits, blocks_for};
-ghost use Rattle.tbl_words.specs.Machine.{step, duplicate_cause, new_table_cause, with_new_handle, with_new_table, with_blocks};
+ghost use Rattle.tbl_words.specs.Machine.{register_cause, share_cause, after_register, after_share, duplicate_cause, new_table_cause, with_new_handle, with_new_table, with_blocks};
 ghost use Rattle.list_tables.specs.Kept.{leaves};
 
 use crate::machine::ListTables;
-use crate::numbers::one_more;
+use crate::numbers::{narrow, one_more};
 use crate::room::{blocks_for, blocks_out};
 use crate::rows::{ListHandle, ListTable};
 use crate::tables::table_named;
@@ -105,7 +104,47 @@ impl ListTables {
         )
     }
 
-    // A registration: a new table with its owner's handle, or that of the same application before.
+    // Why a registration is refused, if it is.
+    pub(crate) fn register_cause(
+        &self,
+        app: AppNo,
+        name: &[u8],
+        size: u32,
+        option: u32,
+        rules: &RuleList,
+    ) -> Option<TblStatus>
+        ensures { result ≡
+            register_cause self.now.limits self.now.state app name.now size option rules.now }
+    {
+        if is_bad_name(name) {
+            return Some(TblStatus::ErrInvalidName);
+        }
+        if size == 0 || size > self.config.tablemax {
+            return Some(TblStatus::ErrInvalidSize);
+        }
+        if option > 2 || has_misfit(size, rules.as_slice()) {
+            return Some(TblStatus::ErrInvalidOptions);
+        }
+        match table_named(&self.tables, name) {
+            Some(table) => duplicate_cause(app, size, table),
+            None => self.new_table_cause(size, option),
+        }
+    }
+
+    // Why a share is refused, if it is.
+    pub(crate) fn share_cause(&self, name: &[u8]) -> Option<TblStatus>
+        ensures { result ≡ share_cause self.now.limits self.now.state name.now }
+    {
+        if table_named(&self.tables, name).is_none() {
+            Some(TblStatus::ErrInvalidName)
+        } else if self.handles.len() >= self.config.handles as usize {
+            Some(TblStatus::ErrHandlesFull)
+        } else {
+            None
+        }
+    }
+
+    // A new table with its owner's handle, or that of the registration before; and its number.
     pub(crate) fn register(
         &mut self,
         alloc: Global,
@@ -117,31 +156,14 @@ impl ListTables {
     ) -> Result<TblAnswer, AllocError>
         ensures answer { IfOk result
             (λ answer. answer ≡
-            (step self.old.limits self.old.state app
-            (Register name.now size option rules.now)).0) }
+            (after_register self.old.limits self.old.state app name.now size option rules.now).0) }
         ensures after { OnOk result
             (self.new ≡
             leaves self.old
-            (step self.old.limits self.old.state app
-            (Register name.now size option rules.now))) }
+            (after_register self.old.limits self.old.state app name.now size option rules.now)) }
     {
-        if is_bad_name(name) {
-            return Ok(TblAnswer::Refused(TblStatus::ErrInvalidName));
-        }
-        if size == 0 || size > self.config.tablemax {
-            return Ok(TblAnswer::Refused(TblStatus::ErrInvalidSize));
-        }
-        if option > 2 || has_misfit(size, rules.as_slice()) {
-            return Ok(TblAnswer::Refused(TblStatus::ErrInvalidOptions));
-        }
         if let Some(table) = table_named(&self.tables, name) {
-            return Ok(match duplicate_cause(app, size, table) {
-                Some(why) => TblAnswer::Refused(why),
-                None => TblAnswer::Duplicate(table.number),
-            });
-        }
-        if let Some(why) = self.new_table_cause(size, option) {
-            return Ok(TblAnswer::Refused(why));
+            return Ok(TblAnswer::Duplicate(table.number));
         }
         self.add_table(alloc, app, name, size, option, rules)?;
         Ok(TblAnswer::Number(self.handles_made))
@@ -157,9 +179,6 @@ impl ListTables {
         option: u32,
         rules: &RuleList,
     ) -> Result<(), AllocError>
-        requires few { length self.old.state.tables < 2 ^ 32 }
-        requires room { fits (account_of self.old.limits self.old.state) size (blocks_for option) ≡
-            true }
         ensures { OnOk result
             (self.new ≡
             record self.old {
@@ -168,7 +187,7 @@ impl ListTables {
             }) }
     {
         let number = one_more(self.handles_made)?;
-        self.draw(size, blocks_for(option));
+        self.draw(size, blocks_for(option))?;
         let table = ListTable::new(alloc, number, app, name, size, option, rules.again())?;
         self.tables.push(table)?;
         self.add_handle(app, number, false)
@@ -184,35 +203,32 @@ impl ListTables {
 
     // How many blocks of the size at a place are out once so many more are.
     #[tactic(auto, using(crate::proofs::Accounts::out_at))]
-    fn more_out(&self, class: u32, count: u32) -> u32
-        requires class { class < length self.now.limits.sizes }
-        requires few { length self.now.state.tables < 2 ^ 32 }
-        requires count { count ≤ 2 }
-        requires room { has_room_for (account_of self.now.limits self.now.state) class count ≡
-            true }
-        ensures { result ≡
-            slice_index (account_of self.now.limits self.now.state).out class + count }
+    fn more_out(&self, class: u32, count: u32) -> Result<u32, AllocError>
+        requires { class < length self.now.limits.sizes }
+        ensures { IfOk result (λ out. out ≡
+            slice_index (account_of self.now.limits self.now.state).out class + count) }
     {
+        let _ = narrow(self.tables.len() as u64)?;
         let block = self.config.sizes.at(class);
-        let out = blocks_out(&self.config.sizes, &self.tables, block) + u64::from(count);
-        out as u32
+        narrow(blocks_out(&self.config.sizes, &self.tables, block) + u64::from(count))
     }
 
     // So many blocks for a size are out.
-    fn draw(&mut self, size: u32, count: u32)
-        requires few { length self.old.state.tables < 2 ^ 32 }
-        requires count { count ≤ 2 }
-        requires room { fits (account_of self.old.limits self.old.state) size count ≡ true }
-        ensures { self.new ≡
-            record self.old { state = with_blocks self.old.limits self.old.state size count } }
+    fn draw(&mut self, size: u32, count: u32) -> Result<(), AllocError>
+        ensures { OnOk result
+            (self.new ≡
+            record self.old {
+              state = with_blocks self.old.limits self.old.state size count;
+            }) }
     {
         if let Some(class) = self.class_of(size) {
-            let out = self.more_out(class, count);
+            let out = self.more_out(class, count)?;
             let place = class as usize;
             let made = self.made[place].max(out);
             self.made[place] = made;
         }
         self.drawn = self.drawn.saturating_add(count);
+        Ok(())
     }
 
     // One handle more of a table, which holds nothing.
@@ -234,22 +250,15 @@ impl ListTables {
     }
 
     // One handle more of the registered table of a name.
-    pub(crate) fn share(&mut self, app: AppNo, name: &[u8]) -> Result<TblAnswer, AllocError>
-        ensures answer { IfOk result
-            (λ answer. answer ≡
-            (step self.old.limits self.old.state app (Share name.now)).0) }
-        ensures after { OnOk result
+    pub(crate) fn share(&mut self, app: AppNo, name: &[u8]) -> Result<(), AllocError>
+        ensures { OnOk result
             (self.new ≡
-            leaves self.old (step self.old.limits self.old.state app (Share name.now))) }
+            record self.old { state = after_share self.old.state app name.now }) }
     {
         let (number, marked) = match table_named(&self.tables, name) {
             Some(table) => (table.number, table.loaded),
-            None => return Ok(TblAnswer::Refused(TblStatus::ErrInvalidName)),
+            None => return Ok(()),
         };
-        if self.handles.len() >= self.config.handles as usize {
-            return Ok(TblAnswer::Refused(TblStatus::ErrHandlesFull));
-        }
-        self.add_handle(app, number, marked)?;
-        Ok(TblAnswer::Number(self.handles_made))
+        self.add_handle(app, number, marked)
     }
 }
