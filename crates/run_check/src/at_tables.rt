@@ -66,11 +66,7 @@ fn is_seen(handles: &Handles, line: &Line) -> bool
 }
 
 // The receipt of what an application's handle holds; None where it holds nothing.
-fn held_receipt(
-    tables: &ListTables,
-    app: AppNo,
-    handle: u32,
-) -> Result<Option<Receipt>, AllocError>
+fn held_receipt(tables: &ListTables, app: AppNo, handle: u32) -> Result<Option<Receipt>, AllocError>
     ensures { IfOk result (λ receipt. receipt ≡ held_in tables.now.state app handle) }
 {
     match tables.held_receipt(app, handle)? {

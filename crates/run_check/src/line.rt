@@ -78,11 +78,7 @@ impl LineSink {
     }
 
     // The line of an entry of the bus.
-    pub(crate) fn bus_entry(
-        &mut self,
-        number: u32,
-        entry: &BusEntry<'_>,
-    ) -> Result<(), AllocError>
+    pub(crate) fn bus_entry(&mut self, number: u32, entry: &BusEntry<'_>) -> Result<(), AllocError>
         ensures { OnOk result (self.new.bytes.items ≡ entry_text number (entry_of entry.now)) }
     {
         self.bytes.clear();

@@ -72,7 +72,12 @@ fn put_class(
         put(sink, page, b" ");
         put_number(sink, page, account.sizes().at(class));
         put_field(sink, page, b"made", made);
-        put_field(sink, page, b"free", made.saturating_sub(account.out_at(class)));
+        put_field(
+            sink,
+            page,
+            b"free",
+            made.saturating_sub(account.out_at(class)),
+        );
         put(sink, page, b"\n");
     }
 }
@@ -107,11 +112,7 @@ pub(crate) fn put_account(
 }
 
 /// Puts the lines of the pools that applications created, number 1 first.
-pub(crate) fn put_app_pools(
-    sink: &mut SinkGuard<'_, LineSink>,
-    page: &mut Page,
-    pools: &GrantPools,
-)
+pub(crate) fn put_app_pools(sink: &mut SinkGuard<'_, LineSink>, page: &mut Page, pools: &GrantPools)
     ensures { Puts sink.old sink.new page.old page.new
         (accounts_text (map (λ pool. pool.account) pools.now.pools)) }
 {

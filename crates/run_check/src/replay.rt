@@ -18,6 +18,7 @@ use fsw_base::AppNo;
 use list_bus::ListBus;
 use list_tables::ListTables;
 use std::alloc::{AllocError, Global};
+use std::marker::Model;
 use tbl_words::{TblEntry, TblUse};
 
 /// The bus as far as it was played, with its applications.
@@ -185,11 +186,7 @@ impl TableReplay {
             }
         }
         let peak = tables.in_use()?;
-        Ok(TableReplay {
-            tables,
-            apps,
-            peak,
-        })
+        Ok(TableReplay { tables, apps, peak })
     }
 
     // Whether every application has ended.

@@ -69,7 +69,12 @@ fn ending(
     let mut page = Page::new();
     put(&mut guard, &mut page, b"counters\n");
     put_counts(&mut guard, &mut page, bus.bus.version(), bus.bus.counters());
-    put_uses(&mut guard, &mut page, bus.bus.in_use(), bus.bus.counters().peak());
+    put_uses(
+        &mut guard,
+        &mut page,
+        bus.bus.in_use(),
+        bus.bus.counters().peak(),
+    );
     put_account(&mut guard, &mut page, PoolName::Bus, bus.bus.account());
     put_app_pools(&mut guard, &mut page, bus.bus.pools());
     put_desk(&mut guard, &mut page, bus.bus.desk());

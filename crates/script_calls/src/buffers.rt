@@ -222,12 +222,7 @@ fn put_rows(rows: &mut [Buffer], number: u32, offset: u32, bytes: &[u8])
 
 // One buffer more, of zeros.
 #[tactic(auto, using(crate::proofs::Buffers::written_pushed))]
-fn add(
-    alloc: Global,
-    rows: &mut Vec<Buffer>,
-    number: u32,
-    size: u32,
-) -> Result<(), AllocError>
+fn add(alloc: Global, rows: &mut Vec<Buffer>, number: u32, size: u32) -> Result<(), AllocError>
     ensures { OnOk result
         (written_in rows.new.items ≡
         with_buffer (written_in rows.old.items) number (Some (replicate size 0))) }
