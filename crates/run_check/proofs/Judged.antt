@@ -335,7 +335,7 @@ wrong_table_entry script bytes verdict fine g e rest begun whole tables is heade
 -- The end. --
 
 -- the rest of a report behind its entries
-report_rest : (script : ScriptText) (g : Histories) → report script g ≡ entries_part script g ++ behind_tables (receipts_in script g) (figures_in script g) (uses_in script g)
+pub report_rest : (script : ScriptText) (g : Histories) → report script g ≡ entries_part script g ++ behind_tables (receipts_in script g) (figures_in script g) (uses_in script g)
 report_rest script g =
     report_of script g
     ∙ regroup (head script) (entries_text g.bus) (codes "tables\n") (table_entries_text g.tables) (behind_tables (receipts_in script g) (figures_in script g) (uses_in script g))

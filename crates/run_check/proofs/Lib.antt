@@ -11,3 +11,5 @@ mod Behind
 mod Judged
 mod Progress
 mod TableProgress
+mod Comparing
+mod Answered

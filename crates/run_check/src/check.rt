@@ -5,6 +5,7 @@ ghost use Rattle.run_check.specs.Openings.{head};
 ghost use Rattle.run_check.specs.Replays.{EndsAll};
 
 use crate::compared::Compared;
+use crate::laws::judged_reports_are_answered;
 use crate::line::LineSink;
 use crate::replay::{BusReplay, TableReplay};
 use crate::tail::{has_tail, has_text};
@@ -25,6 +26,8 @@ pub fn check(alloc: Global, script: &Script, report: &[u8]) -> Result<Verdict, A
     requires few { length report.now < 2 ^ 32 - 1 }
     ensures { IfOk result (λ verdict. IsAnswer script.now report.now verdict) }
 {
+    script.recall_ranges();
+    judged_reports_are_answered();
     let mut text = Compared::new(report);
     let mut line = LineSink::new(alloc);
     let is_whole = compare(alloc, script, &mut text, &mut line)?;

@@ -35,6 +35,7 @@ impl<'a> Compared<'a> {
     }
 
     // Whether this text comes next; the report is then behind it.
+    #[tactic(auto, using(crate::proofs::Comparing::takes))]
     pub(crate) fn has(&mut self, text: &[u8]) -> bool
         ensures yes { result ≡ true → Takes self.old self.new text.now }
         ensures no { result ≡ false → Lacks self.old self.new text.now }
