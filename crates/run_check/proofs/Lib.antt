@@ -13,3 +13,4 @@ mod Progress
 mod TableProgress
 mod Comparing
 mod Answered
+mod TablePlaces

@@ -1,0 +1,70 @@
+-- Where an application is at the tables: past the lines that they don't see.
+use Rattle.std.proofs.Common.{◌≡◌, ℕ, ◌+◌, zero, suc, Bool, true, false, cond, true≢false, List, [], ◌∷◌, length, drop, Option, Some, None, refl, ap, sym, ◌∙◌, subst, add-one}
+use Rattle.std.specs.Prelude.{slice_get, is_some}
+use Rattle.tbl_words.specs.declared.history.Call.{Call}
+use Rattle.tbl_words.specs.declared.history.Entry.{Entry}
+use Rattle.tbl_words.specs.Tables.{State as Tables}
+use Rattle.script_lines.specs.declared.line.Line.{Line}
+use Rattle.app_script.specs.Script.{ScriptText}
+use Rattle.script_runs.specs.Rotation.{Running, behind_table}
+use Rattle.script_runs.specs.TableTrace.{table_call_of}
+use Rattle.run_check.specs.Places.{TablePlace, passed_at_tables, past_at_tables}
+use Rattle.run_check.specs.Replays.{lines_of, running_at_tables}
+use Rattle.run_check.specs.TableProgress.{IsAtTables}
+use Rattle.run_check.proofs.TableProgress.{applications_go_on_at_tables}
+
+-- the line at a place is one that the tables see, or there is none
+abbrev pub Ready : List Line → TablePlace → Type 0
+Ready lines p = (line : Line) → slice_get lines p.place ≡ Some line → is_some (table_call_of p.handles line) ≡ true
+
+-- the line at a place is the first that is left
+pub line_there : (lines : List Line) (n : ℕ) (line : Line) (rest : List Line) → drop n lines ≡ line ∷ rest → (slice_get lines n ≡ Some line) × (drop (n + 1) lines ≡ rest)
+line_there [] zero line rest is = absurd (cc is)
+line_there [] (suc n) line rest is = absurd (cc is)
+line_there (x ∷ lines) zero line rest is = (ap (λ l. slice_get l 0) is, ap (drop 1) is)
+line_there (x ∷ lines) (suc n) line rest is =
+    let found = line_there lines n line rest is in
+    (found.0, ap (λ k. drop k (x ∷ lines)) (add-one (suc n)) ∙ ap (λ k. drop k lines) (sym (add-one n)) ∙ found.1)
+
+pub no_line_there : (lines : List Line) (n : ℕ) → drop n lines ≡ [] → slice_get lines n ≡ None
+no_line_there [] n is = refl
+no_line_there (x ∷ lines) zero is = absurd (cc is)
+no_line_there (x ∷ lines) (suc n) is = no_line_there lines n is
+
+none_of : (o : Option Call) → is_some o ≡ false → o ≡ None
+none_of None is = refl
+none_of (Some call) is = absurd (true≢false is)
+
+-- past the lines that the tables don't see it is ready
+pub passed_ready : (app : ℕ) (t : Tables) (lines left : List Line) (p : TablePlace) → drop p.place lines ≡ left → Ready lines (passed_at_tables app t left p)
+passed_ready app t lines [] p is = λ line there. absurd (cc (sym (no_line_there lines p.place is) ∙ there))
+passed_ready app t lines (x ∷ left) p is = by (is_some (table_call_of p.handles x)) refl
+  where
+    found : (slice_get lines p.place ≡ Some x) × (drop (p.place + 1) lines ≡ left)
+    found = line_there lines p.place x left is
+
+    by : (b : Bool) → is_some (table_call_of p.handles x) ≡ b → Ready lines (cond {A = TablePlace} b p (passed_at_tables app t left (past_at_tables app t x p)))
+    by true seen = λ line there.
+        let same : x ≡ line = cc (found.0, there) in
+        subst (λ (l : Line). is_some (table_call_of p.handles l) ≡ true) same seen
+    by false unseen = passed_ready app t lines left (past_at_tables app t x p) found.1
+
+-- and it has to make what it had to make before
+pub passed_at : (script : ScriptText) (app : ℕ) (t : Tables) (own : List Entry) (left : List Line) (p : TablePlace) → drop p.place (lines_of script app) ≡ left →
+    IsAtTables script app own (Some (running_at_tables script app p)) → IsAtTables script app own (Some (running_at_tables script app (passed_at_tables app t left p)))
+passed_at script app t own [] p is at = at
+passed_at script app t own (x ∷ left) p is at = by (is_some (table_call_of p.handles x)) refl
+  where
+    r : Running
+    r = running_at_tables script app p
+
+    found : (slice_get (lines_of script app) p.place ≡ Some x) × (drop (p.place + 1) (lines_of script app) ≡ left)
+    found = line_there (lines_of script app) p.place x left is
+
+    by : (b : Bool) → is_some (table_call_of p.handles x) ≡ b →
+        IsAtTables script app own (Some (running_at_tables script app (cond {A = TablePlace} b p (passed_at_tables app t left (past_at_tables app t x p)))))
+    by true seen = at
+    by false unseen =
+        passed_at script app t own left (past_at_tables app t x p) found.1
+        (subst (λ (l : List Line). IsAtTables script app own (Some (behind_table r l r.handles))) (sym found.1)
+        ((applications_go_on_at_tables script app).unseen own r x left is (none_of (table_call_of p.handles x) unseen) at))
