@@ -14,3 +14,4 @@ mod TableProgress
 mod Comparing
 mod Answered
 mod TablePlaces
+mod BusPlaces
