@@ -1,14 +1,16 @@
 -- Where an application is at the tables: past the lines that they don't see.
-use Rattle.std.proofs.Common.{◌≡◌, ℕ, ◌+◌, zero, suc, Bool, true, false, cond, true≢false, List, [], ◌∷◌, length, drop, Option, Some, None, refl, ap, sym, ◌∙◌, subst, add-one}
+use Rattle.std.proofs.Common.{◌≡◌, ℕ, ◌+◌, zero, suc, Bool, true, false, cond, true≢false, List, [], ◌∷◌, ◌++◌, length, drop, Option, Some, None, refl, ap, sym, ◌∙◌, subst, add-one}
 use Rattle.std.specs.Prelude.{slice_get, is_some}
+use Rattle.std.specs.Option.{option_map_or}
 use Rattle.tbl_words.specs.declared.history.Call.{Call}
+use Rattle.tbl_words.specs.declared.history.Call.TheVariants as calls
 use Rattle.tbl_words.specs.declared.history.Entry.{Entry}
 use Rattle.tbl_words.specs.Tables.{State as Tables}
 use Rattle.script_lines.specs.declared.line.Line.{Line}
 use Rattle.app_script.specs.Script.{ScriptText}
 use Rattle.script_runs.specs.Rotation.{Running, behind_table}
-use Rattle.script_runs.specs.TableTrace.{table_call_of}
-use Rattle.run_check.specs.Places.{TablePlace, passed_at_tables, past_at_tables}
+use Rattle.script_runs.specs.TableTrace.{handles_after, table_call_of}
+use Rattle.run_check.specs.Places.{TablePlace, behind_at_tables, passed_at_tables, past_at_tables, settled_at_tables}
 use Rattle.run_check.specs.Replays.{lines_of, running_at_tables}
 use Rattle.run_check.specs.TableProgress.{IsAtTables}
 use Rattle.run_check.proofs.TableProgress.{applications_go_on_at_tables}
@@ -68,3 +70,34 @@ passed_at script app t own (x ∷ left) p is at = by (is_some (table_call_of p.h
         passed_at script app t own left (past_at_tables app t x p) found.1
         (subst (λ (l : List Line). IsAtTables script app own (Some (behind_table r l r.handles))) (sym found.1)
         ((applications_go_on_at_tables script app).unseen own r x left is (none_of (table_call_of p.handles x) unseen) at))
+
+-- behind its end nothing is left
+pub ended_at : (script : ScriptText) (app : ℕ) (own : List Entry) (p : TablePlace) (e : Entry) → drop p.place (lines_of script app) ≡ [] → e.call ≡ calls.End →
+    IsAtTables script app own (Some (running_at_tables script app p)) → IsAtTables script app (own ++ e ∷ []) None
+ended_at script app own p e is end at = (applications_go_on_at_tables script app).end own (running_at_tables script app p) e is end at
+
+-- behind a line whose call was answered it has to make what its new place says
+pub settled_at : (script : ScriptText) (app : ℕ) (t : Tables) (own : List Entry) (p : TablePlace) (e : Entry) (x : Line) (left : List Line) → drop p.place (lines_of script app) ≡ x ∷ left →
+    table_call_of p.handles x ≡ Some e.call → IsAtTables script app own (Some (running_at_tables script app p)) →
+    IsAtTables script app (own ++ e ∷ []) (Some (running_at_tables script app (settled_at_tables app t (lines_of script app) e.call e.answer p)))
+settled_at script app t own p e x left is made at =
+    subst (λ (o : Option Line). IsAtTables script app (own ++ e ∷ []) (Some (running_at_tables script app (option_map_or (λ line. gone line) o p)))) (sym found.0)
+    (passed_at script app t (own ++ e ∷ []) (drop (p.place + 1) (lines_of script app)) now refl there)
+  where
+    r : Running
+    r = running_at_tables script app p
+
+    now : TablePlace
+    now = behind_at_tables app t x e.call e.answer p
+
+    gone : Line → TablePlace
+    gone line =
+        passed_at_tables app t (drop ((behind_at_tables app t line e.call e.answer p).place) (lines_of script app)) (behind_at_tables app t line e.call e.answer p)
+
+    found : (slice_get (lines_of script app) p.place ≡ Some x) × (drop (p.place + 1) (lines_of script app) ≡ left)
+    found = line_there (lines_of script app) p.place x left is
+
+    there : IsAtTables script app (own ++ e ∷ []) (Some (running_at_tables script app now))
+    there =
+        subst (λ (l : List Line). IsAtTables script app (own ++ e ∷ []) (Some (behind_table r l (handles_after r.handles x e.answer)))) (sym found.1)
+        ((applications_go_on_at_tables script app).line own r x left e is made at)
