@@ -15,3 +15,4 @@ mod Comparing
 mod Answered
 mod TablePlaces
 mod BusPlaces
+mod TableGoesOn

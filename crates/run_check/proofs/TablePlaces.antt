@@ -101,3 +101,23 @@ settled_at script app t own p e x left is made at =
     there =
         subst (λ (l : List Line). IsAtTables script app (own ++ e ∷ []) (Some (behind_table r l (handles_after r.handles x e.answer)))) (sym found.1)
         ((applications_go_on_at_tables script app).line own r x left e is made at)
+
+-- and is ready there
+pub settled_ready : (script : ScriptText) (app : ℕ) (t : Tables) (p : TablePlace) (e : Entry) (x : Line) → slice_get (lines_of script app) p.place ≡ Some x →
+    Ready (lines_of script app) (settled_at_tables app t (lines_of script app) e.call e.answer p)
+settled_ready script app t p e x there =
+    subst (λ (o : Option Line). Ready (lines_of script app) (option_map_or (λ line. gone line) o p)) (sym there)
+    (passed_ready app t (lines_of script app) (drop (p.place + 1) (lines_of script app)) (behind_at_tables app t x e.call e.answer p) refl)
+  where
+    gone : Line → TablePlace
+    gone line =
+        passed_at_tables app t (drop ((behind_at_tables app t line e.call e.answer p).place) (lines_of script app)) (behind_at_tables app t line e.call e.answer p)
+
+-- where no line is left it stays where it is
+pub settled_none : (script : ScriptText) (app : ℕ) (t : Tables) (p : TablePlace) (e : Entry) → slice_get (lines_of script app) p.place ≡ None →
+    settled_at_tables app t (lines_of script app) e.call e.answer p ≡ p
+settled_none script app t p e none = ap (λ (o : Option Line). option_map_or (λ line. gone line) o p) none
+  where
+    gone : Line → TablePlace
+    gone line =
+        passed_at_tables app t (drop ((behind_at_tables app t line e.call e.answer p).place) (lines_of script app)) (behind_at_tables app t line e.call e.answer p)
