@@ -2,6 +2,7 @@
 ghost use Rattle.run_check.specs.Fronts.{WrongLinesAreFirst};
 ghost use Rattle.run_check.specs.Progress.{ApplicationsGoOn, NextCallsAreKnown, NextCallsMayCome};
 ghost use Rattle.run_check.specs.Judged.{JudgedIsAnswered};
+ghost use Rattle.run_check.specs.Replays.{TablePlacesGoOn};
 ghost use Rattle.run_check.specs.TableProgress.{ApplicationsGoOnAtTables, NextTableCallsAreKnown, NextTableCallsMayCome};
 ghost use Rattle.run_check.specs.Determined.{ReportsTellRuns, NextEntriesAreOne, NextTableEntriesAreOne};
 
@@ -43,4 +44,10 @@ pub fn next_table_calls_are_known()
     ensures known { NextTableCallsAreKnown }
     ensures may_come { NextTableCallsMayCome }
     ensures goes_on { ApplicationsGoOnAtTables }
+{}
+
+/// Where an application is at the tables, by its place among its lines and its registers: what it
+/// has still to make is what these say, behind every history that is under way.
+pub fn table_places_go_on()
+    ensures { TablePlacesGoOn }
 {}

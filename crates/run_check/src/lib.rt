@@ -18,6 +18,6 @@ mod verdict;
 pub use check::check;
 pub use laws::{
     judged_reports_are_answered, next_calls_are_known, next_table_calls_are_known,
-    reports_tell_runs, wrong_lines_are_first,
+    reports_tell_runs, table_places_go_on, wrong_lines_are_first,
 };
 pub use verdict::Verdict;
