@@ -1,23 +1,25 @@
--- What a call answers and changes, but for what is told, counted and given next.
-use Rattle.std.specs.Prelude.{◌≡◌, ℕ, Bool, true, false, List}
+-- What a call answers and changes, but for what is told and counted.
+use Rattle.std.specs.Prelude.{◌≡◌, ℕ, Bool, true, false, List, fold}
 use Rattle.fsw_base.specs.EventDesk.{Desk}
+use Rattle.housekeeping.specs.Counters.{Counts, ticked}
 use Rattle.housekeeping.specs.Statistics.{Statistics}
 use Rattle.bus_events.specs.declared.event.ServiceEvent.{ServiceEvent}
 use Rattle.bus_words.specs.declared.calls.BusAnswer.{BusAnswer}
 use Rattle.bus_words.specs.declared.history.Call.{Call}
 use Rattle.bus_words.specs.declared.history.Call.TheVariants.{Subscribe, Unsubscribe, Transmit, TransmitBuffer, PoolCreate, PoolGet, PoolPut, PoolFigures, Register, SendEvent, ResetFilter, LogMode, ClearLog, Housekeeping}
 use Rattle.bus_words.specs.Events.{call_events}
+use Rattle.bus_words.specs.Counters.{event_counter}
 use Rattle.bus_words.specs.Machine.{cause, decided_with}
-use Rattle.bus_words.specs.Acts.{NextCount, reads_in}
+use Rattle.bus_words.specs.Acts.{reads_in, nexts_after}
 use Rattle.list_bus.specs.Played.{Played}
 
--- the call was answered, and left the bus, as it is decided; the event desk, the statistics and the
--- next counts are as they were
+-- the call was answered, and left the bus and the next counts, as it is decided; the event desk and
+-- the statistics are as they were
 pub record Decides (old new : Played) (app : ℕ) (call : Call) (answer : BusAnswer) : Type 0 where
   pub made : decided_with (reads_in old.whole) old.limits old.whole.bus app call
       (cause old.limits old.whole.bus app call) ≡ (answer, new.whole.bus)
   pub limits : new.limits ≡ old.limits
-  pub nexts : new.whole.nexts ≡ old.whole.nexts
+  pub nexts : new.whole.nexts ≡ nexts_after old.limits old.whole.nexts call answer
   pub events : new.whole.bus.events ≡ old.whole.bus.events
   pub statistics : new.whole.bus.statistics ≡ old.whole.bus.statistics
 
@@ -52,6 +54,10 @@ is_of_services (PoolPut pool grant) = true
 is_of_services (PoolFigures pool) = true
 is_of_services call = is_of_events call
 
+-- these counts once the counters of these events went up, event by event
+abbrev pub all_counted : Counts → List ServiceEvent → Counts
+all_counted counts events = fold (λ now event. fold ticked now (event_counter event)) counts events
+
 -- the bus with this event desk
 abbrev pub with_desk : Played → Desk → Played
 with_desk p desk =
@@ -61,7 +67,3 @@ with_desk p desk =
 abbrev pub with_statistics : Played → Statistics → Played
 with_statistics p statistics =
     record p { whole = record p.whole { bus = record p.whole.bus { statistics = statistics } } }
-
--- the bus with these next counts
-abbrev pub with_nexts : Played → List NextCount → Played
-with_nexts p nexts = record p { whole = record p.whole { nexts = nexts } }

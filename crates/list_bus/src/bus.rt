@@ -96,7 +96,6 @@ impl ListBus {
         let decision = self.decide(alloc, app, call)?;
         self.tell(app, call, &decision.events);
         self.count(call, &decision.answer, &decision.events);
-        self.move_on(call, &decision.answer)?;
         Ok(decision.answer)
     }
 }

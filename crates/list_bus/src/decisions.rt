@@ -45,7 +45,8 @@ pub(crate) fn telling(
 }
 
 impl ListBus {
-    /// What a call answers and changes, but for the event desk, the counters and the next counts.
+    /// What a call answers and changes, but for the event desk and the counters.
+    #[tactic(auto, unfolding(bus_words::specs::Events::call_events))]
     pub(crate) fn decide(
         &mut self,
         alloc: Global,

@@ -100,6 +100,7 @@ impl ListBus {
     }
 
     /// The pipe is subscribed to the id; of a pair that is live it is told that it was.
+    #[tactic(auto, unfolding(bus_words::specs::Events::call_events))]
     pub(crate) fn subscribe(
         &mut self,
         alloc: Global,
@@ -119,6 +120,8 @@ impl ListBus {
         if let Some(why) = self.subscribe_cause(app, id, pipe) {
             return Ok(quiet(alloc, BusAnswer::Sb(why)));
         }
+        let start = self.config.starts.start_of(id);
+        self.nexts.start(id, start)?;
         if self.subs.is_subscribed(id, pipe) {
             let event = ServiceEvent::DuplicateSubscription { id, pipe };
             return telling(alloc, BusAnswer::Done, event);
@@ -128,6 +131,7 @@ impl ListBus {
     }
 
     /// The subscription of the pair ends; where there was none, it is told.
+    #[tactic(auto, unfolding(bus_words::specs::Events::call_events))]
     pub(crate) fn unsubscribe(
         &mut self,
         alloc: Global,

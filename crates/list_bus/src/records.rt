@@ -1,30 +1,22 @@
-//! What is told, counted and given next once a call was answered.
-ghost use Rattle.std.specs.Prelude.{◌≡◌, fold, flat_map, map, IsTrue, if◌then◌else◌};
+//! What is told and counted once a call was answered.
+ghost use Rattle.std.specs.Prelude.{◌≡◌, fold, IsTrue};
 ghost use Rattle.std.specs.Option.{option_to_list};
-ghost use Rattle.std.specs.Result.{OnOk};
-ghost use Rattle.ccsds_msg.specs.Message.{message_id};
 ghost use Rattle.housekeeping.specs.Counters.{ticked};
 ghost use Rattle.bus_events.specs.Events.{served_event, served_all};
-ghost use Rattle.bus_words.specs.Acts.{nexts_after, moved_on};
 ghost use Rattle.bus_words.specs.declared.calls.BusAnswer.TheVariants.{Sb};
 ghost use Rattle.bus_words.specs.Counters.{event_counter, refusal_counter, statistics_by};
 ghost use Rattle.bus_words.specs.Entries.{call_of};
 ghost use Rattle.bus_words.specs.Events.{desk_by};
 ghost use Rattle.bus_words.specs.Held.{in_use};
-ghost use Rattle.list_bus.specs.Decided.{with_desk, with_statistics, with_nexts};
+ghost use Rattle.list_bus.specs.Decided.{all_counted, with_desk, with_statistics};
 ghost use Rattle.list_bus.specs.Played.{is_playable};
 
 use crate::bus::ListBus;
 use bus_events::ServiceEvent;
 use bus_words::{BusAnswer, BusCall};
-use ccsds_msg::id_of;
 use evs_events::EventDesk;
 use fsw_base::{AppNo, SbStatus};
 use housekeeping::{CounterName, Counters};
-use std::alloc::AllocError;
-
-// The id of the housekeeping packet: telemetry with the flag of a secondary header.
-const HOUSEKEEPING_ID: u16 = 0x0803;
 
 impl ListBus {
     /// The event desk after a call of which this is told.
@@ -38,6 +30,7 @@ impl ListBus {
     }
 
     /// The counters and the peaks after a call so answered of which this is told.
+    #[tactic(auto, unfolding(bus_words::specs::Counters::statistics_by))]
     pub(crate) fn count(&mut self, call: &BusCall<'_>, answer: &BusAnswer, events: &[ServiceEvent])
         ensures { self.new ≡
             with_statistics self.old
@@ -49,55 +42,10 @@ impl ListBus {
         count_events(&mut self.counters, events);
         self.counters.seen(now);
     }
-
-    /// The next sequence counts after a call so answered.
-    pub(crate) fn move_on(
-        &mut self,
-        call: &BusCall<'_>,
-        answer: &BusAnswer,
-    ) -> Result<(), AllocError>
-        ensures { OnOk result
-            (self.new ≡
-            with_nexts self.old
-            (nexts_after self.old.limits self.old.whole.nexts (call_of call.now) answer.now)) }
-    {
-        match (call, answer) {
-            (BusCall::Subscribe { id, .. }, BusAnswer::Done) => {
-                let start = self.config.starts.start_of(*id);
-                self.nexts.start(*id, start)
-            }
-            (BusCall::Transmit { bytes, inc }, BusAnswer::Sent { number, .. }) => {
-                self.move_if(bytes, *inc && 1 <= *number);
-                Ok(())
-            }
-            (BusCall::TransmitBuffer { bytes, inc, .. }, BusAnswer::Sent { number, .. }) => {
-                self.move_if(bytes, *inc && 1 <= *number);
-                Ok(())
-            }
-            (BusCall::Housekeeping, BusAnswer::Sent { number, .. }) => {
-                if 1 <= *number {
-                    self.nexts.move_on(HOUSEKEEPING_ID);
-                }
-                Ok(())
-            }
-            _ => Ok(()),
-        }
-    }
-
-    // The next count of a message's id goes up by one, if the test is true.
-    fn move_if(&mut self, bytes: &[u8], test: bool)
-        ensures { self.new ≡
-            with_nexts self.old
-            (if test then map (moved_on (message_id bytes.now)) self.old.whole.nexts
-            else self.old.whole.nexts) }
-    {
-        if test && 6 <= bytes.len() {
-            self.nexts.move_on(id_of(bytes));
-        }
-    }
 }
 
 // The event desk after a call of which this is told.
+#[tactic(auto, unfolding(bus_words::specs::Events::desk_by))]
 fn tell(desk: &mut EventDesk, app: AppNo, call: &BusCall<'_>, events: &[ServiceEvent])
     requires { IsTrue (is_playable (call_of call.now)) }
     ensures { desk.new ≡ desk_by desk.old app (call_of call.now) events.now }
@@ -137,9 +85,7 @@ fn serve(desk: &mut EventDesk, event: &ServiceEvent)
 // The counters that these events raise go up.
 fn count_events(counters: &mut Counters, events: &[ServiceEvent])
     ensures { counters.new ≡
-        record counters.old {
-          counts = fold ticked counters.old.counts (flat_map event_counter events.now);
-        } }
+        record counters.old { counts = all_counted counters.old.counts events.now } }
 {
     for event in events {
         count_event(counters, event);

@@ -1,8 +1,7 @@
 //! Sends and buffers.
-ghost use Rattle.std.specs.Prelude.{◌≡◌, ◌<◌, ◌≤◌, ◌^◌, length, IfOk};
-ghost use Rattle.ccsds_msg.specs.Message.{with_count};
+ghost use Rattle.std.specs.Prelude.{◌≡◌, ◌<◌, ◌≤◌, ◌^◌, length, map, if◌then◌else◌, IfOk};
 ghost use Rattle.bus_words.specs.declared.history.Call.TheVariants.{Transmit, TransmitBuffer, Allocate, Release, Housekeeping};
-ghost use Rattle.bus_words.specs.Acts.{reads_in};
+ghost use Rattle.bus_words.specs.Acts.{reads_in, moved_on};
 ghost use Rattle.bus_words.specs.Machine.{stamped, packet_in};
 ghost use Rattle.list_bus.specs.Decided.{Decides, Tells};
 
@@ -30,7 +29,23 @@ impl ListBus {
         Ok(message)
     }
 
+    // The next count of an id goes up by one, if the test is true.
+    fn move_if(&mut self, test: bool, id: u16)
+        ensures { self.new ≡
+            record self.old {
+              whole = record self.old.whole {
+                nexts = (if test then map (moved_on id) self.old.whole.nexts
+                    else self.old.whole.nexts);
+              };
+            } }
+    {
+        if test {
+            self.nexts.move_on(id);
+        }
+    }
+
     /// A message goes to the subscriptions of its id; where there is none, it is told.
+    #[tactic(auto, unfolding(bus_words::specs::Events::call_events))]
     pub(crate) fn transmit(
         &mut self,
         alloc: Global,
@@ -55,6 +70,7 @@ impl ListBus {
         }
         let message = self.stamped(alloc, bytes, inc)?;
         let done = self.messages.send(alloc, app, message, &subs, id)?;
+        self.move_if(inc, id);
         Ok(Decision {
             answer: BusAnswer::Sent {
                 number: done.number,
@@ -66,6 +82,7 @@ impl ListBus {
 
     /// The message that a buffer begins with goes to the subscriptions of its id, and the buffer
     /// leaves.
+    #[tactic(auto, unfolding(bus_words::specs::Events::call_events))]
     pub(crate) fn transmit_buffer(
         &mut self,
         alloc: Global,
@@ -97,6 +114,7 @@ impl ListBus {
         let done = self
             .messages
             .send_buffer(alloc, app, buf, message, &subs, id)?;
+        self.move_if(inc && 1 <= buf, id);
         Ok(Decision {
             answer: BusAnswer::Sent {
                 number: buf,
@@ -107,6 +125,7 @@ impl ListBus {
     }
 
     /// The housekeeping packet is sent, as it is before the call.
+    #[tactic(auto, unfolding(bus_words::specs::Events::call_events))]
     pub(crate) fn send_housekeeping(
         &mut self,
         alloc: Global,

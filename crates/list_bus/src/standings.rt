@@ -1,7 +1,7 @@
 //! What applications are doing.
-ghost use Rattle.std.specs.Prelude.{◌≡◌, ◌-◌, map, replicate, slice_set, slice_index_or, IfOk};
+ghost use Rattle.std.specs.Prelude.{◌≡◌, ◌-◌, ◌<◌, length, map, replicate, slice_set, slice_index_or, IfOk};
 ghost use Rattle.std.specs.List.{list_all};
-ghost use Rattle.bus_words.specs.Bus.{Standing, Active, Waiting, Ended, has_ended, is_idle};
+ghost use Rattle.bus_words.specs.Bus.{Active, Ended, has_ended, is_idle};
 ghost use Rattle.list_bus.specs.Standings.{standing_in};
 
 use fsw_base::AppNo;
@@ -88,10 +88,23 @@ pub(crate) fn are_others_idle(pipes: &[ListPipe], standings: &[ListStanding], ap
         (slice_set (map standing_in standings.now) (app - 1) Ended) }
 {
     let own = app.get() as usize - 1;
-    for (place, standing) in standings.iter().enumerate() {
-        if place != own && !is_idle(pipes, *standing) {
+    for place in 0..standings.len() {
+        if !is_idle(pipes, standing_but(standings, place, own)) {
             return false;
         }
     }
     true
+}
+
+// What the application at a place is doing, where the one at `own` has ended.
+fn standing_but(standings: &[ListStanding], place: usize, own: usize) -> ListStanding
+    requires { place < length standings.now }
+    ensures { standing_in result ≡
+        slice_index_or (slice_set (map standing_in standings.now) own Ended) place Ended }
+{
+    if place == own {
+        ListStanding::Ended
+    } else {
+        standings[place]
+    }
 }

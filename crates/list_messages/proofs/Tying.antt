@@ -1,5 +1,5 @@
 -- Send numbers stay tied to what names them, as pipes and unsent buffers change.
-use Rattle.std.proofs.Common.{◌≡◌, ℕ, ◌+◌, ◌-◌, ◌<◌, ◌≤◌, ◌⊎◌, inl, inr, not, Bool, true, false, cond, eqb, leb, eqb-true, ne_eqb, List, [], ◌∷◌, ◌++◌, length, filter, refl, ap, sym, ◌∙◌, subst, arith}
+use Rattle.std.proofs.Common.{◌≡◌, ℕ, ◌+◌, ◌-◌, ◌<◌, ◌≤◌, ◌⊎◌, inl, inr, not, Bool, true, false, cond, eqb, leb, eq-eqb, List, [], ◌∷◌, ◌++◌, length, filter, refl, ap, sym, ◌∙◌, subst, arith}
 use Rattle.std.specs.List.{count_by, sum_by, All}
 use Rattle.std.proofs.lemmas.List.Elements.{All-head, All-tail, All-nil, All-cons}
 use Rattle.std.proofs.lemmas.List.Sums.{sum_by-cons}
@@ -60,3 +60,124 @@ module _ (uses : List Use) (pipes : List Pipe) (unsent : List (List Buffer)) (ti
   pub same_tied : (next : List Pipe) → ((P : Item → Type 0) → Each (OfPipe P) pipes → Each (OfPipe P) next) →
       ((n : ℕ) → named_on n next ≡ named_on n pipes) → IsTied uses next unsent
   same_tied next keeps_items left = gone_tied next unsent [] keeps_items (λ P each. each) (λ n. omega (arith, left n))
+
+-- Sends. --
+
+-- a message is delivered under a number that is named, and the names that are gone are taken back
+pub sent_tied : (uses : List Use) (pipes : List Pipe) (unsent : List (List Buffer)) (tied : IsTied uses pipes unsent) (sending : Sending) (subs : List Subscription)
+    (next : List Pipe) (gone : List ℕ) (joined : ℕ) → next ≡ deliver sending subs pipes → sending.asked ≡ (use_at uses sending.number).asked →
+    1 ≤ names_of uses sending.number → Moves pipes [] next gone sending.number joined →
+    IsTied (without_names (with_names uses sending.number joined) gone) next unsent
+sent_tied uses pipes unsent tied sending subs next gone joined is asked some moves =
+    let grown = with_names uses sending.number joined in
+    let now = without_names grown gone in
+    let same : SameAsked uses now = λ n. asked-without_all grown gone n ∙ asked-with uses sending.number joined n in
+    let Old : Item → Type 0 = ItemAsked uses in
+    let items : Each Old (items_of next) =
+    to_items Old next
+    (subst (Each (OfPipe Old)) (sym is)
+    (Each-deliver (OfPipe Old) sending (OfPipe-offer Old sending (λ sub. asked)) subs pipes
+    (of_items Old pipes (all_each Old (items_of pipes) tied.items)))) in
+    record {
+      named = λ n.
+          omega (
+            arith,
+            names-without_all grown gone n,
+            names-with uses sending.number joined n (was_given uses sending.number some),
+            tied.named n,
+            moves n,
+          );
+      items = each_all (ItemAsked now) (items_of next) (Each-drop Old (ItemAsked now) (items_of next) (λ item so. so ∙ sym (same item.number)) items);
+      buffers = each_all (BufferAsked now) (buffers_in unsent)
+          (Each-drop (BufferAsked uses) (BufferAsked now) (buffers_in unsent) (λ buffer so. so ∙ sym (same buffer.number))
+          (all_each (BufferAsked uses) (buffers_in unsent) tied.buffers));
+    }
+
+-- One number more. --
+
+itself : (n : ℕ) → cond {A = ℕ} (eqb n n) 1 0 ≡ 1
+itself n = ap (λ b. cond {A = ℕ} b 1 0) (eq-eqb n n refl)
+
+-- what was asked for under a number that was given stays, and items have such numbers
+items_kept : (uses next : List Use) (items : List Item) → ((n : ℕ) → n < length uses → (use_at next n).asked ≡ (use_at uses n).asked) →
+    ((n : ℕ) → count_by (of_number n) items ≤ names_of uses n) → Each (ItemAsked uses) items → Each (ItemAsked next) items
+items_kept uses next [] kept counted each = tt
+items_kept uses next (item ∷ items) kept counted each =
+    let some : 1 ≤ names_of uses item.number =
+    omega (arith, counted item.number, count-cons (of_number item.number) item items, itself item.number) in (
+      each.0 ∙ sym (kept item.number (was_given uses item.number some)),
+      items_kept uses next items kept (λ n. omega (arith, counted n, count-cons (of_number n) item items)) each.1,
+    )
+
+-- and so have buffers
+buffers_kept : (uses next : List Use) (buffers : List Buffer) → ((n : ℕ) → n < length uses → (use_at next n).asked ≡ (use_at uses n).asked) →
+    ((n : ℕ) → count_by (of_buffer n) buffers ≤ names_of uses n) → Each (BufferAsked uses) buffers → Each (BufferAsked next) buffers
+buffers_kept uses next [] kept counted each = tt
+buffers_kept uses next (buffer ∷ buffers) kept counted each =
+    let some : 1 ≤ names_of uses buffer.number =
+    omega (arith, counted buffer.number, count-cons (of_buffer buffer.number) buffer buffers, itself buffer.number) in (
+      each.0 ∙ sym (kept buffer.number (was_given uses buffer.number some)),
+      buffers_kept uses next buffers kept (λ n. omega (arith, counted n, count-cons (of_buffer n) buffer buffers)) each.1,
+    )
+
+-- a number is named once more than pipes and buffers name it, and all others so often as they do
+pub record IsTiedBut (uses : List Use) (pipes : List Pipe) (unsent : List (List Buffer)) (number : ℕ) : Type 0 where
+  pub named : (n : ℕ) → names_of uses n ≡ named_in pipes unsent n + cond {A = ℕ} (eqb number n) 1 0
+  pub items : All (ItemAsked uses) (items_of pipes)
+  pub buffers : All (BufferAsked uses) (buffers_in unsent)
+
+-- as a new one is
+pub drawn_tied : (uses : List Use) (pipes : List Pipe) (unsent : List (List Buffer)) (size : ℕ) → IsTied uses pipes unsent →
+    IsTiedBut (uses ++ record { asked = size; named = 1 } ∷ []) pipes unsent (length uses)
+drawn_tied uses pipes unsent size tied =
+    let u : Use = record { asked = size; named = 1 } in
+    let now = uses ++ u ∷ [] in
+    let kept : (n : ℕ) → n < length uses → (use_at now n).asked ≡ (use_at uses n).asked = λ n within. ap (λ (x : Use). x.asked) (old-push uses u n within) in
+    record {
+      named = λ n. omega (arith, names-push uses size n, tied.named n);
+      items = each_all (ItemAsked now) (items_of pipes)
+          (items_kept uses now (items_of pipes) kept (λ n. omega (arith, tied.named n, named_items n pipes))
+          (all_each (ItemAsked uses) (items_of pipes) tied.items));
+      buffers = each_all (BufferAsked now) (buffers_in unsent)
+          (buffers_kept uses now (buffers_in unsent) kept (λ n. omega (arith, tied.named n))
+          (all_each (BufferAsked uses) (buffers_in unsent) tied.buffers));
+    }
+
+-- until its message is delivered, and its own name is taken back
+pub delivered_tied : (uses : List Use) (pipes : List Pipe) (unsent : List (List Buffer)) (sending : Sending) (subs : List Subscription)
+    (next : List Pipe) (gone : List ℕ) (joined : ℕ) → IsTiedBut uses pipes unsent sending.number → next ≡ deliver sending subs pipes →
+    sending.asked ≡ (use_at uses sending.number).asked → Moves pipes [] next gone sending.number joined →
+    IsTied (without_name (without_names (with_names uses sending.number joined) gone) sending.number) next unsent
+delivered_tied uses pipes unsent sending subs next gone joined but is asked moves =
+    let m = sending.number in
+    let grown = with_names uses m joined in
+    let settled = without_names grown gone in
+    let now = without_name settled m in
+    let same : SameAsked uses now = λ n. asked-without settled m n ∙ asked-without_all grown gone n ∙ asked-with uses m joined n in
+    let Old : Item → Type 0 = ItemAsked uses in
+    let items : Each Old (items_of next) =
+    to_items Old next
+    (subst (Each (OfPipe Old)) (sym is)
+    (Each-deliver (OfPipe Old) sending (OfPipe-offer Old sending (λ sub. asked)) subs pipes
+    (of_items Old pipes (all_each Old (items_of pipes) but.items)))) in
+    let given : m < length uses = was_given uses m (omega (arith, but.named m, itself m)) in
+    record {
+      named = λ n.
+          omega (
+            arith,
+            names-without settled m n,
+            names-without_all grown gone n,
+            names-with uses m joined n given,
+            but.named n,
+            moves n,
+            by_test (eqb m n) joined,
+          );
+      items = each_all (ItemAsked now) (items_of next) (Each-drop Old (ItemAsked now) (items_of next) (λ item so. so ∙ sym (same item.number)) items);
+      buffers = each_all (BufferAsked now) (buffers_in unsent)
+          (Each-drop (BufferAsked uses) (BufferAsked now) (buffers_in unsent) (λ buffer so. so ∙ sym (same buffer.number))
+          (all_each (BufferAsked uses) (buffers_in unsent) but.buffers));
+    }
+  where
+    by_test : (b : Bool) (k : ℕ) → cond {A = ℕ} b k 0 + cond {A = ℕ} b 1 0 ≡ cond {A = ℕ} b (k + 1) 0
+    by_test true k = refl
+    by_test false k = refl

@@ -14,10 +14,11 @@ pub(crate) fn bytes_in_use(account: &ListAccount) -> u32
     requires paid { cost_of account.now.made account.now.sizes ≤ account.now.bytes }
     ensures { result ≡ bytes_in_use account.now }
 {
-    let mut bytes: u32 = 0;
+    let mut bytes = 0;
     let _ = account.bytes();
-    for class in 0..account.sizes().count() {
-        bytes += account.out_at(class) * account.sizes().at(class);
+    let sizes = account.sizes();
+    for class in 0..sizes.count() {
+        bytes += account.out_at(class) * sizes.at(class);
     }
     bytes
 }

@@ -76,7 +76,10 @@ impl ListSends {
     pub(crate) fn next(&self) -> Result<u32, AllocError>
         ensures { IfOk result (λ number. number ≡ length self.now.uses) }
     {
-        u32::try_from(self.uses.len()).map_err(|_| AllocError)
+        if self.uses.len() > u32::MAX as usize {
+            return Err(AllocError);
+        }
+        Ok(self.uses.len() as u32)
     }
 
     /// Whether the pool has a block for so many bytes.

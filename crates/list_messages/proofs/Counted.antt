@@ -1,0 +1,117 @@
+-- The account stays the one of the numbers that are named.
+use Rattle.std.proofs.Common.{◌≡◌, ℕ, zero, suc, ◌+◌, ◌-◌, ◌*◌, ◌<◌, ◌≤◌, ◌⊎◌, inl, inr, max, Bool, true, false, cond, leb, List, [], ◌∷◌, ◌++◌, length, get_or, set, drop, Option, Some, None, refl, ap, sym, ◌∙◌, subst, arith}
+use Rattle.std.specs.List.{count_by}
+use Rattle.std.proofs.Math.Nat.{mul-le-mul}
+use Rattle.std.proofs.lemmas.Bool.{cases_eq}
+use Rattle.std.proofs.lemmas.Bool.Decides.{nat_tests}
+use Rattle.std.proofs.lemmas.List.{length-set, get_or-set_same, get_or-set_other}
+use Rattle.fsw_base.specs.Blocks.{class_of}
+use Rattle.bus_words.specs.Held.{bytes_of}
+use Rattle.fsw_base.specs.PoolAccounts.{Account, overhead, cost_of, has_room_for, after_draws, after_return}
+
+-- No more blocks are out than were made. --
+
+-- no more of any class are out than were made
+abbrev pub IsMost : Account → Type 0
+IsMost account = (class : ℕ) → class < length account.sizes → get_or account.out class 0 ≤ get_or account.made class 0
+
+-- a draw keeps that
+pub most_drawn : (account : Account) (k : ℕ) → length account.made ≡ length account.sizes → length account.out ≡ length account.sizes →
+    IsMost account → IsMost (after_draws account k 1)
+most_drawn account k made_all out_all most class within = at (cases_eq k class)
+  where
+    top : ℕ
+    top = max (get_or account.made k 0) (get_or account.out k 0 + 1)
+
+    at : (k ≡ class) ⊎ (k ≡ class → ⊥) → get_or (set account.out k (get_or account.out k 0 + 1)) class 0 ≤ get_or (set account.made k top) class 0
+    at (inl is) =
+        omega (
+          arith,
+          ap (λ j. get_or (set account.out j (get_or account.out j 0 + 1)) class 0) is,
+          ap (λ j. get_or (set account.made j (max (get_or account.made j 0) (get_or account.out j 0 + 1))) class 0) is,
+          get_or-set_same account.out class (get_or account.out class 0 + 1) 0 (omega (arith, within, out_all)),
+          get_or-set_same account.made class (max (get_or account.made class 0) (get_or account.out class 0 + 1)) 0 (omega (arith, within, made_all)),
+        )
+    at (inr apart) =
+        omega (
+          arith,
+          most class within,
+          get_or-set_other account.out k class (get_or account.out k 0 + 1) 0 (λ same. apart (sym same)),
+          get_or-set_other account.made k class top 0 (λ same. apart (sym same)),
+        )
+
+-- and so does a return
+pub most_returned : (account : Account) (k : ℕ) → length account.out ≡ length account.sizes → IsMost account → IsMost (after_return account k)
+most_returned account k out_all most class within = at (cases_eq k class)
+  where
+    at : (k ≡ class) ⊎ (k ≡ class → ⊥) → get_or (set account.out k (get_or account.out k 0 - 1)) class 0 ≤ get_or account.made class 0
+    at (inl is) =
+        omega (
+          arith,
+          most class within,
+          ap (λ j. get_or (set account.out j (get_or account.out j 0 - 1)) class 0) is,
+          get_or-set_same account.out class (get_or account.out class 0 - 1) 0 (omega (arith, within, out_all)),
+        )
+    at (inr apart) = omega (arith, most class within, get_or-set_other account.out k class (get_or account.out k 0 - 1) 0 (λ same. apart (sym same)))
+
+-- What was made is paid for. --
+
+-- what is made costs, with one count set
+cost-set : (made sizes : List ℕ) (class count : ℕ) → length made ≡ length sizes → class < length made →
+    cost_of (set made class count) sizes + get_or made class 0 * (get_or sizes class 0 + overhead) ≡ cost_of made sizes + count * (get_or sizes class 0 + overhead)
+cost-set [] sizes class count e h = absurd (omega (arith, h))
+cost-set (c ∷ made) [] class count e h = absurd (omega (arith, e))
+cost-set (c ∷ made) (size ∷ sizes) zero count e h = omega arith
+cost-set (c ∷ made) (size ∷ sizes) (suc class) count e h = omega (arith, cost-set made sizes class count (omega (arith, e)) (omega (arith, h)))
+
+max_cost : (m x k : ℕ) → max m x * k ≡ m * k + k * (x - m)
+max_cost m x k = ap (λ n. n * k) greater ∙ spread m (x - m)
+  where
+    greater : max m x ≡ m + (x - m)
+    greater = omega arith
+
+    spread : (a b : ℕ) → (a + b) * k ≡ a * k + k * b
+    spread a b = omega arith
+
+fits : (cost k x bytes : ℕ) → leb (cost + k * x) bytes ≡ true → cost + k * x ≤ bytes
+fits cost k x bytes e = grind (arith, nat_tests)
+
+pub paid_drawn : (account : Account) (class : ℕ) → length account.made ≡ length account.sizes → class < length account.sizes →
+    has_room_for account class 1 ≡ true → cost_of (after_draws account class 1).made account.sizes ≤ account.bytes
+paid_drawn account class all within room =
+    let m = get_or account.made class 0 in
+    let o = get_or account.out class 0 in
+    let k = get_or account.sizes class 0 + overhead in
+    omega (
+      arith,
+      cost-set account.made account.sizes class (max m (o + 1)) all (omega (arith, all, within)),
+      max_cost m (o + 1) k,
+      fits (cost_of account.made account.sizes) k (o + 1 - m) account.bytes room,
+    )
+
+-- Bytes in use. --
+
+-- blocks that are out are no more bytes than the made ones took
+pub bytes_le_cost : (out made sizes : List ℕ) → length out ≡ length sizes → length made ≡ length sizes →
+    ((class : ℕ) → class < length sizes → get_or out class 0 ≤ get_or made class 0) → bytes_of out sizes ≤ cost_of made sizes
+bytes_le_cost [] made sizes out_all made_all most = omega arith
+bytes_le_cost (o ∷ out) made [] out_all made_all most = absurd (omega (arith, out_all))
+bytes_le_cost (o ∷ out) [] (size ∷ sizes) out_all made_all most = absurd (omega (arith, made_all))
+bytes_le_cost (o ∷ out) (m ∷ made) (size ∷ sizes) out_all made_all most =
+    let spread : m * (size + overhead) ≡ m * size + m * overhead = omega arith in
+    let grown : o * size ≤ m * size = mul-le-mul (most 0 (omega arith)) (omega arith) in
+    omega (
+      arith,
+      spread,
+      grown,
+      bytes_le_cost out made sizes (omega (arith, out_all)) (omega (arith, made_all)) (λ class within. most (suc class) (omega (arith, within))),
+    )
+
+-- one size more
+pub bytes-drop : (out sizes : List ℕ) (i : ℕ) → length out ≡ length sizes → i < length sizes →
+    bytes_of (drop i out) (drop i sizes) ≡ get_or out i 0 * get_or sizes i 0 + bytes_of (drop (i + 1) out) (drop (i + 1) sizes)
+bytes-drop [] [] i all within = absurd (omega (arith, within))
+bytes-drop [] (size ∷ sizes) i all within = absurd (omega (arith, all))
+bytes-drop (o ∷ out) [] i all within = absurd (omega (arith, all))
+bytes-drop (o ∷ out) (size ∷ sizes) zero all within = refl
+bytes-drop (o ∷ out) (size ∷ sizes) (suc i) all within = bytes-drop out sizes i (omega (arith, all)) (omega (arith, within))
