@@ -1,10 +1,13 @@
 -- The account stays the one of the numbers that are named.
-use Rattle.std.proofs.Common.{◌≡◌, ℕ, zero, suc, ◌+◌, ◌-◌, ◌*◌, ◌<◌, ◌≤◌, ◌⊎◌, inl, inr, max, Bool, true, false, cond, leb, List, [], ◌∷◌, ◌++◌, length, get_or, set, drop, Option, Some, None, refl, ap, sym, ◌∙◌, subst, arith}
+use Rattle.std.proofs.Common.{◌≡◌, ℕ, zero, suc, ◌+◌, ◌-◌, ◌*◌, ◌<◌, ◌≤◌, ◌⊎◌, inl, inr, max, Bool, true, false, cond, leb, List, [], ◌∷◌, ◌++◌, length, length-append, get_or, set, drop, Option, Some, None, refl, ap, sym, ◌∙◌, subst, arith}
 use Rattle.std.specs.List.{count_by}
 use Rattle.std.proofs.Math.Nat.{mul-le-mul}
 use Rattle.std.proofs.lemmas.Bool.{cases_eq}
 use Rattle.std.proofs.lemmas.Bool.Decides.{nat_tests}
 use Rattle.std.proofs.lemmas.List.{length-set, get_or-set_same, get_or-set_other}
+use Rattle.list_messages.specs.Sends.{Use, no_use, is_used, takes}
+use Rattle.list_messages.specs.Inside.{IsCounted}
+use Rattle.list_messages.proofs.Outs.{length-each, out-push, out-push_none, out-same, out-last, out-last_none, used-push, used-set}
 use Rattle.fsw_base.specs.Blocks.{class_of}
 use Rattle.bus_words.specs.Held.{bytes_of}
 use Rattle.fsw_base.specs.PoolAccounts.{Account, overhead, cost_of, has_room_for, after_draws, after_return}
@@ -115,3 +118,83 @@ bytes-drop [] (size ∷ sizes) i all within = absurd (omega (arith, all))
 bytes-drop (o ∷ out) [] i all within = absurd (omega (arith, all))
 bytes-drop (o ∷ out) (size ∷ sizes) zero all within = refl
 bytes-drop (o ∷ out) (size ∷ sizes) (suc i) all within = bytes-drop out sizes i (omega (arith, all)) (omega (arith, within))
+
+-- The account and the numbers that are named. --
+
+one : Bool → ℕ
+one b = cond {A = ℕ} b 1 0
+
+out_all : (uses : List Use) (used : ℕ) (account : Account) → IsCounted uses used account → length account.out ≡ length account.sizes
+out_all uses used account counted = ap length counted.out ∙ length-each (λ class. count_by (takes account.sizes class) uses) (length account.sizes)
+
+-- one number more, with a block
+pub drawn : (uses : List Use) (used : ℕ) (account : Account) (size k : ℕ) → IsCounted uses used account → length uses < 2 ^ 32 →
+    class_of size account.sizes ≡ Some k → k < length account.sizes → has_room_for account k 1 ≡ true →
+    IsCounted (uses ++ record { asked = size; named = 1 } ∷ []) (used + 1) (after_draws account k 1)
+drawn uses used account size k counted few is within room = record {
+  some = omega (arith, counted.some, length-append uses (record { asked = size; named = 1 } ∷ []));
+  few = omega (arith, few, length-append uses (record { asked = size; named = 1 } ∷ []));
+  used_is = omega (arith, counted.used_is, used-push uses size);
+  out = ap (λ out. set out k (get_or out k 0 + 1)) counted.out ∙ out-push account.sizes uses size k is within;
+  errors = counted.errors;
+  made_all = length-set account.made k (max (get_or account.made k 0) (get_or account.out k 0 + 1)) ∙ counted.made_all;
+  most = most_drawn account k counted.made_all (out_all uses used account counted) counted.most;
+  paid = paid_drawn account k counted.made_all within room;
+}
+
+-- and without one
+pub drawn_none : (uses : List Use) (used : ℕ) (account : Account) (size : ℕ) → IsCounted uses used account → length uses < 2 ^ 32 →
+    class_of size account.sizes ≡ None → IsCounted (uses ++ record { asked = size; named = 1 } ∷ []) (used + 1) account
+drawn_none uses used account size counted few is = record {
+  some = omega (arith, counted.some, length-append uses (record { asked = size; named = 1 } ∷ []));
+  few = omega (arith, few, length-append uses (record { asked = size; named = 1 } ∷ []));
+  used_is = omega (arith, counted.used_is, used-push uses size);
+  out = counted.out ∙ out-push_none account.sizes uses size is;
+  errors = counted.errors;
+  made_all = counted.made_all;
+  most = counted.most;
+  paid = counted.paid;
+}
+
+-- a number whose use is another, and that is named as before or isn't
+pub kept : (uses : List Use) (used : ℕ) (account : Account) (m : ℕ) (u : Use) → IsCounted uses used account → m < length uses →
+    u.asked ≡ (get_or uses m no_use).asked → is_used u ≡ is_used (get_or uses m no_use) → IsCounted (set uses m u) used account
+kept uses used account m u counted within asked named = record {
+  some = omega (arith, counted.some, length-set uses m u);
+  few = omega (arith, counted.few, length-set uses m u);
+  used_is = omega (arith, counted.used_is, used-set uses m u within, ap one named);
+  out = counted.out ∙ out-same account.sizes uses m u within asked named;
+  errors = counted.errors;
+  made_all = counted.made_all;
+  most = counted.most;
+  paid = counted.paid;
+}
+
+-- a number that loses its last name, and its block
+pub dropped : (uses : List Use) (used : ℕ) (account : Account) (m k : ℕ) (u : Use) → IsCounted uses used account → m < length uses → u.named ≡ 0 →
+    (get_or uses m no_use).named ≡ 1 → class_of (get_or uses m no_use).asked account.sizes ≡ Some k → k < length account.sizes →
+    IsCounted (set uses m u) (used - 1) (after_return account k)
+dropped uses used account m k u counted within none last is room = record {
+  some = omega (arith, counted.some, length-set uses m u);
+  few = omega (arith, counted.few, length-set uses m u);
+  used_is = omega (arith, counted.used_is, used-set uses m u within, ap (λ n. one (leb 1 n)) none, ap (λ n. one (leb 1 n)) last);
+  out = ap (λ out. set out k (get_or out k 0 - 1)) counted.out ∙ out-last account.sizes uses m k u within none last is room;
+  errors = counted.errors;
+  made_all = counted.made_all;
+  most = most_returned account k (out_all uses used account counted) counted.most;
+  paid = counted.paid;
+}
+
+-- and one that had no block
+pub dropped_none : (uses : List Use) (used : ℕ) (account : Account) (m : ℕ) (u : Use) → IsCounted uses used account → m < length uses → u.named ≡ 0 →
+    (get_or uses m no_use).named ≡ 1 → class_of (get_or uses m no_use).asked account.sizes ≡ None → IsCounted (set uses m u) (used - 1) account
+dropped_none uses used account m u counted within none last is = record {
+  some = omega (arith, counted.some, length-set uses m u);
+  few = omega (arith, counted.few, length-set uses m u);
+  used_is = omega (arith, counted.used_is, used-set uses m u within, ap (λ n. one (leb 1 n)) none, ap (λ n. one (leb 1 n)) last);
+  out = counted.out ∙ out-last_none account.sizes uses m u within none last is;
+  errors = counted.errors;
+  made_all = counted.made_all;
+  most = counted.most;
+  paid = counted.paid;
+}

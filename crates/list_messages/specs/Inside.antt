@@ -1,7 +1,7 @@
 -- What the fields of the messages stand for, and what is always true of them.
-use Rattle.std.specs.Prelude.{◌≡◌, ℕ, ◌+◌, ◌^◌, ◌<◌, ◌≤◌, length, count_by, slice_index}
-use Rattle.fsw_base.specs.PoolAccounts.{cost_of}
-use Rattle.list_messages.specs.Sends.{Sends, names_of, is_used, blocks_out}
+use Rattle.std.specs.Prelude.{◌≡◌, ℕ, ◌+◌, ◌^◌, ◌<◌, ◌≤◌, List, length, count_by, slice_index}
+use Rattle.fsw_base.specs.PoolAccounts.{Account, cost_of}
+use Rattle.list_messages.specs.Sends.{Use, Sends, names_of, is_used, blocks_out}
 use Rattle.list_messages.specs.Messages.{Messages}
 use Rattle.list_messages.specs.Tied.{IsTied}
 use Rattle.list_messages.specs.declared.sends.ListSends.TheInside as sends
@@ -18,16 +18,20 @@ sends_in s = record {
 }
 
 -- the account has a block for each number that is named, and what was made is paid for
-pub record AreCounted (s : sends.Inside) : Type 0 where
-  pub some : 1 ≤ length s.uses.items
-  pub few : length s.uses.items ≤ 2 ^ 32
-  pub used : s.used ≡ count_by is_used s.uses.items
-  pub out : s.account.out ≡ blocks_out s.account.sizes s.uses.items
-  pub errors : s.account.errors ≡ 0
-  pub made_all : length s.account.made ≡ length s.account.sizes
-  pub most : (class : ℕ) → class < length s.account.sizes →
-      slice_index s.account.out class ≤ slice_index s.account.made class
-  pub paid : cost_of s.account.made s.account.sizes ≤ s.account.bytes
+pub record IsCounted (uses : List Use) (used : ℕ) (account : Account) : Type 0 where
+  pub some : 1 ≤ length uses
+  pub few : length uses ≤ 2 ^ 32
+  pub used_is : used ≡ count_by is_used uses
+  pub out : account.out ≡ blocks_out account.sizes uses
+  pub errors : account.errors ≡ 0
+  pub made_all : length account.made ≡ length account.sizes
+  pub most : (class : ℕ) → class < length account.sizes →
+      slice_index account.out class ≤ slice_index account.made class
+  pub paid : cost_of account.made account.sizes ≤ account.bytes
+
+-- so it is of the fields
+abbrev pub AreCounted : sends.Inside → Type 0
+AreCounted s = IsCounted s.uses.items s.used s.account
 
 -- what the messages are
 abbrev pub messages_in : messages.Inside → Messages

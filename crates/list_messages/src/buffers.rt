@@ -1,5 +1,5 @@
 //! Unsent buffers.
-ghost use Rattle.std.specs.Prelude.{◌≡◌, ℕ, ◌+◌, ◌-◌, ◌==◌, not, [], ◌∷◌, filter, find, count_by, replicate, slice_set, IfOk};
+ghost use Rattle.std.specs.Prelude.{◌≡◌, ℕ, nat_lt, length, ◌+◌, ◌-◌, ◌==◌, not, [], ◌∷◌, filter, find, count_by, replicate, slice_set, IfOk};
 ghost use Rattle.std.specs.Result.{OnOk};
 ghost use Rattle.bus_words.specs.Bus.{Buffer, unsent_at, has_unsent, unsent_size, unsent_of, with_unsent, without_unsent, without_all_unsent};
 ghost use Rattle.list_pipes.specs.Names.{times};
@@ -180,6 +180,13 @@ pub(crate) fn unsent_size(unsent: &[OwnBuffers], app: AppNo, number: u32) -> u32
         Some(buffer) => buffer.size,
         None => 0,
     }
+}
+
+/// Whether an application has a list of its own.
+pub(crate) fn has_place(unsent: &Vec<OwnBuffers>, app: AppNo) -> bool
+    ensures { result ≡ nat_lt (app - 1) (length unsent.now.items) }
+{
+    (app.get() as usize - 1) < unsent.len()
 }
 
 /// An application has one buffer more.

@@ -8,7 +8,9 @@ ghost use Rattle.bus_words.specs.Held.{held, bytes_in_use};
 ghost use Rattle.list_messages.specs.Messages.{no_messages, account_in, with_new_pipe, with_buffer, with_sent, with_passed, without_all_of, sending_of, passing_of};
 ghost use Rattle.list_messages.specs.Sends.{names_of, with_names, without_name, without_names};
 
-use crate::buffers::{OwnBuffers, add, has_unsent, leave, leave_all, no_buffers, unsent_size};
+use crate::buffers::{
+    OwnBuffers, add, has_place, has_unsent, leave, leave_all, no_buffers, unsent_size,
+};
 use crate::delivery::{Delivery, deliver};
 use crate::sends::ListSends;
 use bus_words::PipeText;

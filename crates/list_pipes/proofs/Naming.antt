@@ -64,16 +64,16 @@ plus true x y = refl
 plus false x y = refl
 
 -- one pipe more that was offered the message
-pub moves_more : (xs ys : List Pipe) (before gone more : List ℕ) (i : ℕ) (default changed : Pipe) (sent joined one : ℕ) → i < length ys →
-    Moves xs before ys gone sent joined → MovesIn (get_or ys i default) gone changed more sent one → Moves xs before (set ys i changed) more sent (joined + one)
-moves_more xs ys before gone more i default changed sent joined one within old new n =
-    omega (arith, old n, new n, plus (eqb sent n) joined one, sum_by-set (named_by n) ys i changed default within)
+pub moves_more : (xs ys : List Pipe) (before gone more : List ℕ) (i : ℕ) (pipe changed : Pipe) (sent joined one : ℕ) → i < length ys → pipe ≡ get_or ys i pipe →
+    Moves xs before ys gone sent joined → MovesIn pipe gone changed more sent one → Moves xs before (set ys i changed) more sent (joined + one)
+moves_more xs ys before gone more i pipe changed sent joined one within is old new n =
+    omega (arith, old n, new n, plus (eqb sent n) joined one, sum_by-set (named_by n) ys i changed pipe within, ap (named_by n) is)
 
 -- one pipe more of which a message was taken
-pub leaves_more : (xs ys : List Pipe) (before gone more : List ℕ) (i : ℕ) (default changed : Pipe) → i < length ys →
-    Leaves xs before ys gone → LeavesIn (get_or ys i default) gone changed more → Leaves xs before (set ys i changed) more
-leaves_more xs ys before gone more i default changed within old new n =
-    omega (arith, old n, new n, sum_by-set (named_by n) ys i changed default within)
+pub leaves_more : (xs ys : List Pipe) (before gone more : List ℕ) (i : ℕ) (pipe changed : Pipe) → i < length ys → pipe ≡ get_or ys i pipe →
+    Leaves xs before ys gone → LeavesIn pipe gone changed more → Leaves xs before (set ys i changed) more
+leaves_more xs ys before gone more i pipe changed within is old new n =
+    omega (arith, old n, new n, sum_by-set (named_by n) ys i changed pipe within, ap (named_by n) is)
 
 -- no pipe yet
 pub moves_first : (pipes : List Pipe) (gone : List ℕ) (sent : ℕ) → Moves pipes gone pipes gone sent 0

@@ -1,6 +1,6 @@
 //! A pipe.
 ghost use Rattle.std.specs.Prelude.{◌≡◌, ℕ, ◌+◌, ◌≤◌, ◌==◌, ◌&&◌, ◌/◌, ◌%◌, if◌then◌else◌, length, count_by, IfOk};
-ghost use Rattle.std.specs.Option.{option_map, option_map_or, option_to_list};
+ghost use Rattle.std.specs.Option.{option_copied, option_map, option_map_or, option_to_list};
 ghost use Rattle.std.specs.Result.{OnOk};
 ghost use Rattle.std.specs.Str.{bytes_eq};
 ghost use Rattle.bus_words.specs.Bus.{Item, item_for, offered, verdict, waiting_of, offer_of};
@@ -106,7 +106,7 @@ impl ListPipe {
 
     /// What was received last.
     pub fn last(&self) -> Option<&ListItem>
-        ensures { option_map (λ item. item.now) result ≡ self.now.last }
+        ensures { option_copied result ≡ self.now.last }
     {
         self.last.as_ref()
     }
@@ -207,9 +207,9 @@ impl ListPipe {
     ) -> Result<Offered, AllocError>
         ensures pipe { OnOk result (self.new ≡ offered sending.now sub.now self.old) }
         ensures verdict { IfOk result
-            (λ offered. offered.verdict ≡ verdict self.old sub.now sending.now.sender) }
+            (λ done. done.verdict ≡ verdict self.old sub.now sending.now.sender) }
         ensures dropped { IfOk result
-            (λ offered. offered.dropped ≡
+            (λ done. done.dropped ≡
             option_map (λ (i : Item). i.number)
             (dropped_at (verdict self.old sub.now sending.now.sender) self.old.queue)) }
     {

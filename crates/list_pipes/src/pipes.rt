@@ -82,11 +82,11 @@ pub fn oldest_number(pipes: &[ListPipe], number: u32) -> u32
 }
 
 /// The pipe of this number has these option bits.
-pub fn set_bits_of(pipes: &mut [ListPipe], number: u32, bits: u8)
-    ensures { pipes.new ≡ with_pipe (with_bits bits) number pipes.old }
+pub fn set_bits_of(pipes: &mut Vec<ListPipe>, number: u32, bits: u8)
+    ensures { pipes.new.items ≡ with_pipe (with_bits bits) number pipes.old.items }
 {
-    for pipe in pipes {
-        pipe.set_bits_if(number, bits);
+    for place in 0..pipes.len() {
+        pipes[place].set_bits_if(number, bits);
     }
 }
 
@@ -95,13 +95,18 @@ pub fn set_bits_of(pipes: &mut [ListPipe], number: u32, bits: u8)
 ///
 /// # Errors
 /// `AllocError` where memory runs out. Nothing is said of the pipes then.
-pub fn take_from(pipes: &mut [ListPipe], number: u32, gone: &mut Vec<u32>) -> Result<(), AllocError>
-    ensures pipes { OnOk result (pipes.new ≡ with_pipe after_receive number pipes.old) }
+pub fn take_from(
+    pipes: &mut Vec<ListPipe>,
+    number: u32,
+    gone: &mut Vec<u32>,
+) -> Result<(), AllocError>
+    ensures pipes { OnOk result
+        (pipes.new.items ≡ with_pipe after_receive number pipes.old.items) }
     ensures names { OnOk result
-        (Leaves pipes.old gone.old.items pipes.new gone.new.items) }
+        (Leaves pipes.old.items gone.old.items pipes.new.items gone.new.items) }
 {
-    for pipe in pipes {
-        pipe.take_if(number, gone)?;
+    for place in 0..pipes.len() {
+        pipes[place].take_if(number, gone)?;
     }
     Ok(())
 }
@@ -112,20 +117,22 @@ pub fn take_from(pipes: &mut [ListPipe], number: u32, gone: &mut Vec<u32>) -> Re
 /// # Errors
 /// `AllocError` where memory runs out. Nothing is said of the pipes then.
 pub fn offer_to(
-    pipes: &mut [ListPipe],
+    pipes: &mut Vec<ListPipe>,
     sending: &ListSending,
     sub: &ListSubscription,
     gone: &mut Vec<u32>,
 ) -> Result<usize, AllocError>
     ensures pipes { OnOk result
-        (pipes.new ≡ with_pipe (offered sending.now sub.now) sub.now.pipe pipes.old) }
+        (pipes.new.items ≡
+        with_pipe (offered sending.now sub.now) sub.now.pipe pipes.old.items) }
     ensures names { IfOk result
         (λ joined.
-        Moves pipes.old gone.old.items pipes.new gone.new.items sending.now.number joined) }
+        Moves pipes.old.items gone.old.items pipes.new.items gone.new.items sending.now.number
+        joined) }
 {
     let mut joined = 0;
-    for pipe in pipes {
-        joined += pipe.offer_if(sending, sub, gone)?;
+    for place in 0..pipes.len() {
+        joined += pipes[place].offer_if(sending, sub, gone)?;
     }
     Ok(joined)
 }

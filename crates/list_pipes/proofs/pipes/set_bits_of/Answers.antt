@@ -1,10 +1,19 @@
-use Rattle.std.proofs.Common.{cond, eqb}
+-- One pipe further.
+use Rattle.std.proofs.Common.{set, ap, cond, eqb, ◌∙◌, arith}
+use Rattle.std.proofs.lemmas.List.{length-set}
+use Rattle.std.proofs.lemmas.List.Edits.{map_over_more}
 use Rattle.bus_words.specs.Bus.{Pipe}
 use Rattle.bus_words.specs.Pipes.{with_bits}
-use Rattle.list_pipes.proofs.Places.{map_in_place_more}
 use Rattle.list_pipes.proofs.pipes.set_bits_of.Goals as goal
 
-pub loop-pipe-preserved : goal.loop-pipe-preserved
-loop-pipe-preserved c =
-    map_in_place_more (λ (p : Pipe). cond (eqb p.number c.args.number) (with_bits c.args.bits p) p) _ _ _ _ _
-    c.loop-pipe-test.true c.loop-pipe.auto.pipe-items c.loop-pipe.invariant c.set_bits_if.ensures
+pub loop-place-preserved : goal.loop-place-preserved
+loop-place-preserved c =
+    let xs = c.args.pipes.now.items in
+    let ys = c.loop-place.pipes.items in
+    let i = c.loop-place.place in
+    let at = c.loop-place.invariant in
+    record {
+      done = ap (set ys i) c.set_bits_if.ensures
+          ∙ map_over_more (λ (p : Pipe). cond (eqb p.number c.args.number) (with_bits c.args.bits p) p) xs ys i _ (omega arith) at.done c.index_mut.ensures.value;
+      long = length-set ys i c.set_bits_if.new.self ∙ at.long;
+    }

@@ -1,14 +1,21 @@
--- One pipe more.
-use Rattle.std.proofs.Common.{cond, eqb, arith}
+-- One pipe further.
+use Rattle.std.proofs.Common.{set, ap, cond, eqb, ◌∙◌, arith}
+use Rattle.std.proofs.lemmas.List.{length-set}
+use Rattle.std.proofs.lemmas.List.Edits.{map_over_more}
 use Rattle.bus_words.specs.Bus.{Pipe}
 use Rattle.bus_words.specs.Pipes.{after_receive}
-use Rattle.list_pipes.proofs.Places.{map_in_place_more}
 use Rattle.list_pipes.proofs.Naming.{leaves_more}
 use Rattle.list_pipes.proofs.pipes.take_from.Goals as goal
 
-pub loop-pipe-preserved : goal.loop-pipe-preserved
-loop-pipe-preserved c = record {
-  done = map_in_place_more (λ (p : Pipe). cond (eqb p.number c.args.number) (after_receive p) p) _ _ _ _ _
-      c.loop-pipe-test.true c.loop-pipe.auto.pipe-items c.loop-pipe.invariant.done c.in_ok-take_if.ensures.pipe;
-  names = leaves_more _ _ _ _ _ _ _ _ (omega (arith, c.loop-pipe-test.true, c.loop-pipe.auto.pipe-items)) c.loop-pipe.invariant.names c.in_ok-take_if.ensures.names;
-}
+pub loop-place-preserved : goal.loop-place-preserved
+loop-place-preserved c =
+    let xs = c.args.pipes.now.items in
+    let ys = c.loop-place.pipes.items in
+    let i = c.loop-place.place in
+    let at = c.loop-place.invariant in
+    record {
+      done = ap (set ys i) c.in_ok-take_if.ensures.pipe
+          ∙ map_over_more (λ (p : Pipe). cond (eqb p.number c.args.number) (after_receive p) p) xs ys i _ (omega arith) at.done c.index_mut.ensures.value;
+      long = length-set ys i c.take_if.new.self ∙ at.long;
+      names = leaves_more xs ys _ _ _ i _ _ (omega (arith, at.long)) c.index_mut.ensures.value at.names c.in_ok-take_if.ensures.names;
+    }
