@@ -1,11 +1,12 @@
 -- Send numbers stay tied to what names them, as pipes and unsent buffers change.
-use Rattle.std.proofs.Common.{◌≡◌, ℕ, ◌+◌, ◌-◌, ◌<◌, ◌≤◌, ◌⊎◌, inl, inr, not, Bool, true, false, cond, eqb, leb, eq-eqb, List, [], ◌∷◌, ◌++◌, length, filter, refl, ap, sym, ◌∙◌, subst, arith}
-use Rattle.std.specs.List.{count_by, sum_by, All}
+use Rattle.std.proofs.Common.{◌≡◌, ℕ, zero, suc, ◌+◌, ◌-◌, ◌<◌, ◌≤◌, ◌||◌, Bool, true, false, true≢false, cond, eqb, eq-eqb, eqb-true, List, [], ◌∷◌, ◌++◌, length, get_or, set, find, Option, Some, is_some, refl, ap, sym, ◌∙◌, subst, arith}
+use Rattle.std.specs.List.{count_by, sum_by, list_any, All}
+use Rattle.std.specs.Option.{option_map_or}
 use Rattle.std.proofs.lemmas.List.Elements.{All-head, All-tail, All-nil, All-cons}
-use Rattle.std.proofs.lemmas.List.Sums.{sum_by-cons}
-use Rattle.bus_words.specs.Bus.{Item, Pipe, Buffer, Subscription, Sending, deliver, item_for}
-use Rattle.bus_words.specs.Held.{named_by, is_on_pipes, items_of, buffers_in}
-use Rattle.bus_words.proofs.Buffers.{of_buffer}
+use Rattle.std.proofs.lemmas.List.Sums.{sum_by-append}
+use Rattle.bus_words.specs.Bus.{Item, Pipe, Buffer, Subscription, Sending, deliver, unsent_of, has_unsent, unsent_size, with_unsent}
+use Rattle.bus_words.specs.Held.{items_of, buffers_in}
+use Rattle.bus_words.proofs.Buffers.{of_buffer, unsent_in, unsent_here, Each-unsent_of, Each-with_unsent}
 use Rattle.bus_words.proofs.Finds.{Each, Each-drop}
 use Rattle.bus_words.proofs.Items.{OfPipe, OfPipe-drop, OfPipe-offer, to_items, of_items, count-cons, named_items, of_number}
 use Rattle.bus_words.proofs.Owners.{Each-deliver}
@@ -181,3 +182,77 @@ delivered_tied uses pipes unsent sending subs next gone joined but is asked move
     by_test : (b : Bool) (k : ℕ) → cond {A = ℕ} b k 0 + cond {A = ℕ} b 1 0 ≡ cond {A = ℕ} b (k + 1) 0
     by_test true k = refl
     by_test false k = refl
+
+-- Buffers. --
+
+-- how often buffers name a number, once one application's list is another
+pub set_counted : (n : ℕ) (unsent : List (List Buffer)) (i : ℕ) (new : List Buffer) → i < length unsent →
+    named_unsent (set unsent i new) n + count_by (of_buffer n) (get_or unsent i []) ≡ named_unsent unsent n + count_by (of_buffer n) new
+set_counted n [] i new within = absurd (omega (arith, within))
+set_counted n (buffers ∷ others) zero new within =
+    let one : Buffer → ℕ = λ buffer. cond {A = ℕ} (of_buffer n buffer) 1 0 in
+    omega (arith, sum_by-append one new (buffers_in others), sum_by-append one buffers (buffers_in others))
+set_counted n (buffers ∷ others) (suc i) new within =
+    let one : Buffer → ℕ = λ buffer. cond {A = ℕ} (of_buffer n buffer) 1 0 in
+    omega (
+      arith,
+      sum_by-append one buffers (buffers_in (set others i new)),
+      sum_by-append one buffers (buffers_in others),
+      set_counted n others i new (omega (arith, within)),
+    )
+
+-- a new number is the buffer's that an application is given
+pub added_tied : (uses : List Use) (pipes : List Pipe) (unsent : List (List Buffer)) (app number size : ℕ) → IsTiedBut uses pipes unsent number →
+    app - 1 < length unsent → size ≡ (use_at uses number).asked → IsTied uses pipes (with_unsent unsent app (record { number = number; size = size }))
+added_tied uses pipes unsent app number size but within asked =
+    let new : Buffer = record { number = number; size = size } in
+    let own = unsent_of unsent app in
+    record {
+      named = λ n. omega (arith, but.named n, set_counted n unsent (app - 1) (new ∷ own) within, count-cons (of_buffer n) new own);
+      items = but.items;
+      buffers = each_all (BufferAsked uses) (buffers_in (with_unsent unsent app new))
+          (Each-with_unsent (BufferAsked uses) unsent app new (all_each (BufferAsked uses) (buffers_in unsent) but.buffers) asked);
+    }
+
+-- or nobody's, where there is no such application
+pub unplaced_tied : (uses : List Use) (pipes : List Pipe) (unsent : List (List Buffer)) (number : ℕ) → IsTiedBut uses pipes unsent number →
+    IsTied (without_name uses number) pipes unsent
+unplaced_tied uses pipes unsent number but =
+    let now = without_name uses number in
+    record {
+      named = λ n. omega (arith, but.named n, names-without uses number n);
+      items = each_all (ItemAsked now) (items_of pipes)
+          (Each-drop (ItemAsked uses) (ItemAsked now) (items_of pipes) (λ item so. so ∙ sym (asked-without uses number item.number))
+          (all_each (ItemAsked uses) (items_of pipes) but.items));
+      buffers = each_all (BufferAsked now) (buffers_in unsent)
+          (Each-drop (BufferAsked uses) (BufferAsked now) (buffers_in unsent) (λ buffer so. so ∙ sym (asked-without uses number buffer.number))
+          (all_each (BufferAsked uses) (buffers_in unsent) but.buffers));
+    }
+
+-- what was asked for under the number of one of these buffers is its size
+found_size : (uses : List Use) (number : ℕ) (buffers : List Buffer) → Each (BufferAsked uses) buffers → is_some (find (of_buffer number) buffers) ≡ true →
+    option_map_or (λ buffer. buffer.size) (find (of_buffer number) buffers) 0 ≡ (use_at uses number).asked
+found_size uses number [] each has = absurd (true≢false (sym has))
+found_size uses number (buffer ∷ buffers) each has =
+    elim (eqb buffer.number number) as (λ b. eqb buffer.number number ≡ b → is_some (cond {A = Option Buffer} b (Some buffer) (find (of_buffer number) buffers)) ≡ true →
+    option_map_or {U = ℕ} (λ (x : Buffer). x.size) (cond {A = Option Buffer} b (Some buffer) (find (of_buffer number) buffers)) 0 ≡ (use_at uses number).asked) [
+      | true ↦ λ is found. each.0 ∙ ap (λ k. (use_at uses k).asked) (eqb-true buffer.number number is)
+      | false ↦ λ is found. found_size uses number buffers each.1 found
+    ] refl has
+
+-- what was asked for under an application's buffer is its size, and its number is named
+pub size_tied : (uses : List Use) (pipes : List Pipe) (unsent : List (List Buffer)) (app number : ℕ) → IsTied uses pipes unsent →
+    has_unsent unsent app number ≡ true → (unsent_size unsent app number ≡ (use_at uses number).asked) × (1 ≤ names_of uses number)
+size_tied uses pipes unsent app number tied has = (
+  found_size uses number (unsent_of unsent app) (Each-unsent_of (BufferAsked uses) unsent (app - 1) (all_each (BufferAsked uses) (buffers_in unsent) tied.buffers)) has,
+  omega (arith, tied.named number, counted (buffers_in unsent) (sym (unsent_in unsent number) ∙ unsent_here unsent app number has)),
+)
+  where
+    counted : (buffers : List Buffer) → list_any (of_buffer number) buffers ≡ true → 1 ≤ count_by (of_buffer number) buffers
+    counted [] some = absurd (true≢false (sym some))
+    counted (buffer ∷ buffers) some =
+        let split = count-cons (of_buffer number) buffer buffers in
+        elim (eqb buffer.number number) as (λ b. eqb buffer.number number ≡ b → (b || list_any (of_buffer number) buffers) ≡ true → 1 ≤ count_by (of_buffer number) (buffer ∷ buffers)) [
+          | true ↦ λ is found. omega (arith, split, ap (λ b. cond {A = ℕ} b 1 0) is)
+          | false ↦ λ is found. omega (arith, split, counted buffers found)
+        ] refl some
