@@ -15,6 +15,8 @@ mod es_pool_tests;
 #[cfg(test)]
 mod lend_block_tests;
 #[cfg(test)]
+mod list_pool_tests;
+#[cfg(test)]
 mod turn_lock_tests;
 #[cfg(test)]
 mod zero_copy_tests;

@@ -22,13 +22,7 @@ fn answer_of(
 ) -> Result<Result<u32, EsStatus>, AllocError> {
     match call {
         Call::Create(bytes) => pools.create(alloc, bytes),
-        Call::Get(pool, size) => {
-            if pools.has_numbers(pool) {
-                pools.get(app, pool, size)
-            } else {
-                Ok(Err(EsStatus::NoPool))
-            }
-        }
+        Call::Get(pool, size) => pools.get(app, pool, size),
         Call::Put(pool, grant) => match pools.put(pool, grant) {
             Ok(()) => Ok(Ok(0)),
             Err(refusal) => Ok(Err(refusal)),
