@@ -23,6 +23,7 @@ pub mod PoolGrants
 pub mod Readings
 pub mod Replay
 pub mod Solo
+pub mod Standings
 pub mod Steps
 pub mod Ties
 pub mod Told

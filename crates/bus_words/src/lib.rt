@@ -32,6 +32,7 @@
 //!   history.
 //! - `pools_are_counted`, `draws_are_counted`, `bytes_are_of_sends`: the accounts of applications'
 //!   pools and of the bus's pool add up after every history.
+//! - `applications_stay`: no call changes how many applications there are.
 //! - `ends_leave_nothing`: an application that has ended owns no live pipe; if all have ended, no
 //!   send is held and every block is back.
 //! - `events_are_told`, `statistics_are_counted`: the event desk, counters and peaks are those of
@@ -44,6 +45,7 @@
 //! Tested: it can be opened; each kind of call is read back as it prints.
 #![tactic(auto)]
 
+mod app_laws;
 mod calls;
 mod history;
 mod journal;
@@ -55,6 +57,7 @@ mod pool_laws;
 mod receipts;
 mod verdict;
 
+pub use app_laws::applications_stay;
 pub use calls::{BusAnswer, BusCall, BusEntry, LentEntry};
 pub use history::{Call, Entry};
 pub use journal::BusJournal;
