@@ -163,6 +163,16 @@ impl Place {
         self.queue.len()
     }
 
+    /// How many items wait; None where no pipe is here.
+    pub(crate) fn waiting(&self) -> Option<u32>
+        ensures { result ≡ option_map (λ pipe. length pipe.queue) self.now.pipe }
+    {
+        match &self.label {
+            Some(_) => Some(self.queue.len()),
+            None => None,
+        }
+    }
+
     /// What waits longest.
     pub(crate) fn oldest(&self) -> Option<Item>
         ensures { result ≡ option_and_then (λ pipe. oldest pipe.queue) self.now.pipe }

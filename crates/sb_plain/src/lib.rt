@@ -89,4 +89,5 @@ mod uses;
 
 pub use calls::Sent;
 pub use pending::Pended;
+pub use permits::is_within;
 pub use plain::PlainBus;
