@@ -156,13 +156,6 @@ impl Place {
         }
     }
 
-    /// How many messages wait.
-    pub(crate) fn queue_len(&self) -> u32
-        ensures { result ≡ option_map_or (λ pipe. length pipe.queue) self.now.pipe 0 }
-    {
-        self.queue.len()
-    }
-
     /// How many items wait; None where no pipe is here.
     pub(crate) fn waiting(&self) -> Option<u32>
         ensures { result ≡ option_map (λ pipe. length pipe.queue) self.now.pipe }

@@ -21,8 +21,8 @@ impl<'r> PlainBus<'r> {
         self.config.version
     }
 
-    /// How many messages wait on a live pipe, whoever's it is; None where none is live under this
-    /// number. It is no call of the bus, and nothing is counted.
+    /// How many messages wait on the live pipe of this number, of any application; None if no such
+    /// pipe is live. It is no call of the bus, and nothing is counted.
     pub fn waiting(&self, pipe: u32) -> Option<u32>
         ensures { result ≡
             option_map (λ it. length it.queue) (pipe_at self.now.whole.bus.pipes pipe) }

@@ -22,7 +22,7 @@ pub mod Opened
 pub mod Others
 pub mod Pools
 pub mod Reached
-pub mod Readers
+pub mod Reads
 pub mod RegisterCalls
 pub mod Registered
 pub mod Registers

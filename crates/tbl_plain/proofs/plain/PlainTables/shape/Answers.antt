@@ -8,7 +8,7 @@ use Rattle.tbl_blocks.specs.Contents.{content_at}
 use Rattle.tbl_plain.proofs.Access.{access_by, refused_here, owned_here}
 use Rattle.tbl_plain.proofs.After.{at_core}
 use Rattle.tbl_plain.proofs.Figures.{has_content}
-use Rattle.tbl_plain.proofs.Readers.{read_of}
+use Rattle.tbl_plain.proofs.Reads.{read_of}
 use Rattle.tbl_plain.proofs.plain.PlainTables.shape.Goals as goal
 
 pub returns-in_err-row-clause-refused : goal.returns-in_err-row-clause-refused

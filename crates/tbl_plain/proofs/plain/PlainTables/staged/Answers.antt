@@ -11,7 +11,7 @@ use Rattle.tbl_plain.proofs.Aborts.{unstaged_abort, staged_abort}
 use Rattle.tbl_plain.proofs.After.{at_core}
 use Rattle.tbl_plain.proofs.Called.{own_content, call_asked}
 use Rattle.tbl_plain.proofs.Reached.{reaches, table_refused}
-use Rattle.tbl_plain.proofs.Readers.{read_of, staged_read}
+use Rattle.tbl_plain.proofs.Reads.{read_of, staged_read}
 use Rattle.tbl_plain.proofs.Registers.{none_staged}
 use Rattle.tbl_plain.proofs.plain.PlainTables.staged.Goals as goal
 
