@@ -2,6 +2,7 @@ pub mod Law
 pub mod Accounts
 pub mod Keeps
 pub mod Marks
+pub mod Places
 pub mod Rooms
 pub mod Sizes
 pub mod Surely

@@ -1,6 +1,7 @@
 //! The pool.
 ghost use Rattle.std.specs.Prelude.{◌≡◌, ℕ, ◌+◌, ◌<◌, ◌≤◌, ◌↔◌, [], ◌∷◌, ◌++◌, true, false, length, slice_index, slice_index_or, slice_set, IsTrue, IsSome, IfSome, IsOk, IfOk, IfErr, OnOk, OnErr};
 ghost use Rattle.fsw_base.specs.PoolAccounts.{counted, overhead};
+ghost use Rattle.es_pool.specs.Places.{offset_at};
 ghost use Rattle.es_pool.specs.Pool.{PoolState, IsWhole, fits, fits_class, DrawsFor, Draws, made_in, free_in, in_use_by, out_among, rest_of, is_out, is_free, class_at, size_at, most_cut, given_back};
 
 use crate::blocks::{BlockNo, ClassStats, CutBlock, OVERHEAD, zeros};
@@ -38,6 +39,9 @@ pub struct Pool {
     errors: u32,
     // The blocks cut, by number. There is room for all that can be cut.
     blocks: Vec<CutBlock>,
+    // Where each block begins, in bytes from the pool's first on, by the block's number. There is
+    // room for all that can be cut.
+    offsets: Vec<u32>,
     // How many blocks of each class were cut.
     made: Vec<u32>,
     // The free blocks of each class.
@@ -77,6 +81,7 @@ impl Pool {
         let classes = sizes.count();
         let room = bytes / (sizes.at(0) + OVERHEAD);
         let blocks = Vec::with_capacity(alloc, room as usize)?;
+        let offsets = Vec::with_capacity(alloc, room as usize)?;
         let made = zeros(alloc, classes)?;
         let free = Lists::new(alloc, room, classes)?;
         Ok(Pool {
@@ -89,6 +94,7 @@ impl Pool {
             requests: 0,
             errors: 0,
             blocks,
+            offsets,
             made,
             free,
         })
@@ -259,6 +265,18 @@ impl Pool {
         self.sizes.at(self.blocks[block as usize].class)
     }
 
+    /// Where a block that was cut begins, in bytes from the pool's first byte on. It stays there as
+    /// long as the pool lives, and no other block has a byte in common with it
+    /// ([`blocks_lie_apart`](crate::blocks_lie_apart)). By the code, it is looked up.
+    pub fn offset_of(&self, block: BlockNo) -> u32
+        requires { block < length self.now.blocks }
+        ensures offset { result ≡ offset_at self.now block }
+        ensures behind { overhead ≤ result }
+        ensures within { result + size_at self.now block ≤ self.now.bytes }
+    {
+        self.offsets[block as usize]
+    }
+
     /// How many blocks can ever be cut.
     pub fn most_blocks(&self) -> u32
         ensures { result ≡ most_cut self.now }
@@ -326,6 +344,8 @@ impl Pool {
         let size = self.sizes.at(class);
         let block = self.free.add_node();
         self.blocks.push_reserved(CutBlock { class, out: true });
+        let offset = self.bytes - self.rest + OVERHEAD;
+        self.offsets.push_reserved(offset);
         self.made[class as usize] += 1;
         self.rest -= size + OVERHEAD;
         self.in_use += size;

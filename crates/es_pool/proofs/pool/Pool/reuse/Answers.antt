@@ -1,10 +1,11 @@
-use Rattle.std.proofs.Common.{ℕ, ◌+◌, ◌<◌, ◌∙◌, true, false, length, get_or, set, sym, subst, ap, arith}
+use Rattle.std.proofs.Common.{◌≡◌, ℕ, ◌+◌, ◌<◌, ◌∙◌, true, false, length, get_or, set, sym, subst, ap, arith}
 use Rattle.std.proofs.lemmas.List.{get_or_default}
 use Rattle.es_pool.specs.Pool.{PoolState, Draws, Reuses}
 use Rattle.es_pool.specs.Inside.{state_of}
 use Rattle.es_pool.specs.declared.blocks.CutBlock.{CutBlock}
 use Rattle.es_pool.proofs.Totals.{block}
 use Rattle.es_pool.proofs.Keeps.{reused_read}
+use Rattle.es_pool.proofs.Places.{offsets_set}
 use Rattle.es_pool.proofs.pool.Pool.reuse.Goals as goal
 
 pub overflow_add-self : goal.overflow_add-self
@@ -19,7 +20,14 @@ invariant_of-self g c =
     let s = c.self.inside in
     let h : c.args.class < length s.sizes = omega (arith, c.requires.class, ap (λ v. length v.sizes) c.self.view_is) in
     let done = reused_read (state_of s) s.rest s.in_use s.made.items s.free c.pop.new.self s.blocks.cap c.args.class c.in-Some.block c.at.result c.saturating_add-self-inside.result c.self.invariant.kept h c.in-Some.ensures.front c.in-Some.ensures.after c.at.ensures in
-    record { kept = done.kept; out = ap (λ (n : ℕ). n + 1) c.self.invariant.out ∙ sym done.out }
+    let class : (get_or s.blocks.items c.in-Some.block (block 0 true)).class ≡ c.args.class =
+    ap (λ (b : CutBlock). b.class) (get_or_default s.blocks.items c.in-Some.block (block 0 true) (block c.args.class true) done.within ∙ done.was_free) in
+    record {
+      kept = done.kept;
+      out = ap (λ (n : ℕ). n + 1) c.self.invariant.out ∙ sym done.out;
+      offsets = offsets_set (state_of s) s.offsets.items c.in-Some.block c.args.class c.saturating_add-self-inside.result true class c.self.invariant.offsets;
+      room = c.self.invariant.room;
+    }
 
 pub returns-clause-drawn : goal.returns-clause-drawn
 returns-clause-drawn g c =

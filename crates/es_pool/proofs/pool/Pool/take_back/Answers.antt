@@ -5,6 +5,7 @@ use Rattle.es_pool.specs.Inside.{state_of}
 use Rattle.es_pool.specs.declared.blocks.CutBlock.{CutBlock}
 use Rattle.es_pool.proofs.Totals.{block}
 use Rattle.es_pool.proofs.Keeps.{back, inside_from_out, kept_at}
+use Rattle.es_pool.proofs.Places.{offsets_set}
 use Rattle.es_pool.proofs.pool.Pool.take_back.Goals as goal
 
 pub push-requires-clause-loose : goal.push-requires-clause-loose
@@ -27,6 +28,8 @@ invariant_of-self g c =
     record {
       kept = kept_at now now s.rest (s.in_use - c.at.result) s.made.items _ c.push.new.self s.blocks.cap s.blocks.cap refl c.push.ensures.after refl done.kept;
       out = omega (arith, done.out, c.self.invariant.out);
+      offsets = offsets_set (state_of s) s.offsets.items n c.index.result.now.class s.requests false done.class_is c.self.invariant.offsets;
+      room = c.self.invariant.room;
     }
 
 pub overflow_sub-self-2 : goal.overflow_sub-self-2
