@@ -9,6 +9,7 @@ pub mod Created
 pub mod Drops
 pub mod Emptied
 pub mod Exchanged
+pub mod Fewer
 pub mod FirstReceives
 pub mod Freed
 pub mod Given

@@ -46,7 +46,7 @@
 //!   the id's next count if asked, leaves the pipes that missed it or dropped a message for it, and
 //!   draws one block; at most 4 counted steps for each subscription of the id, 8 for each dropped
 //!   message, and 32 more. `receive` leaves the pipe as `after_receive` does and exchanges the view
-//!   in the bag; at most 8 steps. `receive_first` does so on a pipe without a last message, and
+//!   in the bag; no more blocks are held then; at most 8 steps. `receive_first` does so on a pipe without a last message, and
 //!   takes none. `delete_pipe` lets go of all messages of a pipe.
 //! - `allocate` gives a buffer of zeros under the next number, `transmit_buffer` sends the message
 //!   that a buffer begins with and draws no block, `release` gives a buffer back; at most 16 steps,

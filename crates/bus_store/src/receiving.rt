@@ -1,10 +1,11 @@
 //! Receives.
-ghost use Rattle.std.specs.Prelude.{◌≡◌, ◌≢◌, ℕ, ◌+◌, ◌≤◌, true, None};
+ghost use Rattle.std.specs.Prelude.{◌≡◌, ◌≢◌, ℕ, ◌+◌, ◌≤◌, true, length, None};
 ghost use Rattle.std.specs.Option.{option_map};
 ghost use Rattle.bus_words.specs.Bus.{owns, with_pipe, after_receive};
 ghost use Rattle.buf_desc.specs.Held.{Holding};
 ghost use Rattle.lend_block.specs.Loan.{LentBytes};
 ghost use Rattle.bus_store.specs.Bag.{HoldsViews};
+ghost use Rattle.bus_words.specs.Held.{held as numbers_held, bytes_in_use};
 ghost use Rattle.bus_words.specs.Pipes.{oldest_on, last_on};
 ghost use Rattle.bus_store.specs.Words.{loan_of, with_held};
 
@@ -43,6 +44,9 @@ impl<'r> BusStore<'r> {
             HoldsViews self.old.pipes self.old.loans self.old.room.pipes other bag →
             HoldsViews self.new.pipes self.new.loans self.new.room.pipes other bag }
         ensures buffers { held.new ≡ record held.old { views = held.new.views } }
+        ensures fewer { length (numbers_held self.new.pipes self.new.unsent self.new.numbers_given) ≤
+            length (numbers_held self.old.pipes self.old.unsent self.old.numbers_given) }
+        ensures less { bytes_in_use self.new.account ≤ bytes_in_use self.old.account }
         ensures cost { steps.new ≤ steps.old + 8 }
     {
         // Do nothing; the proof learns of them that the pipes stand in order, and, here and below,

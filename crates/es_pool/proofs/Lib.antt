@@ -3,6 +3,7 @@ pub mod Accounts
 pub mod Keeps
 pub mod Marks
 pub mod Places
+pub mod Recent
 pub mod Rooms
 pub mod Sizes
 pub mod Surely

@@ -6,7 +6,7 @@ use Rattle.std.proofs.lemmas.Nat.{mul-lt}
 use Rattle.std.proofs.Math.Nat.{mul-le-mul}
 use Rattle.fsw_base.specs.Blocks.{are_rising_from, are_block_sizes}
 
-in_range : (least size : ℕ) (multiple later : Bool) → (leb least size && multiple && leb size 80000 && later) ≡ true → (least ≤ size) × (size ≤ 80000) × (later ≡ true)
+pub in_range : (least size : ℕ) (multiple later : Bool) → (leb least size && multiple && leb size 80000 && later) ≡ true → (least ≤ size) × (size ≤ 80000) × (later ≡ true)
 in_range least size true true e = (grind (arith, nat_tests), grind (arith, nat_tests), refl)
 in_range least size true false e = absurd (no (leb least size) (leb size 80000) e)
   where
@@ -20,7 +20,7 @@ in_range least size false later e = absurd (no (leb least size) (leb size 80000)
     no true b c e = cc
     no false b c e = cc
 
-rising : (sizes : List ℕ) (least class : ℕ) → are_rising_from least sizes ≡ true → class < length sizes → (least ≤ get_or sizes class 0) × (get_or sizes class 0 ≤ 80000)
+pub rising : (sizes : List ℕ) (least class : ℕ) → are_rising_from least sizes ≡ true → class < length sizes → (least ≤ get_or sizes class 0) × (get_or sizes class 0 ≤ 80000)
 rising [] least class e h = absurd (omega (arith, h))
 rising (size ∷ sizes) least zero e h =
     let here = in_range least size _ _ e in
@@ -38,7 +38,7 @@ first_least (size ∷ sizes) (suc class) e h =
     let later = rising sizes (size + 1) class here.2 (omega (arith, h)) in
     omega (arith, later.0)
 
-part : (some few rise : Bool) → (some && few && rise) ≡ true → rise ≡ true
+pub part : (some few rise : Bool) → (some && few && rise) ≡ true → rise ≡ true
 part true true rise e = e
 part true false rise e = absurd cc
 part false few rise e = absurd cc
@@ -63,6 +63,15 @@ fits_rest used rest bytes cost out free made count e_bytes e_made =
 
     moved : (x y : ℕ) → x ≡ y → leb x rest ≡ leb (used + y) bytes
     moved x y e = grind (arith, nat_tests)
+
+-- where as many are free nothing has to be cut
+pub fits_free : (used rest bytes cost out free made count : ℕ) → used + rest ≡ bytes → made ≡ out + free → count ≤ free → leb (used + cost * (out + count - made)) bytes ≡ true
+fits_free used rest bytes cost out free made count e_bytes e_made enough =
+    let none : out + count - made ≡ 0 = omega (arith, e_made, enough) in
+    ap (λ n. leb (used + cost * n) bytes) none ∙ paid (cost * 0) (omega arith)
+  where
+    paid : (x : ℕ) → x ≡ 0 → leb (used + x) bytes ≡ true
+    paid x e = grind (arith, nat_tests)
 
 -- the same at what the code computed
 pub fits_read : (x y z used rest bytes cost out free made count : ℕ) → x ≡ cost → y ≡ count - free → z ≡ rest → used + rest ≡ bytes → made ≡ out + free → leb (x * y) z ≡ leb (used + cost * (out + count - made)) bytes

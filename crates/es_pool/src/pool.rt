@@ -1,6 +1,7 @@
 //! The pool.
-ghost use Rattle.std.specs.Prelude.{◌≡◌, ℕ, ◌+◌, ◌<◌, ◌≤◌, ◌↔◌, [], ◌∷◌, ◌++◌, true, false, length, slice_index, slice_index_or, slice_set, IsTrue, IsSome, IfSome, IsOk, IfOk, IfErr, OnOk, OnErr};
+ghost use Rattle.std.specs.Prelude.{◌≡◌, ℕ, ◌+◌, ◌<◌, ◌≤◌, ◌↔◌, [], ◌∷◌, ◌++◌, true, false, length, slice_index, slice_index_or, slice_set, Some, IsTrue, IsSome, IfSome, IsOk, IfOk, IfErr, OnOk, OnErr};
 ghost use Rattle.fsw_base.specs.PoolAccounts.{counted, overhead};
+ghost use Rattle.fsw_base.specs.Blocks.{class_of};
 ghost use Rattle.es_pool.specs.Places.{offset_at};
 ghost use Rattle.es_pool.specs.Pool.{PoolState, IsWhole, fits, fits_class, DrawsFor, Draws, made_in, free_in, in_use_by, out_among, rest_of, is_out, is_free, class_at, size_at, most_cut, given_back};
 
@@ -37,6 +38,8 @@ pub struct Pool {
     requests: u32,
     // How many puts were refused; it stops at the largest number.
     errors: u32,
+    // The class of the block drawn last, which is looked at first; the first class before a draw.
+    recent: u32,
     // The blocks cut, by number. There is room for all that can be cut.
     blocks: Vec<CutBlock>,
     // Where each block begins, in bytes from the pool's first on, by the block's number. There is
@@ -93,6 +96,7 @@ impl Pool {
             out: 0,
             requests: 0,
             errors: 0,
+            recent: 0,
             blocks,
             offsets,
             made,
@@ -117,7 +121,7 @@ impl Pool {
         if count == 1 && self.fits_surely(size) {
             return true;
         }
-        match self.sizes.class_of(size) {
+        match self.class_for(size) {
             Some(class) => self.fits_class(class, count),
             None => false,
         }
@@ -142,7 +146,7 @@ impl Pool {
         ensures unchanged { OnErr result (self.new ≡ self.old) }
         ensures cost { steps.new ≤ steps.old + 8 }
     {
-        match self.sizes.class_of(size) {
+        match self.class_for(size) {
             Some(class) => {
                 if !self.fits_class(class, 1) {
                     return Err(EsStatus::ErrMemBlockSize);
@@ -292,13 +296,44 @@ impl Pool {
         let _ = &self.blocks;
     }
 
+    // The class of the blocks for so many bytes. It is that of the block drawn last where messages
+    // have one size, and is looked for where it isn't.
+    fn class_for(&self, size: u32) -> Option<u32>
+        ensures class { result ≡ class_of size self.now.sizes }
+        ensures within { IfSome result (λ class. class < length self.now.sizes) }
+    {
+        let recent = self.recent;
+        if self.is_class_for(recent, size) {
+            return Some(recent);
+        }
+        self.sizes.class_of(size)
+    }
+
+    // Whether blocks of this class are those for so many bytes: they are large enough, and those of
+    // the class before aren't.
+    fn is_class_for(&self, class: u32, size: u32) -> bool
+        requires { class < length self.now.sizes }
+        ensures { IsTrue result → class_of size self.now.sizes ≡ Some class }
+    {
+        if size > self.sizes.at(class) {
+            return false;
+        }
+        class == 0 || size > self.sizes.at(class - 1)
+    }
+
     // Whether some size is large enough, and the rest holds a block of the largest that there may
     // be. Then a block fits, and neither its class nor the free blocks are looked for.
     fn fits_surely(&self, size: u32) -> bool
         ensures { IsTrue result → IsTrue (fits self.now size 1) }
     {
+        if self.rest < MOST_COST {
+            return false;
+        }
+        if size <= self.sizes.at(self.recent) {
+            return true;
+        }
         let last = self.sizes.count() - 1;
-        size <= self.sizes.at(last) && self.rest >= MOST_COST
+        size <= self.sizes.at(last)
     }
 
     // Whether `count` blocks of a class can be drawn.
@@ -306,9 +341,12 @@ impl Pool {
         requires { class < length self.now.sizes }
         ensures { result ≡ fits_class self.now class count }
     {
-        let missing = count.saturating_sub(self.free.len(class));
+        let free = self.free.len(class);
+        if count <= free {
+            return true;
+        }
         let cost = self.sizes.at(class) + OVERHEAD;
-        u64::from(cost) * u64::from(missing) <= u64::from(self.rest)
+        u64::from(cost) * u64::from(count - free) <= u64::from(self.rest)
     }
 
     // Draws a free block of a class.
@@ -326,6 +364,7 @@ impl Pool {
                 self.in_use += self.sizes.at(class);
                 self.out += 1;
                 self.requests = self.requests.saturating_add(1);
+                self.recent = class;
                 block
             }
             None => unreachable!(),
@@ -351,6 +390,7 @@ impl Pool {
         self.in_use += size;
         self.out += 1;
         self.requests = self.requests.saturating_add(1);
+        self.recent = class;
         block
     }
 

@@ -1,5 +1,5 @@
 -- What the calls of buffers leave.
-use Rattle.std.proofs.Common.{◌≡◌, ℕ, ◌+◌, ◌-◌, ◌≤◌, Bool, true, false, not, cond, eqb, leb, ltb, List, [], ◌∷◌, map, filter, Option, Some, None, is_some, refl, ap, sym, ◌∙◌, subst, arith}
+use Rattle.std.proofs.Common.{◌≡◌, ℕ, ◌+◌, ◌-◌, ◌≤◌, Bool, true, false, not, cond, eqb, leb, ltb, List, [], ◌∷◌, length, map, filter, Option, Some, None, is_some, refl, ap, sym, ◌∙◌, subst, arith}
 use Rattle.std.specs.Option.{option_map}
 use Rattle.std.proofs.lemmas.Bool.Decides.{nat_tests}
 use Rattle.std.proofs.lemmas.List.{length-set}
@@ -23,6 +23,7 @@ use Rattle.bus_tables.specs.declared.misses.Miss.{Miss}
 use Rattle.bus_tables.specs.Rows.{has_way}
 use Rattle.bus_records.specs.Records.{Recordings, told_all, miss_events}
 use Rattle.bus_store.specs.Bag.{Shape, shape_of}
+use Rattle.bus_words.proofs.Bounds.{length-deliver}
 use Rattle.bus_store.specs.Store.{Store}
 use Rattle.bus_store.specs.Words.{desc_of, size_for, next_of, nexts_in, passing_of, missed, counted_up, with_held}
 use Rattle.sb_plain.specs.declared.plain.PlainBus.TheInside.{Inside}
@@ -30,6 +31,7 @@ use Rattle.sb_plain.specs.Bags.{HasBag}
 use Rattle.sb_plain.specs.Core.{Plain}
 use Rattle.sb_plain.specs.Inside.{means, AreInOrder}
 use Rattle.sb_plain.specs.Rows.{buffer_cause}
+use Rattle.sb_plain.proofs.Peaks.{AreAsMany, as_many_routes}
 use Rattle.sb_plain.proofs.Accounts.{IsHeld, account_is}
 use Rattle.sb_plain.proofs.After.{bare, accepted_by}
 use Rattle.sb_plain.proofs.Ready.{ready_all, ready_sent}
@@ -107,6 +109,14 @@ with_buffer store next app size = record store {
 module _ (a : Inside) (next : Store) (app size : ℕ) (is : next ≡ with_buffer a.store next app size) (keeps : AreInOrder a) where
   pub given_sizes : next.account.sizes ≡ a.store.account.sizes
   given_sizes = ap (λ (s : Store). s.account.sizes) is ∙ ap (λ (c : Account). c.sizes) (request_stays a.store.account size)
+
+  -- as many pipes, ids and subscriptions are in use as before
+  pub given_many : AreAsMany a.store next
+  given_many = record {
+    routes = ap (λ (o : Store). length o.routes) is;
+    pipes = ap (λ (o : Store). length o.pipes) is;
+    subs = ap (λ (o : Store). length o.subscriptions) is;
+  }
 
   pub given_keeps : AreInOrder (record a { store = next })
   given_keeps =
@@ -266,3 +276,11 @@ module _ (a : Inside) (next : Store) (app buf : ℕ) (bytes : List ℕ) (inc : B
       is_told
       ∙ ap (λ n. told_all a.records (miss_events n app misses)) same
       ∙ ap (λ l. told_all a.records (miss_events (message_id bytes) app l)) (lists ∙ ap (λ (t : Store). t.missed) is)
+
+  -- as many pipes, ids and subscriptions are in use as before
+  pub passed_many : AreAsMany a.store next
+  passed_many = record {
+    routes = ap (λ (o : Store). length o.routes) is ∙ as_many_routes a.store.routes (counted_up a.store.routes (message_id bytes) inc) (ids_of-counted_up a.store.routes (message_id bytes) inc);
+    pipes = ap (λ (o : Store). length o.pipes) is ∙ length-deliver sending subs a.store.pipes;
+    subs = ap (λ (o : Store). length o.subscriptions) is;
+  }

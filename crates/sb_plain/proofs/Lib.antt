@@ -14,6 +14,7 @@ pub mod News
 pub mod Numbers
 pub mod Opened
 pub mod Owners
+pub mod Peaks
 pub mod Pools
 pub mod Ready
 pub mod Receives

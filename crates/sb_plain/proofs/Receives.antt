@@ -1,5 +1,5 @@
 -- What a receive answers and leaves.
-use Rattle.std.proofs.Common.{◌≡◌, ℕ, true, not, Some, None, refl, ap, sym, ◌∙◌}
+use Rattle.std.proofs.Common.{◌≡◌, ℕ, true, not, length, Some, None, refl, ap, sym, ◌∙◌}
 use Rattle.fsw_base.specs.Limits.{limits_of}
 use Rattle.fsw_base.specs.declared.statuses.SbStatus.TheVariants.{BadArgument, NoMessage}
 use Rattle.bus_words.specs.declared.calls.BusAnswer.TheVariants.{Got, Sb}
@@ -7,11 +7,13 @@ use Rattle.bus_words.specs.declared.history.Call.TheVariants.{Receive}
 use Rattle.bus_words.specs.Bus.{owns, with_pipe, after_receive, is_empty}
 use Rattle.bus_words.specs.Machine.{by_bus, refused_if, receive_cause, received}
 use Rattle.bus_words.specs.Refusals.{OfBus}
+use Rattle.bus_words.proofs.Bounds.{length-with_pipe}
 use Rattle.bus_store.specs.Store.{Store}
 use Rattle.bus_store.specs.Words.{with_held}
 use Rattle.sb_plain.specs.declared.plain.PlainBus.TheInside.{Inside}
 use Rattle.sb_plain.specs.Inside.{means}
 use Rattle.sb_plain.proofs.After.{bare, bare_by, accepted_by}
+use Rattle.sb_plain.proofs.Peaks.{AreAsMany}
 use Rattle.sb_plain.proofs.Waits.{oldest_told, empty-none, empty-some, oldest-some}
 
 module _ (a : Inside) (next : Store) (app pipe : ℕ) (own : owns a.store.pipes app pipe ≡ true)
@@ -34,3 +36,11 @@ module _ (a : Inside) (next : Store) (app pipe : ℕ) (own : owns a.store.pipes 
       let why : receive_cause (means a).bus app pipe ≡ Some NoMessage = of_own ∙ ap (λ b. refused_if b NoMessage None) (empty-none a.store.pipes pipe none) in
       bare_by (limits_of a.config) (means a) app (Receive pipe) (Some (OfBus NoMessage)) (ap by_bus why)
       ∙ ap (λ t. (Sb NoMessage, means (record a { store = t }))) (sym is)
+
+  -- as many pipes, ids and subscriptions are in use as before
+  pub as_many : AreAsMany a.store next
+  as_many = record {
+    routes = ap (λ (o : Store). length o.routes) is;
+    pipes = ap (λ (o : Store). length o.pipes) is ∙ length-with_pipe after_receive pipe a.store.pipes;
+    subs = ap (λ (o : Store). length o.subscriptions) is;
+  }

@@ -22,11 +22,13 @@ use Rattle.bus_words.specs.Acts.{Whole, NextCount, nexts_after, moved_on, comple
 use Rattle.bus_tables.specs.declared.misses.Miss.{Miss}
 use Rattle.bus_tables.specs.Rows.{RouteRow, ids_of, has_way, counted_on}
 use Rattle.bus_records.specs.Records.{Recordings, told_all, miss_events}
+use Rattle.bus_words.proofs.Bounds.{length-deliver}
 use Rattle.bus_store.specs.Store.{Store}
 use Rattle.bus_store.specs.Words.{next_of, nexts_in, sending_of, missed, counted_up, with_held}
 use Rattle.sb_plain.specs.declared.plain.PlainBus.TheInside.{Inside}
 use Rattle.sb_plain.specs.Inside.{means, AreInOrder}
 use Rattle.sb_plain.specs.Rows.{AreOnce}
+use Rattle.sb_plain.proofs.Peaks.{AreAsMany, as_many_routes}
 use Rattle.sb_plain.proofs.Accounts.{IsHeld, account_is}
 use Rattle.sb_plain.proofs.After.{bare, accepted_by}
 use Rattle.sb_plain.proofs.Ready.{ready_all, ready_sent}
@@ -257,3 +259,11 @@ module _ (a : Inside) (next : Store) (app : ℕ) (bytes : List ℕ) (inc : Bool)
       is_told
       ∙ ap (λ n. told_all a.records (miss_events n app misses)) same
       ∙ ap (λ l. told_all a.records (miss_events (message_id bytes) app l)) (lists ∙ ap (λ (t : Store). t.missed) is)
+
+  -- as many pipes, ids and subscriptions are in use as before
+  pub sent_many : AreAsMany a.store next
+  sent_many = record {
+    routes = ap (λ (o : Store). length o.routes) is ∙ as_many_routes a.store.routes (counted_up a.store.routes (message_id bytes) inc) (ids_of-counted_up a.store.routes (message_id bytes) inc);
+    pipes = ap (λ (o : Store). length o.pipes) is ∙ length-deliver sending subs a.store.pipes;
+    subs = ap (λ (o : Store). length o.subscriptions) is;
+  }

@@ -50,3 +50,13 @@ in_use_at store = record {
   buffers = length (held store.pipes store.unsent store.numbers_given);
   bytes = bytes_in_use store.account;
 }
+
+-- the same of the blocks alone: the numbers that are held, and the sizes of their blocks, added up
+abbrev pub blocks_in_use_at : Store → InUse
+blocks_in_use_at store = record {
+  msgids = 0;
+  pipes = 0;
+  subs = 0;
+  buffers = length (held store.pipes store.unsent store.numbers_given);
+  bytes = bytes_in_use store.account;
+}

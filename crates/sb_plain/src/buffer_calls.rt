@@ -14,7 +14,7 @@ ghost use Rattle.sb_plain.specs.Rows.{buffer_cause};
 
 use crate::calls::Sent;
 use crate::plain::PlainBus;
-use crate::uses::see;
+use crate::uses::{see, see_blocks};
 use buf_desc::{Block, Held};
 use bus_events::ServiceEvent;
 use ccsds_msg::{Header, MsgFault, front};
@@ -97,7 +97,7 @@ impl<'r> PlainBus<'r> {
         // Does nothing; the proof learns of it which blocks are out.
         self.store.recall_held();
         let number = self.store.allocate(app, size, held, steps);
-        see(&mut self.records, &self.store);
+        see_blocks(&mut self.records, &self.store);
         Ok(number)
     }
 
@@ -156,9 +156,11 @@ impl<'r> PlainBus<'r> {
                 reached: 0,
             });
         }
+        // Does nothing; the proof learns of it which blocks are out.
+        self.store.recall_held();
         let sent = self.store.transmit_buffer(app, buf, inc, held, steps);
         self.records.tell_misses(self.store.misses(), id, app);
-        see(&mut self.records, &self.store);
+        see_blocks(&mut self.records, &self.store);
         Ok(Sent {
             number: sent.number,
             reached: sent.reached,

@@ -13,7 +13,7 @@ ghost use Rattle.sb_plain.specs.Bags.{HasBag, KeepsBags, KeepsOtherBags, KeepsAl
 use crate::activities::Activity;
 use crate::pipe_ends::end_pipes;
 use crate::plain::PlainBus;
-use crate::uses::{see, tell_unless};
+use crate::uses::{see, see_blocks, tell_unless};
 use buf_desc::Held;
 use bus_events::ServiceEvent;
 use bus_words::PipeText;
@@ -194,7 +194,7 @@ impl<'r> PlainBus<'r> {
         self.store.recall_held();
         let sent = self.store.send(app, bytes, inc, steps);
         self.records.tell_misses(self.store.misses(), id, app);
-        see(&mut self.records, &self.store);
+        see_blocks(&mut self.records, &self.store);
         Ok(Sent {
             number: sent.number,
             reached: sent.reached,
@@ -236,12 +236,14 @@ impl<'r> PlainBus<'r> {
             self.refuse(CounterName::Recv);
             return Err(SbStatus::BadArgument);
         }
-        // Does nothing; the proof learns of it that no two applications have one pipe.
+        // Do nothing; the proof learns of them that no two applications have one pipe, that each
+        // message has a number that was given, and, here and below, which blocks are out.
         self.store.recall_order();
-        // Does nothing; the proof learns of it that each message has a number that was given.
         self.store.recall_sends();
+        self.store.recall_held();
         let received = self.store.receive(app, pipe, held, steps);
-        see(&mut self.records, &self.store);
+        // No more is in use than before, so no peak is looked at.
+        self.store.recall_held();
         let Some(number) = received else {
             return Err(SbStatus::NoMessage);
         };

@@ -3,7 +3,7 @@
 ghost use Rattle.std.specs.Prelude.{◌≡◌, if◌then◌else◌};
 ghost use Rattle.bus_records.specs.Records.{told_event, peaks_raised};
 ghost use Rattle.bus_store.specs.Words.{with_held};
-ghost use Rattle.sb_plain.specs.Rows.{in_use_at};
+ghost use Rattle.sb_plain.specs.Rows.{in_use_at, blocks_in_use_at};
 
 use bus_events::ServiceEvent;
 use bus_records::Records;
@@ -34,6 +34,24 @@ pub(crate) fn see(records: &mut Records, store: &BusStore<'_>)
         with_held store.now.account store.now.pipes store.now.unsent store.now.numbers_given }
 {
     records.see(in_use_at(store));
+}
+
+/// Raises the peaks of the blocks in use and of their bytes, where what is in use at the store
+/// exceeds them. It is for a call that makes no pipe, no subscription and no route.
+pub(crate) fn see_blocks(records: &mut Records, store: &BusStore<'_>)
+    ensures seen { records.new ≡ peaks_raised records.old (blocks_in_use_at store.now) }
+    ensures held { store.now.account ≡
+        with_held store.now.account store.now.pipes store.now.unsent store.now.numbers_given }
+{
+    // Does nothing; the proof learns of it which blocks are out.
+    store.recall_held();
+    records.see(InUse {
+        msgids: 0,
+        pipes: 0,
+        subs: 0,
+        buffers: store.sends_held(),
+        bytes: store.bytes_in_use(),
+    });
 }
 
 /// Tells the event where the test is false.

@@ -1,7 +1,11 @@
-use Rattle.std.proofs.Common.{ap, refl}
+use Rattle.std.proofs.Common.{◌≤◌, length, ap, refl, subst, sym}
 use Rattle.lend_block.specs.Loan.{LentBytes}
 use Rattle.buf_desc.specs.Held.{Holding}
-use Rattle.bus_store.specs.Inside.{let_go}
+use Rattle.buf_desc.specs.Desk.{Buffers}
+use Rattle.bus_words.specs.Held.{held, bytes_in_use}
+use Rattle.bus_store.specs.Store.{Store}
+use Rattle.bus_store.specs.Inside.{let_go, store_of}
+use Rattle.bus_store.proofs.Fewer.{IsLess, less_exchanged, holds_less}
 use Rattle.bus_store.proofs.Received.{last_sealed, last_used, last_viewed, last_lent, last_seen, room_left, front_sealed, next_few, received_keeps, received_held, received_loans, received_bag, received_others, received_number}
 use Rattle.bus_store.proofs.store.BusStore.receive.Goals as goal
 
@@ -75,3 +79,25 @@ pub returns-clause-other_bags : goal.returns-clause-other_bags
 returns-clause-other_bags g c = λ other bag not_own.
     received_others c.self.inside c.args.self.now c.args.app c.args.pipe c.take-items.result.before c.take-items.result.after c.take-items.new.self (let_go c.self.inside.desk c.take-items.result.before) c.show_next-number.new.desk
     c.self.view_is c.self.invariant c.recall_order.ensures c.recall_live.ensures.live c.take-items.ensures.before c.take-items.ensures.oldest c.take-items.ensures.rows refl c.show_next-number.ensures.desk c.requires.own other not_own bag
+
+pub returns-clause-fewer : goal.returns-clause-fewer
+returns-clause-fewer g c =
+    let a = c.self.inside in
+    let b = record a { tables = c.take-items.new.self; desk = c.show_next-number.new.desk } in
+    let kept =
+    received_keeps a c.args.self.now c.args.app c.args.pipe c.take-items.result.before c.take-items.result.after c.take-items.new.self (let_go a.desk c.take-items.result.before) c.show_next-number.new.desk
+    c.self.view_is c.self.invariant c.recall_order.ensures c.recall_live.ensures.live c.take-items.ensures.before c.take-items.ensures.oldest c.take-items.ensures.rows refl c.show_next-number.ensures.desk in
+    let less = subst (λ (d : Buffers). IsLess d.pool a.desk.pool) (sym c.show_next-number.ensures.desk) (less_exchanged a.desk c.take-items.result.before c.take-items.result.after) in
+    subst (λ (o : Store). length (held (store_of b).pipes (store_of b).unsent (store_of b).numbers_given) ≤ length (held o.pipes o.unsent o.numbers_given)) c.self.view_is
+    (holds_less a b c.self.invariant kept c.recall_live.ensures.live c.recall_live-2.ensures.live less).held
+
+pub returns-clause-less : goal.returns-clause-less
+returns-clause-less g c =
+    let a = c.self.inside in
+    let b = record a { tables = c.take-items.new.self; desk = c.show_next-number.new.desk } in
+    let kept =
+    received_keeps a c.args.self.now c.args.app c.args.pipe c.take-items.result.before c.take-items.result.after c.take-items.new.self (let_go a.desk c.take-items.result.before) c.show_next-number.new.desk
+    c.self.view_is c.self.invariant c.recall_order.ensures c.recall_live.ensures.live c.take-items.ensures.before c.take-items.ensures.oldest c.take-items.ensures.rows refl c.show_next-number.ensures.desk in
+    let less = subst (λ (d : Buffers). IsLess d.pool a.desk.pool) (sym c.show_next-number.ensures.desk) (less_exchanged a.desk c.take-items.result.before c.take-items.result.after) in
+    subst (λ (o : Store). bytes_in_use (store_of b).account ≤ bytes_in_use o.account) c.self.view_is
+    (holds_less a b c.self.invariant kept c.recall_live.ensures.live c.recall_live-2.ensures.live less).bytes

@@ -27,6 +27,7 @@ invariant_of-self g c =
       out = ap (λ (n : ℕ). n + 1) c.self.invariant.out ∙ sym done.out;
       offsets = offsets_set (state_of s) s.offsets.items c.in-Some.block c.args.class c.saturating_add-self-inside.result true class c.self.invariant.offsets;
       room = c.self.invariant.room;
+      recent = h;
     }
 
 pub returns-clause-drawn : goal.returns-clause-drawn

@@ -30,6 +30,7 @@ invariant_of-self g c =
       out = omega (arith, done.out, c.self.invariant.out);
       offsets = offsets_set (state_of s) s.offsets.items n c.index.result.now.class s.requests false done.class_is c.self.invariant.offsets;
       room = c.self.invariant.room;
+      recent = c.self.invariant.recent;
     }
 
 pub overflow_sub-self-2 : goal.overflow_sub-self-2

@@ -6,8 +6,9 @@ use Rattle.bus_words.specs.Machine.{by_bus, allocate_cause}
 use Rattle.bus_store.specs.Store.{Store}
 use Rattle.sb_plain.proofs.After.{acts_looked, seen_keeps, refused_acts}
 use Rattle.sb_plain.proofs.Bags.{others_left, views_still}
-use Rattle.sb_plain.proofs.Buffers.{given_keeps, given_sizes, given_made}
+use Rattle.sb_plain.proofs.Buffers.{given_keeps, given_sizes, given_made, given_many}
 use Rattle.sb_plain.proofs.Numbers.{send_left}
+use Rattle.sb_plain.proofs.Peaks.{blocks_seen}
 use Rattle.sb_plain.proofs.Refusals.{at_fields}
 use Rattle.sb_plain.specs.Core.{Plain}
 use Rattle.sb_plain.proofs.plain.PlainBus.allocate.Goals as goal
@@ -34,7 +35,8 @@ invariant_of-self g c =
     let a = c.self.inside in
     let next = c.allocate-number.new.self in
     let order = given_keeps a next c.args.app c.args.size c.allocate-number.ensures.after c.self.invariant.order in
-    seen_keeps (record a { store = next; records = c.see.new.records }) a.records order c.see.ensures.seen c.see.ensures.held
+    let seen = c.see_blocks.ensures.seen ∙ blocks_seen a c.self.invariant c.recall_held.ensures a.records next refl (given_many a next c.args.app c.args.size c.allocate-number.ensures.after c.self.invariant.order) in
+    seen_keeps (record a { store = next; records = c.see_blocks.new.records }) a.records order seen c.see_blocks.ensures.held
 
 pub returns-clause-does : goal.returns-clause-does
 returns-clause-does g c = λ left.
@@ -44,16 +46,17 @@ returns-clause-does g c = λ left.
     let number = c.allocate-number.result in
     let order = given_keeps a next c.args.app c.args.size is c.self.invariant.order in
     let why = at_fields a c.args.self.now c.self.view_is (λ limits s. allocate_cause limits s c.args.size) None (sym c.allocate_cause.ensures ∙ c.in_default.is) in
+    let seen = c.see_blocks.ensures.seen ∙ blocks_seen a c.self.invariant c.recall_held.ensures a.records next refl (given_many a next c.args.app c.args.size c.allocate-number.ensures.after c.self.invariant.order) in
     acts_looked a next a.activities a.pools c.args.self.now c.args.app (Allocate c.args.size) (Number number) c.self.view_is
     (given_made a next c.args.app c.args.size is c.self.invariant.order number why c.recall_held.ensures c.allocate-number.ensures.number) refl refl refl
-    c.see.new.records c.see.ensures.seen order.pool c.see.ensures.held
+    c.see_blocks.new.records seen order.pool c.see_blocks.ensures.held
 
 pub returns-clause-other_bags : goal.returns-clause-other_bags
 returns-clause-other_bags g c =
     let a = c.self.inside in
     let next = c.allocate-number.new.self in
     let is = c.allocate-number.ensures.after in
-    others_left a c.args.self.now c.self.view_is c.self.invariant.order (record a { store = next; records = c.see.new.records }) refl (ap (λ (o : Store). o.room) is) c.args.app
+    others_left a c.args.self.now c.self.view_is c.self.invariant.order (record a { store = next; records = c.see_blocks.new.records }) refl (ap (λ (o : Store). o.room) is) c.args.app
     (given_sizes a next c.args.app c.args.size is c.self.invariant.order)
     (λ other bag apart. views_still a.store next other bag (ap (λ (o : Store). o.pipes) is) (ap (λ (o : Store). o.loans) is) (ap (λ (o : Store). o.room) is))
     c.allocate-number.ensures.other_bags

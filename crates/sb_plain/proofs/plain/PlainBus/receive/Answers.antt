@@ -8,10 +8,11 @@ use Rattle.bus_words.specs.Machine.{by_bus, refused_if}
 use Rattle.bus_words.specs.Refusals.{OfBus}
 use Rattle.bus_store.specs.Store.{Store}
 use Rattle.sb_plain.proofs.Actives.{is_active, active_receives}
-use Rattle.sb_plain.proofs.After.{acts_looked, seen_keeps, cause_told, refused_acts}
+use Rattle.sb_plain.proofs.After.{acts_quiet, cause_told, refused_acts}
 use Rattle.sb_plain.proofs.Bags.{others_kept}
 use Rattle.sb_plain.proofs.Changes.{taken_keeps}
-use Rattle.sb_plain.proofs.Receives.{got_made, none_made}
+use Rattle.sb_plain.proofs.Peaks.{AreNoMore, none_seen}
+use Rattle.sb_plain.proofs.Receives.{got_made, none_made, as_many}
 use Rattle.bus_store.specs.Blocks.{IsGiven}
 use Rattle.sb_plain.specs.Core.{Plain}
 use Rattle.sb_plain.proofs.Waits.{oldest_given}
@@ -33,7 +34,9 @@ invariant_of-self g c =
     let next = c.receive-received.new.self in
     let active = is_active a c.args.self.now c.args.app (Receive c.args.pipe) c.self.view_is c.requires.may (active_receives c.args.pipe) in
     let order = taken_keeps a next c.self.invariant.order c.args.app c.args.pipe c.recall_order.ensures (sym c.owns.ensures ∙ c.if-not-owns.false) c.receive-received.ensures.after active in
-    seen_keeps (record a { store = next; records = c.see.new.records }) a.records order c.see.ensures.seen c.see.ensures.held
+    let many = as_many a next c.args.app c.args.pipe (sym c.owns.ensures ∙ c.if-not-owns.false) c.receive-received.ensures.after in
+    let fewer : AreNoMore a.store next = record { buffers = c.receive-received.ensures.fewer; bytes = c.receive-received.ensures.less } in
+    record { order = order; covered = none_seen a c.self.invariant c.recall_held.ensures next c.recall_held-2.ensures order.pool many fewer }
 
 pub returns-in_default-clause-does : goal.returns-in_default-clause-does
 returns-in_default-clause-does g c =
@@ -42,15 +45,17 @@ returns-in_default-clause-does g c =
     let own = sym c.owns.ensures ∙ c.if-not-owns.false in
     let active = is_active a c.args.self.now c.args.app (Receive c.args.pipe) c.self.view_is c.requires.may (active_receives c.args.pipe) in
     let order = taken_keeps a next c.self.invariant.order c.args.app c.args.pipe c.recall_order.ensures own c.receive-received.ensures.after active in
-    acts_looked a next a.activities a.pools c.args.self.now c.args.app (Receive c.args.pipe) (Sb NoMessage) c.self.view_is
+    let many = as_many a next c.args.app c.args.pipe own c.receive-received.ensures.after in
+    let fewer : AreNoMore a.store next = record { buffers = c.receive-received.ensures.fewer; bytes = c.receive-received.ensures.less } in
+    acts_quiet a next a.activities a.pools c.args.self.now c.args.app (Receive c.args.pipe) (Sb NoMessage) c.self.view_is
     (none_made a next c.args.app c.args.pipe own c.receive-received.ensures.after (sym c.receive-received.ensures.number ∙ c.in_default.is)) refl refl refl
-    c.see.new.records c.see.ensures.seen order.pool c.see.ensures.held
+    (none_seen a c.self.invariant c.recall_held.ensures next c.recall_held-2.ensures order.pool many fewer)
 
 pub returns-in_default-clause-other_bags : goal.returns-in_default-clause-other_bags
 returns-in_default-clause-other_bags g c =
     let a = c.self.inside in
     let is = c.receive-received.ensures.after in
-    others_kept a c.args.self.now c.self.view_is c.self.invariant.order (record a { store = c.receive-received.new.self; records = c.see.new.records }) refl (ap (λ (o : Store). o.room) is) c.args.app
+    others_kept a c.args.self.now c.self.view_is c.self.invariant.order (record a { store = c.receive-received.new.self }) refl (ap (λ (o : Store). o.room) is) c.args.app
     (record { unsent = ap (λ (o : Store). o.unsent) is; descs = ap (λ (o : Store). o.descs) is; sizes = ap (λ (o : Store). o.account.sizes) is }) c.receive-received.ensures.other_bags
 
 pub invariant_of-self-2 : goal.invariant_of-self-2
@@ -59,7 +64,9 @@ invariant_of-self-2 g c =
     let next = c.receive-received.new.self in
     let active = is_active a c.args.self.now c.args.app (Receive c.args.pipe) c.self.view_is c.requires.may (active_receives c.args.pipe) in
     let order = taken_keeps a next c.self.invariant.order c.args.app c.args.pipe c.recall_order.ensures (sym c.owns.ensures ∙ c.if-not-owns.false) c.receive-received.ensures.after active in
-    seen_keeps (record a { store = next; records = c.see.new.records }) a.records order c.see.ensures.seen c.see.ensures.held
+    let many = as_many a next c.args.app c.args.pipe (sym c.owns.ensures ∙ c.if-not-owns.false) c.receive-received.ensures.after in
+    let fewer : AreNoMore a.store next = record { buffers = c.receive-received.ensures.fewer; bytes = c.receive-received.ensures.less } in
+    record { order = order; covered = none_seen a c.self.invariant c.recall_held.ensures next c.recall_held-2.ensures order.pool many fewer }
 
 pub returns-clause-does : goal.returns-clause-does
 returns-clause-does g c =
@@ -68,15 +75,17 @@ returns-clause-does g c =
     let own = sym c.owns.ensures ∙ c.if-not-owns.false in
     let active = is_active a c.args.self.now c.args.app (Receive c.args.pipe) c.self.view_is c.requires.may (active_receives c.args.pipe) in
     let order = taken_keeps a next c.self.invariant.order c.args.app c.args.pipe c.recall_order.ensures own c.receive-received.ensures.after active in
-    acts_looked a next a.activities a.pools c.args.self.now c.args.app (Receive c.args.pipe) (Got c.in-Some.number) c.self.view_is
+    let many = as_many a next c.args.app c.args.pipe own c.receive-received.ensures.after in
+    let fewer : AreNoMore a.store next = record { buffers = c.receive-received.ensures.fewer; bytes = c.receive-received.ensures.less } in
+    acts_quiet a next a.activities a.pools c.args.self.now c.args.app (Receive c.args.pipe) (Got c.in-Some.number) c.self.view_is
     (got_made a next c.args.app c.args.pipe own c.receive-received.ensures.after c.in-Some.number (sym c.receive-received.ensures.number ∙ c.in-Some.is)) refl refl refl
-    c.see.new.records c.see.ensures.seen order.pool c.see.ensures.held
+    (none_seen a c.self.invariant c.recall_held.ensures next c.recall_held-2.ensures order.pool many fewer)
 
 pub returns-clause-other_bags : goal.returns-clause-other_bags
 returns-clause-other_bags g c =
     let a = c.self.inside in
     let is = c.receive-received.ensures.after in
-    others_kept a c.args.self.now c.self.view_is c.self.invariant.order (record a { store = c.receive-received.new.self; records = c.see.new.records }) refl (ap (λ (o : Store). o.room) is) c.args.app
+    others_kept a c.args.self.now c.self.view_is c.self.invariant.order (record a { store = c.receive-received.new.self }) refl (ap (λ (o : Store). o.room) is) c.args.app
     (record { unsent = ap (λ (o : Store). o.unsent) is; descs = ap (λ (o : Store). o.descs) is; sizes = ap (λ (o : Store). o.account.sizes) is }) c.receive-received.ensures.other_bags
 
 pub returns-clause-given : goal.returns-clause-given

@@ -10,7 +10,7 @@ use Rattle.bus_words.specs.declared.history.Call.TheVariants.{Transmit}
 use Rattle.bus_words.specs.Acts.{reads_in}
 use Rattle.bus_words.specs.Bus.{route}
 use Rattle.bus_words.specs.Machine.{by_bus, transmit_cause}
-use Rattle.bus_records.specs.Records.{Recordings, told_event, peaks_raised}
+use Rattle.bus_records.specs.Records.{Recordings, miss_events, told_event, peaks_raised}
 use Rattle.bus_records.proofs.Leaves.{unheard_left, sent_left}
 use Rattle.bus_store.specs.Store.{Store}
 use Rattle.bus_store.specs.Words.{sending_of}
@@ -21,8 +21,9 @@ use Rattle.sb_plain.proofs.After.{acts_from, acts_seen, seen_keeps, told_keeps, 
 use Rattle.sb_plain.proofs.Bags.{bags_kept}
 use Rattle.sb_plain.proofs.Drops.{drops_are}
 use Rattle.sb_plain.proofs.Numbers.{send_left}
+use Rattle.sb_plain.proofs.Peaks.{told_peak, blocks_seen}
 use Rattle.sb_plain.proofs.Refusals.{at_fields}
-use Rattle.sb_plain.proofs.Transmits.{request_stays, long_enough, way_of, some_of, nobody_made, sent_keeps, sent_made, sent_told}
+use Rattle.sb_plain.proofs.Transmits.{request_stays, long_enough, way_of, some_of, nobody_made, sent_keeps, sent_made, sent_told, sent_many}
 use Rattle.sb_plain.proofs.plain.PlainBus.transmit.Goals as goal
 
 pub returns-then-not-has_send_number-clause-does : goal.returns-then-not-has_send_number-clause-does
@@ -90,7 +91,9 @@ invariant_of-self-2 g c =
     let a = c.self.inside in
     let next = c.send-sent.new.self in
     let order = sent_keeps a next c.args.app c.args.bytes.now c.args.inc c.send-sent.ensures.after c.self.invariant.order in
-    seen_keeps (record a { store = next; records = c.see.new.records }) c.tell_misses.new.self order c.see.ensures.seen c.see.ensures.held
+    let same = ap (λ (r : Recordings). r.statistics.peak) c.tell_misses.ensures ∙ told_peak a.records (miss_events c.id_of-id.result c.args.app c.misses.result.now) in
+    let seen = c.see_blocks.ensures.seen ∙ blocks_seen a c.self.invariant c.recall_held.ensures c.tell_misses.new.self next same (sent_many a next c.args.app c.args.bytes.now c.args.inc c.send-sent.ensures.after c.self.invariant.order) in
+    seen_keeps (record a { store = next; records = c.see_blocks.new.records }) c.tell_misses.new.self order seen c.see_blocks.ensures.held
 
 pub returns-clause-does : goal.returns-clause-does
 returns-clause-does g c = λ left.
@@ -107,18 +110,20 @@ returns-clause-does g c = λ left.
     let lengths = ap (λ n. length (route a.store.subscriptions n)) (sym c.id_of-id.ensures) ∙ sym c.dests_of.ensures in
     let someone = some_of (route a.store.subscriptions (message_id bytes)) (λ none. c.if-dests_of-eq0.false (sym lengths ∙ none)) in
     let told = sent_told a next c.args.app bytes c.args.inc is keeps c.tell_misses.new.self c.id_of-id.result c.misses.result.now c.id_of-id.ensures c.misses.ensures c.tell_misses.ensures in
+    let same = ap (λ (r : Recordings). r.statistics.peak) c.tell_misses.ensures ∙ told_peak a.records (miss_events c.id_of-id.result c.args.app c.misses.result.now) in
+    let seen = c.see_blocks.ensures.seen ∙ blocks_seen a c.self.invariant c.recall_held.ensures c.tell_misses.new.self next same (sent_many a next c.args.app c.args.bytes.now c.args.inc c.send-sent.ensures.after c.self.invariant.order) in
     acts_seen a next a.activities a.pools c.args.self.now c.args.app (Transmit bytes c.args.inc) (Sent number arrived) c.self.view_is
     (sent_made a next c.args.app bytes c.args.inc is keeps someone.first someone.more number arrived someone.is why c.recall_held.ensures c.send-sent.ensures.number c.send-sent.ensures.reached)
-    _ c.see.new.records
+    _ c.see_blocks.new.records
     (sent_left limits (reads_in w) w.bus c.args.app bytes c.args.inc number arrived (means (record a { store = next })).bus someone.first someone.more someone.is)
-    (c.see.ensures.seen ∙ ap (λ r. peaks_raised r (in_use_at next)) told)
-    (sent_keeps a next c.args.app bytes c.args.inc is keeps).pool c.see.ensures.held
+    (seen ∙ ap (λ r. peaks_raised r (in_use_at next)) told)
+    (sent_keeps a next c.args.app bytes c.args.inc is keeps).pool c.see_blocks.ensures.held
 
 pub returns-clause-bags : goal.returns-clause-bags
 returns-clause-bags g c =
     let a = c.self.inside in
     let is = c.send-sent.ensures.after in
-    bags_kept a c.args.self.now c.self.view_is c.self.invariant.order (record a { store = c.send-sent.new.self; records = c.see.new.records }) refl (ap (λ (o : Store). o.room) is)
+    bags_kept a c.args.self.now c.self.view_is c.self.invariant.order (record a { store = c.send-sent.new.self; records = c.see_blocks.new.records }) refl (ap (λ (o : Store). o.room) is)
     (record { unsent = ap (λ (o : Store). o.unsent) is; descs = ap (λ (o : Store). o.descs) is; sizes = ap (λ (o : Store). o.account.sizes) is ∙ ap (λ (c : Account). c.sizes) (request_stays a.store.account (length c.args.bytes.now)) }) c.send-sent.ensures.bags
 
 pub returns-clause-cost : goal.returns-clause-cost

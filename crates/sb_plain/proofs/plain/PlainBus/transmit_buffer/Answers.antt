@@ -10,7 +10,7 @@ use Rattle.bus_words.specs.declared.history.Call.TheVariants.{TransmitBuffer}
 use Rattle.bus_words.specs.Acts.{reads_in}
 use Rattle.bus_words.specs.Bus.{route}
 use Rattle.bus_words.specs.Machine.{by_bus, transmit_buffer_cause}
-use Rattle.bus_records.specs.Records.{told_event, peaks_raised}
+use Rattle.bus_records.specs.Records.{Recordings, miss_events, told_event, peaks_raised}
 use Rattle.bus_records.proofs.Leaves.{unheard_buffer_left, sent_buffer_left}
 use Rattle.bus_store.specs.Store.{Store}
 use Rattle.bus_store.specs.Words.{passing_of}
@@ -19,8 +19,9 @@ use Rattle.sb_plain.specs.Inside.{means}
 use Rattle.sb_plain.specs.Rows.{in_use_at}
 use Rattle.sb_plain.proofs.After.{acts_seen, seen_keeps, refused_acts}
 use Rattle.sb_plain.proofs.Bags.{bag_before, bag_after, blocked_views, others_left, views_still}
-use Rattle.sb_plain.proofs.Buffers.{gone_keeps, unheard_made, passed_keeps, passed_made, passed_told, transmit_told}
+use Rattle.sb_plain.proofs.Buffers.{gone_keeps, unheard_made, passed_keeps, passed_made, passed_told, passed_many, transmit_told}
 use Rattle.sb_plain.proofs.Drops.{drops_are}
+use Rattle.sb_plain.proofs.Peaks.{told_peak, blocks_seen}
 use Rattle.sb_plain.proofs.Refusals.{at_fields}
 use Rattle.sb_plain.proofs.Transmits.{way_of, some_of}
 use Rattle.sb_plain.proofs.plain.PlainBus.transmit_buffer.Goals as goal
@@ -80,7 +81,10 @@ invariant_of-self-2 g c =
     let a = c.self.inside in
     let next = c.transmit_buffer-sent.new.self in
     let order = passed_keeps a next c.args.app c.args.buf (bytes_at c.args.held.now c.args.buf) c.args.inc c.transmit_buffer-sent.ensures.after c.self.invariant.order in
-    seen_keeps (record a { store = next; records = c.see-2.new.records }) c.tell_misses.new.self order c.see-2.ensures.seen c.see-2.ensures.held
+    let same = ap (λ (r : Recordings). r.statistics.peak) c.tell_misses.ensures ∙ told_peak a.records (miss_events c.in-Ok.id c.args.app c.misses.result.now) in
+    let many = passed_many a next c.args.app c.args.buf (bytes_at c.args.held.now c.args.buf) c.args.inc c.transmit_buffer-sent.ensures.after c.self.invariant.order in
+    let seen = c.see_blocks.ensures.seen ∙ blocks_seen a c.self.invariant c.recall_held.ensures c.tell_misses.new.self next same many in
+    seen_keeps (record a { store = next; records = c.see_blocks.new.records }) c.tell_misses.new.self order seen c.see_blocks.ensures.held
 
 pub returns-clause-does : goal.returns-clause-does
 returns-clause-does g c =
@@ -98,20 +102,23 @@ returns-clause-does g c =
     let why = at_fields a old c.self.view_is (λ limits s. transmit_buffer_cause s c.args.app c.args.buf bytes) None
     (transmit_told old c.args.app c.args.buf c.args.held.now c.requires.bag ∙ c.in-Ok.ensures.none) in
     let told = passed_told a next c.args.app c.args.buf bytes c.args.inc is keeps c.tell_misses.new.self c.in-Ok.id c.misses.result.now c.in-Ok.ensures.id c.misses.ensures c.tell_misses.ensures in
+    let same = ap (λ (r : Recordings). r.statistics.peak) c.tell_misses.ensures ∙ told_peak a.records (miss_events c.in-Ok.id c.args.app c.misses.result.now) in
+    let many = passed_many a next c.args.app c.args.buf (bytes_at c.args.held.now c.args.buf) c.args.inc c.transmit_buffer-sent.ensures.after c.self.invariant.order in
+    let seen = c.see_blocks.ensures.seen ∙ blocks_seen a c.self.invariant c.recall_held.ensures c.tell_misses.new.self next same many in
     acts_seen a next a.activities a.pools old c.args.app (TransmitBuffer c.args.buf bytes c.args.inc) (Sent number arrived) c.self.view_is
     (passed_made a next c.args.app c.args.buf bytes c.args.inc is keeps someone.first someone.more number arrived someone.is why c.transmit_buffer-sent.ensures.first
     c.transmit_buffer-sent.ensures.number c.transmit_buffer-sent.ensures.reached)
-    _ c.see-2.new.records
+    _ c.see_blocks.new.records
     (sent_buffer_left (limits_of a.config) (reads_in w) w.bus c.args.app c.args.buf bytes c.args.inc number arrived (means (record a { store = next })).bus someone.first someone.more someone.is)
-    (c.see-2.ensures.seen ∙ ap (λ r. peaks_raised r (in_use_at next)) told)
-    (passed_keeps a next c.args.app c.args.buf bytes c.args.inc is keeps).pool c.see-2.ensures.held
+    (seen ∙ ap (λ r. peaks_raised r (in_use_at next)) told)
+    (passed_keeps a next c.args.app c.args.buf bytes c.args.inc is keeps).pool c.see_blocks.ensures.held
 
 pub returns-clause-bag : goal.returns-clause-bag
 returns-clause-bag g c =
     let a = c.self.inside in
     let next = c.transmit_buffer-sent.new.self in
     let is = c.transmit_buffer-sent.ensures.after in
-    bag_after a c.args.self.now c.self.view_is c.self.invariant.order (record a { store = next; records = c.see-2.new.records }) refl (ap (λ (o : Store). o.room) is)
+    bag_after a c.args.self.now c.self.view_is c.self.invariant.order (record a { store = next; records = c.see_blocks.new.records }) refl (ap (λ (o : Store). o.room) is)
     (ap (λ (o : Store). o.account.sizes) is) c.args.app c.transmit_buffer-sent.new.held
     (blocked_views next c.args.app c.args.held.now c.transmit_buffer-sent.new.held c.transmit_buffer-sent.ensures.views
     (c.transmit_buffer-sent.ensures.view_bags c.args.app c.args.held.now (bag_before a c.args.self.now c.self.view_is c.self.invariant.order c.args.app c.args.held.now c.requires.bag)))
@@ -121,7 +128,7 @@ pub returns-clause-other_bags : goal.returns-clause-other_bags
 returns-clause-other_bags g c =
     let a = c.self.inside in
     let is = c.transmit_buffer-sent.ensures.after in
-    others_left a c.args.self.now c.self.view_is c.self.invariant.order (record a { store = c.transmit_buffer-sent.new.self; records = c.see-2.new.records }) refl (ap (λ (o : Store). o.room) is) c.args.app
+    others_left a c.args.self.now c.self.view_is c.self.invariant.order (record a { store = c.transmit_buffer-sent.new.self; records = c.see_blocks.new.records }) refl (ap (λ (o : Store). o.room) is) c.args.app
     (ap (λ (o : Store). o.account.sizes) is)
     (λ other bag apart. c.transmit_buffer-sent.ensures.view_bags other bag)
     c.transmit_buffer-sent.ensures.other_bags
