@@ -39,5 +39,5 @@ mod writing;
 
 pub use command::{function_code, set_function_code};
 pub use packet::{Header, MsgFault};
-pub use reading::{count_of, front, id_of, read_header, size_of};
+pub use reading::{count_of, fields_of, front, id_of, read_header, size_of};
 pub use writing::{set_count, write_header};

@@ -22,7 +22,7 @@ pub fn read_header(bytes: &[u8]) -> Result<Header, MsgFault>
     if bytes.len() < LEAST_SIZE {
         return Err(MsgFault::Short);
     }
-    let header = fields(bytes);
+    let header = fields_of(bytes);
     let given = bytes.len() as u32;
     if header.size != given {
         return Err(MsgFault::Length {
@@ -46,7 +46,7 @@ pub fn front(bytes: &[u8]) -> Result<Header, MsgFault>
     if bytes.len() < LEAST_SIZE {
         return Err(MsgFault::Short);
     }
-    let header = fields(bytes);
+    let header = fields_of(bytes);
     let given = bytes.len() as u32;
     if header.size > given {
         return Err(MsgFault::Length {
@@ -89,8 +89,8 @@ fn flags_of(bytes: &[u8]) -> u8
     (BigEndian::read_u16(&bytes[2..]) / COUNTS % 4) as u8
 }
 
-// The fields of the header, whatever they are.
-fn fields(bytes: &[u8]) -> Header
+/// The fields of the header, whatever they are: no field is tested.
+pub fn fields_of(bytes: &[u8]) -> Header
     requires { 6 ≤ length bytes.now }
     ensures { result ≡ header_of bytes.now }
 {

@@ -1,0 +1,5 @@
+pub mod Args
+pub mod Codes
+pub mod Owned
+pub mod Said
+pub mod SaidTables

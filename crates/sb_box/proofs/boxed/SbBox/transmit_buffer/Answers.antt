@@ -1,0 +1,49 @@
+use Rattle.std.proofs.Common.{◌≡◌, ◌-◌, set, ap, subst}
+use Rattle.std.proofs.lemmas.Result.{err_from_is_err_and}
+use Rattle.lend_block.specs.Loan.{LentBytes}
+use Rattle.buf_desc.specs.Held.{Holding}
+use Rattle.sb_box.specs.Box.{Boxed, KeepsOtherBags, bag_of}
+use Rattle.sb_box.proofs.Apps.{apps-acts}
+use Rattle.sb_box.proofs.Reasons.{handed_on, none_handed}
+use Rattle.sb_box.proofs.Kept.{placed, own-bag, kept-own, others-stay, part-stays}
+use Rattle.sb_box.proofs.boxed.SbBox.transmit_buffer.Goals as goal
+
+pub transmit_buffer-requires-clause-bag : goal.transmit_buffer-requires-clause-bag
+transmit_buffer-requires-clause-bag g c =
+    let core = c.self.inside.core in
+    let bags = c.self.inside.bags.items in
+    let here = placed core bags c.args.app c.in_ok-caller.caller c.get.result c.self.invariant c.get.ensures.value c.get.ensures.first c.in_ok-caller.ensures.value (c.in_ok-caller.ensures.may_release 0).known in
+    own-bag core bags c.args.app c.in_ok-caller.caller (c.get.result - 1) c.self.invariant here c.index_mut-bag.result.now c.index_mut-bag.ensures.value
+
+pub invariant_of-self : goal.invariant_of-self
+invariant_of-self g c =
+    let core = c.self.inside.core in
+    let bags = c.self.inside.bags.items in
+    let here = placed core bags c.args.app c.in_ok-caller.caller c.get.result c.self.invariant c.get.ensures.value c.get.ensures.first c.in_ok-caller.ensures.value (c.in_ok-caller.ensures.may_release 0).known in
+    kept-own core bags c.args.app c.in_ok-caller.caller (c.get.result - 1) c.self.invariant here c.transmit_buffer.new.self c.transmit_buffer.new.held (apps-acts _ _ _ _ _ c.transmit_buffer.ensures.does) c.transmit_buffer.ensures.other_bags c.transmit_buffer.ensures.bag
+
+pub returns-clause-others : goal.returns-clause-others
+returns-clause-others g c =
+    let core = c.self.inside.core in
+    let bags = c.self.inside.bags.items in
+    let here = placed core bags c.args.app c.in_ok-caller.caller c.get.result c.self.invariant c.get.ensures.value c.get.ensures.first c.in_ok-caller.ensures.value (c.in_ok-caller.ensures.may_release 0).known in
+    let new = c.transmit_buffer.new.self in
+    subst (λ (old : Boxed). KeepsOtherBags old (record { core = new; bags = set bags (c.get.result - 1) c.transmit_buffer.new.held }) c.args.app) c.self.view_is
+    (others-stay core bags c.args.app c.in_ok-caller.caller (c.get.result - 1) c.self.invariant here new c.transmit_buffer.new.held)
+
+pub returns-clause-views : goal.returns-clause-views
+returns-clause-views g c =
+    let core = c.self.inside.core in
+    let bags = c.self.inside.bags.items in
+    let here = placed core bags c.args.app c.in_ok-caller.caller c.get.result c.self.invariant c.get.ensures.value c.get.ensures.first c.in_ok-caller.ensures.value (c.in_ok-caller.ensures.may_release 0).known in
+    let new = c.transmit_buffer.new.self in
+    subst (λ (old : Boxed). (bag_of (record { core = new; bags = set bags (c.get.result - 1) c.transmit_buffer.new.held }) c.args.app).views ≡ (bag_of old c.args.app).views) c.self.view_is
+    (part-stays core bags c.args.app c.in_ok-caller.caller (c.get.result - 1) c.self.invariant here (λ (bag : Holding LentBytes). bag.views) new c.index_mut-bag.result.now c.transmit_buffer.new.held c.index_mut-bag.ensures.value (ap (λ (bag : Holding LentBytes). bag.views) c.transmit_buffer.ensures.views))
+
+pub returns-in_err-caller-clause-unasked : goal.returns-in_err-caller-clause-unasked
+returns-in_err-caller-clause-unasked g c =
+    let p = err_from_is_err_and c.from_residual.result c.from_residual.ensures.1 in
+    rw (p.1, p.2) (handed_on c.asks_active.result c.in_err-caller.field-0.0 _ (c.asks_active.ensures.transmit c.args.number (bytes_at (bag_of c.args.self.old c.args.app) c.args.number) c.args.inc) c.in_err-caller.was)
+
+pub returns-clause-unasked : goal.returns-clause-unasked
+returns-clause-unasked g c = none_handed c.asks_active.result c.in_ok-caller.caller _ (c.asks_active.ensures.transmit c.args.number (bytes_at (bag_of c.args.self.old c.args.app) c.args.number) c.args.inc) c.in_ok-caller.was
