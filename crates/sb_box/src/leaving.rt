@@ -62,7 +62,7 @@ impl<'r> SbBox<'r> {
     }
 
     // How many unsent buffers the application has.
-    fn unsent_count(&self, caller: AppNo) -> u32
+    fn unsent_count(&self, caller: AppNo) -> usize
         requires { caller ≤ apps_in self.now.core }
         ensures { result ≡ length (bag_of self.now caller).buffers }
     {
