@@ -1,8 +1,9 @@
 -- The bus with the bags of its applications.
-use Rattle.std.specs.Prelude.{◌≡◌, ℕ, ◌-◌, ◌≤◌, List, [], length, slice_index_or, slice_set, Option, None, if◌then◌else◌}
-use Rattle.std.specs.Option.{option_map}
+use Rattle.std.specs.Prelude.{◌≡◌, ℕ, ◌-◌, ◌≤◌, nat_le, Bool, false, List, [], length, slice_index_or, slice_set, Option, None, if◌then◌else◌}
+use Rattle.std.specs.Option.{option_map, option_map_or}
 use Rattle.lend_block.specs.Loan.{LentBytes}
-use Rattle.buf_desc.specs.Held.{Holding}
+use Rattle.buf_desc.specs.Fronts.{overwritten}
+use Rattle.buf_desc.specs.Held.{Holding, buffer_at, bytes_at, with_bytes_at}
 use Rattle.bus_words.specs.Bus.{owns}
 use Rattle.bus_words.specs.Pipes.{last_on}
 use Rattle.sb_plain.specs.Core.{Plain, apps_in}
@@ -23,6 +24,16 @@ bag_in bags app = slice_index_or bags (app - 1) no_bag
 
 abbrev pub bag_of : Boxed → ℕ → Holding LentBytes
 bag_of box app = bag_in box.bags app
+
+-- the bag has a buffer of this number, of at least so many bytes
+abbrev pub fits_buffer : Holding LentBytes → ℕ → ℕ → Bool
+fits_buffer bag number count =
+    option_map_or (λ block. nat_le count (length block.bytes)) (buffer_at bag number) false
+
+-- the bag with bytes over the first ones of its buffer of this number
+abbrev pub with_written : Holding LentBytes → ℕ → List ℕ → Holding LentBytes
+with_written bag number bytes =
+    with_bytes_at bag number (overwritten (bytes_at bag number) bytes)
 
 -- every other application's bag stays
 abbrev pub KeepsOtherBags : Boxed → Boxed → ℕ → Type 0

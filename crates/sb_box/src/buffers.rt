@@ -1,12 +1,13 @@
 //! The calls of buffers that are sent without a copy.
-ghost use Rattle.std.specs.Prelude.{◌≡◌, ◌<◌, ◌≤◌, false, nat_lt, length, Err, replicate, IfOk, OnErr, IsTrue};
+ghost use Rattle.std.specs.Prelude.{◌≡◌, ◌<◌, ◌≤◌, ◌&&◌, true, false, nat_lt, length, Err, replicate, IfOk, OnErr, IsTrue};
 ghost use Rattle.std.specs.Result.{result_err};
 ghost use Rattle.bus_words.specs.declared.history.Call.TheVariants.{Allocate, TransmitBuffer, Release};
+ghost use Rattle.buf_desc.specs.Fronts.{overwritten};
 ghost use Rattle.buf_desc.specs.Held.{bytes_at};
 ghost use Rattle.sb_plain.specs.Core.{Acts, apps_in, with_tick, has_send_number};
 ghost use Rattle.sb_plain.specs.Answers.{numbered, sent, done};
-ghost use Rattle.sb_box.specs.Asked.{unasked, unasked_allocate};
-ghost use Rattle.sb_box.specs.Box.{KeepsOtherBags, bag_of};
+ghost use Rattle.sb_box.specs.Asked.{is_application, unasked, unasked_allocate};
+ghost use Rattle.sb_box.specs.Box.{KeepsOtherBags, bag_of, fits_buffer, with_written};
 
 use crate::boxed::SbBox;
 use crate::refusal::Refusal;
@@ -15,6 +16,14 @@ use fsw_base::{AppNo, SbStatus};
 use housekeeping::CounterName;
 use sb_plain::Sent;
 use step_count::{Blank, Ledger, Steps};
+
+// Writes bytes over the first ones.
+fn overwrite(buffer: &mut [u8], bytes: &[u8])
+    requires { length bytes.now ≤ length buffer.old }
+    ensures { buffer.new ≡ overwritten buffer.old bytes.now }
+{
+    buffer[..bytes.len()].copy_from_slice(bytes);
+}
 
 impl<'r> SbBox<'r> {
     /// Gives the application a buffer of zeros, as [`PlainBus::allocate`].
@@ -53,6 +62,31 @@ impl<'r> SbBox<'r> {
         let mut steps = Steps::<L>::new(blank);
         let bag = &mut self.bags[(caller.get() - 1) as usize];
         Ok(self.core.allocate(caller, size, bag, &mut steps))
+    }
+
+    /// Writes bytes over the first ones of an unsent buffer of the application's. It is no call of
+    /// the bus. Answers whether the application has such a buffer, of at least so many bytes; if
+    /// not, nothing changed.
+    pub fn write_buffer(&mut self, app: u32, number: u64, bytes: &[u8]) -> bool
+        ensures when { result ≡ (is_application self.old.core app &&
+            fits_buffer (bag_of self.old app) number (length bytes.now)) }
+        ensures nothing { result ≡ false → self.new ≡ self.old }
+        ensures core { self.new.core ≡ self.old.core }
+        ensures written { result ≡ true →
+            bag_of self.new app ≡ with_written (bag_of self.old app) number bytes.now }
+        ensures others { result ≡ true → KeepsOtherBags self.old self.new app }
+    {
+        let Ok(caller) = self.caller(app) else {
+            return false;
+        };
+        if !self.fits_buffer(caller, number, bytes.len()) {
+            return false;
+        }
+        // Does nothing; the proof learns of it that the bag stays the application's.
+        bus_store::recall_written();
+        let bag = &mut self.bags[(caller.get() - 1) as usize];
+        overwrite(bag.bytes_of_mut(number), bytes);
+        true
     }
 
     /// Sends the message that a buffer begins with, as [`PlainBus::transmit_buffer`].
@@ -116,6 +150,17 @@ impl<'r> SbBox<'r> {
         let mut steps = Steps::<L>::new(blank);
         let bag = &mut self.bags[(caller.get() - 1) as usize];
         Ok(self.core.release(caller, number, bag, &mut steps))
+    }
+
+    // Whether the application has an unsent buffer of this number, of at least so many bytes.
+    fn fits_buffer(&self, caller: AppNo, number: u64, count: usize) -> bool
+        requires { caller ≤ apps_in self.now.core }
+        ensures { result ≡ fits_buffer (bag_of self.now caller) number count }
+    {
+        match self.bags[(caller.get() - 1) as usize].buffer(number) {
+            Some(block) => count <= block.bytes().len(),
+            None => false,
+        }
     }
 
     // Whether the application's bag has room for a buffer more.

@@ -8,6 +8,7 @@ pub returns-in_err-caller-clause-why : goal.returns-in_err-caller-clause-why
 returns-in_err-caller-clause-why c =
     let p = err_from_is_err_and c.from_residual.result c.from_residual.ensures.1 in
     rw (p.1, p.2) (handed_on c.asks.result c.in_err-caller.field-0.0 _ c.asks.ensures.why c.in_err-caller.was)
+
 pub returns-clause-why : goal.returns-clause-why
 returns-clause-why c = none_handed c.asks.result c.in_ok-caller.caller _ c.asks.ensures.why c.in_ok-caller.was
 

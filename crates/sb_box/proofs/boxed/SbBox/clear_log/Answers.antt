@@ -7,6 +7,7 @@ use Rattle.sb_box.proofs.boxed.SbBox.clear_log.Goals as goal
 pub invariant_of-self : goal.invariant_of-self
 invariant_of-self c =
     kept-bags c.self.inside.core c.clear_log.new.self c.self.inside.bags.items c.self.invariant (apps-acts _ _ _ _ _ c.clear_log.ensures.does) c.clear_log.ensures.bags
+
 pub returns-in_err-caller-clause-unasked : goal.returns-in_err-caller-clause-unasked
 returns-in_err-caller-clause-unasked c =
     let p = err_from_is_err_and c.from_residual.result c.from_residual.ensures.1 in

@@ -7,6 +7,7 @@ use Rattle.sb_box.proofs.boxed.SbBox.create_pipe.Goals as goal
 pub invariant_of-self : goal.invariant_of-self
 invariant_of-self c =
     kept-bags c.self.inside.core c.create_pipe.new.self c.self.inside.bags.items c.self.invariant (apps-acts _ _ _ _ _ c.create_pipe.ensures.does) c.create_pipe.ensures.bags
+
 pub returns-in_err-caller-clause-unasked : goal.returns-in_err-caller-clause-unasked
 returns-in_err-caller-clause-unasked c =
     let p = err_from_is_err_and c.from_residual.result c.from_residual.ensures.1 in

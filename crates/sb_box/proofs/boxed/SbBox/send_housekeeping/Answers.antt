@@ -8,6 +8,7 @@ pub invariant_of-self : goal.invariant_of-self
 invariant_of-self g c =
     kept-bags c.self.inside.core c.send_housekeeping.new.self c.self.inside.bags.items c.self.invariant
     (apps-numbered _ _ _ _ c.send_housekeeping.result _ c.send_housekeeping.ensures.does c.send_housekeeping.ensures.spent c.send_housekeeping.ensures.refused) c.send_housekeeping.ensures.bags
+
 pub returns-in_err-caller-clause-unasked : goal.returns-in_err-caller-clause-unasked
 returns-in_err-caller-clause-unasked g c =
     let p = err_from_is_err_and c.from_residual.result c.from_residual.ensures.1 in

@@ -8,6 +8,7 @@ pub invariant_of-self : goal.invariant_of-self
 invariant_of-self g c =
     kept-bags c.self.inside.core c.transmit.new.self c.self.inside.bags.items c.self.invariant
     (apps-numbered _ _ _ _ c.transmit.result _ c.transmit.ensures.does c.transmit.ensures.spent c.transmit.ensures.refused) c.transmit.ensures.bags
+
 pub returns-in_err-caller-clause-unasked : goal.returns-in_err-caller-clause-unasked
 returns-in_err-caller-clause-unasked g c =
     let p = err_from_is_err_and c.from_residual.result c.from_residual.ensures.1 in
