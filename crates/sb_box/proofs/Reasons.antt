@@ -27,8 +27,8 @@ if_ok-map P Q (Err e) to holds = holds
 -- The chain of reasons. --
 
 abbrev pub chain : Bool → Bool → Bool → Bool → Option Refusal
-chain is_app within open number =
-    refused_if (not is_app) NoApplication (refused_if (not within) TooLong (refused_if (not open) NotActive (refused_if (not number) NoNumbers None)))
+chain is_app within active number =
+    refused_if (not is_app) NoApplication (refused_if (not within) TooLong (refused_if (not active) NotActive (refused_if (not number) NoNumbers None)))
 
 -- whether there is such an application
 abbrev pub app_cause : Bool → Option Refusal
@@ -84,10 +84,10 @@ module _ (a w o n : Bool) (app : a ≡ true) where
   of_idle within idle = sym (ap (λ b. chain b w o n) app ∙ ap (λ b. chain true b o n) within ∙ ap (λ b. chain true true b n) idle)
 
   pub of_spent : w ≡ true → o ≡ true → n ≡ false → Some NoNumbers ≡ chain a w o n
-  of_spent within open spent = sym (ap (λ b. chain b w o n) app ∙ ap (λ b. chain true b o n) within ∙ ap (λ b. chain true true b n) open ∙ ap (λ b. chain true true true b) spent)
+  of_spent within active spent = sym (ap (λ b. chain b w o n) app ∙ ap (λ b. chain true b o n) within ∙ ap (λ b. chain true true b n) active ∙ ap (λ b. chain true true true b) spent)
 
   pub of_none : w ≡ true → o ≡ true → n ≡ true → None ≡ chain a w o n
-  of_none within open left = sym (ap (λ b. chain b w o n) app ∙ ap (λ b. chain true b o n) within ∙ ap (λ b. chain true true b n) open ∙ ap (λ b. chain true true true b) left)
+  of_none within active left = sym (ap (λ b. chain b w o n) app ∙ ap (λ b. chain true b o n) within ∙ ap (λ b. chain true true b n) active ∙ ap (λ b. chain true true true b) left)
 
 -- Reasons behind the first ones. --
 

@@ -20,7 +20,7 @@ abbrev pub or_else : Bool → Refusal → Option Refusal → Option Refusal
 or_else test why others = cond {A = Option Refusal} test (Some why) others
 
 abbrev pub chain : Bool → Bool → Bool → Option Refusal → Option Refusal
-chain is_app within open others = or_else (not is_app) NoApplication (or_else (not within) TooLong (or_else (not open) NotActive others))
+chain is_app within active others = or_else (not is_app) NoApplication (or_else (not within) TooLong (or_else (not active) NotActive others))
 
 -- whether there is such an application
 abbrev pub app_cause : Bool → Option Refusal
@@ -76,7 +76,7 @@ module _ (a w o : Bool) (others : Option Refusal) (app : a ≡ true) where
   of_idle within idle = sym (ap (λ b. chain b w o others) app ∙ ap (λ b. chain true b o others) within ∙ ap (λ b. chain true true b others) idle)
 
   pub of_rest : w ≡ true → o ≡ true → others ≡ chain a w o others
-  of_rest within open = sym (ap (λ b. chain b w o others) app ∙ ap (λ b. chain true b o others) within ∙ ap (λ b. chain true true b others) open)
+  of_rest within active = sym (ap (λ b. chain b w o others) app ∙ ap (λ b. chain true b o others) within ∙ ap (λ b. chain true true b others) active)
 
 -- a reason that comes first comes before another
 pub before_more : (a w o : Bool) (e : Refusal) (more : Option Refusal) → Some e ≡ chain a w o None → Some e ≡ chain a w o more
