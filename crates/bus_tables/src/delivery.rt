@@ -53,6 +53,9 @@ pub(crate) fn along<L: Ledger>(
     ensures cost { steps.new ≤ steps.old + 2 * length (route (map sub_in subs.old.live) id) + 2 }
 {
     misses.clear();
+    // No write to a pipe can change this copy, so it isn't read again for each.
+    let copy = *message;
+    let message = &copy;
     // Do nothing; the proof learns of them that no two subscriptions have one number, and that no
     // route has more destinations than may be.
     subs.recall_order();
