@@ -128,7 +128,7 @@ fn offer(
             0
         }
         Verdict::In => {
-            subs.queued(sub);
+            subs.queued_live(sub);
             1
         }
         Verdict::Oldest => {
@@ -136,7 +136,7 @@ fn offer(
             count_down(subs, offered.dropped);
             // Does nothing, as above.
             subs.recall_order();
-            subs.queued(sub);
+            subs.queued_live(sub);
             misses.push_drop(row.pipe, item_row(offered.dropped));
             1
         }
