@@ -342,7 +342,7 @@ impl Pool {
     {
         match self.free.pop(class, steps) {
             Some(block) => {
-                self.blocks[block as usize] = CutBlock { class, out: true };
+                self.blocks[block as usize].out = true;
                 self.in_use += self.sizes.at(class);
                 self.out += 1;
                 self.requests = self.requests.saturating_add(1);
@@ -381,7 +381,7 @@ impl Pool {
         ensures cost { steps.new ≤ steps.old + 4 }
     {
         let class = self.blocks[block as usize].class;
-        self.blocks[block as usize] = CutBlock { class, out: false };
+        self.blocks[block as usize].out = false;
         self.in_use -= self.sizes.at(class);
         self.out -= 1;
         self.free.push(class, block, steps);
