@@ -2,13 +2,13 @@
 ghost use Rattle.std.specs.Prelude.{◌≡◌, ℕ, ◌+◌, ◌-◌, ◌<◌, ◌≤◌, ◌↔◌, true, false, length, take, replicate, IsTrue, IsOk, IfOk, IfErr, OnErr};
 ghost use Rattle.es_pool.specs.Pool.{fits, is_out, size_at};
 ghost use Rattle.buf_desc.specs.Slots.{slot_at, sealed_at, is_sealed, is_live, number_in, asked_in};
-ghost use Rattle.buf_desc.specs.Desk.{Buffers, Takes, IsOf, uncut, sealed, freed, resealed, after_drop, after_settle};
+ghost use Rattle.buf_desc.specs.Desk.{Buffers, Takes, IsOf, uncut, sealed, freed, resealed, after_drop, after_use, after_settle};
 
 use crate::block::Block;
 use crate::sent::Sent;
 use crate::slot::{
-    Slot, Space, asked_at, count_use, count_uses, discount_use, number_at, put_free, put_sealed,
-    reopen, return_view, take_free, uses_at, view_of,
+    Slot, Space, asked_at, count_use, count_uses, discount_use, let_use_go, number_at, put_free,
+    put_sealed, reopen, return_view, take_free, uses_at, view_of,
 };
 use es_pool::Pool;
 use fsw_base::{BlockSizes, EsStatus};
@@ -210,6 +210,24 @@ impl<'r> Desk<'r> {
         }
         reopen(&mut self.slots, desc);
         self.pool.put(desc, steps).unwrap();
+    }
+
+    /// Takes back the view that a use of a sealed block had, and counts that use no more. Where it
+    /// was the last one, and so no other view is out, the block goes back to the pool. At most 8
+    /// steps.
+    pub fn let_use_go<L: Ledger>(&mut self, desc: u32, view: View<'r>, steps: &mut Steps<L>)
+        requires sealed { is_sealed (slot_at self.old.slots desc) ≡ true }
+        requires of_this_loan { view.loan ≡ (sealed_at self.old.slots desc).loan }
+        requires some { 1 ≤ (sealed_at self.old.slots desc).uses }
+        requires all_back { (sealed_at self.old.slots desc).uses ≡ 1 →
+            (sealed_at self.old.slots desc).views ≤ 1 }
+        ensures after { self.new ≡ after_use self.old desc }
+        ensures cost { steps.new ≤ steps.old + 8 }
+    {
+        if let_use_go(&mut self.slots, desc, view) {
+            reopen(&mut self.slots, desc);
+            self.pool.put(desc, steps).unwrap();
+        }
     }
 
     /// Gives a sealed block without uses, of which no view is out, back to the pool. No effect

@@ -161,8 +161,7 @@ fn hand_back<'r, L: Ledger>(
     ensures desk { desk.new ≡ let_go desk.old (Some item) }
     ensures cost { steps.new ≤ steps.old + 8 }
 {
-    desk.give_back(item.desc, view);
-    desk.drop_use(item.desc, steps);
+    desk.let_use_go(item.desc, view, steps);
 }
 
 // Takes the view of a pipe's last message out of the bag, and hands it back. At most 8 steps.
