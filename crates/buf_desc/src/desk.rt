@@ -246,6 +246,26 @@ impl<'r> Desk<'r> {
         self.pool.put(desc, steps).unwrap();
     }
 
+    /// Counts so many uses of a sealed block that has none, and of which no view is out. Where
+    /// there are none to count, it goes back to the pool. At most 8 steps.
+    pub fn settle_at<L: Ledger>(&mut self, desc: u32, uses: u32, steps: &mut Steps<L>)
+        requires sealed { is_sealed (slot_at self.old.slots desc) ≡ true }
+        requires no_use { (sealed_at self.old.slots desc).uses ≡ 0 }
+        requires no_view { (sealed_at self.old.slots desc).views ≡ 0 }
+        ensures after { self.new ≡
+            after_settle
+            (resealed self.old desc (record (sealed_at self.old.slots desc) { uses = uses }))
+            desc }
+        ensures cost { steps.new ≤ steps.old + 8 }
+    {
+        if uses > 0 {
+            count_uses(&mut self.slots, desc, uses);
+            return;
+        }
+        reopen(&mut self.slots, desc);
+        self.pool.put(desc, steps).unwrap();
+    }
+
     /// How many uses a sealed block has.
     pub fn uses(&self, desc: u32) -> u32
         requires { is_sealed (slot_at self.now.slots desc) ≡ true }

@@ -131,8 +131,7 @@ pub(crate) fn settle_message<L: Ledger>(
         (resealed desk.old desc (record (sealed_at desk.old.slots desc) { uses = reached })) desc }
     ensures cost { steps.new ≤ steps.old + 8 }
 {
-    desk.add_uses(desc, reached);
-    desk.settle(desc, steps);
+    desk.settle_at(desc, reached, steps);
 }
 
 /// Lets messages go that pipes dropped: drops a use of the block of each. At most 8 steps for each.
