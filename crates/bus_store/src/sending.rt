@@ -4,7 +4,7 @@ ghost use Rattle.ccsds_msg.specs.Message.{message_id};
 ghost use Rattle.fsw_base.specs.PoolAccounts.{has_room, after_request};
 ghost use Rattle.bus_words.specs.Bus.{route, deliver, reached, drops};
 ghost use Rattle.bus_tables.specs.Missed.{missed};
-ghost use Rattle.bus_tables.specs.Rows.{has_way};
+ghost use Rattle.bus_tables.specs.Rows.{has_way, way_id};
 ghost use Rattle.bus_words.specs.Acts.{next_in};
 ghost use Rattle.buf_desc.specs.Held.{Holding};
 ghost use Rattle.lend_block.specs.Loan.{LentBytes};
@@ -28,17 +28,20 @@ pub struct Sent {
 }
 
 /// The id's next count, which then counts as given, where the send asks for it.
-pub(crate) fn next_count(tables: &mut BusTables, id: u16, inc: bool) -> Option<u16>
-    requires { has_way tables.old.routes id ≡ true }
+pub(crate) fn next_count(tables: &mut BusTables, way: u32, inc: bool) -> Option<u16>
+    requires { way < length tables.old.routes }
     ensures count { result ≡
-        (if inc then Some (next_in (map (next_of tables.old.room.starts) tables.old.routes) id)
+        (if inc then Some (next_in (map (next_of tables.old.room.starts) tables.old.routes)
+        (way_id tables.old.routes way))
         else None) }
     ensures few { IfSome result (λ n. n < 16384) }
     ensures after { tables.new ≡
-        record tables.old { routes = counted_up tables.old.routes id inc } }
+        record tables.old {
+          routes = counted_up tables.old.routes (way_id tables.old.routes way) inc;
+        } }
 {
     if inc {
-        return Some(tables.next_count(id));
+        return Some(tables.next_count(way));
     }
     None
 }
@@ -111,7 +114,8 @@ impl<'r> BusStore<'r> {
         self.tables.recall_order();
         self.desk.recall_live();
         let id = id_of(bytes);
-        let count = next_count(&mut self.tables, id, inc);
+        let way = self.tables.route_of(id).unwrap();
+        let count = next_count(&mut self.tables, way, inc);
         let number = self.given + 1;
         let desc = put_message(&mut self.desk, bytes, count, number, steps);
         self.desk.recall_live();
@@ -120,7 +124,7 @@ impl<'r> BusStore<'r> {
             number,
             desc,
         };
-        let reached = self.tables.deliver(id, &message, &mut self.misses, steps);
+        let reached = self.tables.deliver(way, &message, &mut self.misses, steps);
         settle_message(&mut self.desk, desc, reached, steps);
         self.desk.recall_live();
         drop_uses(&mut self.desk, self.misses.dropped_messages(), steps);

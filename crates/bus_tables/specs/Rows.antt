@@ -1,6 +1,6 @@
 -- The pipes, subscriptions and routes of a software bus as lists, and what becomes of a message on
 -- its way to the pipes.
-use Rattle.std.specs.Prelude.{ℕ, ◌+◌, ◌%◌, ◌==◌, Bool, List, [], ◌∷◌, ◌++◌, map, find, Option, None, if◌then◌else◌}
+use Rattle.std.specs.Prelude.{ℕ, ◌+◌, ◌%◌, ◌==◌, Bool, List, [], ◌∷◌, ◌++◌, slice_get, map, find, Option, None, if◌then◌else◌}
 use Rattle.std.specs.List.{list_any}
 use Rattle.std.specs.Option.{option_map_or}
 use Rattle.bus_words.specs.Pipes.{PipeOf, Subscription, Offer, is_queued, owns, last_on}
@@ -88,6 +88,10 @@ pub record RouteRow : Type 0 where
 -- the ids that have a route
 abbrev pub ids_of : List RouteRow → List ℕ
 ids_of routes = map (λ route. route.id) routes
+
+-- the id of the route in this place, or 0, which is no id
+abbrev pub way_id : List RouteRow → ℕ → ℕ
+way_id routes place = option_map_or (λ route. route.id) (slice_get routes place) 0
 
 -- whether the id has a route
 abbrev pub has_way : List RouteRow → ℕ → Bool

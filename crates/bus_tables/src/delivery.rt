@@ -2,6 +2,7 @@
 ghost use Rattle.std.specs.Prelude.{◌≡◌, ◌+◌, ◌*◌, ◌<◌, ◌≤◌, ◌^◌, ◌++◌, length, map, IsSome};
 ghost use Rattle.std.specs.Option.{ForSome};
 ghost use Rattle.bus_words.specs.Bus.{route};
+ghost use Rattle.routing.specs.Routing.{route_at};
 ghost use Rattle.subscriptions.specs.Subs.{live_at};
 ghost use Rattle.bus_words.specs.Pipes.{with_pipe};
 ghost use Rattle.bus_tables.specs.Rows.{offered_row, row_takes, deliver_rows, reached_rows, row_misses, missed_rows, row_drops, dropped_rows};
@@ -23,34 +24,35 @@ pub(crate) fn along<L: Ledger>(
     pipes: &mut PipeTable,
     subs: &mut Subs,
     routes: &Routes,
-    id: u16,
+    way: u32,
     message: &Message,
     misses: &mut Misses,
     steps: &mut Steps<L>,
 ) -> u32
+    requires way { way < length routes.now.routes }
     requires room { routes.now.dests ≤ misses.old.room }
     requires few { length subs.old.live < 2 ^ 32 }
     requires queued { AreQueued pipes.old.live subs.old }
     requires placed { ArePlaced pipes.old.places subs.old }
     requires routed { AreRouted subs.old routes.now }
     ensures rows { map row_in pipes.new.live ≡
-        deliver_rows message.now (route (map sub_in subs.old.live) id)
+        deliver_rows message.now (route (map sub_in subs.old.live) (route_at routes.now way).id)
         (map row_in pipes.old.live) }
     ensures reached { result ≡
-        reached_rows message.now (route (map sub_in subs.old.live) id)
+        reached_rows message.now (route (map sub_in subs.old.live) (route_at routes.now way).id)
         (map row_in pipes.old.live) }
     ensures missed { misses.new ≡
         record
         misses.old {
-          items = missed_rows message.now (route (map sub_in subs.old.live) id)
+          items = missed_rows message.now (route (map sub_in subs.old.live) (route_at routes.now way).id)
               (map row_in pipes.old.live);
-          dropped = dropped_rows message.now (route (map sub_in subs.old.live) id)
+          dropped = dropped_rows message.now (route (map sub_in subs.old.live) (route_at routes.now way).id)
               (map row_in pipes.old.live);
         } }
     ensures frame { frame pipes.new ≡ frame pipes.old }
     ensures subs { still subs.new ≡ still subs.old }
     ensures queued { AreQueued pipes.new.live subs.new }
-    ensures cost { steps.new ≤ steps.old + 2 * length (route (map sub_in subs.old.live) id) + 2 }
+    ensures cost { steps.new ≤ steps.old + 2 * length (route (map sub_in subs.old.live) (route_at routes.now way).id) + 2 }
 {
     misses.clear();
     // No write to a pipe can change this copy, so it isn't read again for each.
@@ -60,12 +62,9 @@ pub(crate) fn along<L: Ledger>(
     // route has more destinations than may be.
     subs.recall_order();
     routes.recall_routes();
-    let Some(route) = routes.route_of(id) else {
-        return 0;
-    };
-    let mut at = routes.first(route, steps);
+    let mut at = routes.first(way, steps);
     let mut reached = 0;
-    for _ in 0..routes.dests_of(route) {
+    for _ in 0..routes.dests_of(way) {
         let Some((node, sub)) = at else {
             return reached;
         };

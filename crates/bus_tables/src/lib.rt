@@ -22,7 +22,8 @@
 //! {
 //!     let pipe = tables.create_pipe(name, message.sender, 4);
 //!     tables.subscribe(0x0801, pipe, 4, Scope::Global, steps);
-//!     tables.deliver(0x0801, message, misses, steps);
+//!     let route = tables.route_of(0x0801).unwrap();
+//!     tables.deliver(route, message, misses, steps);
 //!     tables.oldest(pipe)
 //! }
 //! ```

@@ -1,5 +1,5 @@
 //! The tables.
-ghost use Rattle.std.specs.Prelude.{◌≡◌, ℕ, ◌==◌, ◌&&◌, ◌+◌, ◌*◌, ◌%◌, ◌<◌, ◌≤◌, ◌^◌, ◌++◌, ◌∷◌, [], not, length, map, filter, find, count_by, true, false, None, IfOk, IsTrue};
+ghost use Rattle.std.specs.Prelude.{◌≡◌, ℕ, ◌==◌, ◌&&◌, ◌+◌, ◌*◌, ◌%◌, ◌<◌, ◌≤◌, ◌^◌, ◌++◌, ◌∷◌, [], not, length, map, filter, find, count_by, true, false, None, IfOk, IfSome, is_some, IsTrue};
 ghost use Rattle.std.specs.List.{list_any};
 ghost use Rattle.std.specs.Option.{option_map};
 ghost use Rattle.std.specs.Str.{bytes_eq};
@@ -7,7 +7,7 @@ ghost use Rattle.fsw_base.specs.Limits.{limits_of};
 ghost use Rattle.fsw_base.specs.Starts.{start_of};
 ghost use Rattle.bus_words.specs.Bus.{route, is_subscribed};
 ghost use Rattle.bus_words.specs.Pipes.{pipe_at, owns, oldest_on, last_on, with_pipe, after_receive, without_front, without_last, with_bits, new_pipe, IsRising, without_pipe, is_live, pipe_named, first_owned};
-ghost use Rattle.bus_tables.specs.Rows.{last_row_item, deliver_rows, reached_rows, missed_rows, dropped_rows, has_way, counted_in, counted_on, with_route};
+ghost use Rattle.bus_tables.specs.Rows.{last_row_item, deliver_rows, reached_rows, missed_rows, dropped_rows, has_way, way_id, counted_in, counted_on, with_route};
 ghost use Rattle.bus_tables.specs.Tables.{opened};
 
 use crate::delivery::along;
@@ -167,6 +167,16 @@ impl BusTables {
         ensures { result ≡ has_way self.now.routes id }
     {
         self.routes.route_of(id).is_some()
+    }
+
+    /// The place of the id's route; None if and only if the id has none. By the code, takes a
+    /// constant time.
+    pub fn route_of(&self, id: u16) -> Option<u32>
+        ensures within { IfSome result (λ place. place < length self.now.routes) }
+        ensures found { IfSome result (λ place. way_id self.now.routes place ≡ id) }
+        ensures way { is_some result ≡ has_way self.now.routes id }
+    {
+        self.routes.route_of(id)
     }
 
     /// How many subscriptions are live. By the code, takes a constant time.
@@ -360,20 +370,23 @@ impl BusTables {
         }
     }
 
-    /// The next sequence count of an id that has a route: its start, one for each count that it has
+    /// The next sequence count of the id of the route in this place: its start, one for each count that it has
     /// given, and one more, modulo 16384 (CCSDS 133.0-B, 4.1.3.4.3). It counts as given. By
     /// the code, takes a constant time.
-    pub fn next_count(&mut self, id: u16) -> u16
-        requires { has_way self.old.routes id ≡ true }
+    pub fn next_count(&mut self, way: u32) -> u16
+        requires { way < length self.old.routes }
         ensures count { result ≡
-            (start_of self.old.room.starts id + counted_in self.old.routes id + 1) % 16384 }
-        ensures after { self.new ≡ record self.old { routes = counted_on self.old.routes id } }
+            (start_of self.old.room.starts (way_id self.old.routes way)
+            + counted_in self.old.routes (way_id self.old.routes way) + 1) % 16384 }
+        ensures after { self.new ≡
+            record self.old {
+              routes = counted_on self.old.routes (way_id self.old.routes way);
+            } }
     {
-        let route = self.routes.route_of(id).unwrap();
-        self.routes.next_count(route)
+        self.routes.next_count(way)
     }
 
-    /// Offers the message to the subscriptions of its id, in order. Answers how many pipes took it,
+    /// Offers the message to the subscriptions of the id of the route in this place, in order. Answers how many pipes took it,
     /// and leaves in `misses` those that missed it, or dropped their oldest message for it, with
     /// the cause of each, and the messages that were dropped. A pipe takes it if it doesn't ignore
     /// the sender, fewer messages of the subscription wait than its limit says, and either fewer
@@ -381,35 +394,36 @@ impl BusTables {
     /// id's subscriptions alone: at most 2 steps for each, and 2 more.
     pub fn deliver<L: Ledger>(
         &mut self,
-        id: u16,
+        way: u32,
         message: &Message,
         misses: &mut Misses,
         steps: &mut Steps<L>,
     ) -> u32
+        requires way { way < length self.old.routes }
         requires room { self.old.room.dests ≤ misses.old.room }
         requires few { length self.old.subscriptions < 2 ^ 32 }
         ensures after { self.new ≡
             record
             self.old {
-              pipes = deliver_rows message.now (route self.old.subscriptions id)
+              pipes = deliver_rows message.now (route self.old.subscriptions (way_id self.old.routes way))
                   self.old.pipes;
             } }
         ensures reached { result ≡
-            reached_rows message.now (route self.old.subscriptions id) self.old.pipes }
+            reached_rows message.now (route self.old.subscriptions (way_id self.old.routes way)) self.old.pipes }
         ensures missed { misses.new ≡
             record
             misses.old {
-              items = missed_rows message.now (route self.old.subscriptions id) self.old.pipes;
-              dropped = dropped_rows message.now (route self.old.subscriptions id)
+              items = missed_rows message.now (route self.old.subscriptions (way_id self.old.routes way)) self.old.pipes;
+              dropped = dropped_rows message.now (route self.old.subscriptions (way_id self.old.routes way))
                   self.old.pipes;
             } }
-        ensures cost { steps.new ≤ steps.old + 2 * length (route self.old.subscriptions id) + 2 }
+        ensures cost { steps.new ≤ steps.old + 2 * length (route self.old.subscriptions (way_id self.old.routes way)) + 2 }
     {
         along(
             &mut self.pipes,
             &mut self.subs,
             &self.routes,
-            id,
+            way,
             message,
             misses,
             steps,
