@@ -1,6 +1,6 @@
 //! Receives.
-ghost use Rattle.std.specs.Prelude.{◌≡◌, ◌≢◌, ℕ, ◌+◌, ◌≤◌, true, length, None};
-ghost use Rattle.std.specs.Option.{option_map};
+ghost use Rattle.std.specs.Prelude.{◌≡◌, ◌≢◌, ℕ, ◌+◌, ◌≤◌, true, false, length, None, Ok, Err};
+ghost use Rattle.std.specs.Option.{option_map, option_map_or};
 ghost use Rattle.bus_words.specs.Bus.{owns, with_pipe, after_receive};
 ghost use Rattle.buf_desc.specs.Held.{Holding};
 ghost use Rattle.lend_block.specs.Loan.{LentBytes};
@@ -12,7 +12,7 @@ ghost use Rattle.bus_store.specs.Words.{loan_of, with_held};
 use crate::blocks::{show, show_next};
 use crate::store::BusStore;
 use buf_desc::Held;
-use fsw_base::AppNo;
+use fsw_base::{AppNo, SbStatus};
 use step_count::{Ledger, Steps};
 
 impl<'r> BusStore<'r> {
@@ -57,6 +57,61 @@ impl<'r> BusStore<'r> {
         let number = show_next(&mut self.desk, held, pipe, items.before, items.after, steps);
         self.desk.recall_live();
         number
+    }
+
+    /// Does the same for a pipe that may be no live one of the application's. The number is looked
+    /// up once. At most 8 steps.
+    ///
+    /// # Errors
+    /// `BadArgument` if and only if the application has no such pipe, and then nothing changes;
+    /// `NoMessage` if and only if it has, and no message waits there.
+    pub fn try_receive<L: Ledger>(
+        &mut self,
+        app: AppNo,
+        pipe: u32,
+        held: &mut Held<'r>,
+        steps: &mut Steps<L>,
+    ) -> Result<u64, SbStatus>
+        requires bag { HoldsViews self.old.pipes self.old.loans self.old.room.pipes app held.old }
+        ensures unowned { owns self.old.pipes app pipe ≡ false →
+            result ≡ Err SbStatus.BadArgument }
+        ensures still { owns self.old.pipes app pipe ≡ false → self.new ≡ self.old }
+        ensures bag_still { owns self.old.pipes app pipe ≡ false → held.new ≡ held.old }
+        ensures number { owns self.old.pipes app pipe ≡ true →
+            result ≡
+            option_map_or (λ item. Ok item.number) (oldest_on self.old.pipes pipe)
+            (Err SbStatus.NoMessage) }
+        ensures after { owns self.old.pipes app pipe ≡ true → self.new ≡ record self.old {
+          pipes = with_pipe after_receive pipe self.old.pipes;
+          account = with_held self.old.account self.new.pipes self.old.unsent
+              self.old.numbers_given;
+          loans = self.new.loans;
+        } }
+        ensures loans { (other : ℕ) → pipe ≢ other →
+            loan_of self.new.loans other ≡ loan_of self.old.loans other }
+        ensures bag { HoldsViews self.new.pipes self.new.loans self.new.room.pipes app held.new }
+        ensures other_bags { (other : ℕ) (bag : Holding LentBytes) → other ≢ app →
+            HoldsViews self.old.pipes self.old.loans self.old.room.pipes other bag →
+            HoldsViews self.new.pipes self.new.loans self.new.room.pipes other bag }
+        ensures buffers { held.new ≡ record held.old { views = held.new.views } }
+        ensures held { length (numbers_held self.new.pipes self.new.unsent self.new.numbers_given) ≤
+            length (numbers_held self.old.pipes self.old.unsent self.old.numbers_given) }
+        ensures less { bytes_in_use self.new.account ≤ bytes_in_use self.old.account }
+        ensures cost { steps.new ≤ steps.old + 8 }
+    {
+        // Do nothing; the proof learns of them that the pipes stand in order, and, here and below,
+        // which blocks are out.
+        self.tables.recall_order();
+        self.desk.recall_live();
+        let Some(items) = self.tables.take_owned(app, pipe) else {
+            return Err(SbStatus::BadArgument);
+        };
+        let number = show_next(&mut self.desk, held, pipe, items.before, items.after, steps);
+        self.desk.recall_live();
+        match number {
+            Some(number) => Ok(number),
+            None => Err(SbStatus::NoMessage),
+        }
     }
 
     /// Takes the message that waits longest on the application's pipe, which has no last message,

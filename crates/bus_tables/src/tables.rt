@@ -281,6 +281,24 @@ impl BusTables {
         }
     }
 
+    /// Does the same for a live pipe of the application; None if and only if it has none of this
+    /// number, and then nothing changes. By the code, the number is looked up once.
+    pub fn take_owned(&mut self, app: AppNo, number: u32) -> Option<LastItems>
+        ensures owned { is_some result ≡ owns self.old.pipes app number }
+        ensures before { IfSome result (λ items. items.before ≡ last_on self.old.pipes number) }
+        ensures oldest { IfSome result (λ items. items.after ≡ oldest_on self.old.pipes number) }
+        ensures rows { IfSome result (λ items. self.new ≡
+            record self.old { pipes = with_pipe after_receive number self.old.pipes }) }
+        ensures same { result ≡ None → self.new ≡ self.old }
+    {
+        let (before, oldest) = self.pipes.take_owned(app, number)?;
+        count_down(&mut self.subs, oldest);
+        Some(LastItems {
+            before: item_row(before),
+            after: item_row(oldest),
+        })
+    }
+
     /// Takes what waits longest out of the live pipe of this number, for whoever empties it; None
     /// if and only if nothing waits there. By the code, the number is looked up by halves.
     pub fn take_front(&mut self, number: u32) -> Option<ItemRow>

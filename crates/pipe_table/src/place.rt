@@ -127,6 +127,17 @@ impl Place {
         }
     }
 
+    /// Whether the pipe, which there is, has this owner.
+    pub(crate) fn has_owner(&self, app: AppNo) -> bool
+        requires { IsSome self.now.pipe }
+        ensures { result ≡ option_map_or (λ pipe. pipe.owner == app) self.now.pipe false }
+    {
+        match &self.label {
+            Some(label) => label.owner == app,
+            None => unreachable!(),
+        }
+    }
+
     /// The pipe's option bits.
     pub(crate) fn bits(&self) -> Option<u8>
         ensures { result ≡ option_map (λ pipe. pipe.bits) self.now.pipe }

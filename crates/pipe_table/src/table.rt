@@ -1,5 +1,5 @@
 //! The table.
-ghost use Rattle.std.specs.Prelude.{◌≡◌, ℕ, ◌==◌, ◌+◌, ◌<◌, ◌≤◌, ◌^◌, ◌↔◌, ◌++◌, ◌∷◌, [], length, map, replicate, true, false, All, IfOk, IsErr, IsSome, IfSome, IsTrue, slice_index, slice_index_or, None, Some, vec_len, vec_capacity};
+ghost use Rattle.std.specs.Prelude.{◌≡◌, ℕ, ◌==◌, ◌+◌, ◌<◌, ◌≤◌, ◌^◌, ◌↔◌, ◌++◌, ◌∷◌, [], length, map, replicate, true, false, All, IfOk, IsErr, IsSome, IfSome, is_some, IsTrue, slice_index, slice_index_or, None, Some, vec_len, vec_capacity};
 ghost use Rattle.std.specs.List.{list_any, range_with_len};
 ghost use Rattle.std.specs.Option.{option_map, option_map_or, option_and_then, option_to_list};
 ghost use Rattle.bus_words.specs.Pipes.{pipe_at, is_live, owns, pipe_named, first_owned, oldest_on, last_on, IsRising, with_pipe, without_pipe, new_pipe, with_bits, after_receive, without_front, without_last, verdict_over, dropped_at, offered_over};
@@ -248,6 +248,23 @@ impl PipeTable {
             Some(at) => self.places[at as usize].take(),
             None => (None, None),
         }
+    }
+
+    /// Does the same for a live pipe of the application; None if and only if it has none of this
+    /// number, and then nothing changes. By the code, the number is looked up once.
+    pub fn take_owned(&mut self, app: AppNo, number: u32) -> Option<(Option<Item>, Option<Item>)>
+        ensures owned { is_some result ≡ owns self.old.live app number }
+        ensures last { IfSome result (λ items. items.0 ≡ last_on self.old.live number) }
+        ensures oldest { IfSome result (λ items. items.1 ≡ oldest_on self.old.live number) }
+        ensures after { IfSome result (λ items. self.new ≡
+            record self.old { live = with_pipe after_receive number self.old.live }) }
+        ensures same { result ≡ None → self.new ≡ self.old }
+    {
+        let at = at_number(&self.live, &self.at, number)?;
+        if !self.places[at as usize].has_owner(app) {
+            return None;
+        }
+        Some(self.places[at as usize].take())
     }
 
     /// Takes what waits longest out of the live pipe of this number.

@@ -232,22 +232,18 @@ impl<'r> PlainBus<'r> {
         ensures buffers { held.new ≡ record held.old { views = held.new.views } }
         ensures cost { steps.new ≤ steps.old + 32 }
     {
-        if !self.store.owns(app, pipe) {
-            self.refuse(CounterName::Recv);
-            return Err(SbStatus::BadArgument);
-        }
         // Do nothing; the proof learns of them that no two applications have one pipe, that each
         // message has a number that was given, and, here and below, which blocks are out.
         self.store.recall_order();
         self.store.recall_sends();
         self.store.recall_held();
-        let received = self.store.receive(app, pipe, held, steps);
+        let received = self.store.try_receive(app, pipe, held, steps);
         // No more is in use than before, so no peak is looked at.
         self.store.recall_held();
-        let Some(number) = received else {
-            return Err(SbStatus::NoMessage);
-        };
-        Ok(number)
+        if let Err(SbStatus::BadArgument) = received {
+            self.refuse(CounterName::Recv);
+        }
+        received
     }
 
     /// The caller's last call: its pipes leave with their subscriptions and messages, whose views
