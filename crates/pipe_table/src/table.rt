@@ -314,7 +314,8 @@ impl PipeTable {
 }
 
 // Where a number stands among those of the live pipes. It is looked for at the place where it
-// stands while no pipe was deleted, and by halves where it isn't there.
+// stands while no pipe was deleted, and by halves where it isn't there. For 0, which no pipe has,
+// that place is past the end.
 fn index_of(live: &Vec<u32>, number: u32) -> Option<usize>
     requires { AreRising 0 live.now.items }
     ensures some { IfSome result
@@ -322,7 +323,7 @@ fn index_of(live: &Vec<u32>, number: u32) -> Option<usize>
     ensures none { result ≡ None → (k : ℕ) → k < length live.now.items →
         slice_index live.now.items k ≡ number → ⊥ }
 {
-    let likely = (number as usize).saturating_sub(1);
+    let likely = (number as usize).wrapping_sub(1);
     if likely < live.len() && live[likely] == number {
         return Some(likely);
     }
