@@ -64,10 +64,7 @@ pub(crate) fn along<L: Ledger>(
     routes.recall_routes();
     let mut at = routes.first(way, steps);
     let mut reached = 0;
-    for _ in 0..routes.dests_of(way) {
-        let Some((node, sub)) = at else {
-            return reached;
-        };
+    while let Some((node, sub)) = at {
         reached += offer(pipes, subs, sub, message, misses);
         at = routes.next(node, steps);
     }
