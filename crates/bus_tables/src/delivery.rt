@@ -116,11 +116,12 @@ fn offer(
         sub,
     };
     let is_over = row.verdict() == subscriptions::Verdict::OverLimit;
+    // The pipe's number is read again where it is missed, and so isn't kept for one that takes it.
     let offered = pipes.offer(pipe, message.sender, is_over, item);
     match offered.verdict {
         Verdict::Skip => 0,
         Verdict::OverLimit => {
-            misses.push(row.pipe, MissCause::OverLimit);
+            misses.push(subs.at(sub).pipe, MissCause::OverLimit);
             0
         }
         Verdict::In => {
@@ -129,15 +130,15 @@ fn offer(
         }
         Verdict::Oldest => {
             prove!(row.waiting < u32::MAX);
+            misses.push_drop(subs.at(sub).pipe, item_row(offered.dropped));
             count_down(subs, offered.dropped);
             // Does nothing, as above.
             subs.recall_order();
             subs.queued_live(sub);
-            misses.push_drop(row.pipe, item_row(offered.dropped));
             1
         }
         Verdict::Full => {
-            misses.push(row.pipe, MissCause::Full);
+            misses.push(subs.at(sub).pipe, MissCause::Full);
             0
         }
     }
