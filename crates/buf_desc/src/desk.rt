@@ -1,14 +1,17 @@
 //! The desk: which block is where, and when it goes back to the pool.
-ghost use Rattle.std.specs.Prelude.{◌≡◌, ℕ, ◌+◌, ◌-◌, ◌<◌, ◌≤◌, ◌↔◌, true, false, length, take, replicate, IsTrue, IsOk, IfOk, IfErr, OnErr};
-ghost use Rattle.es_pool.specs.Pool.{fits, is_out, size_at};
-ghost use Rattle.buf_desc.specs.Slots.{slot_at, sealed_at, is_sealed, is_live, number_in, asked_in};
-ghost use Rattle.buf_desc.specs.Desk.{Buffers, Takes, IsOf, uncut, sealed, freed, resealed, after_drop, after_use, after_settle};
+ghost use Rattle.std.specs.Prelude.{◌≡◌, ℕ, ◌+◌, ◌-◌, ◌<◌, ◌≤◌, ◌↔◌, true, false, length, take, replicate, IsTrue, IsOk, IfOk, IfErr, IfSome, OnErr, vec_capacity};
+ghost use Rattle.std.specs.Option.{option_map_or};
+ghost use Rattle.ccsds_msg.specs.Message.{with_count};
+ghost use Rattle.buf_desc.specs.declared.slot.Slot.TheVariants.{Sealed};
+ghost use Rattle.es_pool.specs.Pool.{fits, is_out, size_at, DrawsFor};
+ghost use Rattle.buf_desc.specs.Slots.{slot_at, sealed_at, is_sealed, is_live, is_free, free_size, number_in, asked_in};
+ghost use Rattle.buf_desc.specs.Desk.{Buffers, Takes, IsOf, uncut, placed, sealed, freed, resealed, after_drop, after_use, after_settle};
 
-use crate::block::Block;
+use crate::block::{Block, with_its_count};
 use crate::sent::Sent;
 use crate::slot::{
-    Slot, Space, asked_at, count_use, count_uses, discount_use, let_use_go, number_at, put_free,
-    put_sealed, reopen, return_view, take_free, uses_at, view_of,
+    Slot, Space, asked_at, count_use, count_uses, discount_use, let_use_go, lift_free, number_at,
+    place_sealed, put_free, put_sealed, reopen, return_view, take_free, uses_at, view_of,
 };
 use es_pool::Pool;
 use fsw_base::{BlockSizes, EsStatus};
@@ -43,6 +46,30 @@ impl<'r> Model for Desk<'r> {
     ghost view = { λ d. record { pool = d.pool; slots = d.slots.items } };
 
     ghost invariant = { λ d. IsKept d.pool d.slots.items d.rest (vec_capacity d.slots) };
+}
+
+// Takes the memory of a block that was drawn: of a free one, or from the rest.
+fn memory_of<'r>(
+    pool: &Pool,
+    slots: &mut Vec<Slot<'r>>,
+    rest: &mut Space<'r>,
+    desc: u32,
+) -> &'r mut [u8]
+    requires cut { desc < length pool.now.blocks }
+    requires next { desc ≤ length slots.old.items }
+    requires free { desc < length slots.old.items → is_free (slot_at slots.old.items desc) ≡ true }
+    requires rest { desc ≡ length slots.old.items → size_at pool.now desc ≤ rest.old }
+    ensures size { desc ≡ length slots.old.items → length result.now ≡ size_at pool.now desc }
+    ensures free_size { desc < length slots.old.items →
+        length result.now ≡ free_size (slot_at slots.old.items desc) }
+    ensures same { length slots.new.items ≡ length slots.old.items }
+    ensures capacity { vec_capacity slots.new ≡ vec_capacity slots.old }
+{
+    if (desc as usize) < slots.len() {
+        return lift_free(slots, desc);
+    }
+    let whole = pool.size_of(desc);
+    rest.cut(whole as usize)
 }
 
 impl<'r> Desk<'r> {
@@ -122,6 +149,46 @@ impl<'r> Desk<'r> {
             Ok(block) => Ok(block.with_copy_of(bytes)),
             Err(status) => Err(status),
         }
+    }
+
+    /// Takes a block, writes the message into it, with the sequence count where there is one, and
+    /// seals it for the send of this number. Answers its descriptor, which has no use yet. By the
+    /// code, each byte and the block's slot are written once. At most 8 steps.
+    pub fn put_copy<L: Ledger>(
+        &mut self,
+        bytes: &[u8],
+        count: Option<u16>,
+        number: u64,
+        steps: &mut Steps<L>,
+    ) -> u32
+        requires header { 6 ≤ length bytes.now }
+        requires most { length bytes.now < 4294967296 }
+        requires count { IfSome count (λ n. n < 16384) }
+        requires room { fits self.old.pool (length bytes.now) 1 ≡ true }
+        ensures fresh { is_live (slot_at self.old.slots result) ≡ false }
+        ensures drawn { DrawsFor self.old.pool self.new.pool (length bytes.now) result }
+        ensures sealed { self.new.slots ≡
+            placed self.old.slots result
+            (Sealed (record {
+              number = number;
+              asked = length bytes.now;
+              size = size_at self.new.pool result;
+              bytes = option_map_or (with_count bytes.now) count bytes.now;
+              uses = 0;
+              loan = (sealed_at self.new.slots result).loan;
+              views = 0;
+            })) }
+        ensures cost { steps.new ≤ steps.old + 8 }
+    {
+        let len = bytes.len() as u32;
+        let desc = self.pool.get(len, steps).unwrap();
+        self.pool.recall_whole();
+        let space = memory_of(&self.pool, &mut self.slots, &mut self.rest, desc);
+        let copy = Block::new(desc, number, space, len).with_copy_of(bytes);
+        let message = with_its_count(copy, count);
+        let sent = Sent::seal(number, len, message.into_space(), len as usize);
+        place_sealed(&mut self.slots, desc, sent);
+        desc
     }
 
     /// Seals a block of this desk, of which the first `len` bytes are the message. Answers its

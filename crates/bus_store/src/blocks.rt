@@ -9,54 +9,11 @@ ghost use Rattle.buf_desc.specs.Held.{view_at};
 ghost use Rattle.buf_desc.specs.Slots.{slot_at, sealed_at, is_sealed, HaveOwnNumbers};
 ghost use Rattle.bus_store.specs.Inside.{Adds, Seals, AreLoose, all_dropped, let_go, shown, view_in};
 
-use buf_desc::{Block, Desk, Held};
+use buf_desc::{Block, Desk, Held, with_its_count};
 use bus_tables::ItemRow;
-use ccsds_msg::{set_count, size_of};
+use ccsds_msg::size_of;
 use lend_block::View;
 use step_count::{Ledger, Steps};
-
-// The block with this sequence count in its message.
-fn with_count<'r>(block: Block<'r>, count: u16) -> Block<'r>
-    requires header { 6 ≤ length block.bytes }
-    requires count { count < 16384 }
-    ensures { result ≡ record block.entry { bytes = with_count block.entry.bytes count } }
-{
-    let mut block = block;
-    set_count(block.bytes_mut(), count);
-    block
-}
-
-// The block as it is sent: with the count, where there is one.
-fn with_its_count<'r>(block: Block<'r>, count: Option<u16>) -> Block<'r>
-    requires header { 6 ≤ length block.bytes }
-    requires count { IfSome count (λ n. n < 16384) }
-    ensures { result ≡
-        record block.entry {
-          bytes = option_map_or (with_count block.entry.bytes) count block.entry.bytes;
-        } }
-{
-    match count {
-        Some(count) => with_count(block, count),
-        None => block,
-    }
-}
-
-// Draws a block with a copy of the bytes.
-fn drawn<'r, L: Ledger>(
-    desk: &mut Desk<'r>,
-    bytes: &[u8],
-    number: u64,
-    steps: &mut Steps<L>,
-) -> Block<'r>
-    requires most { length bytes.now < 4294967296 }
-    requires room { fits desk.old.pool (length bytes.now) 1 ≡ true }
-    ensures taken { Takes desk.old desk.new (length bytes.now) number result }
-    ensures own { IsOf desk.new result }
-    ensures copied { result.bytes ≡ bytes.now }
-    ensures cost { steps.new ≤ steps.old + 8 }
-{
-    desk.take_copy(bytes, number, steps).unwrap()
-}
 
 /// Draws a block for the message, writes it once, with the count where there is one, and seals it.
 /// Answers its descriptor, which has no use yet. At most 8 steps.
@@ -75,9 +32,7 @@ pub(crate) fn put_message<L: Ledger>(
         (option_map_or (with_count bytes.now) count bytes.now) result }
     ensures cost { steps.new ≤ steps.old + 8 }
 {
-    let copy = drawn(desk, bytes, number, steps);
-    let message = with_its_count(copy, count);
-    desk.seal(message, bytes.len() as u32)
+    desk.put_copy(bytes, count, number, steps)
 }
 
 /// Draws a block of zeros for a buffer of this size and number. At most 8 steps.
