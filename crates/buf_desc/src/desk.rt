@@ -181,7 +181,7 @@ impl<'r> Desk<'r> {
         ensures cost { steps.new ≤ steps.old + 8 }
     {
         let len = bytes.len() as u32;
-        let desc = self.pool.get(len, steps).unwrap();
+        let desc = self.pool.try_draw(len, steps).unwrap();
         self.pool.recall_whole();
         let space = memory_of(&self.pool, &mut self.slots, &mut self.rest, desc);
         let copy = Block::new(desc, number, space, len).with_copy_of(bytes);
@@ -409,8 +409,8 @@ impl<'r> Desk<'r> {
         ensures unchanged { OnErr result (self.new ≡ self.old) }
         ensures cost { steps.new ≤ steps.old + 8 }
     {
-        match self.pool.get(size, steps) {
-            Ok(desc) => {
+        match self.pool.try_draw(size, steps) {
+            Some(desc) => {
                 self.pool.recall_whole();
                 if (desc as usize) < self.slots.len() {
                     let space = take_free(&mut self.slots, desc, number, size);
@@ -424,7 +424,7 @@ impl<'r> Desk<'r> {
                 let space = self.rest.cut(whole as usize);
                 Ok(Block::new(desc, number, space, size))
             }
-            Err(status) => Err(status),
+            None => Err(EsStatus::ErrMemBlockSize),
         }
     }
 }
