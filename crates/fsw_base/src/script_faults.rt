@@ -32,6 +32,8 @@ pub enum FaultKind {
     BadWord,
     /// A number or a length is outside its range.
     OutOfRange,
+    /// The bytes of a table file are no table image, or one that a script can't load.
+    BadImage,
     /// A name or an id comes a second time.
     Repeated,
     /// There are more applications than a run can have.
@@ -59,6 +61,7 @@ impl FaultKind {
             FaultKind::WrongCount => "WrongCount",
             FaultKind::BadWord => "BadWord",
             FaultKind::OutOfRange => "OutOfRange",
+            FaultKind::BadImage => "BadImage",
             FaultKind::Repeated => "Repeated",
             FaultKind::TooManyApps => "TooManyApps",
             FaultKind::TooManyCalls => "TooManyCalls",
