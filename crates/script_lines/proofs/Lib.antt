@@ -4,3 +4,4 @@ pub mod Trimming
 pub mod ReadTexts
 pub mod ReadWords
 pub mod ReadLines
+pub mod FileReadings
