@@ -5,7 +5,7 @@ ghost use Rattle.tbl_file.specs.Image.{image_fault, is_table_name};
 ghost use Rattle.text_page.specs.Pieces.{Grew, CutShort};
 ghost use Rattle.host_run.specs.Audit.{GuardedAudit};
 ghost use Rattle.host_run.specs.Images.{image_text, image_fault_text, packed_file};
-ghost use Rattle.host_run.specs.Serve.{Shows, Packs, EndsShown, EndsPacked, EndsNoImage, EndsText, fed_through, made_through};
+ghost use Rattle.host_run.specs.Serve.{Shows, Packs, EndsShown, EndsPacked, EndsNoImage, EndsText, MakesNothing, fed_through, made_through};
 ghost use Rattle.host_run.specs.Status.{is_read_fault, is_write_fault};
 
 use crate::memory::Memory;
@@ -75,17 +75,24 @@ fn show_file<K: Sink>(file: &[u8], sink: &mut SinkGuard<'_, K>) -> HostStatus
     ensures same_sink { sink.new.sink ≡ sink.old.sink }
 {
     match read_image(file) {
-        Ok(image) => end_of(write_shown(sink, &image)),
+        Ok(image) => tell_image(sink, &image),
         Err(fault) => refuse_image(sink, fault),
     }
 }
 
-// How it ended, where all that was asked for was to write a text.
-fn end_of(written: Result<(), WriteFault>) -> HostStatus
-    ensures done { OnOk written (result ≡ HostStatus.Done) }
-    ensures failed { OnErr written (result ≡ HostStatus.WriteFault) }
+// Writes the line on an image, behind which nothing is left to do.
+fn tell_image<K: Sink>(sink: &mut SinkGuard<'_, K>, image: &Image<'_>) -> HostStatus
+    requires none_failed { sink.old.failed ≡ false }
+    requires few { length image.now.bytes.now ≤ 1048576 }
+    ensures end { (audit : GuardedAudit) →
+        EndsText HostStatus.Done result (image_text
+        image.now.name.now image.now.offset image.now.bytes.now image.now.sub) ⊥
+        (made_through sink.old audit) (made_through sink.new audit) }
+    ensures failed { sink.new.failed ≡ is_write_fault result }
+    ensures no_read_fault { is_read_fault result ≡ false }
+    ensures same_sink { sink.new.sink ≡ sink.old.sink }
 {
-    match written {
+    match write_shown(sink, image) {
         Ok(()) => HostStatus::Done,
         Err(WriteFault) => HostStatus::WriteFault,
     }
@@ -179,7 +186,7 @@ fn pack_bytes<K: Sink>(
         return HostStatus::NoMemory(memory.refusal());
     };
     fill_packed(head, bytes, &mut file);
-    end_of(write_text(sink, &file))
+    tell_file(sink, &file)
 }
 
 // Fills the file of the image of these bytes, of which there is one at least.
@@ -206,6 +213,23 @@ fn fill_packed(head: &Head<'_>, bytes: &[u8], file: &mut [u8])
         bytes,
     };
     write_image(&image, file);
+}
+
+// Writes the file of an image, behind which nothing is left to do.
+fn tell_file<K: Sink>(sink: &mut SinkGuard<'_, K>, file: &[u8]) -> HostStatus
+    requires { sink.old.failed ≡ false }
+    ensures end { (audit : GuardedAudit) →
+        EndsText HostStatus.Done result file.now
+        (MakesNothing (made_through sink.old audit) (made_through sink.new audit))
+        (made_through sink.old audit) (made_through sink.new audit) }
+    ensures failed { sink.new.failed ≡ is_write_fault result }
+    ensures no_read_fault { is_read_fault result ≡ false }
+    ensures same_sink { sink.new.sink ≡ sink.old.sink }
+{
+    match write_text(sink, file) {
+        Ok(()) => HostStatus::Done,
+        Err(WriteFault) => HostStatus::WriteFault,
+    }
 }
 
 // Writes why there is no image.
