@@ -20,7 +20,7 @@ use Rattle.buf_desc.specs.declared.slot.Slot.{Slot}
 use Rattle.bus_words.specs.Bus.{Pipe, Subscription, Buffer, Sending, route, deliver, reached, drops, unsent_size, without_unsent}
 use Rattle.bus_words.specs.Machine.{stamped, front_of}
 use Rattle.bus_words.specs.Acts.{next_in}
-use Rattle.bus_tables.specs.declared.misses.Miss.{Miss}
+use Rattle.bus_words.specs.declared.miss.Miss.{Miss}
 use Rattle.bus_tables.specs.Missed.{Missed}
 use Rattle.bus_tables.specs.Rows.{Row, deliver_rows, reached_rows, missed_rows, dropped_rows}
 use Rattle.bus_words.specs.Pipes.{IsRising}

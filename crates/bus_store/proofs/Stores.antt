@@ -11,7 +11,7 @@ use Rattle.bus_words.specs.Bus.{Pipe, Subscription, Buffer, Sending, route, deli
 use Rattle.bus_words.specs.Machine.{stamped}
 use Rattle.bus_words.specs.Acts.{next_in}
 use Rattle.bus_tables.specs.declared.message.Message.{Message}
-use Rattle.bus_tables.specs.declared.misses.Miss.{Miss}
+use Rattle.bus_words.specs.declared.miss.Miss.{Miss}
 use Rattle.bus_tables.specs.Missed.{Missed}
 use Rattle.bus_words.specs.Pipes.{with_pipe, IsRising}
 use Rattle.bus_tables.specs.Rows.{Row, offered_row, deliver_rows, reached_rows, missed_rows, dropped_rows}

@@ -14,10 +14,10 @@ use Rattle.subscriptions.specs.Subs.{Subscribed, Subscription, number_of, goes_b
 use Rattle.routing.specs.Dests.{Dest, first_dest}
 use Rattle.routing.specs.Routing.{Route, Routing, route_from, route_of, dests_at}
 use Rattle.bus_tables.specs.declared.message.Message.{Message}
-use Rattle.bus_tables.specs.Missed.{Missed, cause_of}
-use Rattle.bus_tables.specs.declared.misses.Miss.{Miss}
-use Rattle.bus_tables.specs.declared.misses.MissCause.{MissCause}
-use Rattle.bus_words.specs.Pipes.{with_pipe, pipe_at, verdict}
+use Rattle.bus_tables.specs.Missed.{Missed}
+use Rattle.bus_words.specs.declared.miss.Miss.{Miss}
+use Rattle.bus_words.specs.declared.miss.MissCause.{MissCause}
+use Rattle.bus_words.specs.Pipes.{cause_of, with_pipe, pipe_at, verdict}
 use Rattle.bus_tables.specs.declared.tables.ItemRow.{ItemRow}
 use Rattle.bus_tables.specs.Rows.{Row, offered_row, row_takes, deliver_rows, reached_rows, row_misses, missed_rows, row_drops, dropped_rows}
 use Rattle.bus_tables.specs.Inside.{row_in, sub_in, uncounted, still, frame, of_id, AreQueued, AreRouted}

@@ -9,8 +9,8 @@ ghost use Rattle.bus_tables.specs.Inside.{AreQueued, ArePlaced, AreRouted, row_i
 
 use crate::making::{count_down, item_row};
 use crate::message::Message;
-use crate::misses::{MissCause, Misses};
-use bus_words::Verdict;
+use crate::misses::Misses;
+use bus_words::{MissCause, Verdict};
 use pipe_queue::Item;
 use pipe_table::{PipeNo, PipeTable};
 use routing::Routes;

@@ -60,6 +60,6 @@ mod tables;
 mod uses;
 
 pub use message::Message;
-pub use misses::{Miss, MissCause, Misses};
+pub use misses::Misses;
 pub use tables::{BusTables, ItemRow, LastItems};
 pub use uses::recall_uses;

@@ -16,12 +16,13 @@ use Rattle.bus_words.specs.declared.calls.BusAnswer.{BusAnswer}
 use Rattle.bus_words.specs.declared.calls.BusAnswer.TheVariants.{Done, Number, Sent}
 use Rattle.bus_words.specs.declared.history.Call.TheVariants.{Allocate, TransmitBuffer, Release}
 use Rattle.bus_words.specs.Bus.{State, Buffer, Subscription, Sending, route, deliver, reached, has_unsent, unsent_at, unsent_of, with_unsent, without_unsent}
+use Rattle.bus_words.specs.Events.{miss_events}
 use Rattle.bus_words.specs.Held.{account_of}
 use Rattle.bus_words.specs.Machine.{refused_if, allocate_cause, transmit_buffer_cause, release_cause, passed_along, buffer_gone}
 use Rattle.bus_words.specs.Acts.{Whole, NextCount, nexts_after, moved_on, completed}
-use Rattle.bus_tables.specs.declared.misses.Miss.{Miss}
+use Rattle.bus_words.specs.declared.miss.Miss.{Miss}
 use Rattle.bus_tables.specs.Rows.{has_way}
-use Rattle.bus_records.specs.Records.{Recordings, told_all, miss_events}
+use Rattle.bus_records.specs.Records.{Recordings, told_all}
 use Rattle.bus_store.specs.Bag.{Shape, shape_of}
 use Rattle.bus_words.proofs.Bounds.{length-deliver}
 use Rattle.bus_store.specs.Store.{Store}

@@ -16,12 +16,13 @@ use Rattle.bus_words.specs.declared.calls.BusAnswer.{BusAnswer}
 use Rattle.bus_words.specs.declared.calls.BusAnswer.TheVariants.{Sent}
 use Rattle.bus_words.specs.declared.history.Call.TheVariants.{Transmit}
 use Rattle.bus_words.specs.Bus.{State, Subscription, Sending, route, deliver, reached}
+use Rattle.bus_words.specs.Events.{miss_events}
 use Rattle.bus_words.specs.Held.{account_of, account_drawn}
 use Rattle.bus_words.specs.Machine.{transmit_cause, sent_along, refused_if}
 use Rattle.bus_words.specs.Acts.{Whole, NextCount, nexts_after, moved_on, completed}
-use Rattle.bus_tables.specs.declared.misses.Miss.{Miss}
+use Rattle.bus_words.specs.declared.miss.Miss.{Miss}
 use Rattle.bus_tables.specs.Rows.{RouteRow, ids_of, has_way, counted_on}
-use Rattle.bus_records.specs.Records.{Recordings, told_all, miss_events}
+use Rattle.bus_records.specs.Records.{Recordings, told_all}
 use Rattle.bus_words.proofs.Bounds.{length-deliver}
 use Rattle.bus_store.specs.Store.{Store}
 use Rattle.bus_store.specs.Words.{next_of, nexts_in, sending_of, missed, counted_up, with_held}

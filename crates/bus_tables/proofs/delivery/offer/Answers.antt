@@ -7,8 +7,8 @@ use Rattle.bus_words.specs.Pipes.{with_pipe, without_front, offered_over, is_que
 use Rattle.pipe_table.specs.Table.{Pipes}
 use Rattle.subscriptions.specs.Subs.{Subscription, live_at, one_more, with_change}
 use Rattle.bus_tables.specs.Missed.{Missed}
-use Rattle.bus_tables.specs.declared.misses.Miss.{Miss}
-use Rattle.bus_tables.specs.declared.misses.MissCause.TheVariants.{OverLimit, Full, Oldest}
+use Rattle.bus_words.specs.declared.miss.Miss.{Miss}
+use Rattle.bus_words.specs.declared.miss.MissCause.TheVariants.{OverLimit, Full, Oldest}
 use Rattle.bus_tables.specs.declared.tables.ItemRow.{ItemRow}
 use Rattle.bus_tables.specs.Rows.{row_misses, row_drops}
 use Rattle.bus_tables.specs.Inside.{AreQueued, item_in, row_in, sub_in, still, fewer_by}

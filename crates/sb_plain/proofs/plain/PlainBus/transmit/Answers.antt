@@ -9,8 +9,9 @@ use Rattle.bus_words.specs.declared.calls.BusAnswer.TheVariants.{Sent}
 use Rattle.bus_words.specs.declared.history.Call.TheVariants.{Transmit}
 use Rattle.bus_words.specs.Acts.{reads_in}
 use Rattle.bus_words.specs.Bus.{route}
+use Rattle.bus_words.specs.Events.{miss_events}
 use Rattle.bus_words.specs.Machine.{by_bus, transmit_cause}
-use Rattle.bus_records.specs.Records.{Recordings, miss_events, told_event, peaks_raised}
+use Rattle.bus_records.specs.Records.{Recordings, told_event, peaks_raised}
 use Rattle.bus_records.proofs.Leaves.{unheard_left, sent_left}
 use Rattle.bus_store.specs.Store.{Store}
 use Rattle.bus_store.specs.Words.{sending_of}

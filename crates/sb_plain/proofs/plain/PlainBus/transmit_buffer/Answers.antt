@@ -9,8 +9,9 @@ use Rattle.bus_words.specs.declared.calls.BusAnswer.TheVariants.{Sent}
 use Rattle.bus_words.specs.declared.history.Call.TheVariants.{TransmitBuffer}
 use Rattle.bus_words.specs.Acts.{reads_in}
 use Rattle.bus_words.specs.Bus.{route}
+use Rattle.bus_words.specs.Events.{miss_events}
 use Rattle.bus_words.specs.Machine.{by_bus, transmit_buffer_cause}
-use Rattle.bus_records.specs.Records.{Recordings, miss_events, told_event, peaks_raised}
+use Rattle.bus_records.specs.Records.{Recordings, told_event, peaks_raised}
 use Rattle.bus_records.proofs.Leaves.{unheard_buffer_left, sent_buffer_left}
 use Rattle.bus_store.specs.Store.{Store}
 use Rattle.bus_store.specs.Words.{passing_of}
