@@ -14,7 +14,7 @@ use Rattle.bus_words.specs.Refusals.{Refusal, OfBus, OfPools, OfEvents}
 use Rattle.bus_words.specs.Machine.{step, cause, decided, recorded, reads_after, refused_state, buffer_gone, sent_along, passed_along, packet_in, received}
 use Rattle.script_lines.specs.declared.line.Line.{Line}
 use Rattle.script_lines.specs.declared.line.Line.TheVariants.{Create, Delete, SetOpts, GetOpts, Find, PipeName, Subscribe, Unsubscribe, Send, SendRaw, Receive, Pend, Allocate, TransmitBuffer, Release, PoolCreate, PoolGet, PoolPut, PoolFigures, Register, SendEvent, ResetFilter, LogMode, ClearLog, Housekeeping, Figures}
-use Rattle.script_runs.specs.LineCalls.{calls_of}
+use Rattle.script_runs.specs.LineCalls.{line_call_of}
 use Rattle.script_runs.specs.Trace.{Registers, call_of}
 use Rattle.script_runs.specs.Written.{Written, bytes_in}
 use Rattle.app_run.specs.Lines.{pipe_waited_for}
@@ -163,7 +163,7 @@ settles-pend limits history s app r registers None active =
 -- the call of an active application's line
 pub settles-line : (limits : Limits) (history : List Entry) (s : State) (app : ℕ) (registers : Registers) (written : Written) (line : Line) → standing_of s app ≡ Active →
     SettlesLine limits history s app registers line (call_of registers written line)
-unfolding call_of calls_of pipe_waited_for
+unfolding call_of line_call_of pipe_waited_for
 settles-line limits history s app registers written (Create pipe depth name) active =
     settles-decided limits history s app (calls.Create depth name) (cause limits s app (calls.Create depth name)) (λ why. refl) refl refl active
 settles-line limits history s app registers written (Delete pipe) active =

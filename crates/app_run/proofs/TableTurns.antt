@@ -43,7 +43,7 @@ use Rattle.script_lines.specs.declared.line.Line.{Line}
 use Rattle.script_lines.specs.declared.line.Line.TheVariants.{TableRegister, TableShare, TableUnregister, Stage, Validate, Update, Abort, Load, GetAddress, ReleaseAddress, Status}
 use Rattle.script_settings.specs.Accounts.{waits_of}
 use Rattle.app_script.specs.Ranges.{IsLineInRange}
-use Rattle.script_runs.specs.LineCalls.{calls_of}
+use Rattle.script_runs.specs.LineCalls.{line_call_of}
 use Rattle.script_runs.specs.Messages.{content_bytes, fill_byte}
 use Rattle.script_runs.specs.Rotation.{Running, SoFar, after_call, after_table_call, table_answer_to, turn, turn_in, active_turn}
 use Rattle.script_runs.specs.TableTrace.{table_call_of, handles_after}
@@ -202,7 +202,7 @@ load-within offset content near some few =
     (le-leb offset 65536 near) (le-leb 1 (length (content_bytes content)) (omega (arith, long, some))) (le-leb (length (content_bytes content)) 65536 (omega (arith, long, few)))
 
 pub allowed-table_line : (handles : List ℕ) (line : Line) → IsLineInRange line → AllowedTableLine line (table_call_of handles line)
-unfolding table_call_of calls_of table_line_bytes IsLineInRange
+unfolding table_call_of line_call_of table_line_bytes IsLineInRange
 allowed-table_line handles (TableRegister handle name size option rules) range = record { bytes = omega arith; within = refl; goes_on = refl }
 allowed-table_line handles (TableShare handle name) range = record { bytes = omega arith; within = refl; goes_on = refl }
 allowed-table_line handles (TableUnregister handle) range = record { bytes = omega arith; within = refl; goes_on = refl }

@@ -44,7 +44,7 @@ use Rattle.sb_calls.specs.Core.{Core, Does, IsLegalCore, MayCall, apps_of, state
 use Rattle.script_lines.specs.declared.line.Line.{Line}
 use Rattle.script_lines.specs.declared.line.Line.TheVariants.{Create, Delete, SetOpts, GetOpts, Find, PipeName, Subscribe, Unsubscribe, Send, SendRaw, Receive, Pend, Allocate, TransmitBuffer, Release, PoolCreate, PoolGet, PoolPut, PoolFigures, Register, SendEvent, ResetFilter, LogMode, ClearLog, Housekeeping, Figures}
 use Rattle.script_settings.specs.Accounts.{waits_of, buffers_of, sizes_after}
-use Rattle.script_runs.specs.LineCalls.{calls_of}
+use Rattle.script_runs.specs.LineCalls.{line_call_of}
 use Rattle.script_runs.specs.Messages.{sent_message}
 use Rattle.app_script.specs.Ranges.{IsLineInRange}
 use Rattle.script_runs.specs.Rotation.{Running, SoFar, after_call, after_look, answer_to, turn, turn_in, active_turn, line_turn, other_turn}
@@ -138,7 +138,7 @@ given-does before after app call answer does =
 
 -- a line that makes no call of the bus asks for no buffer
 pub local-sizes : (registers : Registers) (written : Written) (asked : List ℕ) (line : Line) → call_of registers written line ≡ None → sizes_after asked line ≡ asked
-unfolding call_of calls_of sizes_after
+unfolding call_of line_call_of sizes_after
 local-sizes registers written asked (Allocate buf size) none = absurd (cc none)
 local-sizes registers written asked line none = refl
 
@@ -303,7 +303,7 @@ AllowedLine asked line (Some call) = Allowed asked line call
 
 pub allowed-line : (registers : Registers) (written : Written) (given : ℕ) (asked : List ℕ) (line : Line) → AreAsked registers.buffers written given asked → IsLineInRange line →
     AllowedLine asked line (call_of registers written line)
-unfolding call_of calls_of line_bytes buffers_of IsLineInRange
+unfolding call_of line_call_of line_bytes buffers_of IsLineInRange
 allowed-line registers written given asked (Create pipe depth name) are range = record { bytes = omega arith; within = le-leb (length name) 64 range; active = refl; asks = omega arith }
 allowed-line registers written given asked (Delete pipe) are range = record { bytes = omega arith; within = refl; active = refl; asks = omega arith }
 allowed-line registers written given asked (SetOpts pipe bits) are range = record { bytes = omega arith; within = refl; active = refl; asks = omega arith }

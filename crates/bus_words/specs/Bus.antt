@@ -79,8 +79,9 @@ opening limits apps = record {
   statistics = no_statistics;
 }
 
--- the memory pools of a bus after so many entries: they have the limits' block sizes, the grants of
--- each that are out are numbered, and each gave at most as many grants as there are entries
+-- the memory pools of a bus after so many entries: they have the limits' block sizes, the grants
+-- that are out of each stand in order of number, and each gave at most as many grants as there are
+-- entries
 pub record ArePools (limits : Limits) (entries : ℕ) (pools : Pools) : Type 0 where
   pub most : pools.most ≡ limits.apppool
   pub sizes : pools.sizes ≡ limits.sizes

@@ -36,7 +36,7 @@ cause_event OverLimit id pipe sender = MessageLimit id pipe sender
 cause_event Full id pipe sender = PipeOverflow id pipe sender
 cause_event Oldest id pipe sender = OldestDropped id pipe sender
 
--- what is told of a pipe that misses a message of this id and sender, or drops its oldest one for it
+-- what is told of a pipe that misses a message of this id and sender or drops its oldest one for it
 abbrev pub miss_event : ℕ → ℕ → Miss → ServiceEvent
 miss_event id sender miss = cause_event miss.cause id miss.pipe sender
 

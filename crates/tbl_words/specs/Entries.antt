@@ -41,6 +41,6 @@ call_text (ReleaseAddress handle) = []
 call_text (Status handle) = []
 call_text End = []
 
--- how many they are
+-- how many bytes a call brings
 abbrev pub call_bytes : Call → ℕ
 call_bytes call = length (call_text call)
