@@ -164,6 +164,16 @@ impl Subs {
         }
     }
 
+    /// One more message of a live subscription waits. By the code, it takes a constant time, and
+    /// doesn't look whether the subscription is live.
+    pub fn add_waiting(&mut self, sub: SubNo)
+        requires live { IsSome (live_at self.old sub) }
+        requires few { ForSome (live_at self.old sub) (λ s. s.waiting + 1 < 2 ^ 32) }
+        ensures { self.new ≡ with_change self.old sub one_more }
+    {
+        count_up_held(&mut self.slots[sub.slot as usize], sub.number);
+    }
+
     /// One message of a subscription, of which at least one waits, waits no longer; no effect where
     /// it has ended. By the code, it takes a constant time.
     pub fn unqueued(&mut self, sub: SubNo)
@@ -225,6 +235,18 @@ fn count_up(slot: &mut Option<Place>, number: u32)
         if place.number == number {
             place.waiting += 1;
         }
+    }
+}
+
+// One message more waits of the subscription of this number, which the slot holds.
+fn count_up_held(slot: &mut Option<Place>, number: u32)
+    requires held { option_map (λ p. p.number) slot.old ≡ Some number }
+    requires few { ForSome slot.old (λ p. p.waiting + 1 < 2 ^ 32) }
+    ensures { slot.new ≡ recounted number (λ waiting. waiting + 1) slot.old }
+{
+    match slot {
+        Some(place) => place.waiting += 1,
+        None => unreachable!(),
     }
 }
 
