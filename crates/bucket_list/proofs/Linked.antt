@@ -1,12 +1,12 @@
 -- The invariant of the lists, kept by a push and a pop, and what they leave.
-use Rattle.std.proofs.Common.{◌≡◌, ◌+◌, ◌-◌, ◌<◌, ◌≤◌, ◌^◌, ℕ, zero, suc, cond, eqb, List, [], ◌∷◌, length, get_or, set, drop, replicate, refl, sym, ap, subst, ◌∙◌, arith}
-use Rattle.std.proofs.lemmas.List.{length-set, get_or-set_same, length-replicate}
+use Rattle.std.proofs.Common.{◌≡◌, ◌+◌, ◌-◌, ◌<◌, ◌≤◌, ◌^◌, ℕ, zero, suc, cond, eqb, List, [], ◌∷◌, ◌++◌, length, get_or, set, drop, replicate, refl, sym, ap, subst, ◌∙◌, arith}
+use Rattle.std.proofs.lemmas.List.{length-set, get_or-set_same, length-append}
 use Rattle.std.proofs.lemmas.Bool.Decides.{nat_tests}
 use Rattle.bucket_list.specs.Lists.{times_in, times}
 use Rattle.bucket_list.specs.Chains.{chain}
 use Rattle.bucket_list.specs.Inside.{chains, AreLinked}
 use Rattle.bucket_list.proofs.Counts.{times_push, times_pop, times_in-le-times, length_few}
-use Rattle.bucket_list.proofs.Chains.{length-chain, length-chains, get_or-chains, chains-set, chain-set, chains-set_link}
+use Rattle.bucket_list.proofs.Chains.{length-chain, length-chains, get_or-chains, chains-set, chain-set, chains-set_link, chains-more}
 
 pub count_few : (links heads counts : List ℕ) (nodes list : ℕ) → AreLinked links heads counts nodes → list < length heads → get_or counts list 0 ≤ nodes
 count_few links heads counts nodes list a h =
@@ -182,16 +182,26 @@ times_none (suc n) k = times_none n k
 pub chains-new : (links heads counts : List ℕ) (lists : ℕ) → heads ≡ replicate lists 0 → counts ≡ replicate lists 0 → chains links heads counts ≡ replicate lists []
 chains-new links heads counts lists e_heads e_counts = ap (λ hs. chains links hs counts) e_heads ∙ (ap (chains links (replicate lists 0)) e_counts ∙ chains_none links lists)
 
-pub room_new : (links : List ℕ) (nodes : ℕ) → links ≡ replicate nodes 0 → length links ≡ nodes
-room_new links nodes e = ap length e ∙ length-replicate {A = ℕ} nodes 0
-
-pub linked-new : (links heads counts : List ℕ) (nodes lists : ℕ) → links ≡ replicate nodes 0 → heads ≡ replicate lists 0 → counts ≡ replicate lists 0 → nodes < 2 ^ 32 → AreLinked links heads counts 0
-linked-new links heads counts nodes lists e_links e_heads e_counts few =
+pub linked-new : (links heads counts : List ℕ) (lists : ℕ) → links ≡ [] → heads ≡ replicate lists 0 → counts ≡ replicate lists 0 → AreLinked links heads counts 0
+linked-new links heads counts lists e_links e_heads e_counts =
     let none : (k : ℕ) → times (chains links heads counts) k ≡ 0 = λ k. ap (λ xs. times xs k) (chains-new links heads counts lists e_heads e_counts) ∙ times_none lists k in
     record {
       heads_all = ap length e_heads ∙ sym (ap length e_counts);
-      links_all = omega arith;
-      links_few = omega (arith, room_new links nodes e_links);
+      links_all = sym (ap length e_links);
+      links_few = omega (arith, ap length e_links);
       once = λ k. omega (arith, none k);
       exist = λ k _. none k;
+    }
+
+-- a node more, in no list
+pub linked-more : (links heads counts : List ℕ) (nodes : ℕ) → AreLinked links heads counts nodes → nodes + 1 < 2 ^ 32 → AreLinked (links ++ 0 ∷ []) heads counts (nodes + 1)
+linked-more links heads counts nodes a few =
+    let longer : length (links ++ 0 ∷ []) ≡ length links + 1 = length-append links (0 ∷ []) in
+    let same : (k : ℕ) → times (chains (links ++ 0 ∷ []) heads counts) k ≡ times (chains links heads counts) k = λ k. ap (λ xs. times xs k) (chains-more links heads counts) in
+    record {
+      heads_all = a.heads_all;
+      links_all = omega (arith, longer, a.links_all);
+      links_few = omega (arith, longer, a.links_all, few);
+      once = λ k. omega (arith, same k, a.once k);
+      exist = λ k le. same k ∙ a.exist k (omega (arith, le));
     }

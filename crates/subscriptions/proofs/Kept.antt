@@ -1,5 +1,5 @@
 -- What a subscription's slot says of it.
-use Rattle.std.proofs.Common.{◌≡◌, ◌≢◌, ℕ, ◌≤◌, eqb, cond, true, false, Bool, List, [], ◌∷◌, ◌++◌, get_or, find, is_some, IsSome, Option, Some, None, refl, sym, ap, subst, ◌∙◌, arith, eq-eqb}
+use Rattle.std.proofs.Common.{◌≡◌, ◌≢◌, ℕ, ◌<◌, ◌≤◌, eqb, cond, true, false, Bool, List, [], ◌∷◌, ◌++◌, length, get_or, find, is_some, IsSome, Option, Some, None, refl, sym, ap, subst, ◌∙◌, arith, eq-eqb}
 use Rattle.std.specs.List.{list_any}
 use Rattle.std.proofs.lemmas.List.Elements.{All-weaker}
 use Rattle.std.proofs.lemmas.List.Folds.{list_any_none}
@@ -8,6 +8,7 @@ use Rattle.subscriptions.specs.declared.words.SubNo.{SubNo}
 use Rattle.subscriptions.specs.Subs.{Subscription, goes_by}
 use Rattle.subscriptions.specs.Inside.{held_in, live_upto, number_in, number_at, held_at, AreFree, AreKept}
 use Rattle.subscriptions.proofs.Found.{StandsUpto, live_stand, find_live, find_ended}
+use Rattle.subscriptions.proofs.Live.{in_range}
 use Rattle.subscriptions.proofs.Unused.{last_free}
 use Rattle.subscriptions.proofs.Numbers.{equal, differ}
 
@@ -83,3 +84,28 @@ pub live_in : (slots : List (Option Place)) (free : List ℕ) (made slot : ℕ) 
 live_in slots free made slot p kept here =
     live_found slots free made (record { slot = slot; number = p.number }) p kept
     (ap (λ b. cond b (get_or slots slot None) None) (eq-eqb (number_at slots slot) p.number (ap number_in here)) ∙ here)
+
+-- the slot of a live subscription, and what it holds
+pub record IsHeld (slots : List (Option Place)) (made : ℕ) (sub : SubNo) : Type 0 where
+  pub place : Place
+  pub inside : sub.slot < length slots
+  pub here : get_or slots sub.slot None ≡ Some place
+  pub its : place.number ≡ sub.number
+  pub live : find (goes_by sub) (live_upto slots made) ≡ Some (held_in sub.slot place)
+
+pub slot_of_live : (slots : List (Option Place)) (free : List ℕ) (made : ℕ) (sub : SubNo) → AreKept slots free made → IsSome (find (goes_by sub) (live_upto slots made)) → IsHeld slots made sub
+slot_of_live slots free made sub kept live = settled (held_at slots sub.slot sub.number) refl
+  where
+    settled : (o : Option Place) → held_at slots sub.slot sub.number ≡ o → IsHeld slots made sub
+    settled None is =
+        let there = held_if_live slots made sub None (sym is) live in
+        absurd cc
+    settled (Some p) is =
+        let h = held_here slots sub.slot sub.number p is in
+        record {
+          place = p;
+          inside = in_range slots sub.slot p h.0;
+          here = h.0;
+          its = h.1;
+          live = live_found slots free made sub p kept is;
+        }

@@ -47,10 +47,13 @@ live_rising slots (suc upto) distinct =
     (All-weaker (StandsUpto slots upto) (λ s. s.number ≤ upto) (λ s st. st.within) (live_upto slots upto) (live_stand slots upto))
     (numbered_rising upto 0 slots distinct)
 
-pub in_order : (slots : List (Option Place)) (free : List ℕ) (made : ℕ) → AreKept slots free made → AreInOrder (shown slots made)
-in_order slots free made kept = record {
+pub in_order : (slots : List (Option Place)) (free : List ℕ) (made room : ℕ) → AreKept slots free made → length slots ≤ room → AreInOrder (shown room slots made)
+in_order slots free made room kept few = record {
   rising = live_rising slots made kept.distinct;
   numbers = All-weaker (StandsUpto slots made) (λ s. s.number ≤ made) (λ s st. st.within) (live_upto slots made) (live_stand slots made);
-  slots = All-weaker (StandsUpto slots made) (λ s. s.slot < length slots) (λ s st. in_range slots s.slot st.place st.here) (live_upto slots made) (live_stand slots made);
-  fit = omega (arith, kept.full);
+  slots = All-weaker (StandsUpto slots made) (λ s. s.slot < room) (λ s st. inside s (in_range slots s.slot st.place st.here)) (live_upto slots made) (live_stand slots made);
+  fit = omega (arith, kept.full, few);
 }
+  where
+    inside : (s : Subscription) → s.slot < length slots → s.slot < room
+    inside s h = omega (arith, h, few)

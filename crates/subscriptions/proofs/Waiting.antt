@@ -4,17 +4,16 @@ use Rattle.std.proofs.lemmas.List.{length-set, length-map, set-get_or}
 use Rattle.subscriptions.specs.declared.place.Place.{Place}
 use Rattle.subscriptions.specs.declared.words.SubNo.{SubNo}
 use Rattle.subscriptions.specs.Subs.{Subscription, Subscribed, goes_by, live_at, with_change}
-use Rattle.subscriptions.specs.Inside.{held_in, live_upto, held_at, with_waiting, recounted, AreKept, IsTop}
+use Rattle.subscriptions.specs.Inside.{held_in, live_upto, held_at, with_waiting, recounted, AreKept}
 use Rattle.subscriptions.proofs.Changes.{live_changed}
 use Rattle.subscriptions.proofs.Kept.{held_here, held_elsewhere, live_ended, apart}
 use Rattle.subscriptions.proofs.Lists.{map_none}
 use Rattle.subscriptions.proofs.Numbers.{differ}
-use Rattle.subscriptions.proofs.Top.{top_waiting}
 use Rattle.subscriptions.proofs.Upkeep.{kept_waiting}
 
 -- what the slots show
-abbrev pub shown : List (Option Place) → ℕ → Subscribed
-shown slots made = record { room = length slots; made = made; live = live_upto slots made }
+abbrev pub shown : ℕ → List (Option Place) → ℕ → Subscribed
+shown room slots made = record { room = room; made = made; live = live_upto slots made }
 
 -- another count in a live subscription's slot changes that subscription alone
 live_waiting : (slots : List (Option Place)) (free : List ℕ) (made : ℕ) (sub : SubNo) (p : Place) (waiting : ℕ) (change : Subscription → Subscription) → AreKept slots free made → held_at slots sub.slot sub.number ≡ Some p → held_in sub.slot (record p { waiting = waiting }) ≡ change (held_in sub.slot p)
@@ -24,12 +23,11 @@ live_waiting slots free made sub p waiting change kept held makes =
     ap (λ o. live_upto (set slots sub.slot (with_waiting waiting o)) made) h.0
     ∙ live_changed slots sub p (record p { waiting = waiting }) change made h.0 h.1 h.1 (apart slots free made sub.slot sub.number p kept h.0 h.1) makes
 
-shown_waiting : (after slots : List (Option Place)) (free : List ℕ) (made : ℕ) (sub : SubNo) (p : Place) (waiting : ℕ) (change : Subscription → Subscription) → AreKept slots free made → held_at slots sub.slot sub.number ≡ Some p → held_in sub.slot (record p { waiting = waiting }) ≡ change (held_in sub.slot p) → after ≡ set slots sub.slot (with_waiting waiting (get_or slots sub.slot None))
-    → shown after made ≡ with_change (shown slots made) sub change
-shown_waiting after slots free made sub p waiting change kept held makes is =
-    ap (λ xs. shown xs made) is
-    ∙ (ap (λ n. let v : Subscribed = record { room = n; made = made; live = live_upto (set slots sub.slot (with_waiting waiting (get_or slots sub.slot None))) made } in v) (length-set slots sub.slot (with_waiting waiting (get_or slots sub.slot None)))
-    ∙ ap (λ xs. let v : Subscribed = record { room = length slots; made = made; live = xs } in v) (live_waiting slots free made sub p waiting change kept held makes))
+shown_waiting : (room : ℕ) (after slots : List (Option Place)) (free : List ℕ) (made : ℕ) (sub : SubNo) (p : Place) (waiting : ℕ) (change : Subscription → Subscription) → AreKept slots free made → held_at slots sub.slot sub.number ≡ Some p → held_in sub.slot (record p { waiting = waiting }) ≡ change (held_in sub.slot p) → after ≡ set slots sub.slot (with_waiting waiting (get_or slots sub.slot None))
+    → shown room after made ≡ with_change (shown room slots made) sub change
+shown_waiting room after slots free made sub p waiting change kept held makes is =
+    ap (λ xs. shown room xs made) is
+    ∙ ap (λ xs. let v : Subscribed = record { room = room; made = made; live = xs } in v) (live_waiting slots free made sub p waiting change kept held makes)
 
 kept_after : (after slots : List (Option Place)) (free : List ℕ) (made : ℕ) (sub : SubNo) (p : Place) (waiting : ℕ) → AreKept slots free made → held_at slots sub.slot sub.number ≡ Some p → after ≡ set slots sub.slot (with_waiting waiting (get_or slots sub.slot None)) → AreKept after free made
 kept_after after slots free made sub p waiting kept held is =
@@ -45,8 +43,7 @@ unchanged subs sub change none = ap (λ xs. let v : Subscribed = record subs { l
 pub record IsRecounted (after slots : List (Option Place)) (free : List ℕ) (made : ℕ) (sub : SubNo) (step : ℕ → ℕ) : Type 0 where
   pub kept : AreKept after free made
   pub as_many : length after ≡ length slots
-  pub top : (top : ℕ) → IsTop slots top → IsTop after top
-  pub live : shown after made ≡ with_change (shown slots made) sub (λ s. record s { waiting = step s.waiting })
+  pub live : (room : ℕ) → shown room after made ≡ with_change (shown room slots made) sub (λ s. record s { waiting = step s.waiting })
 
 pub recounts : (after slots : List (Option Place)) (free : List ℕ) (made : ℕ) (sub : SubNo) (step : ℕ → ℕ) → AreKept slots free made → after ≡ set slots sub.slot (recounted sub.number step (get_or slots sub.slot None)) → IsRecounted after slots free made sub step
 recounts after slots free made sub step kept is = settled (held_at slots sub.slot sub.number) refl
@@ -62,8 +59,7 @@ recounts after slots free made sub step kept is = settled (held_at slots sub.slo
         record {
           kept = subst (λ xs. AreKept xs free made) (sym stays) kept;
           as_many = ap length stays;
-          top = λ top below. subst (λ xs. IsTop xs top) (sym stays) below;
-          live = ap (λ xs. shown xs made) stays ∙ unchanged (shown slots made) sub (λ s. record s { waiting = step s.waiting }) (live_ended slots made sub none);
+          live = λ room. ap (λ xs. shown room xs made) stays ∙ unchanged (shown room slots made) sub (λ s. record s { waiting = step s.waiting }) (live_ended slots made sub none);
         }
     settled (Some p) held =
         let h = held_here slots sub.slot sub.number p held in
@@ -75,8 +71,7 @@ recounts after slots free made sub step kept is = settled (held_at slots sub.slo
         record {
           kept = kept_after after slots free made sub p (step p.waiting) kept held now;
           as_many = ap length now ∙ length-set slots sub.slot (with_waiting (step p.waiting) (get_or slots sub.slot None));
-          top = λ top below. subst (λ xs. IsTop xs top) (sym now) (top_waiting slots sub.slot top (step p.waiting) below);
-          live = shown_waiting after slots free made sub p (step p.waiting) (λ s. record s { waiting = step s.waiting }) kept held refl now;
+          live = λ room. shown_waiting room after slots free made sub p (step p.waiting) (λ s. record s { waiting = step s.waiting }) kept held refl now;
         }
 
 -- and where there is no such slot
@@ -86,13 +81,6 @@ recounts_none after slots free made sub step kept is none =
     (is ∙ sym (ap (set slots sub.slot) (ap (recounted sub.number step) none ∙ sym none) ∙ set-get_or slots sub.slot None))
 
 -- what is always true stays so
-pub still_kept : (after slots : List (Option Place)) (free : List ℕ) (made : ℕ) (sub : SubNo) (step : ℕ → ℕ) (room top : ℕ) → IsRecounted after slots free made sub step →
-    AreKept slots free made × (length slots < 2 ^ 32) × (length slots ≤ room) × IsTop slots top × (top ≤ length slots) →
-    AreKept after free made × (length after < 2 ^ 32) × (length after ≤ room) × IsTop after top × (top ≤ length after)
-still_kept after slots free made sub step room top now was = (
-  now.kept,
-  omega (arith, now.as_many, was.1),
-  omega (arith, now.as_many, was.2),
-  now.top top was.3,
-  omega (arith, now.as_many, was.4),
-)
+pub still_kept : (after slots : List (Option Place)) (free : List ℕ) (made : ℕ) (sub : SubNo) (step : ℕ → ℕ) (room free_room slots_room now_room : ℕ) → IsRecounted after slots free made sub step → now_room ≡ slots_room →
+    AreKept slots free made × (length slots ≤ room) × (room ≤ free_room) × (room ≤ slots_room) × (room < 2 ^ 32) → AreKept after free made × (length after ≤ room) × (room ≤ free_room) × (room ≤ now_room) × (room < 2 ^ 32)
+still_kept after slots free made sub step room free_room slots_room now_room now same was = (now.kept, omega (arith, now.as_many, was.1), was.2, omega (arith, same, was.3), was.4)
