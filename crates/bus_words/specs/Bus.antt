@@ -187,8 +187,8 @@ reached sending subs pipes = words.reached (offer_of sending) subs pipes
 abbrev pub drops : Sending → List Subscription → List Pipe → ℕ
 drops sending subs pipes = words.drops (offer_of sending) subs pipes
 
--- the pipes that miss what is sent or drop their oldest message for it, with the cause of each, in
--- order of these subscriptions, each as its turn comes
+-- the pipes that miss what is sent, or their oldest message, with the cause of each, in order of
+-- these subscriptions
 abbrev pub missed : Sending → List Subscription → List Pipe → List Miss
 missed sending subs pipes = words.misses_of (offer_of sending) subs pipes
 
