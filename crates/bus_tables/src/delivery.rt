@@ -53,6 +53,9 @@ pub(crate) fn along<L: Ledger>(
     ensures cost { steps.new ≤ steps.old + 2 * length (route (map sub_in subs.old.live) id) + 2 }
 {
     misses.clear();
+    // Nothing that is written into a pipe can change this copy, so it isn't read again for each.
+    let copy = *message;
+    let message = &copy;
     // Do nothing; the proof learns of them that no two subscriptions have one number, and that no
     // route has more destinations than may be.
     subs.recall_order();
@@ -117,28 +120,29 @@ fn offer(
         sub,
     };
     let is_over = row.verdict() == subscriptions::Verdict::OverLimit;
+    // The pipe's number is read again where it misses the message, so it isn't kept where it doesn't.
     let offered = pipes.offer(pipe, message.sender, is_over, item);
     match offered.verdict {
         Verdict::Skip => 0,
         Verdict::OverLimit => {
-            misses.push(row.pipe, MissCause::OverLimit);
+            misses.push(subs.at(sub).pipe, MissCause::OverLimit);
             0
         }
         Verdict::In => {
-            subs.queued(sub);
+            subs.add_waiting(sub);
             1
         }
         Verdict::Oldest => {
             prove!(row.waiting < u32::MAX);
+            misses.push_drop(subs.at(sub).pipe, item_row(offered.dropped));
             count_down(subs, offered.dropped);
             // Does nothing, as above.
             subs.recall_order();
-            subs.queued(sub);
-            misses.push_drop(row.pipe, item_row(offered.dropped));
+            subs.add_waiting(sub);
             1
         }
         Verdict::Full => {
-            misses.push(row.pipe, MissCause::Full);
+            misses.push(subs.at(sub).pipe, MissCause::Full);
             0
         }
     }

@@ -1,5 +1,5 @@
 //! The tables.
-ghost use Rattle.std.specs.Prelude.{◌≡◌, ℕ, ◌==◌, ◌&&◌, ◌+◌, ◌*◌, ◌%◌, ◌<◌, ◌≤◌, ◌^◌, ◌++◌, ◌∷◌, [], not, length, map, filter, find, count_by, true, false, None, IfOk, IsTrue};
+ghost use Rattle.std.specs.Prelude.{◌≡◌, ℕ, ◌==◌, ◌&&◌, ◌+◌, ◌*◌, ◌%◌, ◌<◌, ◌≤◌, ◌^◌, ◌++◌, ◌∷◌, [], not, length, map, filter, find, count_by, true, false, None, IfOk, IfSome, is_some, IsTrue};
 ghost use Rattle.std.specs.List.{list_any};
 ghost use Rattle.std.specs.Option.{option_map};
 ghost use Rattle.std.specs.Str.{bytes_eq};
@@ -269,6 +269,24 @@ impl BusTables {
             before: item_row(before),
             after: item_row(after),
         }
+    }
+
+    /// Does the same where the live pipe of this number is the application's; None if and only if
+    /// it has no such pipe, and then nothing changes. By the code, the number is looked up once.
+    pub fn take_if_owned(&mut self, app: AppNo, number: u32) -> Option<LastItems>
+        ensures owned { is_some result ≡ owns self.old.pipes app number }
+        ensures before { IfSome result (λ items. items.before ≡ last_on self.old.pipes number) }
+        ensures oldest { IfSome result (λ items. items.after ≡ oldest_on self.old.pipes number) }
+        ensures rows { IfSome result (λ items. self.new ≡
+            record self.old { pipes = with_pipe after_receive number self.old.pipes }) }
+        ensures same { result ≡ None → self.new ≡ self.old }
+    {
+        let (before, oldest) = self.pipes.take_if_owned(app, number)?;
+        count_down(&mut self.subs, oldest);
+        Some(LastItems {
+            before: item_row(before),
+            after: item_row(oldest),
+        })
     }
 
     /// Takes what waits longest out of the live pipe of this number, for whoever empties it; None
