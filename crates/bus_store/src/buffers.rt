@@ -147,7 +147,9 @@ impl<'r> BusStore<'r> {
         let block = held.take_buffer(buf).unwrap();
         self.lists.let_go(app, block.desc(), steps);
         let id = id_of(block.bytes());
-        let count = next_count(&mut self.tables, id, inc);
+        let place = place_of_route(&self.tables, id);
+        let way = RouteNo { id, place };
+        let count = next_count(&mut self.tables, way, inc);
         let desc = seal_front(&mut self.desk, block, count);
         self.desk.recall_live();
         let message = Message {
@@ -155,7 +157,7 @@ impl<'r> BusStore<'r> {
             number: buf,
             desc,
         };
-        let reached = self.tables.deliver(id, &message, &mut self.misses, steps);
+        let reached = self.tables.deliver(way, &message, &mut self.misses, steps);
         settle_message(&mut self.desk, desc, reached, steps);
         self.desk.recall_live();
         drop_uses(&mut self.desk, self.misses.dropped_messages(), steps);
