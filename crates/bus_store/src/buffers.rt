@@ -140,8 +140,8 @@ impl<'r> BusStore<'r> {
             8 * drops (passing_of self.old app buf (bytes_at held.old buf) inc)
             (route self.old.subscriptions (message_id (bytes_at held.old buf))) self.old.pipes }
     {
-        // Do nothing; the proof learns of them that the pipes stand in order, and, here and below,
-        // which blocks are out.
+        // Do nothing; the proof learns of them that the pipes stand in order, and which blocks are
+        // out.
         self.tables.recall_order();
         self.desk.recall_live();
         let block = held.take_buffer(buf).unwrap();
@@ -151,7 +151,6 @@ impl<'r> BusStore<'r> {
         let way = RouteNo { id, place };
         let count = next_count(&mut self.tables, way, inc);
         let desc = seal_front(&mut self.desk, block, count);
-        self.desk.recall_live();
         let message = Message {
             sender: app,
             number: buf,
@@ -159,9 +158,7 @@ impl<'r> BusStore<'r> {
         };
         let reached = self.tables.deliver(way, &message, &mut self.misses, steps);
         settle_message(&mut self.desk, desc, reached, steps);
-        self.desk.recall_live();
         drop_uses(&mut self.desk, self.misses.dropped_messages(), steps);
-        self.desk.recall_live();
         Sent {
             number: buf,
             reached,

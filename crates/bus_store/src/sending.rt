@@ -116,8 +116,8 @@ impl<'r> BusStore<'r> {
             8 * drops (sending_of self.old sender bytes.now inc)
             (route self.old.subscriptions (message_id bytes.now)) self.old.pipes }
     {
-        // Do nothing; the proof learns of them that the pipes stand in order, and, here and below,
-        // which blocks are out.
+        // Do nothing; the proof learns of them that the pipes stand in order, and which blocks are
+        // out.
         self.tables.recall_order();
         self.desk.recall_live();
         let id = id_of(bytes);
@@ -126,7 +126,6 @@ impl<'r> BusStore<'r> {
         let count = next_count(&mut self.tables, way, inc);
         let number = self.given + 1;
         let desc = put_message(&mut self.desk, bytes, count, number, steps);
-        self.desk.recall_live();
         let message = Message {
             sender,
             number,
@@ -134,9 +133,7 @@ impl<'r> BusStore<'r> {
         };
         let reached = self.tables.deliver(way, &message, &mut self.misses, steps);
         settle_message(&mut self.desk, desc, reached, steps);
-        self.desk.recall_live();
         drop_uses(&mut self.desk, self.misses.dropped_messages(), steps);
-        self.desk.recall_live();
         self.given = number;
         Sent { number, reached }
     }
