@@ -79,8 +79,7 @@ fn memory_of<'r>(
     rest.cut(whole as usize)
 }
 
-// Writes a message into the memory of a block, with the sequence count where there is one, and seals
-// it.
+// Writes a message into a block's memory, with the sequence count where there is one, and seals it.
 fn sealed_copy<'r>(
     space: &'r mut [u8],
     desc: u32,

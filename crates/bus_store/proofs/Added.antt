@@ -3,12 +3,12 @@ use Rattle.std.proofs.Common.{◌≡◌, ℕ, ◌+◌, ◌≤◌, ◌%◌, ◌||
 use Rattle.std.specs.Option.{option_map_or}
 use Rattle.std.proofs.lemmas.Bool.{eqb-true}
 use Rattle.ccsds_msg.specs.Message.{with_count}
-use Rattle.ccsds_msg.proofs.MessageLemmas.{length-with_count}
 use Rattle.fsw_base.specs.Starts.{start_of}
 use Rattle.es_pool.specs.Pool.{DrawsFor, size_at}
 use Rattle.buf_desc.specs.Block.{Unsent as UnsentBlock, Sealed as SealedBlock}
 use Rattle.buf_desc.specs.Slots.{slot_at, sealed_in, is_sealed, is_live, number_in, HaveOwnNumbers}
-use Rattle.buf_desc.specs.Desk.{Buffers, Takes, IsOf, sealed}
+use Rattle.buf_desc.specs.Desk.{Buffers, Takes, IsOf, placed, sealed}
+use Rattle.buf_desc.proofs.Copied.{placed_here, placed_again}
 use Rattle.buf_desc.specs.declared.slot.Slot.TheVariants.{Unsent, Sealed}
 use Rattle.buf_desc.proofs.Others.{slot_drawn, numbers_drawn, numbers_changed}
 use Rattle.bus_words.specs.Acts.{NextCount, next_in}
@@ -56,6 +56,35 @@ added old mid new size number len loan block sent message taken own is long same
       numbers = λ kept new_there.
           numbers_changed mid.slots block.desc (Sealed what) live (λ _. sym (ap number_in own.0)) (numbers_drawn old mid size number block taken own kept new_there);
     }
+
+-- the same where the block was drawn, written and sealed in one call
+pub put_added : (old new : Buffers) (number loan desc : ℕ) (bytes message : List ℕ) →
+    length message ≡ length bytes → desc ≤ length old.slots → is_live (slot_at old.slots desc) ≡ false → DrawsFor old.pool new.pool (length bytes) desc →
+    new.slots ≡ placed old.slots desc (Sealed (record { number = number; asked = length bytes; size = size_at new.pool desc; bytes = message; uses = 0; loan = loan; views = 0 })) →
+    Adds old new number message desc
+put_added old new number loan desc bytes message long next fresh draws e =
+    added old mid new (length bytes) number (length bytes) loan block (record block { bytes = message }) message taken own refl (sym long) (sym long) after
+  where
+    mid : Buffers
+    mid = record { pool = new.pool; slots = placed old.slots desc (Unsent number (length bytes)) }
+
+    block : UnsentBlock
+    block = record { desc = desc; number = number; size = size_at new.pool desc; bytes = bytes }
+
+    taken : Takes old mid (length bytes) number block
+    taken = record { drawn = draws; was_not_live = fresh; slots = refl; sent_as = refl; whole = refl; long = refl }
+
+    own : IsOf mid block
+    own = (placed_here old.slots desc (Unsent number (length bytes)) next, refl)
+
+    seal : ℕ → List ℕ → SealedBlock
+    seal asked sent = record { number = number; asked = asked; size = size_at new.pool desc; bytes = sent; uses = 0; loan = loan; views = 0 }
+
+    after : new ≡ sealed mid (record block { bytes = message }) (length bytes) loan
+    after = ap (λ slots. record new { slots = slots })
+        (e ∙ (ap (λ asked. placed old.slots desc (Sealed (seal asked message))) (sym long)
+        ∙ (ap (λ sent. placed old.slots desc (Sealed (seal (length message) sent))) (sym (take_all message (length bytes) (sym long)))
+        ∙ sym (placed_again old.slots desc (Unsent number (length bytes)) (Sealed (seal (length message) (take (length bytes) message))) next))))
 
 -- the block is of the desk where other bytes are in it, as many as before
 pub own_as : (b : Buffers) (block sent : UnsentBlock) (message : List ℕ) → sent ≡ record block { bytes = message } → length sent.bytes ≡ length block.bytes → IsOf b block → IsOf b sent
@@ -124,8 +153,3 @@ next_in-rows starts (way ∷ routes) id there = by_test (eqb way.id id) refl the
         ≡ (start_of starts id + option_map_or {U = ℕ} (λ (r : RouteRow). r.counted) (cond {A = Option RouteRow} b (Some way) (find (λ (r : RouteRow). eqb r.id id) routes)) 0 + 1) % 16384
     by_test true is some ih = ap (λ n. (start_of starts n + way.counted + 1) % 16384) (eqb-true way.id id is)
     by_test false is some ih = ih some
-
--- a message with a count is as long
-pub length-counted : (bytes : List ℕ) (count : Option ℕ) → 6 ≤ length bytes → length (option_map_or (with_count bytes) count bytes) ≡ length bytes
-length-counted bytes None long = refl
-length-counted bytes (Some count) long = length-with_count bytes count (omega (arith, long))

@@ -21,7 +21,7 @@ use Rattle.bus_store.specs.declared.store.BusStore.TheInside.{Inside}
 use Rattle.bus_store.specs.Store.{Store, LastLoan, BufferDesc}
 use Rattle.bus_store.specs.Words.{next_of, reads_of, sending_of, missed, counted_up, with_held}
 use Rattle.bus_store.specs.Inside.{AreLoose, all_dropped, store_of, Keeps, Backed, Seals, Adds, account_in, pipes_in, descs_in, loan_in, after_send}
-use Rattle.bus_store.proofs.Added.{length-counted}
+use Rattle.buf_desc.proofs.Copied.{length-counted}
 use Rattle.lend_block.specs.Loan.{LentBytes}
 use Rattle.buf_desc.specs.Held.{Holding}
 use Rattle.bus_store.proofs.Accounts.{OutAlone, held_law, held_now, alone_as, alone_then, sent_alone}

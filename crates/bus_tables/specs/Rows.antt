@@ -1,6 +1,6 @@
 -- The pipes, subscriptions and routes of a software bus as lists, and what becomes of a message on
 -- its way to the pipes.
-use Rattle.std.specs.Prelude.{ℕ, ◌+◌, ◌%◌, ◌==◌, Bool, List, [], ◌∷◌, ◌++◌, map, find, Option, None, if◌then◌else◌}
+use Rattle.std.specs.Prelude.{ℕ, ◌+◌, ◌%◌, ◌==◌, Bool, List, [], ◌∷◌, ◌++◌, map, find, Option, Some, None, if◌then◌else◌}
 use Rattle.std.specs.List.{list_any}
 use Rattle.std.specs.Option.{option_map_or}
 use Rattle.bus_words.specs.Pipes.{PipeOf, Subscription, Offer, is_queued, owns, last_on}
@@ -92,6 +92,16 @@ ids_of routes = map (λ route. route.id) routes
 -- whether the id has a route
 abbrev pub has_way : List RouteRow → ℕ → Bool
 has_way routes id = list_any (λ route. route.id == id) routes
+
+-- the place of the id's route, where places are numbered on from this one
+abbrev pub way_from : ℕ → List RouteRow → ℕ → Option ℕ
+way_from place [] id = None
+way_from place (route ∷ routes) id =
+    if route.id == id then Some place else way_from (place + 1) routes id
+
+-- the place of the id's route among the routes
+abbrev pub way_of : List RouteRow → ℕ → Option ℕ
+way_of routes id = way_from 0 routes id
 
 -- how many counts the id has given, modulo 16384, as its route says it
 abbrev pub counted_in : List RouteRow → ℕ → ℕ

@@ -1,5 +1,5 @@
 //! The tables.
-ghost use Rattle.std.specs.Prelude.{◌≡◌, ℕ, ◌==◌, ◌&&◌, ◌+◌, ◌*◌, ◌%◌, ◌<◌, ◌≤◌, ◌^◌, ◌++◌, ◌∷◌, [], not, length, map, filter, find, count_by, true, false, None, IfOk, IsTrue};
+ghost use Rattle.std.specs.Prelude.{◌≡◌, ℕ, ◌==◌, ◌&&◌, ◌+◌, ◌*◌, ◌%◌, ◌<◌, ◌≤◌, ◌^◌, ◌++◌, ◌∷◌, [], not, length, map, filter, find, count_by, true, false, Some, None, IfOk, IfSome, is_some, IsTrue};
 ghost use Rattle.std.specs.List.{list_any};
 ghost use Rattle.std.specs.Option.{option_map};
 ghost use Rattle.std.specs.Str.{bytes_eq};
@@ -7,7 +7,7 @@ ghost use Rattle.fsw_base.specs.Limits.{limits_of};
 ghost use Rattle.fsw_base.specs.Starts.{start_of};
 ghost use Rattle.bus_words.specs.Bus.{route, is_subscribed};
 ghost use Rattle.bus_words.specs.Pipes.{pipe_at, owns, oldest_on, last_on, with_pipe, after_receive, without_front, without_last, with_bits, new_pipe, IsRising, without_pipe, is_live, pipe_named, first_owned};
-ghost use Rattle.bus_tables.specs.Rows.{last_row_item, deliver_rows, reached_rows, missed_rows, dropped_rows, has_way, counted_in, counted_on, with_route};
+ghost use Rattle.bus_tables.specs.Rows.{last_row_item, deliver_rows, reached_rows, missed_rows, dropped_rows, has_way, counted_in, counted_on, way_of, with_route};
 ghost use Rattle.bus_tables.specs.Tables.{opened};
 
 use crate::delivery::along;
@@ -16,6 +16,7 @@ use crate::making::{count_down, item_row, route_for};
 use crate::message::Message;
 use crate::misses::Misses;
 use crate::pairs::first_of;
+use crate::route_no::RouteNo;
 use bus_words::PipeText;
 use fsw_base::{AppNo, Config, Scope};
 use pipe_table::PipeTable;
@@ -169,6 +170,15 @@ impl BusTables {
         self.routes.route_of(id).is_some()
     }
 
+    /// The place of the id's route; None if and only if the id has none. By the code, takes a
+    /// constant time.
+    pub fn route_of(&self, id: u16) -> Option<u32>
+        ensures place { result ≡ way_of self.now.routes id }
+        ensures some { is_some result ≡ has_way self.now.routes id }
+    {
+        self.routes.route_of(id)
+    }
+
     /// How many subscriptions are live. By the code, takes a constant time.
     pub fn subscriptions_len(&self) -> u32
         ensures { result ≡ length self.now.subscriptions }
@@ -271,6 +281,24 @@ impl BusTables {
         }
     }
 
+    /// Does the same where the live pipe of this number is the application's; None if and only if
+    /// it has no such pipe, and then nothing changes. By the code, the number is looked up once.
+    pub fn take_if_owned(&mut self, app: AppNo, number: u32) -> Option<LastItems>
+        ensures owned { is_some result ≡ owns self.old.pipes app number }
+        ensures before { IfSome result (λ items. items.before ≡ last_on self.old.pipes number) }
+        ensures oldest { IfSome result (λ items. items.after ≡ oldest_on self.old.pipes number) }
+        ensures rows { IfSome result (λ items. self.new ≡
+            record self.old { pipes = with_pipe after_receive number self.old.pipes }) }
+        ensures same { result ≡ None → self.new ≡ self.old }
+    {
+        let (before, oldest) = self.pipes.take_if_owned(app, number)?;
+        count_down(&mut self.subs, oldest);
+        Some(LastItems {
+            before: item_row(before),
+            after: item_row(oldest),
+        })
+    }
+
     /// Takes what waits longest out of the live pipe of this number, for whoever empties it; None
     /// if and only if nothing waits there. By the code, the number is looked up by halves.
     pub fn take_front(&mut self, number: u32) -> Option<ItemRow>
@@ -360,56 +388,58 @@ impl BusTables {
         }
     }
 
-    /// The next sequence count of an id that has a route: its start, one for each count that it has
-    /// given, and one more, modulo 16384 (CCSDS 133.0-B, 4.1.3.4.3). It counts as given. By
-    /// the code, takes a constant time.
-    pub fn next_count(&mut self, id: u16) -> u16
-        requires { has_way self.old.routes id ≡ true }
+    /// The next sequence count of the route's id: its start, one for each count that it has given,
+    /// and one more, modulo 16384 (CCSDS 133.0-B, 4.1.3.4.3). It counts as given. By the code,
+    /// takes a constant time, and looks up no id.
+    pub fn next_count(&mut self, way: RouteNo) -> u16
+        requires { way_of self.old.routes way.id ≡ Some way.place }
         ensures count { result ≡
-            (start_of self.old.room.starts id + counted_in self.old.routes id + 1) % 16384 }
-        ensures after { self.new ≡ record self.old { routes = counted_on self.old.routes id } }
+            (start_of self.old.room.starts way.id + counted_in self.old.routes way.id + 1) % 16384 }
+        ensures after { self.new ≡ record self.old { routes = counted_on self.old.routes way.id } }
     {
-        let route = self.routes.route_of(id).unwrap();
-        self.routes.next_count(route)
+        self.routes.next_count(way.place)
     }
 
-    /// Offers the message to the subscriptions of its id, in order. Answers how many pipes took it,
-    /// and leaves in `misses` those that missed it, or dropped their oldest message for it, with
-    /// the cause of each, and the messages that were dropped. A pipe takes it if it doesn't ignore
-    /// the sender, fewer messages of the subscription wait than its limit says, and either fewer
-    /// wait in all than its depth or its option bits say that it drops the oldest. Goes along the
-    /// id's subscriptions alone: at most 2 steps for each, and 2 more.
+    /// Offers the message to the subscriptions of the route's id, in order. Answers how many pipes
+    /// took it, and leaves in `misses` those that missed it, or dropped their oldest message for
+    /// it, with the cause of each, and the messages that were dropped. A pipe takes it if it
+    /// doesn't ignore the sender, fewer messages of the subscription wait than its limit says, and
+    /// either fewer wait in all than its depth or its option bits say that it drops the oldest.
+    /// Goes along the id's subscriptions alone: at most 2 steps for each, and 2 more. By the code,
+    /// looks up no id.
     pub fn deliver<L: Ledger>(
         &mut self,
-        id: u16,
+        way: RouteNo,
         message: &Message,
         misses: &mut Misses,
         steps: &mut Steps<L>,
     ) -> u32
+        requires way { way_of self.old.routes way.id ≡ Some way.place }
         requires room { self.old.room.dests ≤ misses.old.room }
         requires few { length self.old.subscriptions < 2 ^ 32 }
         ensures after { self.new ≡
             record
             self.old {
-              pipes = deliver_rows message.now (route self.old.subscriptions id)
+              pipes = deliver_rows message.now (route self.old.subscriptions way.id)
                   self.old.pipes;
             } }
         ensures reached { result ≡
-            reached_rows message.now (route self.old.subscriptions id) self.old.pipes }
+            reached_rows message.now (route self.old.subscriptions way.id) self.old.pipes }
         ensures missed { misses.new ≡
             record
             misses.old {
-              items = missed_rows message.now (route self.old.subscriptions id) self.old.pipes;
-              dropped = dropped_rows message.now (route self.old.subscriptions id)
+              items = missed_rows message.now (route self.old.subscriptions way.id) self.old.pipes;
+              dropped = dropped_rows message.now (route self.old.subscriptions way.id)
                   self.old.pipes;
             } }
-        ensures cost { steps.new ≤ steps.old + 2 * length (route self.old.subscriptions id) + 2 }
+        ensures cost { steps.new
+            ≤ steps.old + 2 * length (route self.old.subscriptions way.id) + 2 }
     {
         along(
             &mut self.pipes,
             &mut self.subs,
             &self.routes,
-            id,
+            way,
             message,
             misses,
             steps,

@@ -232,16 +232,15 @@ impl<'r> PlainBus<'r> {
         ensures buffers { held.new ≡ record held.old { views = held.new.views } }
         ensures cost { steps.new ≤ steps.old + 32 }
     {
-        if !self.store.owns(app, pipe) {
-            self.refuse(CounterName::Recv);
-            return Err(SbStatus::BadArgument);
-        }
         // Do nothing; the proof learns of them that no two applications have one pipe, that each
         // message has a number that was given, and, here and below, which blocks are out.
         self.store.recall_order();
         self.store.recall_sends();
         self.store.recall_held();
-        let received = self.store.receive(app, pipe, held, steps);
+        let Some(received) = self.store.receive_if_owned(app, pipe, held, steps) else {
+            self.refuse(CounterName::Recv);
+            return Err(SbStatus::BadArgument);
+        };
         // No more is in use than before, so no peak is looked at.
         self.store.recall_held();
         let Some(number) = received else {

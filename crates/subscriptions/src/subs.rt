@@ -15,8 +15,8 @@ use std::marker::Model;
 /// and those that are live, in order of number.
 #[derive(Drop)]
 pub struct Subs {
-    // What each slot that was ever used holds; None where it is free. Each subscription has a number
-    // of its own.
+    // What each slot that was ever used holds; None where it is free. Each subscription has a
+    // number of its own.
     slots: Vec<Option<Place>>,
     // Those of them that are free, each once, the next one to use last.
     free: Vec<u32>,
