@@ -1,5 +1,5 @@
 -- What a receive that may wait leaves, and a look.
-use Rattle.std.proofs.Common.{◌≡◌, ℕ, ◌+◌, ◌-◌, ◌<◌, ◌≤◌, Bool, true, false, ◌&&◌, not, cond, if◌then◌else◌, eqb, List, [], ◌∷◌, length, map, set, take, drop, get_or, Some, None, refl, ap, sym, ◌∙◌, subst, arith, Vec, Global}
+use Rattle.std.proofs.Common.{add-one, zero, suc, ◌≡◌, ℕ, ◌+◌, ◌-◌, ◌<◌, ◌≤◌, Bool, true, false, ◌&&◌, not, cond, if◌then◌else◌, List, [], ◌∷◌, length, map, set, take, drop, Some, None, refl, ap, sym, ◌∙◌, subst, arith, Vec, Global}
 use Rattle.std.specs.List.{list_all}
 use Rattle.std.proofs.lemmas.List.{map-set, length-set}
 use Rattle.std.proofs.lemmas.List.Folds.{list_all-map}
@@ -35,14 +35,17 @@ use Rattle.sb_plain.proofs.Waits.{oldest_told, empty-none, empty-some, oldest-so
 -- all but one pass where all before it pass and all behind it
 pub others_beside : {X : Type 0} (p : X → Bool) (xs : List X) (i : ℕ) (y : X) → i < length xs → p y ≡ true →
     (list_all p (take i xs) && list_all p (drop (i + 1) xs)) ≡ list_all p (set xs i y)
-others_beside p [] i y within passes = absurd (omega (arith, within))
-others_beside p (x ∷ xs) zero y within passes = sym (ap (λ b. b && list_all p xs) passes)
-others_beside p (x ∷ xs) (suc i) y within passes =
-    by (p x) (list_all p (take i xs)) (list_all p (drop (i + 1) xs)) ∙ ap (λ b. p x && b) (others_beside p xs i y (omega (arith, within)) passes)
+others_beside {X} p xs i y within passes = rw add-one (beside xs i within)
   where
     by : (a b c : Bool) → ((a && b) && c) ≡ (a && (b && c))
     by true b c = refl
     by false b c = refl
+
+    beside : (xs : List X) (i : ℕ) → i < length xs → (list_all p (take i xs) && list_all p (drop (suc i) xs)) ≡ list_all p (set xs i y)
+    beside [] i within = absurd (omega (arith, within))
+    beside (x ∷ xs) zero within = sym (ap (λ b. b && list_all p xs) passes)
+    beside (x ∷ xs) (suc i) within =
+        by (p x) (list_all p (take i xs)) (list_all p (drop (suc i) xs)) ∙ ap (λ b. p x && b) (beside xs i (omega (arith, within)))
 
 -- Answers. --
 

@@ -1,10 +1,10 @@
 -- News for applications that wait: without news each look is in vain, and with news a look is answered.
-use Rattle.std.proofs.Common.{◌≡◌, ◌≢◌, ℕ, zero, suc, ◌+◌, ◌-◌, ◌<◌, ◌||◌, ◌&&◌, not, Bool, true, false, true≢false, cond, eqb, ne_eqb, nat_eq, if◌then◌else◌, List, [], ◌∷◌, length, map, get_or, set, count_by, refl, ap, ap₂, sym, ◌∙◌, subst, arith}
+use Rattle.std.proofs.Common.{◌≡◌, ◌≢◌, ℕ, zero, suc, ◌+◌, ◌-◌, ◌<◌, ◌||◌, ◌&&◌, not, Bool, true, false, true≢false, cond, eqb, ne_eqb, if◌then◌else◌, List, [], ◌∷◌, length, map, get_or, set, refl, ap, ap₂, sym, ◌∙◌, arith}
 use Rattle.std.specs.List.{list_any, list_all}
-use Rattle.std.proofs.lemmas.List.Folds.{list_any_at, list_all-map, Any-from_list_any}
+use Rattle.std.proofs.lemmas.List.Folds.{list_any_at, list_all-map}
 use Rattle.bus_words.specs.declared.calls.BusAnswer.{BusAnswer}
 use Rattle.bus_words.specs.declared.calls.BusAnswer.TheVariants.{Got, TimeOut, Pending}
-use Rattle.bus_words.specs.Bus.{Pipe, State, Standing, Active, Waiting, Ended, is_empty, is_idle, others_idle, standing_of, waited_on}
+use Rattle.bus_words.specs.Bus.{State, Standing, Active, Waiting, Ended, is_empty, is_idle, others_idle, standing_of, waited_on}
 use Rattle.bus_words.specs.Machine.{oldest_number, pended_answer}
 use Rattle.sb_plain.specs.declared.activities.Activity.{Activity}
 use Rattle.sb_plain.specs.declared.plain.PlainBus.TheInside.{Inside}

@@ -168,7 +168,9 @@ fn are_others_idle(activities: &[Activity], store: &BusStore<'_>, app: AppNo) ->
         list_all (idle_in store.now.pipes) (slice_set activities.now (app - 1) Activity.Ended) }
 {
     let own = (app.get() - 1) as usize;
-    are_idle(&activities[..own], store) && are_idle(&activities[own + 1..], store)
+    let before = are_idle(&activities[..own], store);
+    let behind = are_idle(&activities[own + 1..], store);
+    before && behind
 }
 
 // Whether a waiting application would be answered: with a message on its pipe, or with a time-out,
