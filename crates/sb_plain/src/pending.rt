@@ -1,6 +1,6 @@
 //! Receives that wait. Nothing blocks here: an application that would wait is told so, and looks
 //! again in its next turn.
-ghost use Rattle.std.specs.Prelude.{◌≡◌, ℕ, ◌≤◌, ◌+◌, ◌-◌, false, Ok, not, length, slice_set, slice_index_or, count_by, if◌then◌else◌, OnErr, ◌≢◌, true, nat_eq, ◌&&◌, ◌||◌};
+ghost use Rattle.std.specs.Prelude.{◌≡◌, ℕ, ◌≤◌, ◌+◌, ◌-◌, false, Ok, length, slice_set, slice_index_or, if◌then◌else◌, OnErr, ◌≢◌, true, ◌&&◌, ◌||◌};
 ghost use Rattle.std.specs.List.{list_all, list_any};
 ghost use Rattle.bus_words.specs.declared.history.Call.TheVariants.{Pend, Look};
 ghost use Rattle.bus_words.specs.Bus.{owns, standing_of, waited_on};
@@ -161,28 +161,29 @@ impl<'r> PlainBus<'r> {
     }
 }
 
-// Whether every application but this one has ended or waits on an empty pipe: no busy one is left
-// where the caller isn't counted.
+// Whether every application but this one has ended or waits on an empty pipe.
 fn are_others_idle(activities: &[Activity], store: &BusStore<'_>, app: AppNo) -> bool
     requires { app ≤ length activities.now }
     ensures { result ≡
         list_all (idle_in store.now.pipes) (slice_set activities.now (app - 1) Activity.Ended) }
 {
-    busy(activities, store) == busy_once(activity_of(activities, app), store)
+    let own = (app.get() - 1) as usize;
+    let before = are_idle(&activities[..own], store);
+    let behind = are_idle(&activities[own + 1..], store);
+    before && behind
 }
 
 // Whether a waiting application would be answered: with a message on its pipe, or with a time-out,
-// since no application is busy.
+// since every application is idle.
 fn is_anyone_served(activities: &[Activity], store: &BusStore<'_>) -> bool
     ensures { result ≡ (list_any (λ activity. has_message store.now.pipes (standing_in activity))
         activities.now
         || (list_any (λ activity. is_waiting (standing_in activity)) activities.now
-        && nat_eq
-        (count_by (λ activity. not (idle_in store.now.pipes activity)) activities.now) 0)) }
+        && list_all (idle_in store.now.pipes) activities.now)) }
 {
     let served = is_message_awaited(activities, store);
     let waiting = is_anyone_waiting(activities);
-    served || (waiting && busy(activities, store) == 0)
+    served || (waiting && are_idle(activities, store))
 }
 
 // Whether an application waits on a pipe that has a message.
@@ -211,15 +212,11 @@ pub(crate) fn activity_of(activities: &[Activity], app: AppNo) -> Activity
     activities[(app.get() - 1) as usize]
 }
 
-// How many applications are busy.
-fn busy(activities: &[Activity], store: &BusStore<'_>) -> usize
-    ensures { result ≡
-        count_by (λ activity. not (idle_in store.now.pipes activity)) activities.now }
+// Whether each of these applications has ended or waits on an empty pipe.
+fn are_idle(activities: &[Activity], store: &BusStore<'_>) -> bool
+    ensures { result ≡ list_all (idle_in store.now.pipes) activities.now }
 {
-    activities
-        .iter()
-        .filter(|activity| !is_idle(activity, store))
-        .count()
+    activities.iter().all(|activity| is_idle(activity, store))
 }
 
 // Whether the application has ended or waits on an empty pipe.
@@ -245,13 +242,6 @@ fn has_message(activity: &Activity, store: &BusStore<'_>) -> bool
     ensures { result ≡ has_message store.now.pipes (standing_in activity.now) }
 {
     is_waiting(activity) && !is_idle(activity, store)
-}
-
-// 1 where the application isn't idle.
-fn busy_once(activity: Activity, store: &BusStore<'_>) -> usize
-    ensures { result ≡ (if not (idle_in store.now.pipes activity) then 1 else 0) }
-{
-    if is_idle(&activity, store) { 0 } else { 1 }
 }
 
 // Has the application wait on the pipe where it was told so.
