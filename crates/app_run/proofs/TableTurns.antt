@@ -58,11 +58,11 @@ use Rattle.app_run.specs.Runners.{Progress, Equipped, running_of, standing_for}
 use Rattle.app_run.specs.TableLines.{IsRunAtTables, MayRunAtTables, most_table_receipts, table_bytes_due, table_line_bytes}
 use Rattle.app_run.specs.Turns.{IsReady, Stands, TakesTurn, TakesTurnBy, active_tells, so_far, tells_in, with_bags}
 use Rattle.app_run.proofs.AskedLaws.{asked-fewer}
-use Rattle.app_run.proofs.Newest.{remember-addressed}
-use Rattle.app_run.proofs.NewestHeld.{remember_held-step}
+use Rattle.app_run.proofs.NewestReceipts.{remember-addressed}
+use Rattle.app_run.proofs.NewestVersions.{remember_held-step}
 use Rattle.app_run.proofs.OthersLaws.{stands-met, stands-met_at_tables, met-limits, met-table_limits}
-use Rattle.app_run.proofs.Settling.{standing-set}
-use Rattle.app_run.proofs.TakenHeld.{taken-address_told}
+use Rattle.app_run.proofs.Standings.{standing-set}
+use Rattle.app_run.proofs.VersionReceipts.{taken-address_told}
 use Rattle.app_run.proofs.TurnLaws.{the_running, the_progress, the_place, active_lives, apps-does, bag-kept, behind_other, both, bus-kept, entries-going, equip, first-known, given-does, held-kept, left-own, limits-does, number-known, progress-other, remember-does, run-none, so, so_far-does, standing-going, stands-other, table_bytes-line, table_entries-going, table_entries-line, tables-kept, tells-other, turn-other}
 
 -- Who has ended. --

@@ -19,11 +19,11 @@ use Rattle.app_run.specs.Received.{Remember, RememberHeld, taken_from, taken_by}
 use Rattle.app_run.specs.Turns.{IsReady, TakesTurnBy, services_of, with_bags}
 use Rattle.app_run.specs.TableLines.{IsRunAtTables, table_line_bytes, table_bytes_due}
 use Rattle.app_run.proofs.AskedLaws.{AskedLine, asked-fewer, asked-line, asked-more, given-step}
-use Rattle.app_calls.proofs.Wrote.{alike-long, alike-none}
-use Rattle.app_run.proofs.Newest.{remember-step, remember-shown}
-use Rattle.app_run.proofs.NewestHeld.{remember_held-got, remember_held-shown}
+use Rattle.app_calls.proofs.BufferBytes.{alike-long, alike-none}
+use Rattle.app_run.proofs.NewestReceipts.{remember-step, remember-shown}
+use Rattle.app_run.proofs.NewestVersions.{remember_held-got, remember_held-shown}
 use Rattle.app_run.proofs.OthersLaws.{stands-met, met-limits}
-use Rattle.app_run.proofs.Taken.{taken-told}
+use Rattle.app_run.proofs.MessageReceipts.{taken-told}
 use Rattle.std.proofs.lemmas.Bool.{le-leb}
 use Rattle.fsw_base.specs.Limits.{Limits}
 use Rattle.bus_words.specs.declared.calls.BusAnswer.{BusAnswer}
@@ -64,7 +64,7 @@ use Rattle.tbl_words.specs.Log.{left_of as tables_left_of}
 use Rattle.tbl_words.specs.Tables.{State as Tables}
 use Rattle.tbl_blocks.specs.Held.{HeldViews}
 use Rattle.tbl_load.specs.Core.{Core as TableCore, state_of as tables_of}
-use Rattle.app_run.proofs.Settling.{SettlesLine, is_pending, settles-line, settles-look}
+use Rattle.app_run.proofs.Standings.{SettlesLine, is_pending, settles-line, settles-look}
 
 -- Services after a call. --
 

@@ -25,7 +25,7 @@ use Rattle.bus_words.specs.Events.{miss_events, call_events, desk_by}
 use Rattle.bus_words.specs.Counters.{event_counter, refusal_counter, statistics_by}
 use Rattle.bus_words.specs.Machine.{Reads, sending_from, sending_in, cause, decided_with, recorded}
 use Rattle.bus_words.specs.Acts.{Whole, reads_in, completed, act}
-use Rattle.bus_words.proofs.Told.{is_quiet, leaves_desk, quiet_events, quiet_desk}
+use Rattle.bus_words.proofs.EventDesks.{is_quiet, leaves_desk, quiet_events, quiet_desk}
 use Rattle.bus_records.specs.Records.{Recordings, counter_ticked, peaks_raised, told_event, told_all}
 use Rattle.bus_records.proofs.Misses.{told_all-is, send_events-misses, send_events-nobody}
 

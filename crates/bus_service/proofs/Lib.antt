@@ -1,13 +1,13 @@
 mod Active
 mod Allowed
-pub mod Crossing
+pub mod Threads
 mod Entering
 mod Few
 mod Found
 mod Histories
 mod Lent
 mod Mains
-pub mod Meanwhile
+pub mod OthersCalls
 mod Refused
 mod Unowned
 mod Visits

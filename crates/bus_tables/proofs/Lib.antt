@@ -14,5 +14,5 @@ mod Makings
 mod MakingsRouted
 mod Readers
 pub mod MissedItems
-pub mod UsesCounted
+pub mod UseCounts
 mod FirstOf

@@ -58,7 +58,11 @@ mod making;
 mod message;
 mod misses;
 mod pairs;
+mod pipes;
+mod receiving;
 mod route_no;
+mod sending;
+mod subscribing;
 mod tables;
 mod uses;
 

@@ -110,8 +110,8 @@ impl BusJournal {
         requires { HasRoom (left_of self.old) entry.now.app (call_bytes (call_of entry.now.call)) }
         ensures { self.new ≡ with_entry self.old (entry_of entry.now) }
     {
-        // An accepted send goes by itself, and so does a receive that gave a message: their rows are
-        // known, so they are made where they stand.
+        // An accepted send goes by itself, and so does a receive that gave a message: their rows
+        // are known, so they are made where they stand.
         match (&entry.call, &entry.answer) {
             (BusCall::Transmit { bytes, inc }, BusAnswer::Sent { number, reached }) => {
                 let row = Row {

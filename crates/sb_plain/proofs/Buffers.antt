@@ -34,8 +34,8 @@ use Rattle.sb_plain.specs.Inside.{means, AreInOrder}
 use Rattle.sb_plain.specs.Rows.{buffer_cause}
 use Rattle.sb_plain.proofs.Peaks.{AreAsMany, as_many_routes}
 use Rattle.sb_plain.proofs.Accounts.{IsHeld, account_is}
-use Rattle.sb_plain.proofs.After.{bare, accepted_by}
-use Rattle.sb_plain.proofs.Ready.{ready_all, ready_sent}
+use Rattle.sb_plain.proofs.CallLaws.{bare, accepted_by}
+use Rattle.sb_plain.proofs.WaitingApplications.{ready_all, ready_sent}
 use Rattle.sb_plain.proofs.Transmits.{request_stays, ids_of-counted_up, has_route-counted_up, once_by_ids, moved_counted}
 
 -- What the bag tells of the application's buffers. --

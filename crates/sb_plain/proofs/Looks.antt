@@ -17,17 +17,17 @@ use Rattle.bus_store.specs.Store.{Store}
 use Rattle.bus_words.specs.Pipes.{IsRising}
 use Rattle.bus_store.specs.Words.{with_held}
 use Rattle.sb_plain.specs.declared.plain.PlainBus.TheInside.{Inside}
-use Rattle.sb_plain.specs.declared.pending.Pended.{Pended}
-use Rattle.sb_plain.specs.declared.pending.Pended.TheVariants as waits
+use Rattle.sb_plain.specs.declared.receiving.Pended.{Pended}
+use Rattle.sb_plain.specs.declared.receiving.Pended.TheVariants as waits
 use Rattle.sb_plain.specs.declared.activities.Activity.{Activity}
 use Rattle.sb_plain.specs.declared.activities.Activity.TheVariants as activities
 use Rattle.sb_plain.specs.Answers.{waited, is_pending}
 use Rattle.sb_plain.specs.Inside.{means, AreInOrder, IsReady, AreReady}
 use Rattle.sb_plain.specs.Rows.{standing_in, activity_at, idle_in}
-use Rattle.sb_plain.proofs.After.{bare, accepted_by}
+use Rattle.sb_plain.proofs.CallLaws.{bare, accepted_by}
 use Rattle.sb_plain.proofs.Changes.{received_keeps}
 use Rattle.sb_plain.proofs.Owners.{owns_changed, last_received}
-use Rattle.sb_plain.proofs.Ready.{ready_set, ready_others, ready_received}
+use Rattle.sb_plain.proofs.WaitingApplications.{ready_set, ready_others, ready_received}
 use Rattle.sb_plain.proofs.Waits.{oldest_told, empty-none, empty-some, oldest-some, none-told}
 
 -- The others. --

@@ -31,8 +31,8 @@ use Rattle.sb_plain.specs.Inside.{means, AreInOrder}
 use Rattle.sb_plain.specs.Rows.{AreOnce}
 use Rattle.sb_plain.proofs.Peaks.{AreAsMany, as_many_routes}
 use Rattle.sb_plain.proofs.Accounts.{IsHeld, account_is}
-use Rattle.sb_plain.proofs.After.{bare, accepted_by}
-use Rattle.sb_plain.proofs.Ready.{ready_all, ready_sent}
+use Rattle.sb_plain.proofs.CallLaws.{bare, accepted_by}
+use Rattle.sb_plain.proofs.WaitingApplications.{ready_all, ready_sent}
 use Rattle.sb_plain.proofs.Refusals.{message_least}
 
 -- Causes. --

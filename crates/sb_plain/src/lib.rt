@@ -71,22 +71,24 @@
 #![tactic(auto)]
 
 mod activities;
-mod buffer_calls;
-mod calls;
+mod buffers;
 mod causes;
-mod counter_calls;
-mod event_calls;
+mod counters;
+mod events;
+mod leaving;
 mod opening;
-mod pending;
 mod permits;
-mod pipe_calls;
 mod pipe_ends;
+mod pipes;
 mod plain;
-mod pool_calls;
+mod pools;
 mod readers;
+mod receiving;
 mod refused;
+mod sending;
+mod subscribing;
 mod uses;
 
-pub use calls::Sent;
-pub use pending::Pended;
 pub use plain::PlainBus;
+pub use receiving::Pended;
+pub use sending::Sent;

@@ -1,6 +1,6 @@
 mod Allowances
 mod Allowed
-pub mod Crossing
+pub mod Threads
 mod Few
 mod Found
 mod Histories

@@ -18,7 +18,7 @@ use Rattle.bus_store.specs.Words.{sending_of}
 use Rattle.sb_plain.specs.Core.{Plain, drops_for}
 use Rattle.sb_plain.specs.Inside.{means}
 use Rattle.sb_plain.specs.Rows.{in_use_at}
-use Rattle.sb_plain.proofs.After.{acts_from, acts_seen, seen_keeps, told_keeps, refused_acts}
+use Rattle.sb_plain.proofs.CallLaws.{acts_from, acts_seen, seen_keeps, told_keeps, refused_acts}
 use Rattle.sb_plain.proofs.Bags.{bags_kept}
 use Rattle.sb_plain.proofs.Drops.{drops_are}
 use Rattle.sb_plain.proofs.Numbers.{send_left}

@@ -18,7 +18,7 @@ use Rattle.bus_store.specs.Words.{passing_of}
 use Rattle.sb_plain.specs.Core.{Plain, drops_for}
 use Rattle.sb_plain.specs.Inside.{means}
 use Rattle.sb_plain.specs.Rows.{in_use_at}
-use Rattle.sb_plain.proofs.After.{acts_seen, seen_keeps, refused_acts}
+use Rattle.sb_plain.proofs.CallLaws.{acts_seen, seen_keeps, refused_acts}
 use Rattle.sb_plain.proofs.Bags.{bag_before, bag_after, blocked_views, others_left, views_still}
 use Rattle.sb_plain.proofs.Buffers.{gone_keeps, unheard_made, passed_keeps, passed_made, passed_told, passed_many, transmit_told}
 use Rattle.sb_plain.proofs.Drops.{drops_are}
