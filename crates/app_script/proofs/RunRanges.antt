@@ -10,7 +10,7 @@ use Rattle.script_words.specs.Counts.{Word}
 use Rattle.script_lines.specs.declared.line.Line.{Line}
 use Rattle.script_lines.specs.CallLines.{call_line_of}
 use Rattle.script_lines.specs.FileLines.{tfile_of}
-use Rattle.script_lines.proofs.Holding.{Holds, then, any, refuse, either}
+use Rattle.script_lines.proofs.ReadingLaws.{Holds, then, any, refuse, either}
 use Rattle.app_script.specs.declared.forms.Form.{Form}
 use Rattle.app_script.specs.declared.forms.Form.TheVariants.{Script, Set, Sizes, Seq, App, Call, File}
 use Rattle.app_script.specs.Forms.{form_in, is_misplaced}

@@ -16,7 +16,7 @@ use Rattle.script_lines.specs.BusLines.{hex_word}
 use Rattle.script_lines.specs.FileLines.{image_calls, spelled_image, file_calls, tfile_of}
 use Rattle.script_lines.specs.Ranges.{is_visible, is_name, is_spelled, is_readable}
 use Rattle.script_lines.proofs.Booleans.{and_first, and_second, both}
-use Rattle.script_lines.proofs.Holding.{Holds, then, any, given}
+use Rattle.script_lines.proofs.ReadingLaws.{Holds, then, any, given}
 use Rattle.script_lines.proofs.ReadTexts.{all_drop}
 use Rattle.script_lines.proofs.ReadWords.{table_in as handle_in, hex_word_in}
 

@@ -1,7 +1,7 @@
 use Rattle.std.proofs.Common.{ℕ, cond, map, Option, Some, None, ap, sym, ◌∙◌}
 use Rattle.bus_words.specs.Acts.{next_in}
 use Rattle.bus_store.specs.Words.{next_of}
-use Rattle.bus_store.proofs.Added.{next_in-rows}
+use Rattle.bus_store.proofs.NewBlocks.{next_in-rows}
 use Rattle.bus_store.proofs.sending.next_count.Goals as goal
 
 pub returns-then-inc-clause-count : goal.returns-then-inc-clause-count
