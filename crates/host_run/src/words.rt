@@ -54,6 +54,8 @@ impl Default for Word {
 }
 
 impl Model for Word {
+    ghost use Rattle.std.specs.Prelude.{ℕ, List};
+
     ghost Value = { List ℕ };
 
     ghost view = { λ w. w.bytes.items };
