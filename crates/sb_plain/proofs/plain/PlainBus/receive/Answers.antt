@@ -16,8 +16,7 @@ use Rattle.sb_plain.proofs.Receives.{got_made, none_made, as_many}
 use Rattle.bus_store.specs.Blocks.{IsGiven}
 use Rattle.sb_plain.specs.Bags.{HasBag, KeepsBags, KeepsAllLoans, KeepsAllDescs}
 use Rattle.sb_plain.specs.Core.{Plain, with_tick}
-use Rattle.sb_plain.specs.Inside.{IsCovered}
-use Rattle.sb_plain.specs.contracts.plain.PlainBus.{the_view, the_invariant}
+use Rattle.sb_plain.specs.Inside.{IsCovered, Keeps, plain_of}
 use Rattle.sb_plain.specs.declared.plain.PlainBus.TheInside.{Inside}
 use Rattle.sb_plain.proofs.Waits.{oldest_given}
 use Rattle.sb_plain.proofs.plain.PlainBus.receive.Goals as goal
@@ -25,12 +24,12 @@ use Rattle.sb_plain.proofs.plain.PlainBus.receive.Goals as goal
 -- Where the application has no such pipe. --
 
 -- the bus is as before
-back : (a : Inside) (now : Plain) (store : Store) → the_view a ≡ now → store ≡ a.store → the_view (record a { store = store }) ≡ now
-back a now store is same = ap (λ (s : Store). the_view (record a { store = s })) same ∙ is
+back : (a : Inside) (now : Plain) (store : Store) → plain_of a ≡ now → store ≡ a.store → plain_of (record a { store = store }) ≡ now
+back a now store is same = ap (λ (s : Store). plain_of (record a { store = s })) same ∙ is
 
 pub invariant_of-self : goal.invariant_of-self
 invariant_of-self g c =
-    subst (λ (s : Store). the_invariant (record c.self.inside { store = s })) (sym (c.receive_if_owned.ensures.same c.in_default.is)) c.self.invariant
+    subst (λ (s : Store). Keeps (record c.self.inside { store = s })) (sym (c.receive_if_owned.ensures.same c.in_default.is)) c.self.invariant
 
 pub returns-in_default-clause-does : goal.returns-in_default-clause-does
 returns-in_default-clause-does g c =
@@ -105,8 +104,8 @@ returns-in_default-received-clause-other_bags g c =
     others_kept a c.args.self.now c.self.view_is c.self.invariant.order (record a { store = c.receive_if_owned.new.self }) refl (ap (λ (o : Store). o.room) is) c.args.app
     (record { unsent = ap (λ (o : Store). o.unsent) is; descs = ap (λ (o : Store). o.descs) is; sizes = ap (λ (o : Store). o.account.sizes) is }) c.in-Some.ensures.other_bags
 
-pub invariant_of-self-3 : goal.invariant_of-self-3
-invariant_of-self-3 g c =
+pub invariant_of-self-in_default-received : goal.invariant_of-self-in_default-received
+invariant_of-self-in_default-received g c =
     let a = c.self.inside in
     let next = c.receive_if_owned.new.self in
     let active = is_active a c.args.self.now c.args.app (Receive c.args.pipe) c.self.view_is c.requires.may (active_receives c.args.pipe) in
