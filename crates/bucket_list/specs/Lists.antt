@@ -8,8 +8,8 @@ pub record Listed : Type 0 where
   pub nodes : ℕ
   pub lists : List (List ℕ)
 
--- a row of links that gets its places one after another: how many there is room for, and the numbers
--- at its places
+-- a row of links that gets its places one after another: how many there is room for, and the
+-- numbers at its places
 pub record NodeRow : Type 0 where
   pub room : ℕ
   pub links : List ℕ

@@ -1,13 +1,13 @@
-mod Active
-mod Allowed
-pub mod Crossing
-mod Entering
-mod Few
-mod Found
+mod ActiveStandings
+mod Permits
+pub mod Threads
+mod TurnsAfterSleep
+mod ApplicationCounts
+mod TurnFinds
 mod Histories
-mod Lent
+mod LentBuffers
 mod Mains
-pub mod Meanwhile
-mod Refused
-mod Unowned
+pub mod OthersCalls
+mod Refusals
+mod EmptyBags
 mod Visits

@@ -29,13 +29,13 @@ use Rattle.bus_service.specs.Inside.{IsPort, Tells, IsDone, IsMainPart, seen_in,
 use Rattle.bus_service.specs.Ports.{PortView, MainView, Begins, KeepsLongerOf, buffers_for}
 use Rattle.bus_service.specs.declared.boxed.NotedCall.{NotedCall}
 use Rattle.bus_service.specs.declared.permits.Permits.{Permits}
-use Rattle.bus_service.proofs.Active.{active_alone}
+use Rattle.bus_service.proofs.ActiveStandings.{active_alone}
 use Rattle.bus_words.proofs.OwnEntries.{allowed_by_own}
-use Rattle.bus_service.proofs.Allowed.{at_most, tested}
-use Rattle.bus_service.proofs.Few.{none_once, one_more, room_for}
-use Rattle.bus_service.proofs.Found.{core_of, entries_again, notes_again}
+use Rattle.bus_service.proofs.Permits.{at_most, tested}
+use Rattle.bus_service.proofs.ApplicationCounts.{none_once, one_more, room_for}
+use Rattle.bus_service.proofs.TurnFinds.{core_of, entries_again, notes_again}
 use Rattle.bus_service.proofs.Histories.{own-entries_in, entries_in-append, notes_in-append, by_others}
-use Rattle.bus_service.proofs.Unowned.{empty_bag}
+use Rattle.bus_service.proofs.EmptyBags.{empty_bag}
 
 -- the pairs are of applications, which are numbered from 1
 abbrev Called : List (ℕ × NotedCall) → Type 0

@@ -26,7 +26,7 @@ use Rattle.bus_service.specs.Ports.{PortView, Answers, AnswersLook, look_entries
 use Rattle.bus_service.specs.Turns.{Entered, MadeOne}
 use Rattle.bus_service.specs.declared.boxed.NotedCall.{NotedCall}
 use Rattle.bus_service.specs.declared.permits.Permits.{Permits}
-use Rattle.bus_service.proofs.Found.{core_of, even, entries_again, notes_again, fixed_found, own_found, own_at, others_called, known, left_found, standing_found, bag_found}
+use Rattle.bus_service.proofs.TurnFinds.{core_of, even, entries_again, notes_again, fixed_found, own_found, own_at, others_called, known, left_found, standing_found, bag_found}
 use Rattle.bus_service.proofs.Histories.{with_notes-push, own-entries_in, own-push}
 use Rattle.bus_words.proofs.OwnEntries.{callers_from_one}
 

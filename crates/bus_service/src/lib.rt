@@ -83,12 +83,13 @@ mod calls;
 mod counters;
 mod events;
 mod leaving;
-mod messages;
 mod permits;
 mod pipes;
 mod pools;
 mod ports;
 mod receiving;
+mod sending;
+mod subscribing;
 mod turns;
 mod unsent;
 

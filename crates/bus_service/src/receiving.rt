@@ -1,15 +1,18 @@
-//! Receives, by ports.
+//! Receives and looks, by ports.
 ghost use Rattle.std.specs.Prelude.{◌≡◌, Err, OnErr};
 ghost use Rattle.fsw_base.specs.declared.statuses.SbStatus.TheVariants.{BadArgument};
 ghost use Rattle.bus_words.specs.declared.history.Call.TheVariants as made;
 ghost use Rattle.sb_plain.specs.Answers.{got};
 ghost use Rattle.sb_calls.specs.Answers.{pended};
-ghost use Rattle.sb_calls.specs.Core.{MayCall};
-ghost use Rattle.bus_service.specs.Ports.{Answers};
+ghost use Rattle.sb_calls.specs.Core.{MayCall, state_of};
+ghost use Rattle.bus_service.specs.Ports.{Answers, AnswersLook};
+ghost use Rattle.bus_words.specs.Bus.{standing_of, waited_on};
+ghost use Rattle.bus_words.specs.declared.history.Call.TheVariants.{Look};
 
 use crate::bus::Bus;
 use crate::calls::PortCall;
 use crate::ports::BusPort;
+use crate::turns::{begin, finish, pause};
 use buf_desc::Held;
 use fsw_base::{AppNo, SbStatus};
 use sb_calls::{BusCore, Pended};
@@ -103,5 +106,33 @@ impl<'r> BusPort<'r> {
         ensures bag_refused { OnErr result (self.new.bag ≡ self.old.bag) }
     {
         self.visit(bus, rt, Pend { pipe })
+    }
+
+    /// Looks again for a message on the pipe that the application waits on, as [`BusCore::look`]
+    /// does at the application's turn. If its last look was in vain, it first sleeps until a
+    /// waiting application has news. It may wake earlier; nothing is claimed of how long it sleeps.
+    ///
+    /// [`BusCore::look`]: sb_calls::BusCore::look
+    pub fn look<R: Wait>(&mut self, bus: &Bus<'r>, rt: &R) -> Pended
+        requires bus { self.old.lock ≡ bus.now }
+        requires may { MayCall self.old.seen self.old.app
+            (Look (waited_on (standing_of (state_of self.old.seen) self.old.app))) }
+        ensures answers { AnswersLook self.old self.new
+            (waited_on (standing_of (state_of self.old.seen) self.old.app)) result }
+        ensures still { result ≡ Pended.Pending → self.new.bag ≡ self.old.bag }
+        ensures buffers { self.new.bag ≡ record self.old.bag { views = self.new.bag.views } }
+    {
+        bus.lock.sleep(rt, &mut self.seat);
+        let mut turn = begin(bus, rt, &mut self.seat);
+        let told = turn.value_mut().look(self.app, &mut self.bag);
+        if told.is_pending() {
+            self.permits = turn.value().permits(self.app);
+            pause(bus, &mut self.seat, turn);
+            return told;
+        }
+        self.left = turn.value().left(self.app);
+        self.permits = turn.value().permits(self.app);
+        finish(bus, &mut self.seat, turn);
+        told
     }
 }

@@ -2,8 +2,7 @@
 ghost use Rattle.std.specs.Prelude.{◌≡◌, ℕ, ◌+◌, ◌*◌, ◌<◌, ◌≤◌, ◌^◌, true, length, map, Some, None, IfSome, if◌then◌else◌};
 ghost use Rattle.ccsds_msg.specs.Message.{message_id};
 ghost use Rattle.fsw_base.specs.PoolAccounts.{has_room, after_request};
-ghost use Rattle.bus_words.specs.Bus.{route, deliver, reached, drops};
-ghost use Rattle.bus_tables.specs.Missed.{missed};
+ghost use Rattle.bus_words.specs.Bus.{route, deliver, reached, drops, missed};
 ghost use Rattle.bus_tables.specs.Rows.{has_way, way_of};
 ghost use Rattle.bus_words.specs.Acts.{next_in};
 ghost use Rattle.buf_desc.specs.Held.{Holding};
@@ -13,7 +12,8 @@ ghost use Rattle.bus_store.specs.Words.{next_of, sending_of, counted_up, with_he
 
 use crate::blocks::{drop_uses, put_message, settle_message};
 use crate::store::BusStore;
-use bus_tables::{BusTables, Message, Miss, RouteNo};
+use bus_tables::{BusTables, Message, RouteNo};
+use bus_words::Miss;
 use ccsds_msg::id_of;
 use fsw_base::AppNo;
 use step_count::{Ledger, Steps};

@@ -8,8 +8,8 @@ use Rattle.bus_words.specs.Pipes as words
 use Rattle.bus_words.specs.declared.verdict.Verdict.{Verdict}
 use Rattle.bus_tables.specs.declared.message.Message.{Message}
 use Rattle.bus_tables.specs.declared.tables.ItemRow.{ItemRow}
-use Rattle.bus_tables.specs.declared.misses.Miss.{Miss}
-use Rattle.bus_tables.specs.Missed.{misses_by, misses_of, drops_by, dropped_of}
+use Rattle.bus_words.specs.declared.miss.Miss.{Miss}
+use Rattle.bus_tables.specs.Missed.{drops_by, dropped_of}
 
 -- Pipes. --
 
@@ -63,11 +63,11 @@ drops_rows message subs rows = words.drops (offer_of message) subs rows
 
 -- the subscription's pipe and why a message is missed there for this one, where one is
 abbrev pub row_misses : Message → Subscription → List Row → List Miss
-row_misses message sub rows = misses_by (offer_of message) sub rows
+row_misses message sub rows = words.misses_by (offer_of message) sub rows
 
 -- these pipes, in the order of the subscriptions, each as its turn comes
 abbrev pub missed_rows : Message → List Subscription → List Row → List Miss
-missed_rows message subs rows = misses_of (offer_of message) subs rows
+missed_rows message subs rows = words.misses_of (offer_of message) subs rows
 
 -- the item that leaves the subscription's pipe for the message, where one does
 abbrev pub row_drops : Message → Subscription → List Row → List ItemRow

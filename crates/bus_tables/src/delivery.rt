@@ -10,9 +10,9 @@ ghost use Rattle.bus_tables.specs.Inside.{AreQueued, ArePlaced, AreRouted, row_i
 
 use crate::making::{count_down, item_row};
 use crate::message::Message;
-use crate::misses::{MissCause, Misses};
+use crate::misses::Misses;
 use crate::route_no::RouteNo;
-use bus_words::Verdict;
+use bus_words::{MissCause, Verdict};
 use pipe_queue::Item;
 use pipe_table::{PipeNo, PipeTable};
 use routing::Routes;

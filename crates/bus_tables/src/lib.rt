@@ -58,12 +58,16 @@ mod making;
 mod message;
 mod misses;
 mod pairs;
+mod pipes;
+mod receiving;
 mod route_no;
+mod sending;
+mod subscribing;
 mod tables;
 mod uses;
 
 pub use message::Message;
-pub use misses::{Miss, MissCause, Misses};
+pub use misses::Misses;
 pub use route_no::RouteNo;
 pub use tables::{BusTables, ItemRow, LastItems};
 pub use uses::recall_uses;

@@ -297,8 +297,8 @@ impl Pool {
         let _ = &self.blocks;
     }
 
-    // The class of the blocks for so many bytes. It is that of the block drawn last where messages
-    // have one size, and is looked for where it isn't.
+    // The class for so many bytes. The class drawn last is tried first: messages of one size have
+    // it. Otherwise it is searched for.
     fn class_for(&self, size: u32) -> Option<u32>
         ensures class { result ≡ class_of size self.now.sizes }
         ensures within { IfSome result (λ class. class < length self.now.sizes) }

@@ -16,12 +16,13 @@ use Rattle.bus_words.specs.declared.calls.BusAnswer.{BusAnswer}
 use Rattle.bus_words.specs.declared.calls.BusAnswer.TheVariants.{Done, Number, Sent}
 use Rattle.bus_words.specs.declared.history.Call.TheVariants.{Allocate, TransmitBuffer, Release}
 use Rattle.bus_words.specs.Bus.{State, Buffer, Subscription, Sending, route, deliver, reached, has_unsent, unsent_at, unsent_of, with_unsent, without_unsent}
+use Rattle.bus_words.specs.Events.{miss_events}
 use Rattle.bus_words.specs.Held.{account_of}
 use Rattle.bus_words.specs.Machine.{refused_if, allocate_cause, transmit_buffer_cause, release_cause, passed_along, buffer_gone}
 use Rattle.bus_words.specs.Acts.{Whole, NextCount, nexts_after, moved_on, completed}
-use Rattle.bus_tables.specs.declared.misses.Miss.{Miss}
+use Rattle.bus_words.specs.declared.miss.Miss.{Miss}
 use Rattle.bus_tables.specs.Rows.{has_way}
-use Rattle.bus_records.specs.Records.{Recordings, told_all, miss_events}
+use Rattle.bus_records.specs.Records.{Recordings, told_all}
 use Rattle.bus_store.specs.Bag.{Shape, shape_of}
 use Rattle.bus_words.proofs.Bounds.{length-deliver}
 use Rattle.bus_store.specs.Store.{Store}
@@ -33,8 +34,8 @@ use Rattle.sb_plain.specs.Inside.{means, AreInOrder}
 use Rattle.sb_plain.specs.Rows.{buffer_cause}
 use Rattle.sb_plain.proofs.Peaks.{AreAsMany, as_many_routes}
 use Rattle.sb_plain.proofs.Accounts.{IsHeld, account_is}
-use Rattle.sb_plain.proofs.After.{bare, accepted_by}
-use Rattle.sb_plain.proofs.Ready.{ready_all, ready_sent}
+use Rattle.sb_plain.proofs.CallLaws.{bare, accepted_by}
+use Rattle.sb_plain.proofs.WaitingApplications.{ready_all, ready_sent}
 use Rattle.sb_plain.proofs.Transmits.{request_stays, ids_of-counted_up, has_route-counted_up, once_by_ids, moved_counted}
 
 -- What the bag tells of the application's buffers. --

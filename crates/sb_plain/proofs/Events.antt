@@ -11,7 +11,7 @@ use Rattle.bus_words.specs.Refusals.{OfEvents}
 use Rattle.sb_plain.specs.declared.plain.PlainBus.TheInside.{Inside}
 use Rattle.sb_plain.specs.Answers.{event_told}
 use Rattle.sb_plain.specs.Inside.{means}
-use Rattle.sb_plain.proofs.After.{bare, bare_by}
+use Rattle.sb_plain.proofs.CallLaws.{bare, bare_by}
 
 module _ (a : Inside) (app id : ℕ) where
   pub event_made : (kind : EventKind) (text : List ℕ) (result : Result (Unit {0}) EvsStatus) → result_err result ≡ send_refusal a.records.events app →

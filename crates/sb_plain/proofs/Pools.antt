@@ -15,7 +15,7 @@ use Rattle.bus_words.specs.Acts.{Whole, reads_in}
 use Rattle.sb_plain.specs.declared.plain.PlainBus.TheInside.{Inside}
 use Rattle.sb_plain.specs.Answers.{pool_told}
 use Rattle.sb_plain.specs.Inside.{means}
-use Rattle.sb_plain.proofs.After.{bare, bare_by}
+use Rattle.sb_plain.proofs.CallLaws.{bare, bare_by}
 
 module _ (a : Inside) (app pool size : ℕ) where
   -- the pool of this number

@@ -5,9 +5,9 @@ use Rattle.std.proofs.lemmas.List.Elements.{All-weaker, All-head, All-tail}
 use Rattle.subscriptions.specs.declared.place.Place.{Place}
 use Rattle.subscriptions.specs.Subs.{Subscription, IsRising, AreInOrder}
 use Rattle.subscriptions.specs.Inside.{held_in, numbered, live_upto, number_at, AreKept}
-use Rattle.subscriptions.proofs.Live.{in_range, numbered_none}
-use Rattle.subscriptions.proofs.Found.{StandsUpto, live_stand}
-use Rattle.subscriptions.proofs.Waiting.{shown}
+use Rattle.subscriptions.proofs.LiveSubscriptions.{in_range, numbered_none}
+use Rattle.subscriptions.proofs.Finds.{StandsUpto, live_stand}
+use Rattle.subscriptions.proofs.WaitingCounts.{shown}
 use Rattle.subscriptions.proofs.Numbers.{equal}
 
 -- at most one subscription has a number

@@ -1,15 +1,15 @@
-pub mod Allowed
 pub mod CoreBags
 pub mod Dues
 pub mod Journals
-mod Located
-pub mod Made
+pub mod Permits
+mod TablePlaces
+pub mod Budgets
+pub mod CallEffects
 pub mod Notes
-pub mod Opened
 mod OpeningBags
+pub mod BagViews
+pub mod EntryLemma
+pub mod NoteRoom
 pub mod OthersBags
-pub mod Over
-pub mod Own
-pub mod Pushed
-pub mod Shown
+pub mod OwnHandles
 mod Versions

@@ -1,11 +1,11 @@
 mod Allowances
-mod Allowed
-pub mod Crossing
-mod Few
-mod Found
+mod Permits
+pub mod Threads
+mod ApplicationCounts
+mod TurnFinds
 mod Histories
 mod Mains
-mod Meanwhile
-mod Standing
-mod Unowned
+mod OthersCalls
+mod Standings
+mod EmptyBags
 mod Visits

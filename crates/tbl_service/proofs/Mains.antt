@@ -22,12 +22,12 @@ use Rattle.tbl_service.specs.Inside.{IsPort, TellsOpen, IsDone, IsMainPart, seen
 use Rattle.tbl_service.specs.Ports.{Begins, KeepsLongerOf}
 use Rattle.tbl_service.specs.declared.boxed.NotedCall.{NotedCall}
 use Rattle.tbl_service.proofs.Allowances.{allowed_by_own}
-use Rattle.tbl_service.proofs.Few.{none_once, one_more, room_for}
-use Rattle.tbl_service.proofs.Meanwhile.{open_alone}
-use Rattle.tbl_service.proofs.Allowed.{at_most, tested}
-use Rattle.tbl_service.proofs.Found.{core_of, entries_again, notes_again}
+use Rattle.tbl_service.proofs.ApplicationCounts.{none_once, one_more, room_for}
+use Rattle.tbl_service.proofs.OthersCalls.{open_alone}
+use Rattle.tbl_service.proofs.Permits.{at_most, tested}
+use Rattle.tbl_service.proofs.TurnFinds.{core_of, entries_again, notes_again}
 use Rattle.tbl_service.proofs.Histories.{own-entries_in, entries_in-append, notes_in-append, by_others}
-use Rattle.tbl_service.proofs.Unowned.{empty_bag}
+use Rattle.tbl_service.proofs.EmptyBags.{empty_bag}
 
 -- the pairs are of applications, which are numbered from 1
 abbrev Called : List (ℕ × NotedCall) → Type 0

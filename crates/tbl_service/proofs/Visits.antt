@@ -20,9 +20,9 @@ use Rattle.tbl_service.specs.Inside.{IsPort, TellsOpen, seen_in, mine_in, port_i
 use Rattle.tbl_service.specs.Ports.{Answers}
 use Rattle.tbl_service.specs.Turns.{Entered, MadeOne}
 use Rattle.tbl_service.specs.declared.boxed.NotedCall.{NotedCall}
-use Rattle.tbl_service.proofs.Found.{core_of, even, entries_again, notes_again, fixed_found, own_found, own_at, others_called, known}
+use Rattle.tbl_service.proofs.TurnFinds.{core_of, even, entries_again, notes_again, fixed_found, own_found, own_at, others_called, known}
 use Rattle.tbl_service.proofs.Histories.{with_notes-push, own-entries_in, own-push}
-use Rattle.tbl_service.proofs.Standing.{callers_from_one}
+use Rattle.tbl_service.proofs.Standings.{callers_from_one}
 
 module _ (s : SeatView Fixed NotedCall) (app : ℕ) (left : Allowance) (bag : HeldViews) (port : IsPort s app left bag) (old : Core) (e : Entered (view_of s) old)
     (new : Core) (call : Call) (answer : TblAnswer) (d : Does old new app call answer) where

@@ -3,8 +3,8 @@ ghost use Rattle.std.specs.Prelude.{◌≡◌, ◌<◌, ◌≤◌, Some};
 ghost use Rattle.fsw_base.specs.Limits.{usual_limits};
 ghost use Rattle.bus_tables.specs.Tables.{opened};
 
-use bus_tables::{BusTables, ItemRow, Message, Miss, MissCause, Misses, RouteNo};
-use bus_words::PipeText;
+use bus_tables::{BusTables, ItemRow, Message, Misses, RouteNo};
+use bus_words::{Miss, MissCause, PipeText};
 use fsw_base::{AppNo, Config, Scope};
 use std::marker::Brand;
 use std::process::Abort;

@@ -2,7 +2,7 @@ use Rattle.std.specs.Option.{option_map_or}
 use Rattle.ccsds_msg.specs.Message.{with_count}
 use Rattle.buf_desc.specs.Slots.{sealed_at}
 use Rattle.buf_desc.proofs.Copied.{length-counted}
-use Rattle.bus_store.proofs.Added.{put_added}
+use Rattle.bus_store.proofs.NewBlocks.{put_added}
 use Rattle.bus_store.proofs.blocks.put_message.Goals as goal
 
 pub returns-clause-added : goal.returns-clause-added

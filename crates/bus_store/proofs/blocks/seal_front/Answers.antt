@@ -3,7 +3,7 @@ use Rattle.std.specs.Option.{option_map_or}
 use Rattle.ccsds_msg.specs.Message.{with_count, message_size}
 use Rattle.buf_desc.specs.Block.{Unsent as UnsentBlock}
 use Rattle.buf_desc.proofs.Copied.{length-counted}
-use Rattle.bus_store.proofs.Added.{own_as, fronted, fronted_numbers, counted_front}
+use Rattle.bus_store.proofs.NewBlocks.{own_as, fronted, fronted_numbers, counted_front}
 use Rattle.bus_store.proofs.blocks.seal_front.Goals as goal
 
 pub seal-desc-requires-clause-own : goal.seal-desc-requires-clause-own

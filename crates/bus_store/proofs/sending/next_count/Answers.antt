@@ -3,7 +3,7 @@ use Rattle.bus_words.specs.Acts.{next_in}
 use Rattle.bus_tables.specs.Rows.{RouteRow, counted_on, way_from, way_of}
 use Rattle.bus_tables.specs.Tables.{Tables}
 use Rattle.bus_store.specs.Words.{next_of}
-use Rattle.bus_store.proofs.Added.{next_in-rows}
+use Rattle.bus_store.proofs.NewBlocks.{next_in-rows}
 use Rattle.bus_store.proofs.sending.next_count.Goals as goal
 
 -- a route stands where it stood once it has given a count more

@@ -1,5 +1,5 @@
 use Rattle.std.proofs.Common.{◌+◌, ◌*◌, ◌≤◌}
-use Rattle.bus_tables.proofs.Along.{Walked, Told}
+use Rattle.bus_tables.proofs.Deliveries.{Walked, Told}
 use Rattle.bus_tables.proofs.delivery.along.Given as goal
 
 abbrev pub invariant-loop : goal.invariant-loop

@@ -7,15 +7,15 @@ use Rattle.bus_words.specs.Pipes.{with_pipe, without_front, offered_over, is_que
 use Rattle.pipe_table.specs.Table.{Pipes}
 use Rattle.subscriptions.specs.Subs.{Subscription, live_at, one_more, with_change}
 use Rattle.bus_tables.specs.Missed.{Missed}
-use Rattle.bus_tables.specs.declared.misses.Miss.{Miss}
-use Rattle.bus_tables.specs.declared.misses.MissCause.TheVariants.{OverLimit, Full, Oldest}
+use Rattle.bus_words.specs.declared.miss.Miss.{Miss}
+use Rattle.bus_words.specs.declared.miss.MissCause.TheVariants.{OverLimit, Full, Oldest}
 use Rattle.bus_tables.specs.declared.tables.ItemRow.{ItemRow}
 use Rattle.bus_tables.specs.Rows.{row_misses, row_drops}
 use Rattle.bus_tables.specs.Inside.{AreQueued, item_in, row_in, sub_in, still}
 use Rattle.bus_tables.proofs.Offers.{pipe_here, pipe_is, waiting_is, placed_is, over_is, told_by, told_is, taken_is, missed_is, dropped_is, left_is, offered_rows, stays, goes_on, makes_way, oldest_there, own_number, with_item, queued_more}
 use Rattle.bus_tables.proofs.OffersLists.{some_there}
 use Rattle.bus_tables.proofs.OffersRows.{rising_after}
-use Rattle.bus_tables.proofs.Takings.{takes_front, waits_if, queued_if, still_fewer, live_fewer}
+use Rattle.bus_tables.proofs.Takes.{takes_front, waits_if, queued_if, still_fewer, live_fewer}
 use Rattle.bus_tables.proofs.OffersSubs.{still-with_change}
 use Rattle.bus_tables.proofs.delivery.offer.Goals as goal
 

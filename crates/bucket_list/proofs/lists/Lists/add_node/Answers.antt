@@ -2,7 +2,7 @@ use Rattle.std.proofs.Common.{ℕ, List, ◌+◌, ◌∙◌, ap, sym, subst, ari
 use Rattle.bucket_list.specs.Lists.{Listed, NodeRow, times}
 use Rattle.bucket_list.specs.Inside.{chains, AreLinked}
 use Rattle.bucket_list.proofs.Chains.{chains-more}
-use Rattle.bucket_list.proofs.Linked.{linked-more}
+use Rattle.bucket_list.proofs.ListInvariant.{linked-more}
 use Rattle.bucket_list.proofs.lists.Lists.add_node.Goals as goal
 
 pub add_place-requires : goal.add_place-requires

@@ -1,7 +1,7 @@
 use Rattle.std.proofs.Common.{◌∙◌, ap, arith}
 use Rattle.bucket_list.specs.Lists.{Listed}
 use Rattle.bucket_list.specs.Inside.{chains}
-use Rattle.bucket_list.proofs.Linked.{linked-new, chains-new}
+use Rattle.bucket_list.proofs.ListInvariant.{linked-new, chains-new}
 use Rattle.bucket_list.proofs.lists.Lists.new.Goals as goal
 
 pub invariant_of-result : goal.invariant_of-result

@@ -2,7 +2,7 @@ use Rattle.std.proofs.Common.{◌≡◌, ◌<◌, ◌∙◌, [], ap, sym, refl, 
 use Rattle.std.proofs.lemmas.List.{get_or_read, set-get_or, nil_from_length}
 use Rattle.bucket_list.specs.Lists.{Listed, listed_at}
 use Rattle.bucket_list.proofs.Chains.{length-chain, length-chains, get_or-chains}
-use Rattle.bucket_list.proofs.Linked.{pops_read, front_exists, empty_or_not}
+use Rattle.bucket_list.proofs.ListInvariant.{pops_read, front_exists, empty_or_not}
 use Rattle.bucket_list.proofs.lists.Lists.pop.Goals as goal
 
 pub index-requires : goal.index-requires

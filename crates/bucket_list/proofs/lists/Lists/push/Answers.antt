@@ -3,7 +3,7 @@ use Rattle.std.proofs.lemmas.List.{get_or_read}
 use Rattle.bucket_list.specs.Lists.{Listed, listed_at, times}
 use Rattle.bucket_list.specs.Inside.{chains}
 use Rattle.bucket_list.proofs.Chains.{length-chains}
-use Rattle.bucket_list.proofs.Linked.{pushes_read, count_fits}
+use Rattle.bucket_list.proofs.ListInvariant.{pushes_read, count_fits}
 use Rattle.bucket_list.proofs.lists.Lists.push.Goals as goal
 
 pub read-behind-requires : goal.read-behind-requires

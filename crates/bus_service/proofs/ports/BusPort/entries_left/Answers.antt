@@ -1,7 +1,7 @@
 use Rattle.std.proofs.Common.{ap, sym, ◌∙◌}
 use Rattle.journal_store.specs.Budgets.{allowance_of}
 use Rattle.bus_service.specs.Ports.{PortView, left_by}
-use Rattle.bus_service.proofs.Found.{own_left}
+use Rattle.bus_service.proofs.TurnFinds.{own_left}
 use Rattle.bus_service.proofs.ports.BusPort.entries_left.Goals as goal
 
 pub returns-clause-own : goal.returns-clause-own

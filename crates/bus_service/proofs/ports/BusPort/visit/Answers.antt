@@ -7,8 +7,8 @@ use Rattle.sb_calls.specs.Core.{MayCall}
 use Rattle.bus_service.specs.Histories.{history_of}
 use Rattle.bus_service.specs.Inside.{Guarded, Tells, port_in}
 use Rattle.bus_service.specs.Ports.{PortView, Answers, FindsRoom}
-use Rattle.bus_service.proofs.Entering.{entered_from, view_from}
-use Rattle.bus_service.proofs.Found.{may_found, bag_found}
+use Rattle.bus_service.proofs.TurnsAfterSleep.{entered_from, view_from}
+use Rattle.bus_service.proofs.TurnFinds.{may_found, bag_found}
 use Rattle.bus_service.proofs.Visits.{made_one, stays_port, stays_telling, visited}
 use Rattle.bus_service.proofs.ports.BusPort.visit.Goals as goal
 

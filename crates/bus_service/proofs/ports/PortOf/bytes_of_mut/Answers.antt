@@ -3,7 +3,7 @@ use Rattle.lend_block.specs.Loan.{LentBytes}
 use Rattle.buf_desc.specs.Held.{Holding, with_bytes_at}
 use Rattle.sb_calls.specs.Bags.{HasBag}
 use Rattle.bus_service.specs.Inside.{seen_in}
-use Rattle.bus_service.proofs.Lent.{with_bag}
+use Rattle.bus_service.proofs.LentBuffers.{with_bag}
 use Rattle.bus_service.proofs.ports.PortOf.bytes_of_mut.Goals as goal
 
 pub invariant_of-self-lent : goal.invariant_of-self-lent

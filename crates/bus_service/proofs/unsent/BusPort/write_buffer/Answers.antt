@@ -3,7 +3,7 @@ use Rattle.std.specs.Option.{is_some}
 use Rattle.buf_desc.specs.Held.{buffer_at, bytes_at, with_bytes_at}
 use Rattle.bus_service.specs.Inside.{seen_in}
 use Rattle.bus_service.specs.Ports.{PortView}
-use Rattle.bus_service.proofs.Lent.{with_bag}
+use Rattle.bus_service.proofs.LentBuffers.{with_bag}
 use Rattle.bus_service.proofs.unsent.BusPort.write_buffer.Goals as goal
 
 pub bytes_of_mut-requires : goal.bytes_of_mut-requires

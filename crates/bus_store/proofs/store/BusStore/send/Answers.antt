@@ -8,7 +8,7 @@ use Rattle.bus_store.specs.Store.{Store}
 use Rattle.bus_store.specs.Inside.{AreLoose, all_dropped}
 use Rattle.bus_store.proofs.Pool.{room_counted}
 use Rattle.bus_store.proofs.Stores.{sent_keeps, sent_reached, sent_loose, sent_drops, sent_held, sent_bags}
-use Rattle.bus_store.proofs.Tied.{sealed_live}
+use Rattle.bus_store.proofs.Ties.{sealed_live}
 use Rattle.bus_store.proofs.store.BusStore.send.Goals as goal
 
 pub put_message-desc-requires-clause-room : goal.put_message-desc-requires-clause-room

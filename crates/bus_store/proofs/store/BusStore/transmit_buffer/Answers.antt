@@ -12,9 +12,9 @@ use Rattle.bus_tables.specs.Tables.{Tables}
 use Rattle.bus_store.specs.Store.{Store}
 use Rattle.bus_store.specs.Words.{passing_of}
 use Rattle.bus_store.specs.Inside.{AreLoose, all_dropped}
-use Rattle.bus_store.proofs.Passed.{front_long, passed_keeps, passed_reached, passed_loose, passed_drops, passed_at, passed_views, passed_descs, passed_others, passed_bag}
-use Rattle.bus_store.proofs.Relisted.{list_of}
-use Rattle.bus_store.proofs.Taken.{given_number, own_block, in_list, numbered_block, size_block, bytes_are, seals_as}
+use Rattle.bus_store.proofs.BufferSends.{front_long, passed_keeps, passed_reached, passed_loose, passed_drops, passed_at, passed_views, passed_descs, passed_others, passed_bag}
+use Rattle.bus_store.proofs.ListChanges.{list_of}
+use Rattle.bus_store.proofs.OwnBuffers.{given_number, own_block, in_list, numbered_block, size_block, bytes_are, seals_as}
 use Rattle.bus_store.proofs.store.BusStore.transmit_buffer.Goals as goal
 
 pub let_go-requires-clause-held : goal.let_go-requires-clause-held

@@ -5,7 +5,7 @@ use Rattle.bus_tables.specs.Rows.{deliver_rows, missed_rows, dropped_rows, way_o
 use Rattle.bus_tables.specs.Tables.{Tables}
 use Rattle.bus_tables.specs.Inside.{row_in, sub_in}
 use Rattle.bus_tables.proofs.Readers.{place_there}
-use Rattle.bus_tables.proofs.Takings.{tables_after, tied_after}
+use Rattle.bus_tables.proofs.Takes.{tables_after, tied_after}
 use Rattle.bus_tables.proofs.tables.BusTables.deliver.Goals as goal
 
 pub invariant_of-self : goal.invariant_of-self

@@ -8,7 +8,7 @@ use Rattle.bus_tables.specs.contracts.tables.BusTables.{the_view}
 use Rattle.bus_tables.specs.declared.tables.BusTables.TheInside.{Inside}
 use Rattle.bus_tables.specs.declared.route_no.RouteNo.{RouteNo}
 use Rattle.bus_tables.proofs.Readers.{place_there}
-use Rattle.bus_tables.proofs.Counting.{IsRouteOf, found, routed_counted}
+use Rattle.bus_tables.proofs.Routes.{IsRouteOf, found, routed_counted}
 use Rattle.bus_tables.proofs.tables.BusTables.next_count.Goals as goal
 
 -- where the route stands

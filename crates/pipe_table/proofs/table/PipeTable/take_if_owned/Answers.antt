@@ -8,7 +8,7 @@ use Rattle.pipe_table.specs.Table.{Pipes}
 use Rattle.pipe_table.specs.Inside.{PlaceState, place_under}
 use Rattle.pipe_table.specs.contracts.table.PipeTable.{the_view, the_invariant}
 use Rattle.pipe_table.specs.declared.table.PipeTable.TheInside.{Inside}
-use Rattle.pipe_table.proofs.Filing.{ordered, StandsAt, stands_under, nowhere, seen_at, read_none, passes_here}
+use Rattle.pipe_table.proofs.NumberedPipes.{ordered, StandsAt, stands_under, nowhere, seen_at, read_none, passes_here}
 use Rattle.pipe_table.proofs.Changes.{changed_table, changed_kept}
 use Rattle.pipe_table.proofs.table.PipeTable.take_if_owned.Goals as goal
 

@@ -8,7 +8,7 @@ use Rattle.bus_words.specs.Machine.{by_bus, refused_if}
 use Rattle.bus_words.specs.Refusals.{OfBus}
 use Rattle.bus_store.specs.Store.{Store}
 use Rattle.sb_plain.proofs.Actives.{is_active, active_receives}
-use Rattle.sb_plain.proofs.After.{acts_quiet, cause_told, refused_acts}
+use Rattle.sb_plain.proofs.CallLaws.{acts_quiet, cause_told, refused_acts}
 use Rattle.sb_plain.proofs.Bags.{others_kept}
 use Rattle.sb_plain.proofs.Changes.{taken_keeps}
 use Rattle.sb_plain.proofs.Peaks.{AreNoMore, none_seen}

@@ -6,7 +6,7 @@ use Rattle.subscriptions.specs.declared.place.Place.{Place}
 use Rattle.subscriptions.specs.Subs.{Subscribed, Subscription}
 use Rattle.subscriptions.specs.Inside.{live_upto, with_slot, AreKept}
 use Rattle.subscriptions.proofs.Grown.{kept_grown, live_grown_slots, length_grown}
-use Rattle.subscriptions.proofs.Kept.{not_in_use}
+use Rattle.subscriptions.proofs.Slots.{not_in_use}
 use Rattle.subscriptions.proofs.Upkeep.{kept_added, live_grown}
 use Rattle.subscriptions.proofs.subs.Subs.add.Goals as goal
 

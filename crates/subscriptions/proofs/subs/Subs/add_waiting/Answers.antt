@@ -7,8 +7,8 @@ use Rattle.subscriptions.specs.declared.subs.Subs.TheInside.{Inside}
 use Rattle.subscriptions.specs.declared.words.SubNo.{SubNo}
 use Rattle.subscriptions.specs.Subs.{Subscribed, live_at, one_more, with_change}
 use Rattle.subscriptions.specs.Inside.{held_in, recounted}
-use Rattle.subscriptions.proofs.Kept.{IsHeld, slot_of_live}
-use Rattle.subscriptions.proofs.Waiting.{IsRecounted, recounts, still_kept}
+use Rattle.subscriptions.proofs.Slots.{IsHeld, slot_of_live}
+use Rattle.subscriptions.proofs.WaitingCounts.{IsRecounted, recounts, still_kept}
 use Rattle.subscriptions.proofs.subs.Subs.add_waiting.Goals as goal
 
 -- where it is

@@ -4,9 +4,9 @@ use Rattle.std.specs.List.{list_any}
 use Rattle.std.proofs.lemmas.List.{get_or_read}
 use Rattle.subscriptions.specs.Subs.{live_at, goes_by}
 use Rattle.subscriptions.specs.Inside.{live_upto, held_in}
-use Rattle.subscriptions.proofs.Kept.{live_in, none_of_pipe}
+use Rattle.subscriptions.proofs.Slots.{live_in, none_of_pipe}
 use Rattle.subscriptions.proofs.Lists.{any_from_find}
-use Rattle.subscriptions.proofs.Live.{in_range}
+use Rattle.subscriptions.proofs.LiveSubscriptions.{in_range}
 use Rattle.subscriptions.proofs.subs.Subs.any_of_pipe.Goals as goal
 
 pub returns-then-place-pipe-clause-some : goal.returns-then-place-pipe-clause-some

@@ -1,7 +1,7 @@
 -- No slot was used yet.
 use Rattle.std.proofs.Common.{[], length, sym, ap, subst, arith}
 use Rattle.subscriptions.specs.Inside.{AreKept}
-use Rattle.subscriptions.proofs.Opened.{kept_opened}
+use Rattle.subscriptions.proofs.NewSlots.{kept_opened}
 use Rattle.subscriptions.proofs.subs.Subs.new.Goals as goal
 
 pub invariant_of-result : goal.invariant_of-result

@@ -4,8 +4,8 @@ use Rattle.subscriptions.specs.contracts.subs.Subs.{the_view, the_invariant}
 use Rattle.subscriptions.specs.declared.subs.Subs.TheInside.{Inside}
 use Rattle.subscriptions.specs.Subs.{live_at, one_more, with_change}
 use Rattle.subscriptions.specs.Inside.{held_in, recounted}
-use Rattle.subscriptions.proofs.Kept.{live_here}
-use Rattle.subscriptions.proofs.Waiting.{IsRecounted, recounts, recounts_none, still_kept}
+use Rattle.subscriptions.proofs.Slots.{live_here}
+use Rattle.subscriptions.proofs.WaitingCounts.{IsRecounted, recounts, recounts_none, still_kept}
 use Rattle.subscriptions.proofs.subs.Subs.queued.Goals as goal
 use Rattle.subscriptions.proofs.subs.Subs.queued.Goals.{in-Some, in_default}
 

@@ -3,7 +3,7 @@ use Rattle.std.proofs.Common.{◌≡◌, length, set, None, IsSome, ap, sym, sub
 use Rattle.std.proofs.lemmas.List.{length-set}
 use Rattle.subscriptions.specs.Subs.{Subscribed, live_at, without}
 use Rattle.subscriptions.specs.Inside.{AreKept}
-use Rattle.subscriptions.proofs.Ended.{ended}
+use Rattle.subscriptions.proofs.Ends.{ended}
 use Rattle.subscriptions.proofs.subs.Subs.remove.Goals as goal
 
 pub index_mut-requires : goal.index_mut-requires

@@ -8,7 +8,7 @@ use Rattle.tbl_service.specs.Histories.{history_of}
 use Rattle.tbl_service.specs.Inside.{port_in}
 use Rattle.tbl_service.specs.Ports.{PortView, Answers}
 use Rattle.tbl_service.specs.Turns.{Entered}
-use Rattle.tbl_service.proofs.Found.{may_found, bag_found}
+use Rattle.tbl_service.proofs.TurnFinds.{may_found, bag_found}
 use Rattle.tbl_service.proofs.Visits.{made_one, stays_port, stays_open, visited}
 use Rattle.tbl_service.proofs.ports.TblPort.visit.Goals as goal
 
