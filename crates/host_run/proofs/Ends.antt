@@ -332,6 +332,14 @@ table-figures-run : (script : ScriptText) (core : TableCore) → core.limits ≡
 table-figures-run script core limits apps =
     ap (λ l. table_figures_shown l (table_apps_of core) core.log.entries) limits ∙ ap (λ n. table_figures_shown script.limits n core.log.entries) apps
 
+-- of a file that is an image the line on it is due
+pub shown-none : (result : HostStatus) (file name : List ℕ) (offset : ℕ) (bytes : List ℕ) (sub : ℕ) (old new : Made) → image_fault file ≡ None →
+    name ≡ name_in file → offset ≡ offset_in file → bytes ≡ table_in file → sub ≡ sub_in file →
+    EndsText Done result (image_text name offset bytes sub) ⊥ old new → EndsShown result (image_fault file) file old new
+shown-none result file name offset bytes sub old new sound one two three four ends =
+    subst (λ found. EndsShown result found file old new) (sym sound)
+    (subst (λ text. EndsText Done result text ⊥ old new) (λ i. image_text (one i) (two i) (three i) (four i)) ends)
+
 -- without a byte no image is packed, and of any an image is due
 pub packed-none : (result : HostStatus) (name : List ℕ) (offset sub : ℕ) (bytes : List ℕ) (old new : Made) → length bytes ≡ 0 → EndsNoImage result no_image.Empty old new → EndsPacked result name offset sub bytes old new
 packed-none result name offset sub [] old new none ends = ends

@@ -1,6 +1,9 @@
--- Numbers of a command line, by how a script's numbers read.
-use Rattle.std.proofs.Common.{◌≡◌, ℕ, ◌==◌, ◌&&◌, nat_le, Bool, true, false, List, [], ◌∷◌, drop, Some, None, Result, Ok, Err, if◌then◌else◌, refl, ap, ◌∙◌}
-use Rattle.std.specs.List.{starts_with}
+-- Numbers of a command line, by how a script's numbers read, and names of tables.
+use Rattle.std.proofs.Common.{◌≡◌, ℕ, ◌==◌, ◌&&◌, nat_le, Bool, true, false, List, [], ◌∷◌, length, take, drop, arith, Some, None, Result, Ok, Err, if◌then◌else◌, refl, ap, ◌∙◌}
+use Rattle.std.specs.List.{starts_with, list_all}
+use Rattle.std.proofs.lemmas.Bool.{leb-true}
+use Rattle.std.proofs.lemmas.List.{take_all}
+use Rattle.tbl_file.specs.Image.{is_table_name}
 use Rattle.std.specs.Result.{result_ok}
 use Rattle.fsw_base.specs.declared.script_faults.FaultKind.{FaultKind}
 use Rattle.fsw_base.specs.declared.script_faults.FaultKind.TheVariants.{BadWord}
@@ -30,3 +33,15 @@ decimal-read word plain =
     both true true n = refl
     both true false n = refl
     both false few n = refl
+
+both_parts : (a b : Bool) → (a && b) ≡ true → (a ≡ true) × (b ≡ true)
+both_parts true b h = (refl, h)
+both_parts false b h = absurd cc
+
+-- a word keeps the name of a table whole
+pub name_kept : (name : List ℕ) → is_table_name name ≡ true → take 64 name ≡ name
+unfolding is_table_name
+name_kept name named =
+    let sizes = (both_parts (nat_le 1 (length name) && nat_le (length name) 39) (list_all (λ byte. nat_le 0x21 byte && nat_le byte 0x7e) name) named).0 in
+    let few = leb-true (length name) 39 (both_parts (nat_le 1 (length name)) (nat_le (length name) 39) sizes).1 in
+    take_all 64 name (omega (arith, few))

@@ -118,7 +118,7 @@ fn write_shown<K: Sink>(sink: &mut SinkGuard<'_, K>, image: &Image<'_>) -> Resul
     put(sink, &mut page, b" offset=");
     put_number(sink, &mut page, image.offset);
     put(sink, &mut page, b" size=");
-    put_number(sink, &mut page, image.bytes.len() as u32);
+    put_number(sink, &mut page, image.bytes.len());
     put(sink, &mut page, b" sum=");
     put_number(sink, &mut page, sum_of(image.bytes));
     put(sink, &mut page, b" sub=");
@@ -182,9 +182,32 @@ fn pack_bytes<K: Sink>(
     if bytes.is_empty() {
         return refuse_image(sink, ImageFault::Empty);
     }
-    let Some(mut file) = memory.zeros(HEADER_BYTES + bytes.len()) else {
+    let Some(file) = memory.zeros(HEADER_BYTES + bytes.len()) else {
         return HostStatus::NoMemory(memory.refusal());
     };
+    write_packed(head, bytes, file, sink)
+}
+
+// Writes the image of these bytes, of which there is one at least, by a list that it fills.
+fn write_packed<K: Sink>(
+    head: &Head<'_>,
+    bytes: &[u8],
+    mut file: Vec<u8>,
+    sink: &mut SinkGuard<'_, K>,
+) -> HostStatus
+    requires none_failed { sink.old.failed ≡ false }
+    requires name { IsTrue (is_table_name head.now.name.now) }
+    requires some { 1 ≤ length bytes.now }
+    requires few { length bytes.now ≤ 1048576 }
+    requires size { length file.items ≡ 116 + length bytes.now }
+    ensures end { (audit : GuardedAudit) → EndsText HostStatus.Done result
+        (packed_file head.now.name.now head.now.offset head.now.sub bytes.now)
+        (MakesNothing (made_through sink.old audit) (made_through sink.new audit))
+        (made_through sink.old audit) (made_through sink.new audit) }
+    ensures failed { sink.new.failed ≡ is_write_fault result }
+    ensures no_read_fault { is_read_fault result ≡ false }
+    ensures same_sink { sink.new.sink ≡ sink.old.sink }
+{
     fill_packed(head, bytes, &mut file);
     tell_file(sink, &file)
 }

@@ -13,8 +13,8 @@ returns-in-Some-Soak-clause-serves g c =
 
 pub returns-in-Some-ShowImage-clause-serves : goal.returns-in-Some-ShowImage-clause-serves
 returns-in-Some-ShowImage-clause-serves g c =
-    serves-shows _ c.show_image.result _ _ _ _ (sym c.task.ensures ∙ c.in-Some-ShowImage.is) (c.show_image.ensures.end c.args.audit.now)
+    serves-shows _ c.show_image.result _ _ _ _ (cc (c.task.ensures, c.in-Some-ShowImage.is)) (c.show_image.ensures.end c.args.audit.now)
 
 pub returns-in-Some-Pack-clause-serves : goal.returns-in-Some-Pack-clause-serves
 returns-in-Some-Pack-clause-serves g c =
-    serves-packs _ c.in-Some-Pack.name c.in-Some-Pack.offset c.in-Some-Pack.sub c.pack.result _ _ _ _ (sym c.task.ensures ∙ c.in-Some-Pack.is) (c.pack.ensures.end c.args.audit.now)
+    serves-packs _ c.in-Some-Pack.name c.in-Some-Pack.offset c.in-Some-Pack.sub c.pack.result _ _ _ _ (cc (c.task.ensures, c.in-Some-Pack.is)) (c.pack.ensures.end c.args.audit.now)
