@@ -3,8 +3,8 @@ use Rattle.std.specs.Prelude.{◌≡◌, ℕ, ◌+◌, ◌^◌, ◌<◌, ◌≤�
 use Rattle.bus_words.specs.Bus.{Active, standing_of}
 use Rattle.sb_plain.specs.Core.{Plain, apps_in}
 
--- the application is active, and there is a number for so many pipes and subscriptions more, and for
--- so many sends and buffers
+-- the application is active, and numbers are left for so many pipes and subscriptions, and for so
+-- many sends and buffers
 pub record MayMake (core : Plain) (app opened calls : ℕ) : Type 0 where
   pub known : app ≤ apps_in core
   pub active : standing_of core.whole.bus app ≡ Active

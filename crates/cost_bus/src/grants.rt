@@ -3,6 +3,7 @@ ghost use Rattle.std.specs.Prelude.{◌≡◌, ◌<◌, ◌≤◌, []};
 ghost use Rattle.bus_words.specs.Acts.{opening_whole};
 ghost use Rattle.cost_bus.specs.Calls.{MayMake, Made};
 
+use crate::buffers::BUFFER_SIZE;
 use crate::figures::Figures;
 use fsw_base::{AppNo, Config};
 use sb_plain::PlainBus;
@@ -13,7 +14,7 @@ use step_count::{Blank, Ledger, Steps};
 // The bytes of the pool, and of a grant.
 const POOL_BYTES: u32 = 100_000;
 
-const GRANT_BYTES: u32 = 64;
+const BUFFER_SIZE: u32 = 64;
 
 /// Creates a memory pool, takes a grant of it so many times and gives it back.
 ///
@@ -95,7 +96,7 @@ fn take_one<L: Ledger>(core: &mut PlainBus<'_>, app: AppNo, pool: u32, steps: &m
     if !core.has_grant_numbers(pool) {
         return 0;
     }
-    let Ok(grant) = core.pool_get(app, pool, GRANT_BYTES, steps) else {
+    let Ok(grant) = core.pool_get(app, pool, BUFFER_SIZE, steps) else {
         return 0;
     };
     let _ = core.pool_put(app, pool, grant, steps);

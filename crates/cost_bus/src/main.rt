@@ -1,6 +1,6 @@
 //! Makes calls of the bus, without a journal, again and again, so that what they cost, and that
 //! they take no memory, can be measured from outside. The first argument says what a round is; the
-//! second is the number of rounds, at most 100,000,000,000: past 2^32, where numbers of 32 bits end.
+//! second is the number of rounds, at most 100,000,000,000.
 //!
 //! ```text
 //! send1, fan16    a message of 64 bytes is sent to 1 or 16 pipes, and received on each
