@@ -1,5 +1,5 @@
 //! Grants of a memory pool.
-ghost use Rattle.std.specs.Prelude.{◌≡◌, ◌<◌, ◌≤◌, []};
+ghost use Rattle.std.specs.Prelude.{◌≡◌, ◌<◌, ◌≤◌, [], length};
 ghost use Rattle.bus_words.specs.Acts.{opening_whole};
 ghost use Rattle.cost_bus.specs.Calls.{MayMake, Made};
 
@@ -11,10 +11,8 @@ use std::alloc::{AllocError, Global};
 use std::marker::Brand;
 use step_count::{Blank, Ledger, Steps};
 
-// The bytes of the pool, and of a grant.
+// The bytes of the pool.
 const POOL_BYTES: u32 = 100_000;
-
-const BUFFER_SIZE: u32 = 64;
 
 /// Creates a memory pool, takes a grant of it so many times and gives it back.
 ///
