@@ -1,13 +1,13 @@
-mod Active
-mod Allowed
+mod ActiveStandings
+mod Permits
 pub mod Threads
-mod Entering
-mod Few
-mod Found
+mod TurnsAfterSleep
+mod ApplicationCounts
+mod TurnFinds
 mod Histories
-mod Lent
+mod LentBuffers
 mod Mains
 pub mod OthersCalls
-mod Refused
-mod Unowned
+mod Refusals
+mod EmptyBags
 mod Visits

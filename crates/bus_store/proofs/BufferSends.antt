@@ -41,7 +41,7 @@ use Rattle.bus_store.proofs.ListChanges.{list_of, listed_fewer, unsent_fewer, de
 use Rattle.bus_store.proofs.Sends.{Begins, IsSent, is_sent}
 use Rattle.bus_store.proofs.Stores.{length-deliver}
 use Rattle.bus_store.proofs.OwnBuffers.{list_there}
-use Rattle.bus_store.proofs.Ties.{KeepsOpen, sealed_live, sealed_number, open_live, open_unsealed, pipes_stay, loans_stay}
+use Rattle.bus_store.proofs.Ties.{sealed_live, sealed_number, open_live, open_unsealed, pipes_stay, loans_stay}
 
 -- the id stands in the first two bytes
 pub id_front : (bytes : List ℕ) (n : ℕ) → 2 ≤ n → message_id (take n bytes) ≡ message_id bytes

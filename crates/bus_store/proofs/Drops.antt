@@ -6,7 +6,6 @@ use Rattle.std.proofs.lemmas.Bool.Decides.{nat_tests}
 use Rattle.std.proofs.lemmas.List.Elements.{All-nil, All-cons, All-head, All-tail, All-weaker}
 use Rattle.std.proofs.lemmas.List.Sums.{sum_by-cons}
 use Rattle.fsw_base.specs.Blocks.{class_of}
-use Rattle.fsw_base.specs.PoolAccounts.{Account}
 use Rattle.es_pool.specs.Pool.{is_out, size_at, most_cut}
 use Rattle.buf_desc.specs.Block.{Sealed as SealedBlock}
 use Rattle.buf_desc.specs.Desk.{Buffers, resealed, freed, after_drop}

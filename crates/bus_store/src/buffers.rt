@@ -11,10 +11,10 @@ ghost use Rattle.bus_store.specs.Store.{LastLoan, BufferDesc};
 ghost use Rattle.bus_store.specs.Words.{desc_of, passing_of, counted_up, with_held};
 
 use crate::blocks::{drawn_empty, drop_uses, seal_front, settle_message};
-use crate::sending::{Sent, next_count};
+use crate::sending::{Sent, next_count, place_of_route};
 use crate::store::BusStore;
 use buf_desc::Held;
-use bus_tables::Message;
+use bus_tables::{Message, RouteNo};
 use ccsds_msg::id_of;
 use fsw_base::AppNo;
 use step_count::{Ledger, Steps};

@@ -1,17 +1,17 @@
-mod Along
+mod Deliveries
 mod Offers
 mod OffersLists
 mod OffersRows
 mod OffersSubs
-mod Takings
+mod Takes
 pub mod Endings
 pub mod EndingsLists
 pub mod Removals
-mod Placed
+mod PipePlaces
 mod Ties
-mod Counting
-mod Makings
-mod MakingsRouted
+mod Routes
+mod PipeChanges
+mod NewSubscriptions
 mod Readers
 pub mod MissedItems
 pub mod UseCounts

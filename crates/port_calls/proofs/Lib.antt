@@ -1,3 +1,3 @@
 pub mod Buffers
 pub mod PortAnswers
-mod Formed
+mod BufferMessages

@@ -2,7 +2,7 @@ pub mod CoreBags
 pub mod Dues
 pub mod Journals
 pub mod Permits
-mod Located
+mod TablePlaces
 pub mod Budgets
 pub mod CallEffects
 pub mod Notes

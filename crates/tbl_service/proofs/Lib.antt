@@ -1,11 +1,11 @@
 mod Allowances
-mod Allowed
+mod Permits
 pub mod Threads
-mod Few
-mod Found
+mod ApplicationCounts
+mod TurnFinds
 mod Histories
 mod Mains
-mod Meanwhile
-mod Standing
-mod Unowned
+mod OthersCalls
+mod Standings
+mod EmptyBags
 mod Visits

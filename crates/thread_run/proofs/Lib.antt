@@ -1,4 +1,4 @@
-mod Crossing
+mod Threads
 pub mod BetweenTurns
 pub mod FirstTurns
 pub mod Joins

@@ -1,10 +1,7 @@
-use Rattle.std.proofs.Common.{◌≡◌, ◌+◌, drop, take, map, Some, ap, sym, ◌∙◌, subst, arith}
+use Rattle.std.proofs.Common.{◌≡◌, ◌+◌, drop, take, Some, sym, ◌∙◌, subst, arith}
 use Rattle.std.proofs.lemmas.List.{drop_all}
 use Rattle.routing.specs.Routing.{route_of, dests_at}
-use Rattle.bus_tables.specs.Missed.{Missed}
-use Rattle.bus_tables.specs.Rows.{deliver_rows, reached_rows, missed_rows, dropped_rows}
-use Rattle.bus_tables.specs.Inside.{row_in}
-use Rattle.bus_tables.proofs.Deliveries.{Walked, route_within, no_route, as_many, stands, is_live, walked_more, told_more, all_rows, all_reached, all_told, none_left}
+use Rattle.bus_tables.proofs.Deliveries.{Walked, route_within, as_many, stands, is_live, walked_more, told_more, all_rows, all_reached, all_told, none_left}
 use Rattle.bus_tables.proofs.PipePlaces.{placed_after}
 use Rattle.bus_tables.proofs.delivery.along.Goals as goal
 
