@@ -1,13 +1,13 @@
 mod ActiveStandings
-mod Permits
-pub mod Threads
-mod TurnsAfterSleep
 mod ApplicationCounts
-mod TurnFinds
+mod EmptyBags
 mod Histories
 mod LentBuffers
 mod Mains
 pub mod OthersCalls
+mod PermitTests
 mod Refusals
-mod EmptyBags
+pub mod Threads
+mod TurnFinds
+mod TurnsAfterSleep
 mod Visits

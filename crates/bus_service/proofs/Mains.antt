@@ -31,7 +31,7 @@ use Rattle.bus_service.specs.declared.boxed.NotedCall.{NotedCall}
 use Rattle.bus_service.specs.declared.permits.Permits.{Permits}
 use Rattle.bus_service.proofs.ActiveStandings.{active_alone}
 use Rattle.bus_words.proofs.OwnEntries.{allowed_by_own}
-use Rattle.bus_service.proofs.Permits.{at_most, tested}
+use Rattle.bus_service.proofs.PermitTests.{at_most, tested}
 use Rattle.bus_service.proofs.ApplicationCounts.{none_once, one_more, room_for}
 use Rattle.bus_service.proofs.TurnFinds.{core_of, entries_again, notes_again}
 use Rattle.bus_service.proofs.Histories.{own-entries_in, entries_in-append, notes_in-append, by_others}

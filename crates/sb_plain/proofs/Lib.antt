@@ -2,12 +2,12 @@ pub mod Accounts
 pub mod Actives
 pub mod Asks
 pub mod Bags
-pub mod Buffers
+pub mod BufferCalls
 pub mod CallLaws
 pub mod Changes
 pub mod Drops
 pub mod Ends
-pub mod Events
+pub mod EventCalls
 pub mod Figures
 pub mod Looks
 pub mod NewCores
@@ -15,7 +15,7 @@ pub mod News
 pub mod Numbers
 pub mod Owners
 pub mod Peaks
-pub mod Pools
+pub mod PoolCalls
 pub mod Receives
 pub mod Refusals
 pub mod Releases

@@ -1,15 +1,15 @@
-pub mod CoreBags
-pub mod Dues
-pub mod Journals
-pub mod Permits
-mod TablePlaces
+pub mod BagViews
 pub mod Budgets
 pub mod CallEffects
+pub mod CoreBags
+pub mod Dues
+pub mod EntryLemma
+pub mod Journals
+pub mod NoteRoom
 pub mod Notes
 mod OpeningBags
-pub mod BagViews
-pub mod EntryLemma
-pub mod NoteRoom
 pub mod OthersBags
 pub mod OwnHandles
+pub mod PermitTests
+mod TablePlaces
 mod Versions

@@ -1,11 +1,11 @@
 mod Allowances
-mod Permits
-pub mod Threads
 mod ApplicationCounts
-mod TurnFinds
+mod EmptyBags
 mod Histories
 mod Mains
 mod OthersCalls
+mod PermitTests
 mod Standings
-mod EmptyBags
+pub mod Threads
+mod TurnFinds
 mod Visits

@@ -24,7 +24,7 @@ use Rattle.tbl_service.specs.declared.boxed.NotedCall.{NotedCall}
 use Rattle.tbl_service.proofs.Allowances.{allowed_by_own}
 use Rattle.tbl_service.proofs.ApplicationCounts.{none_once, one_more, room_for}
 use Rattle.tbl_service.proofs.OthersCalls.{open_alone}
-use Rattle.tbl_service.proofs.Permits.{at_most, tested}
+use Rattle.tbl_service.proofs.PermitTests.{at_most, tested}
 use Rattle.tbl_service.proofs.TurnFinds.{core_of, entries_again, notes_again}
 use Rattle.tbl_service.proofs.Histories.{own-entries_in, entries_in-append, notes_in-append, by_others}
 use Rattle.tbl_service.proofs.EmptyBags.{empty_bag}

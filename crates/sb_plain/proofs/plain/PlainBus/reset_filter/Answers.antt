@@ -6,7 +6,7 @@ use Rattle.bus_records.proofs.Leaves.{filter_reset_left}
 use Rattle.sb_plain.specs.Answers.{event_told}
 use Rattle.sb_plain.specs.Inside.{means}
 use Rattle.sb_plain.proofs.CallLaws.{acts_from}
-use Rattle.sb_plain.proofs.Events.{reset_made}
+use Rattle.sb_plain.proofs.EventCalls.{reset_made}
 use Rattle.sb_plain.proofs.plain.PlainBus.reset_filter.Goals as goal
 
 pub returns-clause-does : goal.returns-clause-does

@@ -20,7 +20,7 @@ use Rattle.sb_plain.specs.Inside.{means}
 use Rattle.sb_plain.specs.Rows.{in_use_at}
 use Rattle.sb_plain.proofs.CallLaws.{acts_seen, seen_keeps, refused_acts}
 use Rattle.sb_plain.proofs.Bags.{bag_before, bag_after, blocked_views, others_left, views_still}
-use Rattle.sb_plain.proofs.Buffers.{gone_keeps, unheard_made, passed_keeps, passed_made, passed_told, passed_many, transmit_told}
+use Rattle.sb_plain.proofs.BufferCalls.{gone_keeps, unheard_made, passed_keeps, passed_made, passed_told, passed_many, transmit_told}
 use Rattle.sb_plain.proofs.Drops.{drops_are}
 use Rattle.sb_plain.proofs.Peaks.{told_peak, blocks_seen}
 use Rattle.sb_plain.proofs.Refusals.{at_fields}
