@@ -1,8 +1,8 @@
--- Numbers of a command line, by how a script's numbers read, and names of tables.
-use Rattle.std.proofs.Common.{◌≡◌, ℕ, ◌==◌, ◌&&◌, nat_le, Bool, true, false, List, [], ◌∷◌, length, take, drop, arith, Some, None, Result, Ok, Err, if◌then◌else◌, refl, ap, ◌∙◌}
+-- Numbers of a command line, by how a script's numbers read; names of tables, and lists that are filled.
+use Rattle.std.proofs.Common.{◌≡◌, ℕ, ◌==◌, ◌&&◌, nat_le, Bool, true, false, List, [], ◌∷◌, ◌++◌, length, take, drop, arith, append-nil, Some, None, Result, Ok, Err, if◌then◌else◌, refl, ap, ◌∙◌}
 use Rattle.std.specs.List.{starts_with, list_all}
 use Rattle.std.proofs.lemmas.Bool.{leb-true}
-use Rattle.std.proofs.lemmas.List.{take_all}
+use Rattle.std.proofs.lemmas.List.{take_all, drop_all}
 use Rattle.tbl_file.specs.Image.{is_table_name}
 use Rattle.std.specs.Result.{result_ok}
 use Rattle.fsw_base.specs.declared.script_faults.FaultKind.{FaultKind}
@@ -45,3 +45,10 @@ name_kept name named =
     let sizes = (both_parts (nat_le 1 (length name) && nat_le (length name) 39) (list_all (λ byte. nat_le 0x21 byte && nat_le byte 0x7e) name) named).0 in
     let few = leb-true (length name) 39 (both_parts (nat_le 1 (length name)) (nat_le (length name) 39) sizes).1 in
     take_all 64 name (omega (arith, few))
+
+-- a list that was filled from front to end is what it was filled with
+pub all_filled : (count : ℕ) (filled items : List ℕ) → length filled ≡ count → length items ≡ count → take count (filled ++ drop (length filled) items) ≡ filled
+all_filled count filled items new old =
+    ap (λ l. take count (filled ++ l)) (drop_all (length filled) items (omega (arith, new, old)))
+    ∙ ap (take count) (append-nil filled)
+    ∙ take_all count filled (omega (arith, new))

@@ -31,16 +31,16 @@ task_with word number =
     else (if bytes_eq word (codes "soak") then option_map Soak (decimal_number number) else None)
 
 -- to pack an image of this name, where both numbers are spelled
-abbrev pub packing : List ℕ → Option ℕ → Option ℕ → Option Task
-packing name (Some offset) (Some sub) = Some (Pack name offset sub)
-packing name (Some offset) None = None
-packing name None sub = None
+abbrev pub task_to_pack : List ℕ → Option ℕ → Option ℕ → Option Task
+task_to_pack name (Some offset) (Some sub) = Some (Pack name offset sub)
+task_to_pack name (Some offset) None = None
+task_to_pack name None sub = None
 
 -- what a word asks for with three behind it: `pack NAME OFFSET SUB`
 abbrev pub task_of_four : List ℕ → List ℕ → List ℕ → List ℕ → Option Task
 task_of_four word name offset sub =
     if bytes_eq word (codes "pack") && is_table_name name
-    then packing name (decimal_number offset) (decimal_number sub) else None
+    then task_to_pack name (decimal_number offset) (decimal_number sub) else None
 
 -- what the words ask for; none where the program doesn't know them
 abbrev pub task_of : List (List ℕ) → Option Task

@@ -1,7 +1,7 @@
 //! The words of the command line, as far as any form of them needs, and what they ask for.
 ghost use Rattle.std.specs.Prelude.{◌≡◌, ℕ, ◌≤◌, List, [], length, take, IsTrue};
 ghost use Rattle.tbl_file.specs.Image.{is_table_name};
-ghost use Rattle.host_run.specs.Words.{with_word, decimal_number, task_alone, task_with, packing, task_of_four, task_of, needs_threads};
+ghost use Rattle.host_run.specs.Words.{with_word, decimal_number, task_alone, task_with, task_to_pack, task_of_four, task_of, needs_threads};
 
 use arrayvec::ArrayVec;
 use script_words::numbers::number;
@@ -172,16 +172,16 @@ fn task_of_four(word: &[u8], name: &[u8], offset: &[u8], sub: &[u8]) -> Option<T
     ensures { result ≡ task_of_four word.now name.now offset.now sub.now }
 {
     if word == b"pack".as_slice() && is_table_name(name) {
-        packing(name, decimal_number(offset), decimal_number(sub))
+        task_to_pack(name, decimal_number(offset), decimal_number(sub))
     } else {
         None
     }
 }
 
 // To pack an image of this name, where both numbers are spelled.
-fn packing(name: &[u8], offset: Option<u32>, sub: Option<u32>) -> Option<Task>
+fn task_to_pack(name: &[u8], offset: Option<u32>, sub: Option<u32>) -> Option<Task>
     requires { IsTrue (is_table_name name.now) }
-    ensures { result ≡ packing name.now offset sub }
+    ensures { result ≡ task_to_pack name.now offset sub }
 {
     let Some(offset) = offset else {
         return None;

@@ -1,4 +1,5 @@
-use Rattle.std.proofs.Common.{refl, sym, ◌∙◌}
+use Rattle.std.proofs.Common.{ℕ, List, refl, sym, subst, ◌∙◌}
+use Rattle.host_run.specs.Serve.{Packs, fed_through, made_through}
 use Rattle.host_run.proofs.Ends.{serves-other, serves-packs, serves-shows, serves-soaks}
 use Rattle.host_run.proofs.serve.serve_alone.Goals as goal
 
@@ -17,4 +18,5 @@ returns-in-Some-ShowImage-clause-serves g c =
 
 pub returns-in-Some-Pack-clause-serves : goal.returns-in-Some-Pack-clause-serves
 returns-in-Some-Pack-clause-serves g c =
-    serves-packs _ c.in-Some-Pack.name c.in-Some-Pack.offset c.in-Some-Pack.sub c.pack.result _ _ _ _ (cc (c.task.ensures, c.in-Some-Pack.is)) (c.pack.ensures.end c.args.audit.now)
+    let packs = λ (name : List ℕ). Packs c.pack.result name c.in-Some-Pack.offset c.in-Some-Pack.sub (fed_through c.args.source.now) (fed_through c.pack.new.source) (made_through c.args.sink.now c.args.audit.now) (made_through c.pack.new.sink c.args.audit.now) in
+    serves-packs _ c.in-Some-Pack.name c.in-Some-Pack.offset c.in-Some-Pack.sub c.pack.result _ _ _ _ (cc (c.task.ensures, c.in-Some-Pack.is)) (subst packs c.as_slice.ensures (c.pack.ensures.end c.args.audit.now))
