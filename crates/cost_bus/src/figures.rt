@@ -1,6 +1,7 @@
 //! What is printed of a run.
 
 /// What a run leaves.
+#[derive(Clone, Copy)]
 pub struct Figures {
     /// How many messages were received, how often the table was read, or how many grants had the
     /// number that follows the one before.

@@ -5,6 +5,7 @@ ghost use Rattle.tbl_words.specs.Tables.{opening};
 ghost use Rattle.tbl_plain.specs.Core.{Holds};
 ghost use Rattle.cost_bus.specs.TableCalls.{MayCallTables};
 
+use crate::figures::Figures;
 use fsw_base::{AppNo, Config};
 use std::alloc::{AllocError, Global};
 use std::marker::Brand;

@@ -8,8 +8,8 @@ register-requires g c =
     let first = subst (λ (o : Option ℕ). IfSome o (λ app. app ≡ 1)) c.unwrap-app.ensures c.try_new.ensures.value in
     record { may = may_act c.args.core.now c.unwrap-app.result 0 _ refl (opened_may c.args.core.now (limits_of c.args.cfg.now) c.unwrap-app.result 1 c.requires.unused first); number = opened_number c.args.core.now (limits_of c.args.cfg.now) c.requires.unused }
 
-pub read_all-read-requires : goal.read_all-read-requires
-read_all-read-requires g c =
+pub read_all-received-requires : goal.read_all-received-requires
+read_all-received-requires g c =
     let first = subst (λ (o : Option ℕ). IfSome o (λ app. app ≡ 1)) c.unwrap-app.ensures c.try_new.ensures.value in
     record {
       value = c.requires.value;
