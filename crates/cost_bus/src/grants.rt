@@ -12,7 +12,7 @@ use std::marker::Brand;
 use step_count::{Blank, Ledger, Steps};
 
 // The bytes of the pool.
-const POOL_BYTES: u32 = 100_000;
+const POOL_BYTES: u32 = 65_536;
 
 /// Creates a memory pool, takes a grant of it so many times and gives it back.
 ///
