@@ -12,7 +12,7 @@ use std::marker::Brand;
 use step_count::{Blank, Ledger, Steps};
 
 // The bytes of the pool.
-const POOL_BYTES: u32 = 65_536;
+const POOL_BYTES: u32 = 60_000;
 
 /// Creates a memory pool, takes a grant of it so many times and gives it back.
 ///
