@@ -20,7 +20,7 @@ def kind(pid):
         if name=='cost_bus': return -1
         if name.startswith(('cost_','rows_','bus_example','test_')): return 0
         return -3
-    if who=='edit': return -9 if name in ('host_run',) else 8
+    if who=='edit': return -9 if name in ('host_run',) else -4 if name=='app_script' else 8
     return NICE.get(who,12)
 while True:
     for p in os.listdir('/proc'):
