@@ -51,7 +51,7 @@ impl ListItem {
         self.message.as_ref().as_slice()
     }
 
-    // Whether it was queued for a subscription.
+    /// Whether it was queued for a subscription.
     pub(crate) fn is_of(&self, subscription: u32) -> bool
         ensures { result ≡ (self.now.subscription == subscription) }
     {
@@ -130,7 +130,7 @@ impl ListSending {
         self.sender
     }
 
-    // What a subscription queues of it.
+    /// What a subscription queues of it.
     pub(crate) fn item_for(&self, sub: &ListSubscription) -> Result<ListItem, AllocError>
         ensures { IfOk result (λ item. item ≡ item_for self.now sub.now) }
     {

@@ -1,5 +1,5 @@
-//! The rows of a software bus as plain lists, for the check of reports: pipes with the messages that
-//! wait on them, subscriptions, and the sequence counts of ids.
+//! The rows of a software bus as plain lists, for the check of reports: pipes with the messages
+//! that wait on them, subscriptions, and the sequence counts of ids.
 //!
 //! Each call answers and leaves exactly what the definitions of `bus_words` say, for lists of any
 //! kind: no order of numbers is asked for, and no place is kept.

@@ -100,35 +100,35 @@ impl ListPipe {
         self.queue.is_empty()
     }
 
-    // Whether it has this number.
+    /// Whether it has this number.
     pub(crate) fn has_number(&self, number: u32) -> bool
         ensures { result ≡ (self.now.number == number) }
     {
         self.number == number
     }
 
-    // Whether it has this name.
+    /// Whether it has this name.
     pub(crate) fn has_name(&self, name: &[u8]) -> bool
         ensures { result ≡ bytes_eq self.now.name name.now }
     {
         self.name.as_slice() == name
     }
 
-    // Whether it is this application's.
+    /// Whether it is this application's.
     pub(crate) fn is_of(&self, app: AppNo) -> bool
         ensures { result ≡ (self.now.owner == app) }
     {
         self.owner == app
     }
 
-    // Whether it has this number and is this application's.
+    /// Whether it has this number and is this application's.
     pub(crate) fn is_owned(&self, app: AppNo, number: u32) -> bool
         ensures { result ≡ (self.now.number == number && self.now.owner == app) }
     {
         self.number == number && self.owner == app
     }
 
-    // The oldest message that waits.
+    /// The oldest message that waits.
     pub(crate) fn oldest(&self) -> Option<&ListItem>
         ensures { MatchOption result (oldest self.now.queue ≡ None)
             (λ item. oldest self.now.queue ≡ Some item.now) }
@@ -194,8 +194,8 @@ impl ListPipe {
         Ok(verdict)
     }
 
-    // A subscription is offered what is sent, if it is of this pipe: 1 if the pipe queues it, or 0.
-    // The number of a message that leaves for it goes last in `gone`.
+    /// A subscription is offered what is sent, if it is of this pipe: 1 if the pipe queues it, or
+    /// 0. The number of a message that leaves for it goes last in `gone`.
     pub(crate) fn offer_if(
         &mut self,
         sending: &ListSending,
@@ -225,8 +225,8 @@ impl ListPipe {
         }
     }
 
-    // A receive, if it is the pipe of this number. The number of the message received last before
-    // goes last in `gone`.
+    /// A receive, if it is the pipe of this number. The number of the message received last before
+    /// goes last in `gone`.
     pub(crate) fn take_if(&mut self, number: u32, gone: &mut Vec<u32>) -> Result<(), AllocError>
         ensures pipe { OnOk result
             (self.new ≡
@@ -254,7 +254,7 @@ impl ListPipe {
         Ok(())
     }
 
-    // The numbers of all its messages go last in `gone`, if it is the pipe of this number.
+    /// The numbers of all its messages go last in `gone`, if it is the pipe of this number.
     pub(crate) fn push_numbers_at(&self, number: u32, gone: &mut Vec<u32>) -> Result<(), AllocError>
         ensures { OnOk result
             (gone.new.items ≡
@@ -267,7 +267,7 @@ impl ListPipe {
         }
     }
 
-    // The numbers of all its messages go last in `gone`, if it is this application's.
+    /// The numbers of all its messages go last in `gone`, if it is this application's.
     pub(crate) fn push_numbers_of(&self, app: AppNo, gone: &mut Vec<u32>) -> Result<(), AllocError>
         ensures { OnOk result
             (gone.new.items ≡
@@ -288,7 +288,7 @@ impl ListPipe {
         push_number(gone, &self.last)
     }
 
-    // Its option bits are these, if it is the pipe of this number.
+    /// Its option bits are these, if it is the pipe of this number.
     pub(crate) fn set_bits_if(&mut self, number: u32, bits: u8)
         ensures { self.new ≡
             (if self.old.number == number then with_bits bits self.old else self.old) }

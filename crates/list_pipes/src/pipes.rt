@@ -81,7 +81,7 @@ pub fn oldest_number(pipes: &[ListPipe], number: u32) -> u32
 
 // The number of a message; 0 where there is none.
 fn number_of(item: Option<&ListItem>) -> u32
-    ensures { result ≡ option_map_or (λ i. i.number) (option_copied item) 0 }
+    ensures { result ≡ option_map_or (λ i. i.number) (option_copied item.entry) 0 }
 {
     match item {
         Some(item) => item.number(),
@@ -98,8 +98,8 @@ pub fn set_bits_of(pipes: &mut Vec<ListPipe>, number: u32, bits: u8)
     }
 }
 
-/// A receive on the pipe of this number. The number of the message received last before goes last in
-/// `gone`.
+/// A receive on the pipe of this number. The number of the message received last before goes last
+/// in `gone`.
 ///
 /// # Errors
 /// `AllocError` where memory runs out. Nothing is said of the pipes then.

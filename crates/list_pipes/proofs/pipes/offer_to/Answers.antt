@@ -18,9 +18,9 @@ loop-place-preserved c =
     let f : Pipe → Pipe = λ p. cond (eqb p.number sub.pipe) (offered sending sub p) p in
     let within : i < length xs = omega (arith, at.long) in
     record {
-      done = ap (set ys i) c.in_ok-offer_if.ensures.pipe ∙ map_over_more f xs ys i _ within at.done c.index_mut.ensures.value;
+      done = ap (set ys i) c.in_ok-joined.ensures.pipe ∙ map_over_more f xs ys i _ within at.done c.index_mut.ensures.value;
       long = length-set ys i c.offer_if.new.self ∙ at.long;
-      gone = left_more (λ (p : Pipe). cond (eqb p.number sub.pipe) (dropped_on sending sub p) []) xs i _ _ _ _ within (c.index_mut.ensures.value ∙ still f xs ys i _ within at.done) c.in_ok-offer_if.ensures.gone at.gone;
-      joined = sum_left_more (λ (p : Pipe). cond (eqb p.number sub.pipe) (joined_on sending sub p) 0) xs i _ _ _ _ within (c.index_mut.ensures.value ∙ still f xs ys i _ within at.done) c.in_ok-offer_if.ensures.joined at.joined;
-      few = omega (arith, at.few, c.in_ok-offer_if.ensures.few);
+      gone = left_more (λ (p : Pipe). cond (eqb p.number sub.pipe) (dropped_on sending sub p) []) xs i _ _ _ _ within (c.index_mut.ensures.value ∙ still f xs ys i _ within at.done) c.in_ok-joined.ensures.gone at.gone;
+      joined = sum_left_more (λ (p : Pipe). cond (eqb p.number sub.pipe) (joined_on sending sub p) 0) xs i _ _ _ _ within (c.index_mut.ensures.value ∙ still f xs ys i _ within at.done) c.in_ok-joined.ensures.joined at.joined;
+      few = omega (arith, at.few, c.in_ok-joined.ensures.few);
     }
