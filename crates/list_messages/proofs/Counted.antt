@@ -127,7 +127,7 @@ bytes-drop (o ∷ out) (size ∷ sizes) (suc i) all within = bytes-drop out size
 one : Bool → ℕ
 one b = cond {A = ℕ} b 1 0
 
-out_all : (uses : List Use) (used : ℕ) (account : Account) → IsCounted uses used account → length account.out ≡ length account.sizes
+pub out_all : (uses : List Use) (used : ℕ) (account : Account) → IsCounted uses used account → length account.out ≡ length account.sizes
 out_all uses used account counted = ap length counted.out ∙ length-each (λ class. count_by (takes account.sizes class) uses) (length account.sizes)
 
 -- one number more, with a block

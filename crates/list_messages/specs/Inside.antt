@@ -1,9 +1,8 @@
 -- What the fields stand for, and what is always true of the send numbers.
-use Rattle.std.specs.Prelude.{◌≡◌, ℕ, ◌+◌, ◌^◌, ◌<◌, ◌≤◌, List, [], length, count_by, slice_index}
+use Rattle.std.specs.Prelude.{◌≡◌, ℕ, ◌+◌, ◌^◌, ◌<◌, ◌≤◌, List, length, count_by, slice_index}
 use Rattle.fsw_base.specs.PoolAccounts.{Account, cost_of}
 use Rattle.list_messages.specs.Sends.{Use, Sends, is_used, blocks_out}
 use Rattle.list_messages.specs.Messages.{Named}
-use Rattle.list_messages.specs.declared.delivery.Delivery.{Delivery}
 use Rattle.list_messages.specs.declared.sends.ListSends.TheInside as sends
 use Rattle.list_messages.specs.declared.messages.ListMessages.TheInside as messages
 
@@ -32,14 +31,6 @@ pub record IsCounted (uses : List Use) (used : ℕ) (account : Account) : Type 0
 -- so it is of the fields
 abbrev pub AreCounted : sends.Inside → Type 0
 AreCounted s = IsCounted s.uses.items s.used s.account
-
--- a send of this number of which nothing was done yet
-pub record IsNoDelivery (done : Delivery) (number : ℕ) : Type 0 where
-  pub number_is : done.number ≡ number
-  pub reached : done.reached ≡ 0
-  pub events : done.events.items ≡ []
-  pub joined : done.joined ≡ 0
-  pub gone : done.gone.items ≡ []
 
 -- what the messages are
 abbrev pub named_in : messages.Inside → Named

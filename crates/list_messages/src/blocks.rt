@@ -1,5 +1,5 @@
 //! The blocks of a pool that are out.
-ghost use Rattle.std.specs.Prelude.{◌≡◌, ◌≤◌, ◌<◌, length, slice_index};
+ghost use Rattle.std.specs.Prelude.{◌≡◌, ℕ, ◌*◌, ◌≤◌, ◌<◌, length, slice_index};
 ghost use Rattle.fsw_base.specs.PoolAccounts.{cost_of};
 ghost use Rattle.bus_words.specs.Held.{bytes_in_use};
 
@@ -16,9 +16,18 @@ pub(crate) fn bytes_in_use(account: &ListAccount) -> u32
 {
     let mut bytes = 0;
     let _ = account.bytes();
-    let sizes = account.sizes();
-    for class in 0..sizes.count() {
-        bytes += account.out_at(class) * sizes.at(class);
+    for class in 0..account.sizes().count() {
+        let held = bytes_at(account, class);
+        bytes += held;
     }
-    bytes
+    bytes as u32
+}
+
+// The bytes of the blocks of a size that are out.
+fn bytes_at(account: &ListAccount, class: u32) -> u64
+    requires { class < length account.now.sizes }
+    ensures { result ≡
+        slice_index account.now.out class * slice_index account.now.sizes class }
+{
+    u64::from(account.out_at(class)) * u64::from(account.sizes().at(class))
 }

@@ -6,7 +6,6 @@ ghost use Rattle.bus_words.specs.Bus.{Pipe, deliver, reached, offered, offer_of,
 ghost use Rattle.bus_words.specs.Pipes.{pipe_at, with_pipe, counted_by, is_queued};
 ghost use Rattle.bus_words.specs.Events.{verdict_events, destination_events, delivery_events};
 ghost use Rattle.list_pipes.specs.Leaving.{dropped_from, joined_to};
-ghost use Rattle.list_messages.specs.Inside.{IsNoDelivery};
 ghost use Rattle.list_messages.specs.Tied.{dropped_by, joined_by};
 
 use bus_events::ServiceEvent;
@@ -32,7 +31,11 @@ pub struct Delivery {
 impl Delivery {
     // Nothing was done yet of the send of this number.
     fn new(alloc: Global, number: u32) -> Delivery
-        ensures { IsNoDelivery result number }
+        ensures number { result.number ≡ number }
+        ensures reached { result.reached ≡ 0 }
+        ensures events { result.events.items ≡ [] }
+        ensures joined { result.joined ≡ 0 }
+        ensures gone { result.gone.items ≡ [] }
     {
         Delivery {
             number,
