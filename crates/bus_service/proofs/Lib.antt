@@ -1,13 +1,11 @@
 mod Active
 mod Allowed
 pub mod Crossing
-mod Entering
-mod Few
-mod Found
-mod Histories
+mod Laws
 mod Lent
-mod Mains
+mod Looks
 pub mod Meanwhile
+mod Openings
 mod Refused
 mod Unowned
 mod Visits

@@ -9,9 +9,10 @@ ghost use Rattle.sb_calls.specs.Core.{MayCall};
 ghost use Rattle.bus_service.specs.Ports.{Answers, Adds, Takes};
 
 use crate::bus::Bus;
-use crate::calls::PortCall;
+use crate::kind::BusKind;
 use crate::ports::BusPort;
 use buf_desc::Held;
+use core_port::PortCall;
 use fsw_base::{AppNo, SbStatus};
 use sb_calls::{BusCore, Sent};
 use std::sync::Wait;
@@ -24,7 +25,7 @@ pub(crate) struct Allocate {
     size: u32,
 }
 
-impl PortCall for Allocate {
+impl<'r> PortCall<BusKind, BusCore<'r>> for Allocate {
     type Told = Result<u32, SbStatus>;
 
     ghost call = { λ c bag. made.Allocate c.size };
@@ -33,7 +34,7 @@ impl PortCall for Allocate {
 
     ghost leaves = { λ c old new told. Adds c.size old new told };
 
-    fn make<'r, L: Ledger>(
+    fn make<L: Ledger>(
         self,
         core: &mut BusCore<'r>,
         app: AppNo,
@@ -53,7 +54,7 @@ pub(crate) struct TransmitBuffer {
     inc: bool,
 }
 
-impl PortCall for TransmitBuffer {
+impl<'r> PortCall<BusKind, BusCore<'r>> for TransmitBuffer {
     type Told = Result<Sent, SbStatus>;
 
     ghost call = { λ c bag. made.TransmitBuffer c.buf (bytes_at bag c.buf) c.inc };
@@ -62,7 +63,7 @@ impl PortCall for TransmitBuffer {
 
     ghost leaves = { λ c old new told. Takes c.buf old new told };
 
-    fn make<'r, L: Ledger>(
+    fn make<L: Ledger>(
         self,
         core: &mut BusCore<'r>,
         app: AppNo,
@@ -80,7 +81,7 @@ pub(crate) struct Release {
     buf: u32,
 }
 
-impl PortCall for Release {
+impl<'r> PortCall<BusKind, BusCore<'r>> for Release {
     type Told = Result<(), SbStatus>;
 
     ghost call = { λ c bag. made.Release c.buf };
@@ -89,7 +90,7 @@ impl PortCall for Release {
 
     ghost leaves = { λ c old new told. Takes c.buf old new told };
 
-    fn make<'r, L: Ledger>(
+    fn make<L: Ledger>(
         self,
         core: &mut BusCore<'r>,
         app: AppNo,

@@ -6,35 +6,32 @@ ghost use Rattle.sb_calls.specs.Core.{IsLegalCore, StandAlone};
 ghost use Rattle.bus_words.specs.Runs.{own_entries};
 ghost use Rattle.bus_service.specs.Ports.{Begins, KeepsLongerOf, buffers_for};
 
-use crate::boxed::{BoxedCore, NotedCall, Opening};
+use crate::kind::BusKind;
 use crate::permits::Permits;
 use crate::ports::{BusDone, BusPort};
 use buf_desc::Held;
 use bus_words::Allowance;
+use core_port::{Main, Service};
 use fsw_base::{AppNo, Budget, Config};
 use sb_calls::BusCore;
 use std::alloc::{AllocError, Global};
 use std::marker::Model;
-use turn_lock::{MOST_SEATS, Seat, TurnLock};
 
 /// A software bus that threads share. The threads' ports take turns at one core.
 ///
 /// Contracts see which lock it is.
 #[derive(Drop)]
 pub struct Bus<'r> {
-    // The lock, from which a seat can be split off for each application that there may be.
-    pub(crate) lock: TurnLock<BoxedCore<'r>>,
+    // The core behind its lock.
+    pub(crate) service: Service<BusKind, BusCore<'r>>,
 }
 
 impl<'r> Model for Bus<'r> {
-    ghost use Rattle.std.specs.Prelude.{◌≡◌};
     ghost use Rattle.atomic_table.specs.Seated.{TableId};
 
     ghost Value = { TableId };
 
-    ghost view = { λ t. t.lock.name };
-
-    ghost invariant = { λ t. t.lock.seats ≡ 16 };
+    ghost view = { λ b. b.service };
 }
 
 /// The part of the service that makes ports and closes it. It stays with whoever opened the
@@ -44,8 +41,8 @@ impl<'r> Model for Bus<'r> {
 /// whose ports were made, and of those joined their entries.
 #[derive(Drop)]
 pub struct BusMain {
-    // The lock's main seat.
-    seat: Seat<Opening, NotedCall>,
+    // The service's main part.
+    main: Main<BusKind>,
     // The budgets of the applications 1, 2, 3 and so on.
     budgets: Vec<Budget>,
     // How many pipes there may be.
@@ -54,13 +51,13 @@ pub struct BusMain {
 
 impl Model for BusMain {
     ghost use Rattle.bus_service.specs.Ports.{MainView};
-    ghost use Rattle.bus_service.specs.Inside.{main_in, IsMainPart};
+    ghost use Rattle.bus_service.specs.Inside.{IsGiven};
 
     ghost Value = { MainView };
 
-    ghost view = { λ m. main_in m.seat };
+    ghost view = { λ m. m.main };
 
-    ghost invariant = { λ m. IsMainPart m.seat m.budgets.items m.pipes };
+    ghost invariant = { λ m. IsGiven m.main m.budgets.items m.pipes };
 }
 
 impl<'r> Bus<'r> {
@@ -91,12 +88,11 @@ impl<'r> Bus<'r> {
     {
         let given = budgets.to_vec(alloc)?;
         let core = BusCore::new(alloc, cfg, budgets, region)?;
-        let boxed = BoxedCore::new(alloc, core)?;
-        let (lock, seat) = TurnLock::new(alloc, boxed, MOST_SEATS)?;
+        let (service, main) = Service::new(alloc, core)?;
         Ok((
-            Bus { lock },
+            Bus { service },
             BusMain {
-                seat,
+                main,
                 budgets: given,
                 pipes: cfg.pipes,
             },
@@ -143,17 +139,13 @@ impl<'r> Bus<'r> {
         };
         let some = 1 <= budget.entries;
         let permits = Permits {
+            left,
             any: some,
             last: some,
         };
-        let seat = self.lock.split(&mut main.seat, app);
-        Ok(BusPort {
-            seat,
-            app,
-            left,
-            permits,
-            bag,
-        })
+        main.main.recall();
+        let port = self.service.port(&mut main.main, app, permits);
+        Ok(BusPort { port, bag })
     }
 
     /// Takes a finished port into the main part, which keeps its entries, and the longer of the
@@ -166,8 +158,8 @@ impl<'r> Bus<'r> {
         ensures apps { main.new.apps ≡ main.old.apps }
         ensures ended { main.new.ended ≡ main.old.ended ++ (done.app, done.mine) ∷ [] }
     {
-        let BusDone { seat } = done;
-        self.lock.join(&mut main.seat, seat);
+        let BusDone { port } = done;
+        self.service.join(&mut main.main, port);
     }
 
     /// Ends the service, whose ports have all been joined, and answers the core. Its history is one
@@ -185,14 +177,12 @@ impl<'r> Bus<'r> {
         ensures others { (app : ℕ) → ¬ (Contains main.apps app) →
             own_entries app result.log.entries ≡ [] }
     {
-        let Bus { lock } = self;
+        let Bus { service } = self;
         let BusMain {
-            seat,
+            main,
             budgets: _,
             pipes: _,
         } = main;
-        let boxed = lock.close(seat);
-        boxed.recall();
-        boxed.into_core()
+        service.close(main)
     }
 }

@@ -7,9 +7,10 @@ ghost use Rattle.sb_calls.specs.Core.{MayCall};
 ghost use Rattle.bus_service.specs.Ports.{Answers};
 
 use crate::bus::Bus;
-use crate::calls::PortCall;
+use crate::kind::BusKind;
 use crate::ports::BusPort;
 use buf_desc::Held;
+use core_port::PortCall;
 use fsw_base::{AppNo, BusStats, SbStatus};
 use sb_calls::{BusCore, Sent};
 use std::sync::Wait;
@@ -19,7 +20,7 @@ use step_count::{Ledger, Steps};
 #[derive(Drop)]
 pub(crate) struct Housekeeping;
 
-impl PortCall for Housekeeping {
+impl<'r> PortCall<BusKind, BusCore<'r>> for Housekeeping {
     type Told = Result<Sent, SbStatus>;
 
     ghost call = { λ c bag. made.Housekeeping };
@@ -28,7 +29,7 @@ impl PortCall for Housekeeping {
 
     ghost leaves = { λ c old new told. new ≡ old };
 
-    fn make<'r, L: Ledger>(
+    fn make<L: Ledger>(
         self,
         core: &mut BusCore<'r>,
         app: AppNo,
@@ -43,7 +44,7 @@ impl PortCall for Housekeeping {
 #[derive(Drop)]
 pub(crate) struct Figures;
 
-impl PortCall for Figures {
+impl<'r> PortCall<BusKind, BusCore<'r>> for Figures {
     type Told = BusStats;
 
     ghost call = { λ c bag. made.Figures };
@@ -52,7 +53,7 @@ impl PortCall for Figures {
 
     ghost leaves = { λ c old new told. new ≡ old };
 
-    fn make<'r, L: Ledger>(
+    fn make<L: Ledger>(
         self,
         core: &mut BusCore<'r>,
         app: AppNo,

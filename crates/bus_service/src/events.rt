@@ -7,9 +7,10 @@ ghost use Rattle.sb_calls.specs.Core.{MayCall};
 ghost use Rattle.bus_service.specs.Ports.{Answers};
 
 use crate::bus::Bus;
-use crate::calls::PortCall;
+use crate::kind::BusKind;
 use crate::ports::BusPort;
 use buf_desc::Held;
+use core_port::PortCall;
 use fsw_base::{AppNo, EventKind, EvsStatus, FilterList};
 use sb_calls::BusCore;
 use std::sync::Wait;
@@ -22,7 +23,7 @@ pub(crate) struct RegisterFilters<'a> {
     filters: &'a FilterList,
 }
 
-impl PortCall for RegisterFilters<'_> {
+impl<'r> PortCall<BusKind, BusCore<'r>> for RegisterFilters<'_> {
     type Told = ();
 
     ghost call = { λ c bag. made.Register c.filters.now };
@@ -31,7 +32,7 @@ impl PortCall for RegisterFilters<'_> {
 
     ghost leaves = { λ c old new told. new ≡ old };
 
-    fn make<'r, L: Ledger>(
+    fn make<L: Ledger>(
         self,
         core: &mut BusCore<'r>,
         app: AppNo,
@@ -53,7 +54,7 @@ pub(crate) struct SendEvent<'a> {
     text: &'a [u8],
 }
 
-impl PortCall for SendEvent<'_> {
+impl<'r> PortCall<BusKind, BusCore<'r>> for SendEvent<'_> {
     type Told = Result<(), EvsStatus>;
 
     ghost call = { λ c bag. made.SendEvent c.id c.kind c.text.now };
@@ -62,7 +63,7 @@ impl PortCall for SendEvent<'_> {
 
     ghost leaves = { λ c old new told. new ≡ old };
 
-    fn make<'r, L: Ledger>(
+    fn make<L: Ledger>(
         self,
         core: &mut BusCore<'r>,
         app: AppNo,
@@ -80,7 +81,7 @@ pub(crate) struct ResetFilter {
     id: u16,
 }
 
-impl PortCall for ResetFilter {
+impl<'r> PortCall<BusKind, BusCore<'r>> for ResetFilter {
     type Told = Result<(), EvsStatus>;
 
     ghost call = { λ c bag. made.ResetFilter c.id };
@@ -89,7 +90,7 @@ impl PortCall for ResetFilter {
 
     ghost leaves = { λ c old new told. new ≡ old };
 
-    fn make<'r, L: Ledger>(
+    fn make<L: Ledger>(
         self,
         core: &mut BusCore<'r>,
         app: AppNo,
@@ -107,7 +108,7 @@ pub(crate) struct LogMode {
     mode: u8,
 }
 
-impl PortCall for LogMode {
+impl<'r> PortCall<BusKind, BusCore<'r>> for LogMode {
     type Told = ();
 
     ghost call = { λ c bag. made.LogMode c.mode };
@@ -116,7 +117,7 @@ impl PortCall for LogMode {
 
     ghost leaves = { λ c old new told. new ≡ old };
 
-    fn make<'r, L: Ledger>(
+    fn make<L: Ledger>(
         self,
         core: &mut BusCore<'r>,
         app: AppNo,
@@ -131,7 +132,7 @@ impl PortCall for LogMode {
 #[derive(Drop)]
 pub(crate) struct ClearLog;
 
-impl PortCall for ClearLog {
+impl<'r> PortCall<BusKind, BusCore<'r>> for ClearLog {
     type Told = ();
 
     ghost call = { λ c bag. made.ClearLog };
@@ -140,7 +141,7 @@ impl PortCall for ClearLog {
 
     ghost leaves = { λ c old new told. new ≡ old };
 
-    fn make<'r, L: Ledger>(
+    fn make<L: Ledger>(
         self,
         core: &mut BusCore<'r>,
         app: AppNo,

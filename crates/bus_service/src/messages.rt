@@ -7,9 +7,10 @@ ghost use Rattle.sb_calls.specs.Core.{MayCall};
 ghost use Rattle.bus_service.specs.Ports.{Answers};
 
 use crate::bus::Bus;
-use crate::calls::PortCall;
+use crate::kind::BusKind;
 use crate::ports::BusPort;
 use buf_desc::Held;
+use core_port::PortCall;
 use fsw_base::{AppNo, SbStatus, Scope};
 use sb_calls::{BusCore, Sent};
 use std::sync::Wait;
@@ -28,7 +29,7 @@ pub(crate) struct Subscribe {
     scope: Scope,
 }
 
-impl PortCall for Subscribe {
+impl<'r> PortCall<BusKind, BusCore<'r>> for Subscribe {
     type Told = Result<(), SbStatus>;
 
     ghost call = { λ c bag. made.Subscribe c.id c.pipe c.limit c.scope };
@@ -37,7 +38,7 @@ impl PortCall for Subscribe {
 
     ghost leaves = { λ c old new told. new ≡ old };
 
-    fn make<'r, L: Ledger>(
+    fn make<L: Ledger>(
         self,
         core: &mut BusCore<'r>,
         app: AppNo,
@@ -57,7 +58,7 @@ pub(crate) struct Unsubscribe {
     pipe: u32,
 }
 
-impl PortCall for Unsubscribe {
+impl<'r> PortCall<BusKind, BusCore<'r>> for Unsubscribe {
     type Told = Result<(), SbStatus>;
 
     ghost call = { λ c bag. made.Unsubscribe c.id c.pipe };
@@ -66,7 +67,7 @@ impl PortCall for Unsubscribe {
 
     ghost leaves = { λ c old new told. new ≡ old };
 
-    fn make<'r, L: Ledger>(
+    fn make<L: Ledger>(
         self,
         core: &mut BusCore<'r>,
         app: AppNo,
@@ -86,7 +87,7 @@ pub(crate) struct Transmit<'a> {
     inc: bool,
 }
 
-impl PortCall for Transmit<'_> {
+impl<'r> PortCall<BusKind, BusCore<'r>> for Transmit<'_> {
     type Told = Result<Sent, SbStatus>;
 
     ghost call = { λ c bag. made.Transmit c.bytes.now c.inc };
@@ -95,7 +96,7 @@ impl PortCall for Transmit<'_> {
 
     ghost leaves = { λ c old new told. new ≡ old };
 
-    fn make<'r, L: Ledger>(
+    fn make<L: Ledger>(
         self,
         core: &mut BusCore<'r>,
         app: AppNo,

@@ -6,10 +6,11 @@ ghost use Rattle.sb_calls.specs.Core.{MayCall};
 ghost use Rattle.bus_service.specs.Ports.{Answers};
 
 use crate::bus::Bus;
-use crate::calls::PortCall;
+use crate::kind::BusKind;
 use crate::ports::BusPort;
 use buf_desc::Held;
 use bus_words::PipeText;
+use core_port::PortCall;
 use fsw_base::{AppNo, SbStatus};
 use sb_calls::BusCore;
 use std::sync::Wait;
@@ -24,7 +25,7 @@ pub(crate) struct CreatePipe<'a> {
     name: &'a [u8],
 }
 
-impl PortCall for CreatePipe<'_> {
+impl<'r> PortCall<BusKind, BusCore<'r>> for CreatePipe<'_> {
     type Told = Result<u32, SbStatus>;
 
     ghost call = { λ c bag. made.Create c.depth c.name.now };
@@ -33,7 +34,7 @@ impl PortCall for CreatePipe<'_> {
 
     ghost leaves = { λ c old new told. new ≡ old };
 
-    fn make<'r, L: Ledger>(
+    fn make<L: Ledger>(
         self,
         core: &mut BusCore<'r>,
         app: AppNo,
@@ -51,7 +52,7 @@ pub(crate) struct DeletePipe {
     pipe: u32,
 }
 
-impl PortCall for DeletePipe {
+impl<'r> PortCall<BusKind, BusCore<'r>> for DeletePipe {
     type Told = Result<(), SbStatus>;
 
     ghost call = { λ c bag. made.Delete c.pipe };
@@ -61,7 +62,7 @@ impl PortCall for DeletePipe {
     ghost leaves = { λ c old new told.
         (new ≡ record old { views = new.views }) × OnErr told (new ≡ old) };
 
-    fn make<'r, L: Ledger>(
+    fn make<L: Ledger>(
         self,
         core: &mut BusCore<'r>,
         app: AppNo,
@@ -81,7 +82,7 @@ pub(crate) struct SetOpts {
     bits: u8,
 }
 
-impl PortCall for SetOpts {
+impl<'r> PortCall<BusKind, BusCore<'r>> for SetOpts {
     type Told = Result<(), SbStatus>;
 
     ghost call = { λ c bag. made.SetOpts c.pipe c.bits };
@@ -90,7 +91,7 @@ impl PortCall for SetOpts {
 
     ghost leaves = { λ c old new told. new ≡ old };
 
-    fn make<'r, L: Ledger>(
+    fn make<L: Ledger>(
         self,
         core: &mut BusCore<'r>,
         app: AppNo,
@@ -108,7 +109,7 @@ pub(crate) struct GetOpts {
     pipe: u32,
 }
 
-impl PortCall for GetOpts {
+impl<'r> PortCall<BusKind, BusCore<'r>> for GetOpts {
     type Told = Result<u8, SbStatus>;
 
     ghost call = { λ c bag. made.GetOpts c.pipe };
@@ -117,7 +118,7 @@ impl PortCall for GetOpts {
 
     ghost leaves = { λ c old new told. new ≡ old };
 
-    fn make<'r, L: Ledger>(
+    fn make<L: Ledger>(
         self,
         core: &mut BusCore<'r>,
         app: AppNo,
@@ -135,7 +136,7 @@ pub(crate) struct FindPipe<'a> {
     name: &'a [u8],
 }
 
-impl PortCall for FindPipe<'_> {
+impl<'r> PortCall<BusKind, BusCore<'r>> for FindPipe<'_> {
     type Told = Result<u32, SbStatus>;
 
     ghost call = { λ c bag. made.Find c.name.now };
@@ -144,7 +145,7 @@ impl PortCall for FindPipe<'_> {
 
     ghost leaves = { λ c old new told. new ≡ old };
 
-    fn make<'r, L: Ledger>(
+    fn make<L: Ledger>(
         self,
         core: &mut BusCore<'r>,
         app: AppNo,
@@ -162,7 +163,7 @@ pub(crate) struct PipeName {
     pipe: u32,
 }
 
-impl PortCall for PipeName {
+impl<'r> PortCall<BusKind, BusCore<'r>> for PipeName {
     type Told = Result<PipeText, SbStatus>;
 
     ghost call = { λ c bag. made.PipeName c.pipe };
@@ -171,7 +172,7 @@ impl PortCall for PipeName {
 
     ghost leaves = { λ c old new told. new ≡ old };
 
-    fn make<'r, L: Ledger>(
+    fn make<L: Ledger>(
         self,
         core: &mut BusCore<'r>,
         app: AppNo,

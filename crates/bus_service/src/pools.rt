@@ -6,9 +6,10 @@ ghost use Rattle.sb_calls.specs.Core.{MayCall};
 ghost use Rattle.bus_service.specs.Ports.{Answers};
 
 use crate::bus::Bus;
-use crate::calls::PortCall;
+use crate::kind::BusKind;
 use crate::ports::BusPort;
 use buf_desc::Held;
+use core_port::PortCall;
 use fsw_base::{AppNo, EsStatus, PoolStats};
 use sb_calls::BusCore;
 use std::sync::Wait;
@@ -21,7 +22,7 @@ pub(crate) struct PoolCreate {
     bytes: u32,
 }
 
-impl PortCall for PoolCreate {
+impl<'r> PortCall<BusKind, BusCore<'r>> for PoolCreate {
     type Told = Result<u32, EsStatus>;
 
     ghost call = { λ c bag. made.PoolCreate c.bytes };
@@ -30,7 +31,7 @@ impl PortCall for PoolCreate {
 
     ghost leaves = { λ c old new told. new ≡ old };
 
-    fn make<'r, L: Ledger>(
+    fn make<L: Ledger>(
         self,
         core: &mut BusCore<'r>,
         app: AppNo,
@@ -50,7 +51,7 @@ pub(crate) struct PoolGet {
     size: u32,
 }
 
-impl PortCall for PoolGet {
+impl<'r> PortCall<BusKind, BusCore<'r>> for PoolGet {
     type Told = Result<u32, EsStatus>;
 
     ghost call = { λ c bag. made.PoolGet c.pool c.size };
@@ -59,7 +60,7 @@ impl PortCall for PoolGet {
 
     ghost leaves = { λ c old new told. new ≡ old };
 
-    fn make<'r, L: Ledger>(
+    fn make<L: Ledger>(
         self,
         core: &mut BusCore<'r>,
         app: AppNo,
@@ -79,7 +80,7 @@ pub(crate) struct PoolPut {
     grant: u32,
 }
 
-impl PortCall for PoolPut {
+impl<'r> PortCall<BusKind, BusCore<'r>> for PoolPut {
     type Told = Result<(), EsStatus>;
 
     ghost call = { λ c bag. made.PoolPut c.pool c.grant };
@@ -88,7 +89,7 @@ impl PortCall for PoolPut {
 
     ghost leaves = { λ c old new told. new ≡ old };
 
-    fn make<'r, L: Ledger>(
+    fn make<L: Ledger>(
         self,
         core: &mut BusCore<'r>,
         app: AppNo,
@@ -106,7 +107,7 @@ pub(crate) struct PoolFigures {
     pool: u32,
 }
 
-impl PortCall for PoolFigures {
+impl<'r> PortCall<BusKind, BusCore<'r>> for PoolFigures {
     type Told = Result<PoolStats, EsStatus>;
 
     ghost call = { λ c bag. made.PoolFigures c.pool };
@@ -115,7 +116,7 @@ impl PortCall for PoolFigures {
 
     ghost leaves = { λ c old new told. new ≡ old };
 
-    fn make<'r, L: Ledger>(
+    fn make<L: Ledger>(
         self,
         core: &mut BusCore<'r>,
         app: AppNo,

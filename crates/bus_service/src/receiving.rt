@@ -8,9 +8,10 @@ ghost use Rattle.sb_calls.specs.Core.{MayCall};
 ghost use Rattle.bus_service.specs.Ports.{Answers};
 
 use crate::bus::Bus;
-use crate::calls::PortCall;
+use crate::kind::BusKind;
 use crate::ports::BusPort;
 use buf_desc::Held;
+use core_port::PortCall;
 use fsw_base::{AppNo, SbStatus};
 use sb_calls::{BusCore, Pended};
 use std::sync::Wait;
@@ -23,7 +24,7 @@ pub(crate) struct Receive {
     pipe: u32,
 }
 
-impl PortCall for Receive {
+impl<'r> PortCall<BusKind, BusCore<'r>> for Receive {
     type Told = Result<u32, SbStatus>;
 
     ghost call = { λ c bag. made.Receive c.pipe };
@@ -33,7 +34,7 @@ impl PortCall for Receive {
     ghost leaves = { λ c old new told.
         (new ≡ record old { views = new.views }) × (told ≡ Err BadArgument → new ≡ old) };
 
-    fn make<'r, L: Ledger>(
+    fn make<L: Ledger>(
         self,
         core: &mut BusCore<'r>,
         app: AppNo,
@@ -51,7 +52,7 @@ pub(crate) struct Pend {
     pipe: u32,
 }
 
-impl PortCall for Pend {
+impl<'r> PortCall<BusKind, BusCore<'r>> for Pend {
     type Told = Result<Pended, SbStatus>;
 
     ghost call = { λ c bag. made.Pend c.pipe };
@@ -61,7 +62,7 @@ impl PortCall for Pend {
     ghost leaves = { λ c old new told.
         (new ≡ record old { views = new.views }) × OnErr told (new ≡ old) };
 
-    fn make<'r, L: Ledger>(
+    fn make<L: Ledger>(
         self,
         core: &mut BusCore<'r>,
         app: AppNo,

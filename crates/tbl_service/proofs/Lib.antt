@@ -1,11 +1,9 @@
 mod Allowances
 mod Allowed
 pub mod Crossing
-mod Few
-mod Found
-mod Histories
-mod Mains
+mod Laws
 mod Meanwhile
+mod Openings
 mod Standing
 mod Unowned
 mod Visits

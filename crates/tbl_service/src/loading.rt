@@ -5,9 +5,10 @@ ghost use Rattle.tbl_plain.specs.Answers.{done};
 ghost use Rattle.tbl_load.specs.Core.{MayCall};
 ghost use Rattle.tbl_service.specs.Ports.{Answers};
 
-use crate::calls::PortCall;
+use crate::kind::TblKind;
 use crate::ports::TblPort;
 use crate::tables::Tables;
+use core_port::PortCall;
 use fsw_base::AppNo;
 use std::sync::Wait;
 use step_count::{Ledger, Steps};
@@ -24,16 +25,16 @@ pub(crate) struct Stage<'a> {
     bytes: &'a [u8],
 }
 
-impl PortCall for Stage<'_> {
+impl<'r> PortCall<TblKind, TblCore<'r>> for Stage<'_> {
     type Told = Result<(), TblStatus>;
 
-    ghost call = { λ c. made.Stage c.handle c.offset c.bytes.now };
+    ghost call = { λ c bag. made.Stage c.handle c.offset c.bytes.now };
 
     ghost answer = { done };
 
     ghost leaves = { λ c old new told. new ≡ old };
 
-    fn make<'r, L: Ledger>(
+    fn make<L: Ledger>(
         self,
         core: &mut TblCore<'r>,
         app: AppNo,
@@ -51,16 +52,16 @@ pub(crate) struct Validate {
     handle: u32,
 }
 
-impl PortCall for Validate {
+impl<'r> PortCall<TblKind, TblCore<'r>> for Validate {
     type Told = Result<(), TblStatus>;
 
-    ghost call = { λ c. made.Validate c.handle };
+    ghost call = { λ c bag. made.Validate c.handle };
 
     ghost answer = { done };
 
     ghost leaves = { λ c old new told. new ≡ old };
 
-    fn make<'r, L: Ledger>(
+    fn make<L: Ledger>(
         self,
         core: &mut TblCore<'r>,
         app: AppNo,
@@ -78,16 +79,16 @@ pub(crate) struct Update {
     handle: u32,
 }
 
-impl PortCall for Update {
+impl<'r> PortCall<TblKind, TblCore<'r>> for Update {
     type Told = Result<(), TblStatus>;
 
-    ghost call = { λ c. made.Update c.handle };
+    ghost call = { λ c bag. made.Update c.handle };
 
     ghost answer = { done };
 
     ghost leaves = { λ c old new told. new ≡ old };
 
-    fn make<'r, L: Ledger>(
+    fn make<L: Ledger>(
         self,
         core: &mut TblCore<'r>,
         app: AppNo,
@@ -105,16 +106,16 @@ pub(crate) struct Abort {
     handle: u32,
 }
 
-impl PortCall for Abort {
+impl<'r> PortCall<TblKind, TblCore<'r>> for Abort {
     type Told = Result<(), TblStatus>;
 
-    ghost call = { λ c. made.Abort c.handle };
+    ghost call = { λ c bag. made.Abort c.handle };
 
     ghost answer = { done };
 
     ghost leaves = { λ c old new told. new ≡ old };
 
-    fn make<'r, L: Ledger>(
+    fn make<L: Ledger>(
         self,
         core: &mut TblCore<'r>,
         app: AppNo,
@@ -136,16 +137,16 @@ pub(crate) struct Load<'a> {
     bytes: &'a [u8],
 }
 
-impl PortCall for Load<'_> {
+impl<'r> PortCall<TblKind, TblCore<'r>> for Load<'_> {
     type Told = Result<(), TblStatus>;
 
-    ghost call = { λ c. made.Load c.handle c.offset c.bytes.now };
+    ghost call = { λ c bag. made.Load c.handle c.offset c.bytes.now };
 
     ghost answer = { done };
 
     ghost leaves = { λ c old new told. new ≡ old };
 
-    fn make<'r, L: Ledger>(
+    fn make<L: Ledger>(
         self,
         core: &mut TblCore<'r>,
         app: AppNo,

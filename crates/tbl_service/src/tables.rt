@@ -3,36 +3,33 @@ ghost use Rattle.std.specs.Prelude.{◌≡◌, ℕ, ◌≤◌, ◌*◌, ◌++◌
 ghost use Rattle.fsw_base.specs.Limits.{limits_of};
 ghost use Rattle.journal_store.specs.Budgets.{AreBudgets};
 ghost use Rattle.tbl_load.specs.Core.{IsLegalCore};
-ghost use Rattle.tbl_service.specs.Histories.{own_entries};
-ghost use Rattle.tbl_service.specs.Ports.{Begins, KeepsLongerOf};
+ghost use Rattle.tbl_service.specs.Ports.{Begins, KeepsLongerOf, own_entries};
 
-use crate::boxed::{BoxedCore, NotedCall, Opening};
+use crate::kind::TblKind;
+use crate::permits::Permits;
 use crate::ports::{TblDone, TblPort};
+use core_port::{Main, Service};
 use fsw_base::{AppNo, Budget, Config};
 use std::alloc::{AllocError, Global};
 use std::marker::Model;
 use tbl_load::{HeldTables, TblCore};
 use tbl_words::Allowance;
-use turn_lock::{MOST_SEATS, Seat, TurnLock};
 
 /// Table Services that threads share. The threads' ports take turns at one core.
 ///
 /// Contracts see which lock it is.
 #[derive(Drop)]
 pub struct Tables<'r> {
-    // The lock, from which a seat can be split off for each application that there may be.
-    pub(crate) lock: TurnLock<BoxedCore<'r>>,
+    // The core behind its lock.
+    pub(crate) service: Service<TblKind, TblCore<'r>>,
 }
 
 impl<'r> Model for Tables<'r> {
-    ghost use Rattle.std.specs.Prelude.{◌≡◌};
     ghost use Rattle.atomic_table.specs.Seated.{TableId};
 
     ghost Value = { TableId };
 
-    ghost view = { λ t. t.lock.name };
-
-    ghost invariant = { λ t. t.lock.seats ≡ 16 };
+    ghost view = { λ t. t.service };
 }
 
 /// The part of the service that makes ports and closes it. It stays with whoever opened the
@@ -42,8 +39,8 @@ impl<'r> Model for Tables<'r> {
 /// whose ports were made, and of those joined their entries.
 #[derive(Drop)]
 pub struct TblMain {
-    // The lock's main seat.
-    seat: Seat<Opening, NotedCall>,
+    // The service's main part.
+    main: Main<TblKind>,
     // The budgets of the applications 1, 2, 3 and so on.
     budgets: Vec<Budget>,
     // How many handles there may be.
@@ -52,13 +49,13 @@ pub struct TblMain {
 
 impl Model for TblMain {
     ghost use Rattle.tbl_service.specs.Ports.{MainView};
-    ghost use Rattle.tbl_service.specs.Inside.{main_in, IsMainPart};
+    ghost use Rattle.tbl_service.specs.Inside.{IsGiven};
 
     ghost Value = { MainView };
 
-    ghost view = { λ m. main_in m.seat };
+    ghost view = { λ m. m.main };
 
-    ghost invariant = { λ m. IsMainPart m.seat m.budgets.items m.handles };
+    ghost invariant = { λ m. IsGiven m.main m.budgets.items m.handles };
 }
 
 impl<'r> Tables<'r> {
@@ -92,12 +89,11 @@ impl<'r> Tables<'r> {
     {
         let given = budgets.to_vec(alloc)?;
         let core = TblCore::new(alloc, cfg, budgets, region, work)?;
-        let boxed = BoxedCore::new(alloc, core)?;
-        let (lock, seat) = TurnLock::new(alloc, boxed, MOST_SEATS)?;
+        let (service, main) = Service::new(alloc, core)?;
         Ok((
-            Tables { lock },
+            Tables { service },
             TblMain {
-                seat,
+                main,
                 budgets: given,
                 handles: cfg.handles,
             },
@@ -137,14 +133,13 @@ impl<'r> Tables<'r> {
             entries: budget.entries,
             bytes: budget.bytes,
         };
-        let seat = self.lock.split(&mut main.seat, app);
-        Ok(TblPort {
-            seat,
-            app,
+        let permits = Permits {
             left,
             may_end: 1 <= budget.entries,
-            bag,
-        })
+        };
+        main.main.recall();
+        let port = self.service.port(&mut main.main, app, permits);
+        Ok(TblPort { port, bag })
     }
 
     /// Takes a finished port into the main part, which keeps its entries, and the longer of the
@@ -157,8 +152,8 @@ impl<'r> Tables<'r> {
         ensures apps { main.new.apps ≡ main.old.apps }
         ensures ended { main.new.ended ≡ main.old.ended ++ (done.app, done.mine) ∷ [] }
     {
-        let TblDone { seat } = done;
-        self.lock.join(&mut main.seat, seat);
+        let TblDone { port } = done;
+        self.service.join(&mut main.main, port);
     }
 
     /// Ends the service, whose ports have all been joined, and answers the core. Its history is one
@@ -175,14 +170,12 @@ impl<'r> Tables<'r> {
         ensures others { (app : ℕ) → ¬ (Contains main.apps app) →
             own_entries app result.log.entries ≡ [] }
     {
-        let Tables { lock } = self;
+        let Tables { service } = self;
         let TblMain {
-            seat,
+            main,
             budgets: _,
             handles: _,
         } = main;
-        let boxed = lock.close(seat);
-        boxed.recall();
-        boxed.into_core()
+        service.close(main)
     }
 }

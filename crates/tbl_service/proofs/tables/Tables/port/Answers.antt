@@ -1,47 +1,69 @@
-use Rattle.std.proofs.Common.{ℕ, ◌-◌, ◌<◌, ◌≤◌, List, get_or, length, Contains, ap, sym, ◌∙◌, subst, refl}
+use Rattle.std.proofs.Common.{◌≡◌, ℕ, ◌-◌, ◌≤◌, ◌++◌, ◌∷◌, [], List, length, get_or, Contains, refl, ap, ap₂, sym, ◌∙◌, subst, arith}
+use Rattle.atomic_table.specs.Seated.{TableId}
 use Rattle.fsw_base.specs.declared.config.Budget.{Budget}
 use Rattle.journal_store.specs.declared.allowance.Allowance.{Allowance}
-use Rattle.turn_lock.specs.Seats.{view_of}
-use Rattle.tbl_service.specs.Inside.{IsPort}
-use Rattle.tbl_service.specs.Ports.{MainView}
-use Rattle.tbl_service.proofs.Mains.{room_left, stays_main, is_port, is_open}
+use Rattle.tbl_blocks.specs.Held.{HeldViews}
+use Rattle.tbl_load.specs.Bags.{HasBag}
+use Rattle.tbl_load.specs.Core.{Core}
+use Rattle.tbl_service.specs.Inside.{with_bag}
+use Rattle.tbl_service.specs.Ports.{PortView, DoneView, MainView}
+use Rattle.tbl_service.proofs.Openings.{fresh_permits}
+use Rattle.tbl_service.proofs.Unowned.{empty_bag}
 use Rattle.tbl_service.proofs.tables.Tables.port.Goals as goal
 
-pub split-seat-requires-clause-room : goal.split-seat-requires-clause-room
-split-seat-requires-clause-room c =
-    let s = c.main.inside.seat in
+-- a port of an application that made no call, with this bag, and a bag with nothing in it
+fresh_port : TableId → ℕ → Core → HeldViews → PortView
+fresh_port lock app seen bag = record { lock = lock; app = app; seen = seen; mine = []; bag = bag }
+
+empty_views : ℕ → HeldViews
+empty_views room = record { views = []; room = room }
+
+with_one_more : ℕ → MainView → MainView
+with_one_more app main = record main { apps = main.apps ++ app ∷ [] }
+
+pub port-port-requires-clause-main : goal.port-port-requires-clause-main
+port-port-requires-clause-main c = ap (λ (m : MainView). m.lock) c.main.view_is ∙ c.requires.main ∙ sym c.self.view_is
+
+pub port-port-requires-clause-known : goal.port-port-requires-clause-known
+port-port-requires-clause-known c = subst (λ (m : MainView). c.args.app ≤ length m.seen.log.budgets) (sym c.main.view_is) c.requires.known
+
+pub port-port-requires-clause-new : goal.port-port-requires-clause-new
+port-port-requires-clause-new c = λ there. c.requires.new (subst (λ (m : MainView). Contains m.apps c.args.app) c.main.view_is there)
+
+pub port-port-requires-clause-tells : goal.port-port-requires-clause-tells
+port-port-requires-clause-tells c =
+    let core = c.main.inside.main.seen in
+    let budgets = c.main.inside.budgets.items in
+    let budget = c.index-budget.result.now in
     let first = subst (λ (n : ℕ). 1 ≤ n) c.get.ensures.value c.get.ensures.first in
-    let last = subst (λ (n : ℕ). n ≤ 16) c.get.ensures.value c.get.ensures.last in
-    subst (λ (n : ℕ). length (view_of s).apps < n) (sym c.self.invariant)
-    (room_left s c.main.inside.budgets.items c.main.inside.handles c.main.invariant c.args.app first last
-    (λ there. c.requires.new (subst (λ (m : MainView). Contains m.apps c.args.app) c.main.view_is there)))
+    let known = subst (λ (m : MainView). c.args.app ≤ length m.seen.log.budgets) (sym c.main.view_is) c.requires.known in
+    let out = λ (there : Contains c.main.inside.main.apps c.args.app). c.requires.new (subst (λ (m : MainView). Contains m.apps c.args.app) c.main.view_is there) in
+    let given : budget ≡ get_or core.log.budgets (c.args.app - 1) budget =
+    c.index-budget.ensures ∙ ap (λ (n : ℕ). get_or budgets (n - 1) budget) c.get.ensures.value ∙ ap (λ (l : List Budget). get_or l (c.args.app - 1) budget) (sym c.main.invariant.budgets) in
+    let allowance : Budget → Allowance = λ b. record { entries = b.entries; bytes = b.bytes } in
+    fresh_permits core c.args.app budget _ first known c.recall.ensures.called (c.recall.ensures.others c.args.app out) (ap allowance given) refl
 
 pub invariant_of-result : goal.invariant_of-result
 invariant_of-result c =
-    let s = c.main.inside.seat in
-    let budgets = c.main.inside.budgets.items in
-    let app = c.args.app in
-    let d = c.index-budget.result.now in
-    let first = subst (λ (n : ℕ). 1 ≤ n) c.get.ensures.value c.get.ensures.first in
-    let last = subst (λ (n : ℕ). n ≤ 16) c.get.ensures.value c.get.ensures.last in
-    let out = λ (there : Contains (view_of s).apps app). c.requires.new (subst (λ (m : MainView). Contains m.apps app) c.main.view_is there) in
-    let known = subst (λ (l : List Budget). app ≤ length l) c.main.invariant.given (subst (λ (m : MainView). app ≤ length m.seen.log.budgets) (sym c.main.view_is) c.requires.known) in
-    let it = c.index-budget.ensures ∙ ap (λ n. get_or budgets (n - 1) d) c.get.ensures.value in
-    let left : Allowance = record { entries = d.entries; bytes = d.bytes } in
-    let port : IsPort c.split-seat.result app left c.in_ok-bag.bag =
-    is_port s budgets c.main.inside.handles c.main.invariant app first last out c.split-seat.result c.self.inside.lock.name c.split-seat.ensures.seat c.split-seat.ensures.view c.in_ok-bag.bag
-    left d known (ap (λ (b : Budget). record { entries = b.entries; bytes = b.bytes }) it) c.in_ok-bag.ensures in (
-      port,
-      is_open s budgets c.main.inside.handles c.main.invariant app first last out c.split-seat.result c.self.inside.lock.name c.split-seat.ensures.seat c.split-seat.ensures.view c.in_ok-bag.bag
-          left _ port refl,
-    )
+    let core = c.main.inside.main.seen in
+    let out = λ (there : Contains c.main.inside.main.apps c.args.app). c.requires.new (subst (λ (m : MainView). Contains m.apps c.args.app) c.main.view_is there) in
+    let bag = c.in_ok-bag.bag in
+    subst (λ (p : DoneView). HasBag p.seen p.app bag) (sym c.port-port.ensures.port)
+    (empty_bag core c.args.app bag (c.recall.ensures.others c.args.app out) (ap (λ (b : HeldViews). b.views) c.in_ok-bag.ensures)
+    (omega (arith, c.main.invariant.handles, ap (λ (b : HeldViews). b.room) c.in_ok-bag.ensures)))
 
 pub invariant_of-main : goal.invariant_of-main
-invariant_of-main c =
-    let s = c.main.inside.seat in
-    let app = c.args.app in
-    let first = subst (λ (n : ℕ). 1 ≤ n) c.get.ensures.value c.get.ensures.first in
-    let last = subst (λ (n : ℕ). n ≤ 16) c.get.ensures.value c.get.ensures.last in
-    let out = λ (there : Contains (view_of s).apps app). c.requires.new (subst (λ (m : MainView). Contains m.apps app) c.main.view_is there) in
-    let here = ap (λ (m : MainView). m.lock) c.main.view_is ∙ c.requires.main ∙ sym c.self.view_is in
-    stays_main s c.main.inside.budgets.items c.main.inside.handles c.main.invariant app first last out c.split-seat.new.main c.self.inside.lock.name c.split-seat.ensures.main here c.split-seat.ensures.apps
+invariant_of-main c = record {
+  budgets = ap (λ (m : MainView). m.seen.log.budgets) c.port-port.ensures.apps ∙ c.main.invariant.budgets;
+  handles = ap (λ (m : MainView). m.seen.limits.handles) c.port-port.ensures.apps ∙ c.main.invariant.handles;
+}
+
+pub returns-clause-port : goal.returns-clause-port
+returns-clause-port c =
+    let core = c.main.inside.main.seen in
+    ap₂ (λ (p : DoneView) (h : HeldViews). with_bag p h) c.port-port.ensures.port c.in_ok-bag.ensures
+    ∙ ap₂ (λ (n : TableId) (h : HeldViews). fresh_port n c.args.app core h) c.self.view_is (ap empty_views (sym c.main.invariant.handles))
+    ∙ ap (λ (k : MainView). fresh_port c.args.self.now c.args.app k.seen (empty_views k.seen.limits.handles)) c.main.view_is
+
+pub returns-clause-apps : goal.returns-clause-apps
+returns-clause-apps c = c.port-port.ensures.apps ∙ ap (with_one_more c.args.app) c.main.view_is

@@ -1,0 +1,18 @@
+use Rattle.std.proofs.Common.{◌≡◌, ap, sym, ◌∙◌, subst}
+use Rattle.core_port.specs.Inside.{GuardedView}
+use Rattle.core_port.proofs.Mains.{no_history, opened, opens}
+use Rattle.core_port.proofs.service.Service.new.Goals as goal
+
+pub new-lock-requires-clause-empty : goal.new-lock-requires-clause-empty
+new-lock-requires-clause-empty g c =
+    no_history g.K.Kind.words g.K.Kind.laws c.in_ok-guarded.guarded.core c.recall.ensures
+    (ap (λ (k : GuardedView _). g.K.Kind.words.entries k.core) c.in_ok-guarded.ensures ∙ c.requires)
+
+pub invariant_of-result-2 : goal.invariant_of-result-2
+invariant_of-result-2 g c =
+    opens g.K.Kind.words g.K.Kind.laws c.in_ok-guarded.guarded.core c.recall.ensures
+    (ap (λ (k : GuardedView _). g.K.Kind.words.entries k.core) c.in_ok-guarded.ensures ∙ c.requires)
+    c.in_ok-lock.seat c.in_ok-lock.lock.name c.in_ok-lock.ensures.main c.in_ok-lock.ensures.view
+
+pub returns : goal.returns
+returns g c = ?
