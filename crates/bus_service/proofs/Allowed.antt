@@ -89,6 +89,20 @@ at_most m n is = grind (arith, nat_tests)
 pub tested : (m n : ℕ) → m ≤ n → leb m n ≡ true
 tested m n within = grind (arith, nat_tests)
 
+-- who may ask for the figures, may make its last call
+pub also_last : (core : Core) (app : ℕ) → MayCall core app Figures → MayCall core app End
+also_last core app may = record {
+  known = may.known;
+  standing = active_ends (standing_of (state_of core) app) may.standing;
+  room = record { known = may.room.known; one_entry = may.room.one_entry; its_bytes = omega arith };
+  within = refl;
+}
+  where
+    active_ends : (standing : Standing) → IsTrue (may_call standing Figures) → IsTrue (may_call standing End)
+    active_ends Active may = refl
+    active_ends (Waiting pipe) may = absurd (true≢false (sym may))
+    active_ends Ended may = absurd (true≢false (sym may))
+
 -- Permits. --
 
 module _ (core : Core) (app : ℕ) (permits : Permits) (tells : Tells core app permits) where

@@ -1,5 +1,7 @@
 //! What the bus is to a port: a core with a history.
-ghost use Rattle.std.specs.Prelude.{◌≡◌};
+ghost use Rattle.std.specs.Prelude.{◌↔◌, IsTrue};
+ghost use Rattle.bus_words.specs.declared.history.Call.TheVariants.{Figures, End};
+ghost use Rattle.sb_calls.specs.Core.{MayCall};
 
 use crate::permits::Permits;
 use buf_desc::Held;
@@ -77,9 +79,8 @@ impl<'r> Served<BusKind> for BusCore<'r> {
             entries: self.entries_left(app),
             bytes: self.bytes_left(app),
         };
-        // Who may make any call, may make its last one.
         let any = self.may_make(app, &BusCall::Figures);
-        let last = any || self.may_make(app, &BusCall::End);
+        let last = may_end(self, app, any);
         Permits { left, any, last }
     }
 
@@ -129,4 +130,16 @@ impl<'r> PortLook<BusKind, BusCore<'r>> for Look {
     ghost found = { looked };
 
     ghost same_call = { same_look };
+}
+
+// Whether an application may make its last call, if this tells whether it may make any other: who
+// may, may also end, and isn't asked for twice.
+fn may_end(core: &BusCore<'_>, app: AppNo, any: bool) -> bool
+    requires { IsTrue any → MayCall core.now app Figures }
+    ensures { IsTrue result ↔ MayCall core.now app End }
+{
+    if any {
+        return true;
+    }
+    core.may_make(app, &BusCall::End)
 }

@@ -37,11 +37,11 @@ module _ {S N C A L : Type 0} (w : Words S N C A L) where
 
   -- The same for a look that found this, and made these entries: one, or none where it was in
   -- vain.
-  pub record AnswersLook (old new : PortView S N) (looks : S → S → Type 0) (made : List N) :
+  pub record AnswersLook (old new : PortView S N) (finds : S → S → Type 0) (made : List N) :
       Type 0 where
     pub between : S
     pub others : w.others old.seen between old.app
-    pub looks : looks between new.seen
+    pub looks : finds between new.seen
     pub mine : new.mine ≡ old.mine ++ made
     pub sound : w.sound new.seen
     pub lock : new.lock ≡ old.lock

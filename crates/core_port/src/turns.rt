@@ -44,9 +44,9 @@ pub(crate) fn finish<K: Kind, C: Served<K> + Drop>(
     requires made { MadeOne K.words turn.view turn.value.core }
     requires asleep { turn.value.asleep ≡ turn.found.asleep }
     ensures seat { IsReady seat.new service.now }
-    ensures view { view_of seat.new ≡ left_view turn.entry.view
-        (history_of K.words turn.entry.value.core) }
-    ensures sound { K.words.sound turn.entry.value.core }
+    ensures view { view_of seat.new ≡ left_view turn.view
+        (history_of K.words turn.value.core) }
+    ensures sound { K.words.sound turn.value.core }
 {
     turn.value().recall();
     if turn.value_mut().take_sleepers() {
@@ -68,9 +68,9 @@ pub(crate) fn pause<K: Kind, C: Served<K> + Drop>(
     requires opening { Some (K.words.fixed turn.value.core) ≡ turn.view.fixed }
     requires none { history_of K.words turn.value.core ≡ turn.view.seen }
     ensures seat { IsIn seat.new service.now }
-    ensures view { view_of seat.new ≡ left_view turn.entry.view
-        (history_of K.words turn.entry.value.core) }
-    ensures sound { K.words.sound turn.entry.value.core }
+    ensures view { view_of seat.new ≡ left_view turn.view
+        (history_of K.words turn.value.core) }
+    ensures sound { K.words.sound turn.value.core }
 {
     turn.value().recall();
     turn.value_mut().note_sleeper();

@@ -34,8 +34,8 @@ look-told-requires-clause-bag g c =
 
 -- In vain. --
 
-pub permits-self-inside-requires : goal.permits-self-inside-requires
-permits-self-inside-requires g c =
+pub permits-requires : goal.permits-requires
+permits-requires g c =
     let w = g.K.Kind.words in
     let entered = entered_from w _ _ _ _ c.sleep.ensures.view c.value_mut.ensures.value c.begin-turn.ensures.entered in
     let vain = sym c.is_vain.ensures ∙ c.if-is_vain.true in
@@ -68,8 +68,8 @@ invariant_of-self g c =
     let view = view_from w _ _ _ _ c.sleep.ensures.view c.value_mut.ensures.value _ c.begin-turn.ensures.view in
     let still = g.met.V.PortLook.in_vain c.value_mut.result.now.core c.look-told.new.self.core c.self.inside.app c.look-told.result c.look-told.ensures.looks (sym c.is_vain.ensures ∙ c.if-is_vain.true) in
     let now = c.pause.ensures.view ∙ ap (λ v. left_view v (history_of w new)) view ∙ ap (λ core. left_view (entered_view (view_of s) (history_of w old)) (history_of w core)) still in
-    stays_idle w g.K.Kind.laws s app c.self.inside.permits c.self.invariant old entered c.pause.new.seat now c.permits-self-inside.result c.args.service.now c.pause.ensures.seat
-    (subst (λ core. w.tells core app c.permits-self-inside.result) (ap (λ (k : GuardedView _). k.core) c.value.ensures ∙ still) c.permits-self-inside.ensures)
+    stays_idle w g.K.Kind.laws s app c.self.inside.permits c.self.invariant old entered c.pause.new.seat now c.permits.result c.args.service.now c.pause.ensures.seat
+    (subst (λ core. w.tells core app c.permits.result) (ap (λ (k : GuardedView _). k.core) c.value.ensures ∙ still) c.permits.ensures)
 
 pub returns-then-is_vain-clause-answers : goal.returns-then-is_vain-clause-answers
 returns-then-is_vain-clause-answers g c =
@@ -106,8 +106,8 @@ returns-then-is_vain-clause-bag g c =
 
 -- With news. --
 
-pub permits-self-inside-2-requires : goal.permits-self-inside-2-requires
-permits-self-inside-2-requires g c =
+pub permits-requires-2 : goal.permits-requires-2
+permits-requires-2 g c =
     let w = g.K.Kind.words in
     let entered = entered_from w _ _ _ _ c.sleep.ensures.view c.value_mut.ensures.value c.begin-turn.ensures.entered in
     let found = sym c.is_vain.ensures ∙ c.if-is_vain.false in
@@ -137,8 +137,8 @@ invariant_of-self-2 g c =
     stays_port w g.K.Kind.laws s app c.self.inside.permits c.self.invariant old entered
     new (g.V.PortLook.call old app) (g.V.PortLook.answer c.look-told.result) (g.met.V.PortLook.found c.value_mut.result.now.core c.look-told.new.self.core c.self.inside.app c.look-told.result c.look-told.ensures.looks (sym c.is_vain.ensures ∙ c.if-is_vain.false)) c.finish.ensures.sound
     c.finish.new.seat (c.finish.ensures.view ∙ ap (λ v. left_view v (history_of w new)) view)
-    c.permits-self-inside-2.result c.args.service.now (ready_in c.finish.new.seat c.args.service.now c.finish.ensures.seat)
-    (subst (λ (k : GuardedView _). w.tells k.core app c.permits-self-inside-2.result) c.value-2.ensures c.permits-self-inside-2.ensures)
+    c.permits-2.result c.args.service.now (ready_in c.finish.new.seat c.args.service.now c.finish.ensures.seat)
+    (subst (λ (k : GuardedView _). w.tells k.core app c.permits-2.result) c.value-2.ensures c.permits-2.ensures)
 
 pub returns-clause-answers : goal.returns-clause-answers
 returns-clause-answers g c =

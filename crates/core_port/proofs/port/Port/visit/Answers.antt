@@ -24,8 +24,8 @@ make-told-requires-clause-bag g c =
     (others_called w g.K.Kind.laws c.self.inside.seat c.self.inside.app c.self.inside.permits c.self.invariant c.value_mut.result.now.core entered)
     (subst (λ (p : PortView _ _). g.C.Served.has_bag p.seen p.app c.args.bag.now) (sym c.self.view_is) c.requires.bag)
 
-pub permits-self-inside-requires : goal.permits-self-inside-requires
-permits-self-inside-requires g c =
+pub permits-requires : goal.permits-requires
+permits-requires g c =
     let w = g.K.Kind.words in
     let entered = entered_from w _ _ _ _ c.stay_awake.ensures.view c.value_mut.ensures.value c.begin-turn.ensures.entered in
     known_after w g.K.Kind.laws c.self.inside.seat c.self.inside.app c.self.inside.permits c.self.invariant c.value_mut.result.now.core entered
@@ -48,8 +48,8 @@ invariant_of-self g c =
     stays_port w g.K.Kind.laws c.self.inside.seat c.self.inside.app c.self.inside.permits c.self.invariant c.value_mut.result.now.core entered
     new (g.V.PortCall.call c.args.call c.args.bag.now) (g.V.PortCall.answer c.make-told.result) c.make-told.ensures.does c.finish.ensures.sound
     c.finish.new.seat (c.finish.ensures.view ∙ ap (λ v. left_view v (history_of w new)) view)
-    c.permits-self-inside.result c.args.service.now (ready_in c.finish.new.seat c.args.service.now c.finish.ensures.seat)
-    (subst (λ (k : GuardedView _). w.tells k.core c.self.inside.app c.permits-self-inside.result) c.value.ensures c.permits-self-inside.ensures)
+    c.permits.result c.args.service.now (ready_in c.finish.new.seat c.args.service.now c.finish.ensures.seat)
+    (subst (λ (k : GuardedView _). w.tells k.core c.self.inside.app c.permits.result) c.value.ensures c.permits.ensures)
 
 pub returns-clause-answers : goal.returns-clause-answers
 returns-clause-answers g c =
