@@ -18,7 +18,7 @@ use Rattle.app_script.specs.ScriptRanges.{have_new_names, all_calls, all_bytes}
 use Rattle.app_script.specs.Grammar.{Progress, opening, apps_of, after_call}
 use Rattle.app_script.proofs.ScriptLemmas.{account_of_push}
 use Rattle.app_script.proofs.ReadScripts.{set_starts}
-use Rattle.app_script.proofs.Leading.{Calling, Ready, account_grows, nothing_taken}
+use Rattle.app_script.proofs.ReadingStates.{Calling, Ready, account_grows, nothing_taken}
 use Rattle.app_script.proofs.ItemSteps.{is_again, is_past, with_version, set_to, begun_by, after_item, taken, all_taken}
 use Rattle.app_script.proofs.ItemsTell.{Given, nothing_given, given_more, called}
 

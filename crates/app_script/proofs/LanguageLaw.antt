@@ -12,7 +12,7 @@ use Rattle.app_script.specs.Language.{IsText, version_in, configured}
 use Rattle.app_script.specs.Grammar.{Progress, opening, apps_of, progress_of, grammar, ◌>=>◌}
 use Rattle.app_script.proofs.ReadWalk.{whole_read}
 use Rattle.app_script.proofs.ReadScripts.{read_script_is}
-use Rattle.app_script.proofs.Leading.{progress_back, grammar_back}
+use Rattle.app_script.proofs.ReadingStates.{progress_back, grammar_back}
 use Rattle.app_script.proofs.ItemSteps.{lines_tell, lines_read}
 use Rattle.app_script.proofs.ItemsTell.{in_order}
 use Rattle.app_script.proofs.ItemsPass.{script_passes}

@@ -16,7 +16,7 @@ use Rattle.script_lines.specs.declared.line.Line.{Line}
 use Rattle.script_lines.specs.CallLines.{call_line_of}
 use Rattle.script_lines.specs.Ranges.{is_readable}
 use Rattle.script_lines.proofs.Booleans.{and_first, and_second, both, not_false}
-use Rattle.script_lines.proofs.Holding.{Holds, then, any, guard, refuse, either, accept}
+use Rattle.script_lines.proofs.ReadingLaws.{Holds, then, any, guard, refuse, either, accept}
 use Rattle.script_lines.proofs.ReadTexts.{behind_is_text}
 use Rattle.script_lines.proofs.ReadWords.{within_in, below_in}
 use Rattle.script_lines.proofs.ReadLines.{call_readable}

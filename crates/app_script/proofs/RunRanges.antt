@@ -9,7 +9,7 @@ use Rattle.script_words.specs.Text.{words_of, behind_word, is_text, is_same}
 use Rattle.script_words.specs.Counts.{Word}
 use Rattle.script_lines.specs.declared.line.Line.{Line}
 use Rattle.script_lines.specs.CallLines.{call_line_of}
-use Rattle.script_lines.proofs.Holding.{Holds, any, refuse, either}
+use Rattle.script_lines.proofs.ReadingLaws.{Holds, any, refuse, either}
 use Rattle.app_script.specs.declared.forms.Form.{Form}
 use Rattle.app_script.specs.declared.forms.Form.TheVariants.{Script, Set, Sizes, Seq, App, Call}
 use Rattle.app_script.specs.Forms.{form_of, is_misplaced}

@@ -82,12 +82,13 @@ mod counters;
 mod events;
 mod kind;
 mod leaving;
-mod messages;
 mod permits;
 mod pipes;
 mod pools;
 mod ports;
 mod receiving;
+mod sending;
+mod subscribing;
 mod unsent;
 
 pub use bus::{Bus, BusMain};

@@ -110,7 +110,8 @@ impl BusJournal {
         requires { HasRoom (left_of self.old) entry.now.app (call_bytes (call_of entry.now.call)) }
         ensures { self.new ≡ with_entry self.old (entry_of entry.now) }
     {
-        // A send that was accepted goes by itself: its row is known, so it is made where it stands.
+        // An accepted send goes by itself, and so does a receive that gave a message: their rows
+        // are known, so they are made where they stand.
         match (&entry.call, &entry.answer) {
             (BusCall::Transmit { bytes, inc }, BusAnswer::Sent { number, reached }) => {
                 let row = Row {
@@ -124,6 +125,13 @@ impl BusJournal {
                     },
                 };
                 self.store.push(entry.app, row, bytes);
+            }
+            (BusCall::Receive { pipe }, BusAnswer::Got(number)) => {
+                let row = Row {
+                    call: BusCall::Receive { pipe: *pipe },
+                    answer: BusAnswer::Got(*number),
+                };
+                self.store.push(entry.app, row, b"");
             }
             _ => self.push_any(entry),
         }

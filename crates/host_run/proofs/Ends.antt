@@ -14,8 +14,8 @@ use Rattle.app_script.specs.Script.{ScriptText}
 use Rattle.script_runs.specs.Told.{receipts_told}
 use Rattle.script_runs.specs.Runs.{IsRunOf}
 use Rattle.script_runs.proofs.EndsCome.{run-guarantees}
-use Rattle.script_runs.proofs.Merged.{rotation-legal}
-use Rattle.script_runs.proofs.TablesMerged.{rotation-legal_tables, rotation-merges_both}
+use Rattle.script_runs.proofs.ScriptHistories.{rotation-legal}
+use Rattle.script_runs.proofs.TableHistories.{rotation-legal_tables, rotation-merges_both}
 use Rattle.host_run.proofs.Sizes.{length-grammar}
 use Rattle.fsw_base.specs.Outside.{Rose}
 use Rattle.std.specs.Result.{result_ok}

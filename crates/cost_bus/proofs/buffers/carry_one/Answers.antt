@@ -1,7 +1,7 @@
 use Rattle.std.proofs.Common.{ℕ, length, ap, ◌∙◌, arith}
 use Rattle.std.proofs.lemmas.List.{length-replicate}
-use Rattle.cost_bus.proofs.Making.{made_allocate, made_none, made_more, left_after, send_left}
-use Rattle.cost_bus.proofs.Written.{has_written}
+use Rattle.cost_bus.proofs.NumberCounts.{made_allocate, made_none, made_more, left_after, send_left}
+use Rattle.cost_bus.proofs.WrittenBags.{has_written}
 use Rattle.cost_bus.proofs.buffers.carry_one.Goals as goal
 
 pub write_message-requires : goal.write_message-requires

@@ -3,7 +3,7 @@ use Rattle.bus_words.specs.declared.history.Call.TheVariants.{TransmitBuffer, Re
 use Rattle.bus_words.specs.Machine.{may_call}
 use Rattle.bus_words.specs.Bus.{Standing}
 use Rattle.buf_desc.specs.Held.{bytes_at}
-use Rattle.cost_bus.proofs.Making.{made_transmit_buffer, made_receive, made_none, made_more, left_after, may_act}
+use Rattle.cost_bus.proofs.NumberCounts.{made_transmit_buffer, made_receive, made_none, made_more, left_after, may_act}
 use Rattle.cost_bus.proofs.buffers.send_and_receive.Goals as goal
 
 pub transmit_buffer-sent-requires : goal.transmit_buffer-sent-requires

@@ -1,5 +1,5 @@
 use Rattle.std.proofs.Common.{◌+◌, arith}
-use Rattle.cost_bus.proofs.Making.{made_more}
+use Rattle.cost_bus.proofs.NumberCounts.{made_more}
 use Rattle.cost_bus.proofs.pipes.open.Goals as goal
 
 pub loop-place-preserved : goal.loop-place-preserved

@@ -1,5 +1,5 @@
 use Rattle.std.proofs.Common.{arith}
-use Rattle.cost_bus.proofs.Making.{made_create, made_subscribe, made_more, left_after, pipe_left, subscription_left}
+use Rattle.cost_bus.proofs.NumberCounts.{made_create, made_subscribe, made_more, left_after, pipe_left, subscription_left}
 use Rattle.cost_bus.proofs.pipes.open_one.Goals as goal
 
 pub create_pipe-requires-clause-number : goal.create_pipe-requires-clause-number

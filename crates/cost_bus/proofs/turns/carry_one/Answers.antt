@@ -1,5 +1,5 @@
 use Rattle.std.proofs.Common.{arith}
-use Rattle.cost_bus.proofs.Making.{made_transmit, made_none, made_more, left_after, send_left}
+use Rattle.cost_bus.proofs.NumberCounts.{made_transmit, made_none, made_more, left_after, send_left}
 use Rattle.cost_bus.proofs.turns.carry_one.Goals as goal
 
 pub returns-then-is_err-clause-made : goal.returns-then-is_err-clause-made

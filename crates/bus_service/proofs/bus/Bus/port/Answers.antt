@@ -9,7 +9,7 @@ use Rattle.sb_calls.specs.Core.{Core}
 use Rattle.bus_service.specs.Inside.{with_bag}
 use Rattle.bus_service.specs.Ports.{PortView, DoneView, MainView, buffers_for}
 use Rattle.bus_service.proofs.Openings.{fresh_permits, buffers_given}
-use Rattle.bus_service.proofs.Unowned.{empty_bag}
+use Rattle.bus_service.proofs.EmptyBags.{empty_bag}
 use Rattle.bus_service.proofs.bus.Bus.port.Goals as goal
 
 -- a port of an application that made no call, with this bag, and a bag with nothing in it

@@ -8,7 +8,7 @@ use Rattle.tbl_load.specs.Core.{Core}
 use Rattle.tbl_service.specs.Inside.{with_bag}
 use Rattle.tbl_service.specs.Ports.{PortView, DoneView, MainView}
 use Rattle.tbl_service.proofs.Openings.{fresh_permits}
-use Rattle.tbl_service.proofs.Unowned.{empty_bag}
+use Rattle.tbl_service.proofs.EmptyBags.{empty_bag}
 use Rattle.tbl_service.proofs.tables.Tables.port.Goals as goal
 
 -- a port of an application that made no call, with this bag, and a bag with nothing in it
