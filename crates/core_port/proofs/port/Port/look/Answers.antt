@@ -39,8 +39,9 @@ permits-requires g c =
     let w = g.K.Kind.words in
     let entered = entered_from w _ _ _ _ c.sleep.ensures.view c.value_mut.ensures.value c.begin-turn.ensures.entered in
     let vain = sym c.is_vain.ensures ∙ c.if-is_vain.true in
-    subst (λ core. c.self.inside.app ≤ length (w.fixed core).budgets) (sym (g.met.V.PortLook.in_vain c.value_mut.result.now.core c.look-told.new.self.core c.self.inside.app c.look-told.result c.look-told.ensures.looks (sym c.is_vain.ensures ∙ c.if-is_vain.true)))
-    (known_found w g.K.Kind.laws c.self.inside.seat c.self.inside.app c.self.inside.permits c.self.invariant c.value_mut.result.now.core entered)
+    subst (λ (k : GuardedView _). c.self.inside.app ≤ length (w.fixed k.core).budgets) (sym c.value.ensures)
+    (subst (λ core. c.self.inside.app ≤ length (w.fixed core).budgets) (sym (g.met.V.PortLook.in_vain c.value_mut.result.now.core c.look-told.new.self.core c.self.inside.app c.look-told.result c.look-told.ensures.looks (sym c.is_vain.ensures ∙ c.if-is_vain.true)))
+    (known_found w g.K.Kind.laws c.self.inside.seat c.self.inside.app c.self.inside.permits c.self.invariant c.value_mut.result.now.core entered))
 
 pub pause-requires-clause-opening : goal.pause-requires-clause-opening
 pause-requires-clause-opening g c =
@@ -85,10 +86,9 @@ returns-then-is_vain-clause-answers g c =
     let still = (g.met.V.PortLook.in_vain c.value_mut.result.now.core c.look-told.new.self.core c.self.inside.app c.look-told.result c.look-told.ensures.looks (sym c.is_vain.ensures ∙ c.if-is_vain.true)) in
     let now = c.pause.ensures.view ∙ ap (λ v. left_view v (history_of w new)) view ∙ ap (λ core. left_view (entered_view (view_of s) (history_of w old)) (history_of w core)) still in
     let lock = c.pause.ensures.seat.lock ∙ sym (ap (λ (p : PortView _ _). p.lock) c.self.view_is ∙ c.requires.service) in
-    let looks = λ x y. g.V.PortLook.looks x y app c.look-told.result in
     subst (λ (p : PortView _ _). AnswersLook w p (port_in w c.pause.new.seat app) (λ x y. g.V.PortLook.looks x y p.app c.look-told.result) (look_entries w p.app (g.V.PortLook.call p.seen p.app) answer (g.V.PortLook.vain c.look-told.result))) c.self.view_is
-    (subst (λ (b : Bool). AnswersLook w (port_in w s app) (port_in w c.pause.new.seat app) looks (look_entries w app (g.V.PortLook.call (seen_in w s) app) answer b)) (sym vain)
-    (idle w g.K.Kind.laws s app c.self.inside.permits c.self.invariant old entered c.pause.new.seat now new looks still c.look-told.ensures.looks lock))
+    (subst (λ (b : Bool). AnswersLook w (port_in w s app) (port_in w c.pause.new.seat app) (λ x y. g.V.PortLook.looks x y app c.look-told.result) (look_entries w app (g.V.PortLook.call (seen_in w s) app) answer b)) (sym vain)
+    (idle w g.K.Kind.laws s app c.self.inside.permits c.self.invariant old entered c.pause.new.seat now new (λ x y. g.V.PortLook.looks x y app c.look-told.result) still c.look-told.ensures.looks lock))
 
 pub returns-then-is_vain-clause-bag : goal.returns-then-is_vain-clause-bag
 returns-then-is_vain-clause-bag g c =
@@ -111,8 +111,9 @@ permits-requires-2 g c =
     let w = g.K.Kind.words in
     let entered = entered_from w _ _ _ _ c.sleep.ensures.view c.value_mut.ensures.value c.begin-turn.ensures.entered in
     let found = sym c.is_vain.ensures ∙ c.if-is_vain.false in
-    known_after w g.K.Kind.laws c.self.inside.seat c.self.inside.app c.self.inside.permits c.self.invariant c.value_mut.result.now.core entered
-    c.look-told.new.self.core (g.V.PortLook.call c.value_mut.result.now.core c.self.inside.app) (g.V.PortLook.answer c.look-told.result) (g.met.V.PortLook.found c.value_mut.result.now.core c.look-told.new.self.core c.self.inside.app c.look-told.result c.look-told.ensures.looks (sym c.is_vain.ensures ∙ c.if-is_vain.false))
+    subst (λ (k : GuardedView _). c.self.inside.app ≤ length (w.fixed k.core).budgets) (sym c.value-2.ensures)
+    (known_after w g.K.Kind.laws c.self.inside.seat c.self.inside.app c.self.inside.permits c.self.invariant c.value_mut.result.now.core entered
+    c.look-told.new.self.core (g.V.PortLook.call c.value_mut.result.now.core c.self.inside.app) (g.V.PortLook.answer c.look-told.result) (g.met.V.PortLook.found c.value_mut.result.now.core c.look-told.new.self.core c.self.inside.app c.look-told.result c.look-told.ensures.looks (sym c.is_vain.ensures ∙ c.if-is_vain.false)))
 
 pub finish-requires-clause-made : goal.finish-requires-clause-made
 finish-requires-clause-made g c =
@@ -155,14 +156,13 @@ returns-clause-answers g c =
     let others = others_called w g.K.Kind.laws s app c.self.inside.permits c.self.invariant old entered in
     let does = subst (λ call. w.does old new app call answer) (g.met.V.PortLook.same_call seen old app c.self.invariant.first others) (g.met.V.PortLook.found c.value_mut.result.now.core c.look-told.new.self.core c.self.inside.app c.look-told.result c.look-told.ensures.looks (sym c.is_vain.ensures ∙ c.if-is_vain.false)) in
     let lock = c.finish.ensures.seat.lock ∙ sym (ap (λ (p : PortView _ _). p.lock) c.self.view_is ∙ c.requires.service) in
-    let looks = λ x y. g.V.PortLook.looks x y app c.look-told.result in
     let after = c.finish.ensures.view ∙ ap (λ v. left_view v (history_of w new)) view in
     let now_seen = seen_after w g.K.Kind.laws s app c.self.inside.permits c.self.invariant old entered new (g.V.PortLook.call seen app) answer does c.finish.ensures.sound c.finish.new.seat after in
     subst (λ (p : PortView _ _). AnswersLook w p (port_in w c.finish.new.seat app) (λ x y. g.V.PortLook.looks x y p.app c.look-told.result) (look_entries w p.app (g.V.PortLook.call p.seen p.app) answer (g.V.PortLook.vain c.look-told.result))) c.self.view_is
-    (look_answered w (port_in w s app) (port_in w c.finish.new.seat app) (g.V.PortLook.call seen app) answer looks (g.V.PortLook.vain c.look-told.result) found
+    (look_answered w (port_in w s app) (port_in w c.finish.new.seat app) (g.V.PortLook.call seen app) answer (λ x y. g.V.PortLook.looks x y app c.look-told.result) (g.V.PortLook.vain c.look-told.result) found
     (visited w g.K.Kind.laws s app c.self.inside.permits c.self.invariant old entered
     new (g.V.PortLook.call seen app) answer does c.finish.ensures.sound c.finish.new.seat after lock)
-    (subst (λ core. looks old core) (sym now_seen) c.look-told.ensures.looks))
+    (subst (λ core. g.V.PortLook.looks old core app c.look-told.result) (sym now_seen) c.look-told.ensures.looks))
 
 pub returns-clause-bag : goal.returns-clause-bag
 returns-clause-bag g c =

@@ -1,4 +1,4 @@
-use Rattle.std.proofs.Common.{ap, sym, ◌∙◌, subst, refl}
+use Rattle.std.proofs.Common.{◌≤◌, length, ap, sym, ◌∙◌, subst, refl}
 use Rattle.turn_lock.specs.Seats.{left_view}
 use Rattle.turn_lock.proofs.Callers.{ready_in}
 use Rattle.core_port.specs.Histories.{history_of}
@@ -28,8 +28,9 @@ pub permits-requires : goal.permits-requires
 permits-requires g c =
     let w = g.K.Kind.words in
     let entered = entered_from w _ _ _ _ c.stay_awake.ensures.view c.value_mut.ensures.value c.begin-turn.ensures.entered in
-    known_after w g.K.Kind.laws c.self.inside.seat c.self.inside.app c.self.inside.permits c.self.invariant c.value_mut.result.now.core entered
-    c.make-told.new.self.core (g.V.PortCall.call c.args.call c.args.bag.now) (g.V.PortCall.answer c.make-told.result) c.make-told.ensures.does
+    subst (λ (k : GuardedView _). c.self.inside.app ≤ length (w.fixed k.core).budgets) (sym c.value.ensures)
+    (known_after w g.K.Kind.laws c.self.inside.seat c.self.inside.app c.self.inside.permits c.self.invariant c.value_mut.result.now.core entered
+    c.make-told.new.self.core (g.V.PortCall.call c.args.call c.args.bag.now) (g.V.PortCall.answer c.make-told.result) c.make-told.ensures.does)
 
 pub finish-requires-clause-made : goal.finish-requires-clause-made
 finish-requires-clause-made g c =
