@@ -1,4 +1,5 @@
 pub mod Booleans
+pub mod FileReadings
 pub mod ReadLines
 pub mod ReadTexts
 pub mod ReadWords
