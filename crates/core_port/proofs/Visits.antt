@@ -8,7 +8,7 @@ use Rattle.turn_lock.specs.Seats.{Known, SeatView, IsIn, view_of, entered_view, 
 use Rattle.core_port.specs.Words.{Fixed, Words, Laws}
 use Rattle.core_port.specs.Histories.{the_fixed, with_notes, history_of, entry_in, entries_in, core_with}
 use Rattle.core_port.specs.Inside.{AreCalled, IsPort, seen_in, mine_in, port_in}
-use Rattle.core_port.specs.Ports.{PortView, Answers, AnswersLook, look_entries}
+use Rattle.core_port.specs.Ports.{Answers, AnswersLook, look_entries}
 use Rattle.core_port.specs.Turns.{Entered, MadeOne}
 use Rattle.core_port.specs.declared.history.NotedCall.{NotedCall}
 use Rattle.core_port.proofs.Histories.{pairs-push, with_notes-push, called_history, core_again}
@@ -93,6 +93,18 @@ module _ {S N C A L : Type 0} (w : Words S N C A L) (l : Laws w) (s : SeatView F
         app = refl;
       }
 
+      -- and a look that found something
+      pub looked : (finds : S → S → Type 0) (vain : Bool) → vain ≡ false → finds old new → t.lock ≡ s.lock → AnswersLook w (port_in w s app) (port_in w t app) finds (look_entries w app call answer vain)
+      looked finds vain is found lock = record {
+        between = old;
+        others = others_called w l s app told port old e;
+        looks = subst (λ (c : S). finds old c) (sym seen_after) found;
+        mine = mine_after ∙ ap (λ (b : Bool). mine_in w s ++ look_entries w app call answer b) (sym is);
+        sound = subst (λ (c : S). w.sound c) (sym seen_after) sound;
+        lock = lock;
+        app = refl;
+      }
+
       pub stays_port : (told_now : L) (name : TableId) → IsIn t name → w.tells new app told_now → IsPort w t app told_now
       stays_port told_now name in_it tells = record {
         seat = subst (λ (n : TableId). IsIn t n) (sym in_it.lock) in_it;
@@ -142,16 +154,3 @@ module _ {S N C A L : Type 0} (w : Words S N C A L) (l : Laws w) (s : SeatView F
           ∙ sym (ap (λ (x : Known Fixed (NotedCall C A)). x.mine) now);
       tells = subst (λ (c : S). w.tells c app told_now) (sym seen_idle) tells;
     }
-
--- a look that found something is a call
-pub look_answered : {S N C A L : Type 0} (w : Words S N C A L) (old new : PortView S N) (call : C) (answer : A) (looks : S → S → Type 0) (vain : Bool) → vain ≡ false → (a : Answers w old new call answer) →
-    looks a.between new.seen → AnswersLook w old new looks (look_entries w old.app call answer vain)
-look_answered w old new call answer looks vain found a told = record {
-  between = a.between;
-  others = a.others;
-  looks = told;
-  mine = a.mine ∙ ap (λ (b : Bool). old.mine ++ look_entries w old.app call answer b) (sym found);
-  sound = a.sound;
-  lock = a.lock;
-  app = a.app;
-}

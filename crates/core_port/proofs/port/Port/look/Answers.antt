@@ -6,7 +6,7 @@ use Rattle.core_port.specs.Inside.{GuardedView, port_in, seen_in}
 use Rattle.core_port.specs.Ports.{PortView, AnswersLook, look_entries}
 use Rattle.core_port.proofs.TurnsAfterSleep.{entered_from, view_from}
 use Rattle.core_port.proofs.TurnFinds.{others_called, known_found, may_found}
-use Rattle.core_port.proofs.Visits.{known_after, made_one, visited, stays_port, seen_after, seen_idle, idle, stays_idle, look_answered}
+use Rattle.core_port.proofs.Visits.{known_after, made_one, looked, stays_port, seen_after, seen_idle, idle, stays_idle}
 use Rattle.core_port.proofs.port.Port.look.Goals as goal
 
 pub look-told-requires-clause-may : goal.look-told-requires-clause-may
@@ -157,12 +157,10 @@ returns-clause-answers g c =
     let does = subst (λ call. w.does old new app call answer) (g.met.V.PortLook.same_call seen old app c.self.invariant.first others) (g.met.V.PortLook.found c.value_mut.result.now.core c.look-told.new.self.core c.self.inside.app c.look-told.result c.look-told.ensures.looks (sym c.is_vain.ensures ∙ c.if-is_vain.false)) in
     let lock = c.finish.ensures.seat.lock ∙ sym (ap (λ (p : PortView _ _). p.lock) c.self.view_is ∙ c.requires.service) in
     let after = c.finish.ensures.view ∙ ap (λ v. left_view v (history_of w new)) view in
-    let now_seen = seen_after w g.K.Kind.laws s app c.self.inside.permits c.self.invariant old entered new (g.V.PortLook.call seen app) answer does c.finish.ensures.sound c.finish.new.seat after in
     subst (λ (p : PortView _ _). AnswersLook w p (port_in w c.finish.new.seat app) (λ x y. g.V.PortLook.looks x y p.app c.look-told.result) (look_entries w p.app (g.V.PortLook.call p.seen p.app) answer (g.V.PortLook.vain c.look-told.result))) c.self.view_is
-    (look_answered w (port_in w s app) (port_in w c.finish.new.seat app) (g.V.PortLook.call seen app) answer (λ x y. g.V.PortLook.looks x y app c.look-told.result) (g.V.PortLook.vain c.look-told.result) found
-    (visited w g.K.Kind.laws s app c.self.inside.permits c.self.invariant old entered
-    new (g.V.PortLook.call seen app) answer does c.finish.ensures.sound c.finish.new.seat after lock)
-    (subst (λ core. g.V.PortLook.looks old core app c.look-told.result) (sym now_seen) c.look-told.ensures.looks))
+    (looked w g.K.Kind.laws s app c.self.inside.permits c.self.invariant old entered
+    new (g.V.PortLook.call seen app) answer does c.finish.ensures.sound c.finish.new.seat after
+    (λ x y. g.V.PortLook.looks x y app c.look-told.result) (g.V.PortLook.vain c.look-told.result) found c.look-told.ensures.looks lock)
 
 pub returns-clause-bag : goal.returns-clause-bag
 returns-clause-bag g c =

@@ -6,11 +6,11 @@ use Rattle.core_port.proofs.Mains.{no_history, opened, opens}
 use Rattle.core_port.proofs.service.Service.new.Goals as goal
 
 -- a main part that has made no port
-opened_main : {S N : Type 0} → TableId → S → MainView S N
+abbrev opened_main : {S N : Type 0} → TableId → S → MainView S N
 opened_main lock core = record { lock = lock; seen = core; apps = []; ended = [] }
 
-pub new-lock-requires-clause-empty : goal.new-lock-requires-clause-empty
-new-lock-requires-clause-empty g c =
+pub new-requires-2-clause-empty : goal.new-requires-2-clause-empty
+new-requires-2-clause-empty g c =
     no_history g.K.Kind.words g.K.Kind.laws c.in_ok-guarded.guarded.core c.recall.ensures
     (ap (λ (k : GuardedView _). g.K.Kind.words.entries k.core) c.in_ok-guarded.ensures ∙ c.requires)
 

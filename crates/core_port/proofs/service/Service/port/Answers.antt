@@ -38,7 +38,7 @@ invariant_of-main g c =
     stays_main g.K.Kind.words g.K.Kind.laws s c.main.invariant c.args.app first last out
     c.split-seat.new.main c.self.inside.lock.name c.split-seat.ensures.main c.split-seat.ensures.apps
 
-fresh : {S N : Type 0} → ℕ → TableId → MainView S N → PortView S N
+abbrev fresh : {S N : Type 0} → ℕ → TableId → MainView S N → PortView S N
 fresh app lock main = record { lock = lock; app = app; seen = main.seen; mine = [] }
 
 pub returns-clause-port : goal.returns-clause-port
@@ -51,7 +51,7 @@ returns-clause-port g c =
     c.split-seat.result c.self.inside.lock.name (ready_in c.split-seat.result c.self.inside.lock.name c.split-seat.ensures.seat) c.split-seat.ensures.view
     ∙ ap₂ (fresh c.args.app) c.self.view_is c.main.view_is
 
-with_one_more : {S N : Type 0} → ℕ → MainView S N → MainView S N
+abbrev with_one_more : {S N : Type 0} → ℕ → MainView S N → MainView S N
 with_one_more app main = record main { apps = main.apps ++ app ∷ [] }
 
 pub returns-clause-apps : goal.returns-clause-apps

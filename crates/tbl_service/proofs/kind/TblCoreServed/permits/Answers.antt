@@ -2,7 +2,7 @@ use Rattle.std.proofs.Common.{ℕ, ap₂}
 use Rattle.journal_store.specs.declared.allowance.Allowance.{Allowance}
 use Rattle.tbl_service.proofs.kind.TblCoreServed.permits.Goals as goal
 
-so_much : ℕ → ℕ → Allowance
+abbrev so_much : ℕ → ℕ → Allowance
 so_much entries bytes = record { entries = entries; bytes = bytes }
 
 pub returns : goal.returns
