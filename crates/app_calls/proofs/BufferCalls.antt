@@ -23,7 +23,7 @@ use Rattle.script_runs.specs.Written.{Written, with_buffer, written_after}
 use Rattle.script_runs.proofs.Buffers.{AreWritten, have-sizes, agree-step}
 use Rattle.app_calls.specs.Buffers.{WritesBag}
 use Rattle.app_calls.specs.Callers.{Caller, HasOwnBag, LeavesBuffers, MayWrite, Writes, buffers_asked, written_in}
-use Rattle.app_calls.proofs.Wrote.{bag-written, bag-sizes}
+use Rattle.app_calls.proofs.BufferBytes.{bag-written, bag-sizes}
 
 -- Calls that leave the buffers. --
 

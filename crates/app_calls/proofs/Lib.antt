@@ -1,4 +1,4 @@
-pub mod Wrote
-pub mod Answered
+pub mod BufferBytes
 pub mod BufferCalls
-pub mod TablesAnswered
+pub mod CoreAnswers
+pub mod TableAnswers

@@ -50,8 +50,8 @@ pub record AreNumbered (lent : List Lent) (given : ℕ) : Type 0 where
   pub rising : AreRising lent
   pub given_all : All (λ grant. (1 ≤ grant.number) × (grant.number ≤ given)) lent
 
--- the grants that are left once so many of the first were gone through: those of an application
--- among these came back
+-- the grants that are out once the first so many were visited: of these, those of the application
+-- came back
 abbrev pub left_after : ℕ → ℕ → List Lent → List Lent
 left_after app count lent =
     filter (λ grant. not (grant.app == app)) (take count lent) ++ drop count lent

@@ -24,8 +24,8 @@
 //!
 //! - `create`, `get`, `put`, `stats` and `end` are those of `pool_words`. No grant number is used
 //!   again. A grant that was never given, or came back already, is refused and counted.
-//! - The pool itself (`app_pool`) has the account in which as many blocks of each size are out as
-//!   grants (`pool_account`). `recall_numbered`: the grants out are in order of number, each was
+//! - `app_pool` shows the pool itself: as many of its blocks of each size are out as grants of that
+//!   size (`pool_account`). `recall_numbered`: the grants out are in order of number, each was
 //!   given, and each is of a block size that there is (`IsNumbered`).
 //!
 //! By reading: no call but `new` takes memory; a grant is found by halves; a return moves the later

@@ -15,7 +15,7 @@ use Rattle.bus_words.proofs.Steps.{after_step}
 use Rattle.script_lines.specs.declared.line.Line.{Line}
 use Rattle.script_lines.specs.declared.line.Line.TheVariants as lines
 use Rattle.script_settings.specs.Accounts.{sizes_after}
-use Rattle.script_runs.specs.LineCalls.{calls_of}
+use Rattle.script_runs.specs.LineCalls.{line_call_of}
 use Rattle.script_runs.specs.Trace.{Registers, number_of, call_of, registers_after}
 use Rattle.script_runs.specs.Written.{Written, bytes_in, with_buffer, written_after}
 use Rattle.app_run.specs.Lines.{AreAsked}
@@ -191,7 +191,7 @@ asked-release limits history s app registers asked written buf None are = asked-
 -- after a line's call
 pub asked-line : (limits : Limits) (history : List Entry) (s : State) (app : ℕ) (registers : Registers) (written : Written) (asked : List ℕ) (line : Line) →
     AreAsked registers.buffers written s.numbers_given asked → AskedLine limits history s app registers written asked line (call_of registers written line)
-unfolding call_of calls_of registers_after sizes_after
+unfolding call_of line_call_of registers_after sizes_after
 asked-line limits history s app registers written asked (lines.Create pipe depth name) are =
     asked-more registers.buffers asked written _ _ are (given-step limits history s app (calls.Create depth name))
 asked-line limits history s app registers written asked (lines.Delete pipe) are = asked-more registers.buffers asked written _ _ are (given-step limits history s app (calls.Delete _))

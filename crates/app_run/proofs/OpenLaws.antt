@@ -28,7 +28,7 @@ use Rattle.script_runs.specs.TableTrace.{first_handles}
 use Rattle.script_runs.specs.Told.{Telling, receipts_told, seen_from, table_seen_from, told}
 use Rattle.script_runs.specs.Trace.{first_registers}
 use Rattle.script_runs.specs.Written.{first_written}
-use Rattle.script_runs.proofs.Merged.{rotation-ends}
+use Rattle.script_runs.proofs.ScriptHistories.{rotation-ends}
 use Rattle.app_run.specs.Lines.{line_bytes, entries_due, bytes_due}
 use Rattle.lend_block.specs.Loan.{LentBytes}
 use Rattle.buf_desc.specs.Held.{Holding}

@@ -43,7 +43,7 @@ use Rattle.script_lines.specs.declared.line.Line.{Line}
 use Rattle.script_lines.specs.declared.line.Line.TheVariants.{TableRegister, TableShare, TableUnregister, Stage, Validate, Update, Abort, Load, GetAddress, ReleaseAddress, Status}
 use Rattle.script_settings.specs.Accounts.{waits_of}
 use Rattle.app_script.specs.Ranges.{IsLineInRange}
-use Rattle.script_runs.specs.LineCalls.{calls_of}
+use Rattle.script_runs.specs.LineCalls.{line_call_of}
 use Rattle.script_runs.specs.Messages.{content_bytes, fill_byte}
 use Rattle.script_runs.specs.Rotation.{Running, SoFar, after_call, after_table_call, table_answer_to, turn, turn_in, active_turn}
 use Rattle.script_runs.specs.TableTrace.{table_call_of, handles_after}
@@ -58,11 +58,11 @@ use Rattle.app_run.specs.Runners.{Progress, Equipped, running_of, standing_for}
 use Rattle.app_run.specs.TableLines.{IsRunAtTables, MayRunAtTables, most_table_receipts, table_bytes_due, table_line_bytes}
 use Rattle.app_run.specs.Turns.{IsReady, Stands, TakesTurn, TakesTurnBy, active_tells, so_far, tells_in, with_bags}
 use Rattle.app_run.proofs.AskedLaws.{asked-fewer}
-use Rattle.app_run.proofs.Newest.{remember-addressed}
-use Rattle.app_run.proofs.NewestHeld.{remember_held-step}
+use Rattle.app_run.proofs.NewestReceipts.{remember-addressed}
+use Rattle.app_run.proofs.NewestVersions.{remember_held-step}
 use Rattle.app_run.proofs.OthersLaws.{stands-met, stands-met_at_tables, met-limits, met-table_limits}
-use Rattle.app_run.proofs.Settling.{standing-set}
-use Rattle.app_run.proofs.TakenHeld.{taken-address_told}
+use Rattle.app_run.proofs.Standings.{standing-set}
+use Rattle.app_run.proofs.VersionReceipts.{taken-address_told}
 use Rattle.app_run.proofs.TurnLaws.{the_running, the_progress, the_place, active_lives, apps-does, bag-kept, behind_other, both, bus-kept, entries-going, equip, first-known, given-does, held-kept, left-own, limits-does, number-known, progress-other, remember-does, run-none, so, so_far-does, standing-going, stands-other, table_bytes-line, table_entries-going, table_entries-line, tables-kept, tells-other, turn-other}
 
 -- Who has ended. --
@@ -202,7 +202,7 @@ load-within offset content near some few =
     (le-leb offset 65536 near) (le-leb 1 (length (content_bytes content)) (omega (arith, long, some))) (le-leb (length (content_bytes content)) 65536 (omega (arith, long, few)))
 
 pub allowed-table_line : (handles : List ℕ) (line : Line) → IsLineInRange line → AllowedTableLine line (table_call_of handles line)
-unfolding table_call_of calls_of table_line_bytes IsLineInRange
+unfolding table_call_of line_call_of table_line_bytes IsLineInRange
 allowed-table_line handles (TableRegister handle name size option rules) range = record { bytes = omega arith; within = refl; goes_on = refl }
 allowed-table_line handles (TableShare handle name) range = record { bytes = omega arith; within = refl; goes_on = refl }
 allowed-table_line handles (TableUnregister handle) range = record { bytes = omega arith; within = refl; goes_on = refl }

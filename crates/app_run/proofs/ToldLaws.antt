@@ -31,7 +31,7 @@ use Rattle.app_run.specs.Lines.{pipe_waited_for}
 use Rattle.app_run.specs.Runners.{standing_for}
 use Rattle.app_run.specs.Rounds.{telling_now, told_waiting, told_on, to_come}
 use Rattle.app_run.specs.Turns.{tells, tells_in, other_tells, line_tells, active_tells}
-use Rattle.app_run.proofs.Settling.{SettlesLine, is_pending, settles-line, settles-look}
+use Rattle.app_run.proofs.Standings.{SettlesLine, is_pending, settles-line, settles-look}
 
 -- Entries seen. --
 

@@ -19,11 +19,11 @@ use Rattle.app_run.specs.Received.{Remember, RememberHeld, taken_from, taken_by}
 use Rattle.app_run.specs.Turns.{IsReady, TakesTurnBy, services_of, with_bags}
 use Rattle.app_run.specs.TableLines.{IsRunAtTables, table_line_bytes, table_bytes_due}
 use Rattle.app_run.proofs.AskedLaws.{AskedLine, asked-fewer, asked-line, asked-more, given-step}
-use Rattle.app_calls.proofs.Wrote.{alike-long, alike-none}
-use Rattle.app_run.proofs.Newest.{remember-step, remember-shown}
-use Rattle.app_run.proofs.NewestHeld.{remember_held-got, remember_held-shown}
+use Rattle.app_calls.proofs.BufferBytes.{alike-long, alike-none}
+use Rattle.app_run.proofs.NewestReceipts.{remember-step, remember-shown}
+use Rattle.app_run.proofs.NewestVersions.{remember_held-got, remember_held-shown}
 use Rattle.app_run.proofs.OthersLaws.{stands-met, met-limits}
-use Rattle.app_run.proofs.Taken.{taken-told}
+use Rattle.app_run.proofs.MessageReceipts.{taken-told}
 use Rattle.std.proofs.lemmas.Bool.{le-leb}
 use Rattle.fsw_base.specs.Limits.{Limits}
 use Rattle.bus_words.specs.declared.calls.BusAnswer.{BusAnswer}
@@ -44,7 +44,7 @@ use Rattle.sb_calls.specs.Core.{Core, Does, IsLegalCore, MayCall, apps_of, state
 use Rattle.script_lines.specs.declared.line.Line.{Line}
 use Rattle.script_lines.specs.declared.line.Line.TheVariants.{Create, Delete, SetOpts, GetOpts, Find, PipeName, Subscribe, Unsubscribe, Send, SendRaw, Receive, Pend, Allocate, TransmitBuffer, Release, PoolCreate, PoolGet, PoolPut, PoolFigures, Register, SendEvent, ResetFilter, LogMode, ClearLog, Housekeeping, Figures}
 use Rattle.script_settings.specs.Accounts.{waits_of, buffers_of, sizes_after}
-use Rattle.script_runs.specs.LineCalls.{calls_of}
+use Rattle.script_runs.specs.LineCalls.{line_call_of}
 use Rattle.script_runs.specs.Messages.{sent_message}
 use Rattle.app_script.specs.Ranges.{IsLineInRange}
 use Rattle.script_runs.specs.Rotation.{Running, SoFar, after_call, after_look, answer_to, turn, turn_in, active_turn, line_turn, other_turn}
@@ -64,7 +64,7 @@ use Rattle.tbl_words.specs.Log.{left_of as tables_left_of}
 use Rattle.tbl_words.specs.Tables.{State as Tables}
 use Rattle.tbl_blocks.specs.Held.{HeldViews}
 use Rattle.tbl_load.specs.Core.{Core as TableCore, state_of as tables_of}
-use Rattle.app_run.proofs.Settling.{SettlesLine, is_pending, settles-line, settles-look}
+use Rattle.app_run.proofs.Standings.{SettlesLine, is_pending, settles-line, settles-look}
 
 -- Services after a call. --
 
@@ -138,7 +138,7 @@ given-does before after app call answer does =
 
 -- a line that makes no call of the bus asks for no buffer
 pub local-sizes : (registers : Registers) (written : Written) (asked : List ℕ) (line : Line) → call_of registers written line ≡ None → sizes_after asked line ≡ asked
-unfolding call_of calls_of sizes_after
+unfolding call_of line_call_of sizes_after
 local-sizes registers written asked (Allocate buf size) none = absurd (cc none)
 local-sizes registers written asked line none = refl
 
@@ -303,7 +303,7 @@ AllowedLine asked line (Some call) = Allowed asked line call
 
 pub allowed-line : (registers : Registers) (written : Written) (given : ℕ) (asked : List ℕ) (line : Line) → AreAsked registers.buffers written given asked → IsLineInRange line →
     AllowedLine asked line (call_of registers written line)
-unfolding call_of calls_of line_bytes buffers_of IsLineInRange
+unfolding call_of line_call_of line_bytes buffers_of IsLineInRange
 allowed-line registers written given asked (Create pipe depth name) are range = record { bytes = omega arith; within = le-leb (length name) 64 range; active = refl; asks = omega arith }
 allowed-line registers written given asked (Delete pipe) are range = record { bytes = omega arith; within = refl; active = refl; asks = omega arith }
 allowed-line registers written given asked (SetOpts pipe bits) are range = record { bytes = omega arith; within = refl; active = refl; asks = omega arith }

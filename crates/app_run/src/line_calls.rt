@@ -17,7 +17,7 @@ use script_lines::Line;
 
 /// Makes the call of the bus of a line, its registers filled in, and tells what it was answered;
 /// None for a line that makes no such call.
-#[tactic(auto, unfolding(script_runs::specs::Trace::call_of, script_runs::specs::LineCalls::calls_of, app_script::specs::Ranges::IsLineInRange, crate::specs::Lines::made_size))]
+#[tactic(auto, unfolding(script_runs::specs::Trace::call_of, script_runs::specs::LineCalls::line_call_of, app_script::specs::Ranges::IsLineInRange, crate::specs::Lines::made_size))]
 pub(crate) fn run_line<C: Calls>(
     calls: &mut C,
     registers: &Registers,

@@ -23,7 +23,7 @@ use script_lines::Line;
 use tbl_words::{TableReceipt, TblAnswer};
 
 /// Adds the receipt of a line that was so answered: one where it got a message.
-#[tactic(auto, unfolding(script_runs::specs::Trace::call_of, script_runs::specs::LineCalls::calls_of))]
+#[tactic(auto, unfolding(script_runs::specs::Trace::call_of, script_runs::specs::LineCalls::line_call_of))]
 pub(crate) fn take_got<C: Calls>(
     calls: &C,
     registers: &Registers,
@@ -62,7 +62,7 @@ pub(crate) fn take_receipt<C: Calls>(calls: &C, pipe: u32, number: u32, receipts
 }
 
 /// Adds the receipt of a line of the tables that was so answered: one where it gave an address.
-#[tactic(auto, unfolding(script_runs::specs::TableTrace::table_call_of, script_runs::specs::LineCalls::calls_of))]
+#[tactic(auto, unfolding(script_runs::specs::TableTrace::table_call_of, script_runs::specs::LineCalls::line_call_of))]
 pub(crate) fn take_address<C: Calls>(
     calls: &C,
     handles: &Handles,

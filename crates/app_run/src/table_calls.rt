@@ -15,7 +15,7 @@ use tbl_words::{Call as TableCall, TblAnswer, TblCall};
 
 /// Makes the call of the tables of a line, its register filled in, and tells what it was answered;
 /// None for a line that makes no such call.
-#[tactic(auto, unfolding(script_runs::specs::TableTrace::table_call_of, script_runs::specs::LineCalls::calls_of, app_script::specs::Ranges::IsLineInRange, crate::specs::Lines::made_size))]
+#[tactic(auto, unfolding(script_runs::specs::TableTrace::table_call_of, script_runs::specs::LineCalls::line_call_of, app_script::specs::Ranges::IsLineInRange, crate::specs::Lines::made_size))]
 pub(crate) fn run_table_line<C: Calls>(
     calls: &mut C,
     handles: &Handles,

@@ -18,23 +18,13 @@ use Rattle.app_script.specs.ScriptRanges.{have_new_names, all_calls, all_bytes}
 use Rattle.app_script.specs.Grammar.{Progress, opening, apps_of, after_call}
 use Rattle.app_script.proofs.ScriptLemmas.{account_of_push}
 use Rattle.app_script.proofs.ReadScripts.{set_starts}
-use Rattle.app_script.proofs.Leading.{Calling, Ready, account_grows, nothing_taken}
-use Rattle.app_script.proofs.ItemSteps.{is_again, is_past, with_version, set_to, begun_by, after_item, taken, all_taken}
-use Rattle.app_script.proofs.ItemsTell.{Given, nothing_given, given_more, called}
+use Rattle.app_script.proofs.ReadingStates.{Calling, Ready, account_grows, nothing_taken}
+use Rattle.app_script.proofs.ItemSteps.{is_again, is_past, with_version, set_to, begun_by, after_item, called, taken, all_taken, taken_on}
+use Rattle.app_script.proofs.ItemsTell.{Given, nothing_given, given_more}
 
 -- from here these items are taken in, and lead to such a progress
 abbrev pub Passes : Progress → List Item → (Progress → Type 0) → Type 0
 Passes s items p = (t : Progress) × (all_taken s items ≡ Ok t) × p t
-
-taken_on : (xs ys : List Item) (s t : Progress) → all_taken s xs ≡ Ok t → all_taken s (xs ++ ys) ≡ all_taken t ys
-taken_on [] ys s t e =
-    let same : s ≡ t = cc in
-    ap (λ u. all_taken u ys) same
-taken_on (x ∷ xs) ys s t e =
-    elim (taken s x) as (λ r. (r >>= λ u. all_taken u xs) ≡ Ok t → (r >>= λ u. all_taken u (xs ++ ys)) ≡ all_taken t ys) [
-      | Ok u ↦ λ h. taken_on xs ys u t h
-      | Err fault ↦ λ h. absurd cc
-    ] e
 
 passes_then : (s : Progress) (xs ys : List Item) (p q : Progress → Type 0) → Passes s xs p → ((t : Progress) → p t → Passes t ys q) → Passes s (xs ++ ys) q
 passes_then s xs ys p q first next =

@@ -4,7 +4,7 @@ use Rattle.std.specs.List.{list_any, flat_map}
 use Rattle.std.proofs.lemmas.List.{map_push}
 use Rattle.std.proofs.lemmas.List.Sums.{fold_push}
 use Rattle.std.proofs.lemmas.Grind.{flat_map-append}
-use Rattle.fsw_base.specs.declared.script_faults.FaultKind.TheVariants.{Misplaced, OutOfRange, Repeated, TooManyApps, TooManyCalls, TooManyBytes}
+use Rattle.fsw_base.specs.declared.script_faults.FaultKind.TheVariants.{Misplaced, OutOfRange, Repeated, TooManyApps}
 use Rattle.fsw_base.specs.Limits.{Limits, usual_limits}
 use Rattle.script_words.specs.Readings.{◌>>=◌}
 use Rattle.script_words.specs.Text.{is_same}
@@ -12,7 +12,6 @@ use Rattle.script_words.specs.Counts.{Word}
 use Rattle.script_lines.specs.declared.line.Line.{Line}
 use Rattle.script_settings.specs.declared.settings.LimitName.{LimitName}
 use Rattle.script_settings.specs.Settings.{limit_number, is_among}
-use Rattle.script_settings.specs.Accounts.{account_of, charge_of}
 use Rattle.script_lines.proofs.Booleans.{and_first, and_second, both, not_false}
 use Rattle.app_script.specs.Items.{Setting, Limit, Sizes, Start, Item, Version, Configures, Begins, Calls}
 use Rattle.app_script.specs.Language.{with_setting, version_in, configured, is_same_setting, are_new_settings, app_items, version_items, script_items}
@@ -20,7 +19,7 @@ use Rattle.app_script.specs.Script.{Application}
 use Rattle.app_script.specs.Grammar.{Progress, opening, apps_of, after_call}
 use Rattle.app_script.proofs.ScriptLemmas.{list_any_push}
 use Rattle.app_script.proofs.ReadScripts.{set_starts}
-use Rattle.app_script.proofs.ItemSteps.{is_again, is_past, named_after, sized_after, with_version, set_to, begun_by, after_item, taken, all_taken, passes}
+use Rattle.app_script.proofs.ItemSteps.{is_again, is_past, named_after, sized_after, with_version, set_to, begun_by, after_item, called, call_read, not_false_is, taken, all_taken, passes}
 
 -- ---- settings
 
@@ -176,26 +175,6 @@ has_app items s u name has e =
       fresh = λ f. absurd cc;
       before = λ f. absurd cc;
     })
-
--- after a call line
-abbrev pub called : Progress → Line → Progress
-called s line = record s {
-  present = record s.present { lines = s.present.lines ++ line ∷ [] };
-  calls = s.calls + 1;
-  charged = s.charged + charge_of (account_of s.present.lines) line;
-}
-
-call_read : (s u : Progress) (line : Line) → after_call s line ≡ Ok u → called s line ≡ u
-unfolding after_call
-call_read s u line e =
-    let few = passes (nat_le 20000 s.calls) TooManyCalls (cond (nat_lt 16777216 (s.charged + charge_of (account_of s.present.lines) line)) (Err TooManyBytes) (Ok (called s line))) u e in
-    let light = passes (nat_lt 16777216 (s.charged + charge_of (account_of s.present.lines) line)) TooManyBytes (Ok (called s line)) u few.1 in
-    let f = light.1 in
-    cc
-
-not_false_is : (b : Bool) → not b ≡ false → b ≡ true
-not_false_is true h = refl
-not_false_is false h = absurd cc
 
 apps_begun : (s : Progress) (present : Application) → s.started ≡ true → cond s.started (s.done ++ present ∷ []) s.done ≡ s.done ++ present ∷ []
 apps_begun s present e = ap (λ b. cond b (s.done ++ present ∷ []) s.done) e

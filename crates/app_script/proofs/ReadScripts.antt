@@ -14,23 +14,25 @@ use Rattle.script_words.specs.Counts.{Word, one, two, few}
 use Rattle.script_words.specs.Numbers.{number_of, within}
 use Rattle.script_lines.specs.declared.line.Line.{Line}
 use Rattle.script_lines.specs.CallLines.{call_line_of}
+use Rattle.script_lines.specs.FileLines.{tfile_of}
 use Rattle.script_lines.specs.Ranges.{is_readable}
 use Rattle.script_lines.proofs.Booleans.{and_first, and_second, both, not_false}
-use Rattle.script_lines.proofs.Holding.{Holds, then, any, guard, refuse, either, accept}
+use Rattle.script_lines.proofs.ReadingLaws.{Holds, then, any, guard, refuse, either, accept}
 use Rattle.script_lines.proofs.ReadTexts.{behind_is_text}
 use Rattle.script_lines.proofs.ReadWords.{within_in, below_in}
 use Rattle.script_lines.proofs.ReadLines.{call_readable}
+use Rattle.script_lines.proofs.FileReadings.{AreReadable, files_readable}
 use Rattle.script_settings.specs.declared.settings.LimitName.{LimitName}
 use Rattle.script_settings.specs.declared.settings.LimitName.TheVariants.{MsgIds, Pipes, Dests, Depth, MsgMax, Pool, AppPool, Tables, Handles, TableMax, TablePool}
 use Rattle.app_script.specs.declared.forms.Form.{Form}
-use Rattle.app_script.specs.declared.forms.Form.TheVariants.{Script, Set, Sizes, Seq, App, Call}
-use Rattle.app_script.specs.Forms.{form_of, is_misplaced}
+use Rattle.app_script.specs.declared.forms.Form.TheVariants.{Script, Set, Sizes, Seq, App, Call, File}
+use Rattle.app_script.specs.Forms.{form_in, is_misplaced}
 use Rattle.script_settings.specs.Settings.{least, greatest, with_limit, is_among, limit_named, set_of, some_words, sizes_within, sizes_of, seq_of, is_app_name, app_of, is_version, script_of}
 use Rattle.script_settings.specs.Accounts.{account_of, charge_of}
 use Rattle.app_script.specs.Script.{Application, ScriptText}
 use Rattle.app_script.specs.ScriptRanges.{limit_of}
 use Rattle.app_script.specs.ScriptRanges.{are_limits, have_new_names, is_application, IsScript}
-use Rattle.app_script.specs.Grammar.{Progress, opening, apps_of, after_version, after_set, after_sizes, after_seq, after_app, after_call, after_form, after_known, after_words, after_line, progress_of, grammar, ◌>=>◌}
+use Rattle.app_script.specs.Grammar.{Progress, opening, apps_of, after_version, after_set, after_sizes, after_seq, after_app, after_call, after_file, after_form, after_known, after_words, after_line, progress_of, grammar, ◌>=>◌}
 use Rattle.app_script.proofs.ScriptLemmas.{list_all_push, starts_push}
 use Rattle.app_script.proofs.ReadWalk.{progress_keeps}
 use Rattle.app_script.proofs.RunRanges.{read_bounded}
@@ -282,6 +284,11 @@ call_stands s line readable so =
       lines = list_all_push is_readable s.present.lines line so.lines readable;
     }))
 
+file_stands : (s : Progress) (calls : Line × Line) → AreReadable calls → Stands s → Holds Stands (after_file s calls)
+unfolding after_file
+file_stands s calls readable so =
+    refuse Stands (nat_le 19999 s.calls) TooManyCalls _ (λ room. then Stands Stands (after_call s calls.0) (λ t. after_call t calls.1) (call_stands s calls.0 readable.0 so) (λ t h. call_stands t calls.1 readable.1 h))
+
 -- ---- lines
 
 form_stands : (s : Progress) (form : Form) (rest : List ℕ) → list_all is_text rest ≡ true → Stands s → Holds Stands (after_form s form rest)
@@ -292,6 +299,7 @@ form_stands s Sizes rest h so = sizes_stand s (words_of rest) so
 form_stands s Seq rest h so = seq_stands s (words_of rest) so
 form_stands s App rest h so = app_stands s (words_of rest) so
 form_stands s (Call first) rest h so = then _ Stands (call_line_of first rest) (after_call s) (call_readable first rest h) (λ line readable. call_stands s line readable so)
+form_stands s File rest h so = then AreReadable Stands (tfile_of (words_of rest)) (after_file s) (files_readable (words_of rest)) (λ calls readable. file_stands s calls readable so)
 
 known_stands : (s : Progress) (form : Option Form) (rest : List ℕ) → list_all is_text rest ≡ true → Stands s → Holds Stands (after_known s form rest)
 unfolding after_known
@@ -302,7 +310,7 @@ known_stands s (Some form) rest h so =
 words_stand : (s : Progress) (words : List Word) (rest : List ℕ) → list_all is_text rest ≡ true → Stands s → Holds Stands (after_words s words rest)
 unfolding after_words
 words_stand s [] rest h so = so
-words_stand s (first ∷ words) rest h so = either Stands (starts_with (λ a b. eqb a b) first (codes "#")) _ _ so (known_stands s (form_of first) rest h so)
+words_stand s (first ∷ words) rest h so = either Stands (starts_with (λ a b. eqb a b) first (codes "#")) _ _ so (known_stands s (form_in s.limits.version first) rest h so)
 
 line_stands : (s : Progress) (line : List ℕ) → Stands s → Holds Stands (after_line s line)
 unfolding after_line

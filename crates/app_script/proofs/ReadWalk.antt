@@ -4,7 +4,7 @@ use Rattle.std.proofs.lemmas.Bool.{ltb-false}
 use Rattle.fsw_base.specs.declared.script_faults.FaultKind.TheVariants.{TooLarge, NoApp}
 use Rattle.fsw_base.specs.declared.script_faults.ScriptFault.{ScriptFault}
 use Rattle.script_words.specs.Text.{lines_of}
-use Rattle.script_lines.proofs.Holding.{Holds}
+use Rattle.script_lines.proofs.ReadingLaws.{Holds}
 use Rattle.app_script.specs.Grammar.{Progress, opening, after_line, after_lines, at_line, whole_fault, progress_of, ◌>=>◌}
 
 lines_keep : (P : Progress → Type 0) → ((s : Progress) (line : List ℕ) → P s → Holds P (after_line s line)) → (n : ℕ) (s t : Progress) (lines : List (List ℕ)) → P s → after_lines n s lines ≡ Ok t → P t

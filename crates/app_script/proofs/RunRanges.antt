@@ -9,14 +9,15 @@ use Rattle.script_words.specs.Text.{words_of, behind_word, is_text, is_same}
 use Rattle.script_words.specs.Counts.{Word}
 use Rattle.script_lines.specs.declared.line.Line.{Line}
 use Rattle.script_lines.specs.CallLines.{call_line_of}
-use Rattle.script_lines.proofs.Holding.{Holds, any, refuse, either}
+use Rattle.script_lines.specs.FileLines.{tfile_of}
+use Rattle.script_lines.proofs.ReadingLaws.{Holds, then, any, refuse, either}
 use Rattle.app_script.specs.declared.forms.Form.{Form}
-use Rattle.app_script.specs.declared.forms.Form.TheVariants.{Script, Set, Sizes, Seq, App, Call}
-use Rattle.app_script.specs.Forms.{form_of, is_misplaced}
+use Rattle.app_script.specs.declared.forms.Form.TheVariants.{Script, Set, Sizes, Seq, App, Call, File}
+use Rattle.app_script.specs.Forms.{form_in, is_misplaced}
 use Rattle.script_settings.specs.Settings.{is_among, set_of, sizes_of, seq_of, app_of, script_of}
 use Rattle.script_settings.specs.Accounts.{account_of, charge_of, budget_of}
 use Rattle.app_script.specs.Script.{Application, ScriptText}
-use Rattle.app_script.specs.Grammar.{Progress, opening, apps_of, after_version, after_set, after_sizes, after_seq, after_app, after_call, after_form, after_known, after_words, after_line, progress_of}
+use Rattle.app_script.specs.Grammar.{Progress, opening, apps_of, after_version, after_set, after_sizes, after_seq, after_app, after_call, after_file, after_form, after_known, after_words, after_line, progress_of}
 use Rattle.app_script.proofs.ScriptLemmas.{account_of_push}
 use Rattle.app_script.proofs.ReadWalk.{progress_keeps}
 
@@ -102,6 +103,11 @@ call_keeps s line kept =
 
 -- ---- lines
 
+file_keeps : (s : Progress) (calls : Line × Line) → Kept s → Holds Kept (after_file s calls)
+unfolding after_file
+file_keeps s calls kept =
+    refuse Kept (nat_le 19999 s.calls) TooManyCalls _ (λ room. then Kept Kept (after_call s calls.0) (λ t. after_call t calls.1) (call_keeps s calls.0 kept) (λ t h. call_keeps t calls.1 h))
+
 form_keeps : (s : Progress) (form : Form) (rest : List ℕ) → Kept s → Holds Kept (after_form s form rest)
 unfolding after_form
 form_keeps s Script rest kept = version_keeps s (words_of rest) kept
@@ -110,6 +116,7 @@ form_keeps s Sizes rest kept = sizes_keep s (words_of rest) kept
 form_keeps s Seq rest kept = seq_keeps s (words_of rest) kept
 form_keeps s App rest kept = app_keeps s (words_of rest) kept
 form_keeps s (Call first) rest kept = any Kept (call_line_of first rest) (after_call s) (λ line. call_keeps s line kept)
+form_keeps s File rest kept = any Kept (tfile_of (words_of rest)) (after_file s) (λ calls. file_keeps s calls kept)
 
 known_keeps : (s : Progress) (form : Option Form) (rest : List ℕ) → Kept s → Holds Kept (after_known s form rest)
 unfolding after_known
@@ -120,7 +127,7 @@ known_keeps s (Some form) rest kept =
 words_keep : (s : Progress) (words : List Word) (rest : List ℕ) → Kept s → Holds Kept (after_words s words rest)
 unfolding after_words
 words_keep s [] rest kept = kept
-words_keep s (first ∷ words) rest kept = either Kept (starts_with (λ a b. eqb a b) first (codes "#")) _ _ kept (known_keeps s (form_of first) rest kept)
+words_keep s (first ∷ words) rest kept = either Kept (starts_with (λ a b. eqb a b) first (codes "#")) _ _ kept (known_keeps s (form_in s.limits.version first) rest kept)
 
 line_keeps : (s : Progress) (line : List ℕ) → Kept s → Holds Kept (after_line s line)
 unfolding after_line

@@ -1,5 +1,5 @@
 -- Laws of what was read so far.
-use Rattle.std.proofs.Common.{◌≡◌, ℕ, ◌<◌, Bool, true, false, not, ◌&&◌, ◌||◌, eqb, List, [], ◌∷◌, ◌++◌, length, refl, sym, ap, ◌∙◌, arith}
+use Rattle.std.proofs.Common.{◌≡◌, ℕ, ◌<◌, Bool, true, false, not, ◌&&◌, ◌||◌, eqb, List, [], ◌∷◌, ◌++◌, length, Option, Some, None, refl, sym, ap, ◌∙◌, arith}
 use Rattle.std.specs.List.{list_any, list_all}
 use Rattle.std.proofs.lemmas.Bool.{eqb-false, ne_eqb, le-leb}
 use Rattle.std.proofs.lemmas.List.{length-append}
@@ -11,6 +11,9 @@ use Rattle.script_settings.specs.declared.settings.LimitName.TheVariants.{MsgIds
 use Rattle.script_settings.specs.Settings.{with_limit}
 use Rattle.script_lines.specs.declared.line.Line.{Line}
 use Rattle.script_settings.specs.Accounts.{account_of, counted, no_calls}
+use Rattle.script_words.specs.Counts.{Word}
+use Rattle.app_script.specs.declared.forms.Form.{Form}
+use Rattle.app_script.specs.Forms.{form_of, file_form, form_in}
 
 -- one line more is counted
 pub account_of_push : (lines : List Line) (line : Line) → account_of (lines ++ line ∷ []) ≡ counted (account_of lines) line
@@ -78,3 +81,8 @@ with_limit-starts limits Tables value starts = refl
 with_limit-starts limits Handles value starts = refl
 with_limit-starts limits TableMax value starts = refl
 with_limit-starts limits TablePool value starts = refl
+
+-- what is a form in every version is one in each
+pub known_form : (version : ℕ) (word : Word) (form : Form) → form_of word ≡ Some form → form_in version word ≡ Some form
+unfolding form_in
+known_form version word form known = ap (λ (o : Option Form). elim o as (λ _. Option Form) [ Some f ↦ Some f | None ↦ file_form version word ]) known

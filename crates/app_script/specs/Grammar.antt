@@ -9,12 +9,13 @@ use Rattle.fsw_base.specs.Limits.{Limits, usual_limits}
 use Rattle.script_lines.specs.declared.line.Line.{Line}
 use Rattle.script_settings.specs.declared.settings.LimitName.{LimitName}
 use Rattle.app_script.specs.declared.forms.Form.{Form}
-use Rattle.app_script.specs.declared.forms.Form.TheVariants.{Script, Set, Sizes, Seq, App, Call}
+use Rattle.app_script.specs.declared.forms.Form.TheVariants.{Script, Set, Sizes, Seq, App, Call, File}
 use Rattle.script_words.specs.Readings.{◌>>=◌}
 use Rattle.script_words.specs.Text.{lines_of, words_of, behind_word, is_text, is_same}
 use Rattle.script_words.specs.Counts.{Word}
-use Rattle.app_script.specs.Forms.{form_of, is_misplaced}
+use Rattle.app_script.specs.Forms.{form_in, is_misplaced}
 use Rattle.script_lines.specs.CallLines.{call_line_of}
+use Rattle.script_lines.specs.FileLines.{tfile_of}
 use Rattle.script_settings.specs.Settings.{with_limit, is_among, set_of, sizes_of, seq_of, app_of, script_of}
 use Rattle.script_settings.specs.Accounts.{charge_of, account_of}
 use Rattle.app_script.specs.Script.{Application, ScriptText}
@@ -101,6 +102,12 @@ after_call s line =
       charged = s.charged + charge;
     }))
 
+-- the two call lines of a table file, where the script may have both
+unfoldable pub after_file : Progress → Line × Line → Result Progress FaultKind
+after_file s calls =
+    if nat_le 19999 s.calls then Err TooManyCalls
+    else (after_call s calls.0 >>= λ t. after_call t calls.1)
+
 -- ---- lines
 
 -- a line of this form, from the line behind its first word
@@ -111,6 +118,7 @@ after_form s Sizes rest = after_sizes s (words_of rest)
 after_form s Seq rest = after_seq s (words_of rest)
 after_form s App rest = after_app s (words_of rest)
 after_form s (Call first) rest = call_line_of first rest >>= after_call s
+after_form s File rest = tfile_of (words_of rest) >>= after_file s
 
 -- a line with this first word
 unfoldable pub after_known : Progress → Option Form → List ℕ → Result Progress FaultKind
@@ -123,7 +131,7 @@ unfoldable pub after_words : Progress → List Word → List ℕ → Result Prog
 after_words s [] rest = Ok s
 after_words s (first ∷ words) rest =
     if starts_with (λ a b. a == b) first (codes "#") then Ok s
-    else after_known s (form_of first) rest
+    else after_known s (form_in s.limits.version first) rest
 
 -- a line: skipped where it has no word or begins with a hash sign
 unfoldable pub after_line : Progress → List ℕ → Result Progress FaultKind

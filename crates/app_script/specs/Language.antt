@@ -6,7 +6,8 @@ use Rattle.fsw_base.specs.declared.script_faults.FaultKind.{FaultKind}
 use Rattle.fsw_base.specs.Limits.{Limits, usual_limits}
 use Rattle.script_words.specs.Text.{lines_of, words_of, behind_word, is_text}
 use Rattle.script_settings.specs.Settings.{limit_number, with_limit}
-use Rattle.app_script.specs.Items.{Setting, Limit, Sizes, Start, Item, Version, Configures, Begins, Calls, is_skipped, item_in}
+use Rattle.script_words.specs.Readings.{◌>>=◌}
+use Rattle.app_script.specs.Items.{Setting, Limit, Sizes, Start, Item, Version, Configures, Begins, Calls, is_skipped, items_in}
 use Rattle.app_script.specs.Script.{Application, ScriptText}
 use Rattle.app_script.specs.ScriptRanges.{have_new_names, all_calls, all_bytes}
 
@@ -20,9 +21,17 @@ is_plain line = nat_le (length line) 1024 && list_all is_text line
 abbrev pub told_among : List (List ℕ) → List (List ℕ)
 told_among lines = filter (λ line. not (is_skipped (words_of line))) lines
 
--- what a line tells
-abbrev pub item_on : List ℕ → Result Item FaultKind
-item_on line = item_in (words_of line) (behind_word line)
+-- what a line of a script of this version tells
+abbrev pub items_on : ℕ → List ℕ → Result (List Item) FaultKind
+items_on version line = items_in version (words_of line) (behind_word line)
+
+-- what lines of a script of this version tell in order, where each tells something
+unfoldable pub told_by : ℕ → List (List ℕ) → Result (List Item) FaultKind
+told_by version [] = Ok []
+told_by version (line ∷ lines) = do
+  items ← items_on version line
+  others ← told_by version lines
+  Ok (items ++ others)
 
 -- ---- configuration
 
@@ -77,11 +86,12 @@ pub record IsText (text : List ℕ) (script : ScriptText) : Type 0 where
   -- a text of plain lines
   pub size : length text ≤ 1048576
   pub plain : IsTrue (list_all is_plain (lines_of text))
-  -- its lines, without those that are skipped, tell a script in this order
+  -- its lines, without those that are skipped, tell a script in this order; the line of a table
+  -- file tells two calls, and counts as them
   pub version : Option ℕ
   pub settings : List Setting
-  pub order : map item_on (told_among (lines_of text)) ≡
-      map Ok (script_items version settings script.apps)
+  pub order : told_by (version_in version) (told_among (lines_of text)) ≡
+      Ok (script_items version settings script.apps)
   -- it has the version that is told and these settings, of which each is given once, and at most 16
   -- counts
   pub limits : script.limits ≡ configured (version_in version) settings

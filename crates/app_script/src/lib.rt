@@ -24,6 +24,7 @@
 //!   and the last have line 0.
 //! - `texts_are_scripts`, in both directions: perhaps a `script` line, configuration with each
 //!   setting once, and 1 to 16 applications with their call lines (`IsText`).
+//!   A script of version 2 may have table files: the line of one counts as two call lines.
 //! - Every `Script` keeps its ranges (`IsScript`, `IsInRange`; `recall_ranges`), and so does all
 //!   that the grammar gives (`read_scripts_are_in_range`). `Script::new` and `App::of_lines` make a
 //!   script of parts, for a caller who proves the ranges.

@@ -8,11 +8,11 @@ ghost use Rattle.app_script.specs.Forms.{is_misplaced};
 ghost use Rattle.app_script.specs.ScriptRanges.{IsScript};
 
 use crate::app::App;
-use crate::forms::{Form, form_of, is_misplaced};
+use crate::forms::{Form, form_in, is_misplaced};
 use crate::script::Script;
 use arrayvec::ArrayVec;
 use fsw_base::{Config, CountStarts, FaultKind, MAX_APPS, MAX_STARTS};
-use script_lines::{Line, call_line};
+use script_lines::{Line, call_line, table_file};
 use script_settings::LimitName;
 use script_settings::settings::{app, is_among, put_limit, seq, set, sizes, version};
 use script_words::text::{first_word, is_same, is_text};
@@ -94,7 +94,7 @@ fn are_named(apps: &[App], name: &[u8]) -> bool
 
 impl Reading {
     ghost use Rattle.app_script.specs.Moves.{Moves};
-    ghost use Rattle.app_script.specs.Grammar.{opening, after_version, after_set, after_sizes, after_seq, apps_of, after_app, after_call, after_form, after_known, after_words, after_line};
+    ghost use Rattle.app_script.specs.Grammar.{opening, after_version, after_set, after_sizes, after_seq, apps_of, after_app, after_call, after_file, after_form, after_known, after_words, after_line};
     ghost use Rattle.script_words.specs.Text.{words_of, behind_word};
 
     /// Nothing was read yet.
@@ -232,6 +232,20 @@ impl Reading {
         Ok(())
     }
 
+    // The two call lines of a table file. Whether the script may have both is decided before the
+    // bytes of either: a line has its first fault.
+    #[tactic(auto, unfolding(crate::specs::Grammar::after_file))]
+    fn file(&mut self, calls: (Line, Line)) -> Result<(), LineFail>
+        ensures { Moves result self.new (after_file self.old calls) }
+    {
+        if self.calls >= MAX_CALLS - 1 {
+            return Err(LineFail::Fault(FaultKind::TooManyCalls));
+        }
+        let (share, stage) = calls;
+        self.call(share)?;
+        self.call(stage)
+    }
+
     // A line of this form, from the line behind its first word.
     #[tactic(auto, unfolding(crate::specs::Grammar::after_form))]
     fn form(&mut self, alloc: Global, form: Form, rest: &[u8]) -> Result<(), LineFail>
@@ -246,6 +260,10 @@ impl Reading {
             Form::Call(first) => {
                 let line = call_line(alloc, first, rest)?;
                 self.call(line)
+            }
+            Form::File => {
+                let calls = table_file(alloc, rest)?;
+                self.file(calls)
             }
         }
     }
@@ -286,7 +304,7 @@ impl Reading {
                 if first.starts_with(b"#") {
                     return Ok(());
                 }
-                self.known(alloc, form_of(first), rest)
+                self.known(alloc, form_in(self.config.version, first), rest)
             }
         }
     }

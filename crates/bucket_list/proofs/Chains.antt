@@ -1,5 +1,5 @@
 -- Chains, and what a write of a head, of a count or of a link does to them.
-use Rattle.std.proofs.Common.{◌≡◌, ◌+◌, ◌<◌, ℕ, zero, suc, List, [], ◌∷◌, length, get_or, set, refl, ap, ◌∙◌, arith}
+use Rattle.std.proofs.Common.{◌≡◌, ◌+◌, ◌<◌, ℕ, zero, suc, List, [], ◌∷◌, ◌++◌, length, get_or, set, refl, ap, ◌∙◌, arith}
 use Rattle.std.proofs.lemmas.List.{get_or-set_other}
 use Rattle.std.proofs.lemmas.List.Sums.{sum_by-cons}
 use Rattle.std.proofs.lemmas.Bool.Decides.{nat_tests}
@@ -49,3 +49,21 @@ chains-set_link links (first ∷ heads) (count ∷ counts) node link e =
     let c : times (chains links (first ∷ heads) (count ∷ counts)) node ≡ times_in (chain links first count) node + times (chains links heads counts) node = sum_by-cons (λ ns. times_in ns node) (chain links first count) (chains links heads counts) in
     ap (λ xs. xs ∷ chains (set links node link) heads counts) (chain-set links first count node link (omega (arith, c)))
     ∙ ap (λ xs. chain links first count ∷ xs) (chains-set_link links heads counts node link (omega (arith, c)))
+
+-- a further link of 0 changes no chain: where no link stands, 0 is read
+get_or-more : (links : List ℕ) (node : ℕ) → get_or (links ++ 0 ∷ []) node 0 ≡ get_or links node 0
+get_or-more [] zero = refl
+get_or-more [] (suc node) = refl
+get_or-more (link ∷ links) zero = refl
+get_or-more (link ∷ links) (suc node) = get_or-more links node
+
+chain-more : (links : List ℕ) (first count : ℕ) → chain (links ++ 0 ∷ []) first count ≡ chain links first count
+chain-more links first zero = refl
+chain-more links first (suc count) =
+    ap (λ next. first ∷ chain (links ++ 0 ∷ []) next count) (get_or-more links first) ∙ ap (λ xs. first ∷ xs) (chain-more links (get_or links first 0) count)
+
+pub chains-more : (links heads counts : List ℕ) → chains (links ++ 0 ∷ []) heads counts ≡ chains links heads counts
+chains-more links [] counts = refl
+chains-more links (first ∷ heads) [] = refl
+chains-more links (first ∷ heads) (count ∷ counts) =
+    ap (λ xs. xs ∷ chains (links ++ 0 ∷ []) heads counts) (chain-more links first count) ∙ ap (λ xss. chain links first count ∷ xss) (chains-more links heads counts)

@@ -1,4 +1,4 @@
 pub mod Chains
 pub mod Counts
-pub mod Linked
+pub mod ListInvariant
 pub mod Ranges

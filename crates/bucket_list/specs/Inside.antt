@@ -13,7 +13,7 @@ chains links (first ∷ heads) (count ∷ counts) = chain links first count ∷ 
 -- in one, and every listed node exists
 pub record AreLinked (links heads counts : List ℕ) (nodes : ℕ) : Type 0 where
   pub heads_all : length heads ≡ length counts
-  pub links_all : nodes ≤ length links
+  pub links_all : nodes ≡ length links
   pub links_few : length links < 2 ^ 32
   pub once : (node : ℕ) → times (chains links heads counts) node ≤ 1
   pub exist : (node : ℕ) → nodes ≤ node → times (chains links heads counts) node ≡ 0

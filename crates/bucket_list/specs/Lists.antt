@@ -8,6 +8,12 @@ pub record Listed : Type 0 where
   pub nodes : ℕ
   pub lists : List (List ℕ)
 
+-- a row of links that gets its places one after another: how many there is room for, and the
+-- numbers at its places
+pub record NodeRow : Type 0 where
+  pub room : ℕ
+  pub links : List ℕ
+
 -- the nodes of one list
 abbrev pub listed_at : Listed → ℕ → List ℕ
 listed_at s list = slice_index_or s.lists list []

@@ -1,5 +1,5 @@
-//! A row of links that can be read and written only with a step counted.
-ghost use Rattle.std.specs.Prelude.{◌≡◌, ℕ, ◌+◌, ◌<◌, List, length, replicate, slice_index, slice_set, IfOk};
+//! Rows of links that can be read and written only with a step counted.
+ghost use Rattle.std.specs.Prelude.{◌≡◌, ℕ, ◌+◌, ◌<◌, List, [], ◌∷◌, ◌++◌, length, replicate, slice_index, slice_set, IfOk};
 ghost use Rattle.std.specs.List.{range_with_len};
 
 use std::alloc::{AllocError, Global};
@@ -64,6 +64,74 @@ impl Links {
     pub fn write<L: Ledger>(&mut self, place: u32, link: u32, steps: &mut Steps<L>)
         requires { place < length self.old }
         ensures after { self.new ≡ slice_set self.old place link }
+        ensures cost { steps.new ≡ steps.old + 1 }
+    {
+        steps.tick();
+        self.places[place as usize] = link;
+    }
+}
+
+/// A row of links that gets its places one after another, as nodes come. Contracts see how many
+/// there is room for, and the numbers that stand there, in order of place.
+///
+/// It counts steps as [`Links`] does. Room that no node has needed yet is memory that was never
+/// written.
+#[derive(Drop)]
+pub(crate) struct NodeLinks {
+    // The numbers, by place.
+    places: Vec<u32>,
+    // How many places there may be.
+    room: u32,
+}
+
+impl Model for NodeLinks {
+    ghost use Rattle.std.specs.Prelude.{◌≤◌, length, vec_capacity};
+    ghost use Rattle.bucket_list.specs.Lists.{NodeRow};
+
+    ghost Value = { NodeRow };
+
+    ghost view = { λ l. record { room = l.room; links = l.places.items } };
+
+    ghost invariant = { λ l. (length l.places.items ≤ l.room) × (l.room ≤ vec_capacity l.places) };
+}
+
+impl NodeLinks {
+    /// No place, with room for `room` of them. No later call takes memory.
+    ///
+    /// # Errors
+    /// `AllocError` where memory runs out.
+    pub(crate) fn new(alloc: Global, room: u32) -> Result<NodeLinks, AllocError>
+        ensures { IfOk result (λ row. row ≡ record { room = room; links = [] }) }
+    {
+        Ok(NodeLinks {
+            places: Vec::with_capacity(alloc, room as usize)?,
+            room,
+        })
+    }
+
+    /// A further place, with 0 there.
+    pub(crate) fn add_place(&mut self)
+        requires { length self.old.links < self.old.room }
+        ensures { self.new ≡ record self.old { links = self.old.links ++ 0 ∷ [] } }
+    {
+        self.places.push_reserved(0);
+    }
+
+    /// The number at a place. One step.
+    pub(crate) fn read<L: Ledger>(&self, place: u32, steps: &mut Steps<L>) -> u32
+        requires { place < length self.now.links }
+        ensures value { result ≡ slice_index self.now.links place }
+        ensures cost { steps.new ≡ steps.old + 1 }
+    {
+        steps.tick();
+        self.places[place as usize]
+    }
+
+    /// Writes a number to a place. One step.
+    pub(crate) fn write<L: Ledger>(&mut self, place: u32, link: u32, steps: &mut Steps<L>)
+        requires { place < length self.old.links }
+        ensures after { self.new ≡
+            record self.old { links = slice_set self.old.links place link } }
         ensures cost { steps.new ≡ steps.old + 1 }
     {
         steps.tick();

@@ -2,7 +2,7 @@
 ghost use Rattle.std.specs.Prelude.{◌≡◌, ℕ, ◌+◌, ◌<◌, ◌≤◌, [], ◌∷◌, length, replicate, slice_set, drop, IsNone, IfOk, IfSome, ◌↔◌};
 ghost use Rattle.bucket_list.specs.Lists.{Listed, listed_at, IsLoose, AreApart};
 
-use crate::links::{Links, zeros};
+use crate::links::{Links, NodeLinks, zeros};
 use std::alloc::{AllocError, Global};
 use std::marker::Model;
 use std::sync::ledger::Ledger;
@@ -14,7 +14,7 @@ use step_count::Steps;
 pub struct Lists {
     // At each node, the node behind it in its list. What stands at a list's last node, or at a
     // node in no list, says nothing.
-    links: Links,
+    links: NodeLinks,
     // At each list, its first node. What stands at an empty list says nothing.
     heads: Links,
     // How many nodes each list has.
@@ -24,7 +24,7 @@ pub struct Lists {
 }
 
 impl Model for Lists {
-    ghost use Rattle.std.specs.Prelude.{length};
+    ghost use Rattle.std.specs.Prelude.{◌<◌, ◌^◌};
     ghost use Rattle.bucket_list.specs.Lists.{Listed};
 
     ghost Value = { Listed };
@@ -33,12 +33,13 @@ impl Model for Lists {
 
     ghost view = { λ s.
         record {
-          room = length s.links;
+          room = s.links.room;
           nodes = s.nodes;
-          lists = chains s.links s.heads s.counts.items;
+          lists = chains s.links.links s.heads s.counts.items;
         } };
 
-    ghost invariant = { λ s. AreLinked s.links s.heads s.counts.items s.nodes };
+    ghost invariant = { λ s. AreLinked s.links.links s.heads s.counts.items s.nodes
+        × (s.links.room < 2 ^ 32) };
 }
 
 impl Lists {
@@ -51,7 +52,7 @@ impl Lists {
         ensures { IfOk result
             (λ s. s ≡ record { room = nodes; nodes = 0; lists = replicate lists [] }) }
     {
-        let links = Links::new(alloc, nodes)?;
+        let links = NodeLinks::new(alloc, nodes)?;
         let heads = Links::new(alloc, lists)?;
         let counts = zeros(alloc, lists)?;
         Ok(Lists {
@@ -78,6 +79,7 @@ impl Lists {
     {
         let node = self.nodes;
         self.nodes += 1;
+        self.links.add_place();
         node
     }
 

@@ -1,14 +1,18 @@
 //! The desk: which block is where, and when it goes back to the pool.
-ghost use Rattle.std.specs.Prelude.{◌≡◌, ℕ, ◌+◌, ◌-◌, ◌<◌, ◌≤◌, ◌↔◌, true, false, length, take, replicate, IsTrue, IsOk, IfOk, IfErr, OnErr};
-ghost use Rattle.es_pool.specs.Pool.{fits, is_out, size_at};
-ghost use Rattle.buf_desc.specs.Slots.{slot_at, sealed_at, is_sealed, is_live, number_in, asked_in};
-ghost use Rattle.buf_desc.specs.Desk.{Buffers, Takes, IsOf, uncut, sealed, freed, resealed, after_drop, after_settle};
+ghost use Rattle.std.specs.Prelude.{◌≡◌, ℕ, ◌+◌, ◌-◌, ◌<◌, ◌≤◌, ◌↔◌, true, false, length, slice_set, take, replicate, nat_lt, if◌then◌else◌, vec_capacity, IfSome, IsTrue, IsOk, IfOk, IfErr, OnErr};
+ghost use Rattle.std.specs.Option.{option_map_or};
+ghost use Rattle.ccsds_msg.specs.Message.{with_count};
+ghost use Rattle.es_pool.specs.Pool.{fits, is_out, size_at, DrawsFor};
+ghost use Rattle.buf_desc.specs.Slots.{slot_at, sealed_at, is_free, is_sealed, is_live, free_size, number_in, asked_in};
+ghost use Rattle.buf_desc.specs.declared.slot.Slot.TheVariants.{Free, Sealed};
+ghost use Rattle.buf_desc.specs.Block.{Sealed as SealedBlock};
+ghost use Rattle.buf_desc.specs.Desk.{Buffers, Takes, IsOf, uncut, placed, sealed, freed, resealed, after_drop, after_use, after_settle};
 
-use crate::block::Block;
+use crate::block::{Block, with_its_count};
 use crate::sent::Sent;
 use crate::slot::{
-    Slot, Space, asked_at, count_use, count_uses, discount_use, number_at, put_free, put_sealed,
-    reopen, return_view, take_free, uses_at, view_of,
+    Slot, Space, asked_at, count_use, count_uses, discount_use, let_use_go, lift_free, number_at,
+    place_sealed, put_free, put_sealed, reopen, return_view, take_free, uses_at, view_of,
 };
 use es_pool::Pool;
 use fsw_base::{BlockSizes, EsStatus};
@@ -43,6 +47,65 @@ impl<'r> Model for Desk<'r> {
     ghost view = { λ d. record { pool = d.pool; slots = d.slots.items } };
 
     ghost invariant = { λ d. IsKept d.pool d.slots.items d.rest (vec_capacity d.slots) };
+}
+
+// Takes the memory of a block that was drawn: that of its free slot, or of a block cut anew, from
+// the rest.
+fn memory_of<'r>(
+    pool: &Pool,
+    slots: &mut Vec<Slot<'r>>,
+    rest: &mut Space<'r>,
+    desc: u32,
+) -> &'r mut [u8]
+    requires cut { desc < length pool.now.blocks }
+    requires next { desc ≤ length slots.old.items }
+    requires free { desc < length slots.old.items → is_free (slot_at slots.old.items desc) ≡ true }
+    requires whole { desc < length slots.old.items →
+        free_size (slot_at slots.old.items desc) ≡ size_at pool.now desc }
+    requires left { desc ≡ length slots.old.items → size_at pool.now desc ≤ rest.old }
+    ensures size { length result.now ≡ size_at pool.now desc }
+    ensures lifted { slots.new.items ≡
+        (if nat_lt desc (length slots.old.items) then slice_set slots.old.items desc (Free 0)
+        else slots.old.items) }
+    ensures left { rest.new ≡
+        (if nat_lt desc (length slots.old.items) then rest.old
+        else rest.old - size_at pool.now desc) }
+    ensures capacity { vec_capacity slots.new ≡ vec_capacity slots.old }
+{
+    if (desc as usize) < slots.len() {
+        return lift_free(slots, desc);
+    }
+    let whole = pool.size_of(desc);
+    rest.cut(whole as usize)
+}
+
+// Writes a message into a block's memory, with the sequence count where there is one, and seals it.
+fn sealed_copy<'r>(
+    space: &'r mut [u8],
+    desc: u32,
+    number: u64,
+    bytes: &[u8],
+    count: Option<u16>,
+) -> Sent<'r>
+    requires header { 6 ≤ length bytes.now }
+    requires most { length bytes.now < 4294967296 }
+    requires count { IfSome count (λ n. n < 16384) }
+    requires within { length bytes.now ≤ length space.old }
+    ensures { result ≡
+        record {
+          number = number;
+          asked = length bytes.now;
+          size = length space.old;
+          bytes = option_map_or (with_count bytes.now) count bytes.now;
+          uses = 0;
+          loan = result.loan;
+          views = 0;
+        } }
+{
+    let len = bytes.len() as u32;
+    let copy = Block::new(desc, number, space, len).with_copy_of(bytes);
+    let message = with_its_count(copy, count);
+    Sent::seal(number, len, message.into_space(), len as usize)
 }
 
 impl<'r> Desk<'r> {
@@ -122,6 +185,44 @@ impl<'r> Desk<'r> {
             Ok(block) => Ok(block.with_copy_of(bytes)),
             Err(status) => Err(status),
         }
+    }
+
+    /// Takes a block, writes a message into it, with the sequence count where there is one, and
+    /// seals it for the send of this number. Answers its descriptor, which has no use yet. By the
+    /// code, each byte and the block's slot are written once. At most 8 steps.
+    pub fn put_copy<L: Ledger>(
+        &mut self,
+        bytes: &[u8],
+        count: Option<u16>,
+        number: u64,
+        steps: &mut Steps<L>,
+    ) -> u32
+        requires header { 6 ≤ length bytes.now }
+        requires most { length bytes.now < 4294967296 }
+        requires count { IfSome count (λ n. n < 16384) }
+        requires room { fits self.old.pool (length bytes.now) 1 ≡ true }
+        ensures next { result ≤ length self.old.slots }
+        ensures fresh { is_live (slot_at self.old.slots result) ≡ false }
+        ensures drawn { DrawsFor self.old.pool self.new.pool (length bytes.now) result }
+        ensures sealed { self.new.slots ≡
+            placed self.old.slots result
+            (Sealed (record {
+              number = number;
+              asked = length bytes.now;
+              size = size_at self.new.pool result;
+              bytes = option_map_or (with_count bytes.now) count bytes.now;
+              uses = 0;
+              loan = (sealed_at self.new.slots result).loan;
+              views = 0;
+            })) }
+        ensures cost { steps.new ≤ steps.old + 8 }
+    {
+        let desc = self.pool.try_draw(bytes.len() as u32, steps).unwrap();
+        self.pool.recall_whole();
+        let space = memory_of(&self.pool, &mut self.slots, &mut self.rest, desc);
+        let sent = sealed_copy(space, desc, number, bytes, count);
+        place_sealed(&mut self.slots, desc, sent);
+        desc
     }
 
     /// Seals a block of this desk, of which the first `len` bytes are the message. Answers its
@@ -212,16 +313,38 @@ impl<'r> Desk<'r> {
         self.pool.put(desc, steps).unwrap();
     }
 
-    /// Gives a sealed block without uses, of which no view is out, back to the pool. No effect
-    /// where it has uses. At most 8 steps.
-    pub fn settle<L: Ledger>(&mut self, desc: u32, steps: &mut Steps<L>)
+    /// Takes back the view that a use of a sealed block had, and counts that use no more. Where it
+    /// was the last one, and so no other view is out, the block goes back to the pool. At most 8
+    /// steps.
+    pub fn let_use_go<L: Ledger>(&mut self, desc: u32, view: View<'r>, steps: &mut Steps<L>)
         requires sealed { is_sealed (slot_at self.old.slots desc) ≡ true }
-        requires all_back { (sealed_at self.old.slots desc).uses ≡ 0 →
-            (sealed_at self.old.slots desc).views ≡ 0 }
-        ensures after { self.new ≡ after_settle self.old desc }
+        requires of_this_loan { view.loan ≡ (sealed_at self.old.slots desc).loan }
+        requires some { 1 ≤ (sealed_at self.old.slots desc).uses }
+        requires all_back { (sealed_at self.old.slots desc).uses ≡ 1 →
+            (sealed_at self.old.slots desc).views ≤ 1 }
+        ensures after { self.new ≡ after_use self.old desc }
         ensures cost { steps.new ≤ steps.old + 8 }
     {
-        if uses_at(&self.slots, desc) > 0 {
+        if let_use_go(&mut self.slots, desc, view) {
+            reopen(&mut self.slots, desc);
+            self.pool.put(desc, steps).unwrap();
+        }
+    }
+
+    /// Counts so many uses of a sealed block that has none, and of which no view is out. Where
+    /// there are none to count, it goes back to the pool. At most 8 steps.
+    pub fn settle_at<L: Ledger>(&mut self, desc: u32, uses: u32, steps: &mut Steps<L>)
+        requires sealed { is_sealed (slot_at self.old.slots desc) ≡ true }
+        requires no_use { (sealed_at self.old.slots desc).uses ≡ 0 }
+        requires no_view { (sealed_at self.old.slots desc).views ≡ 0 }
+        ensures after { self.new ≡
+            after_settle
+            (resealed self.old desc (record (sealed_at self.old.slots desc) { uses = uses }))
+            desc }
+        ensures cost { steps.new ≤ steps.old + 8 }
+    {
+        if uses > 0 {
+            count_uses(&mut self.slots, desc, uses);
             return;
         }
         reopen(&mut self.slots, desc);
@@ -304,8 +427,8 @@ impl<'r> Desk<'r> {
         ensures unchanged { OnErr result (self.new ≡ self.old) }
         ensures cost { steps.new ≤ steps.old + 8 }
     {
-        match self.pool.get(size, steps) {
-            Ok(desc) => {
+        match self.pool.try_draw(size, steps) {
+            Some(desc) => {
                 self.pool.recall_whole();
                 if (desc as usize) < self.slots.len() {
                     let space = take_free(&mut self.slots, desc, number, size);
@@ -319,7 +442,7 @@ impl<'r> Desk<'r> {
                 let space = self.rest.cut(whole as usize);
                 Ok(Block::new(desc, number, space, size))
             }
-            Err(status) => Err(status),
+            None => Err(EsStatus::ErrMemBlockSize),
         }
     }
 }

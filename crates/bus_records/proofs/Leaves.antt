@@ -18,16 +18,15 @@ use Rattle.bus_words.specs.declared.calls.BusAnswer.{BusAnswer}
 use Rattle.bus_words.specs.declared.calls.BusAnswer.TheVariants.{Done, Sent, Sb}
 use Rattle.bus_words.specs.declared.history.Call.{Call}
 use Rattle.bus_words.specs.declared.history.Call.TheVariants.{Create, Delete, SetOpts, GetOpts, Find, PipeName, Subscribe, Unsubscribe, Transmit, Receive, Pend, Look, Allocate, TransmitBuffer, Release, PoolCreate, PoolGet, PoolPut, PoolFigures, Register, SendEvent, ResetFilter, LogMode, ClearLog, Housekeeping, Figures, End}
-use Rattle.bus_words.specs.Bus.{Subscription, State, is_subscribed, route}
+use Rattle.bus_words.specs.Bus.{Subscription, State, is_subscribed, missed, route}
 use Rattle.bus_words.specs.Held.{in_use}
 use Rattle.bus_words.specs.Refusals.{Refusal}
-use Rattle.bus_words.specs.Events.{call_events, desk_by}
+use Rattle.bus_words.specs.Events.{miss_events, call_events, desk_by}
 use Rattle.bus_words.specs.Counters.{event_counter, refusal_counter, statistics_by}
 use Rattle.bus_words.specs.Machine.{Reads, sending_from, sending_in, cause, decided_with, recorded}
 use Rattle.bus_words.specs.Acts.{Whole, reads_in, completed, act}
-use Rattle.bus_words.proofs.Told.{is_quiet, leaves_desk, quiet_events, quiet_desk}
-use Rattle.bus_tables.specs.Missed.{missed}
-use Rattle.bus_records.specs.Records.{Recordings, counter_ticked, peaks_raised, told_event, told_all, miss_events}
+use Rattle.bus_words.proofs.EventDesks.{is_quiet, leaves_desk, quiet_events, quiet_desk}
+use Rattle.bus_records.specs.Records.{Recordings, counter_ticked, peaks_raised, told_event, told_all}
 use Rattle.bus_records.proofs.Misses.{told_all-is, send_events-misses, send_events-nobody}
 
 -- the event desk and the statistics of a bus

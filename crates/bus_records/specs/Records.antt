@@ -1,6 +1,6 @@
 -- What a software bus tells of its calls, and counts: its event desk and its statistics, and what
 -- one event, count or look does to them.
-use Rattle.std.specs.Prelude.{ℕ, List, map, fold}
+use Rattle.std.specs.Prelude.{List, fold}
 use Rattle.fsw_base.specs.EventDesk.{Desk, new_desk}
 use Rattle.housekeeping.specs.declared.in_use.InUse.{InUse}
 use Rattle.housekeeping.specs.declared.names.CounterName.{CounterName}
@@ -8,12 +8,8 @@ use Rattle.housekeeping.specs.Counters.{ticked}
 use Rattle.housekeeping.specs.Peaks.{greater}
 use Rattle.housekeeping.specs.Statistics.{Statistics, no_statistics}
 use Rattle.bus_events.specs.declared.event.ServiceEvent.{ServiceEvent}
-use Rattle.bus_events.specs.declared.event.ServiceEvent.TheVariants.{MessageLimit, PipeOverflow, OldestDropped}
 use Rattle.bus_events.specs.Events.{served_event}
 use Rattle.bus_words.specs.Counters.{event_counter}
-use Rattle.bus_tables.specs.declared.misses.Miss.{Miss}
-use Rattle.bus_tables.specs.declared.misses.MissCause.{MissCause}
-use Rattle.bus_tables.specs.declared.misses.MissCause.TheVariants.{OverLimit, Full, Oldest}
 
 -- The event desk; and the counters, with the peaks of what was in use.
 pub record Recordings : Type 0 where
@@ -51,18 +47,3 @@ told_event records event = record {
 -- these events, in order
 abbrev pub told_all : Recordings → List ServiceEvent → Recordings
 told_all records events = fold told_event records events
-
--- what is told of a pipe that misses a message of this id and sender, or its oldest one, for this
--- cause
-abbrev pub missed_by_cause : MissCause → ℕ → ℕ → ℕ → ServiceEvent
-missed_by_cause OverLimit id pipe sender = MessageLimit id pipe sender
-missed_by_cause Full id pipe sender = PipeOverflow id pipe sender
-missed_by_cause Oldest id pipe sender = OldestDropped id pipe sender
-
--- the event of a pipe that misses a message of this id and sender, or drops its oldest one for it
-abbrev pub miss_event : ℕ → ℕ → Miss → ServiceEvent
-miss_event id sender miss = missed_by_cause miss.cause id miss.pipe sender
-
--- the events of all such pipes, in order
-abbrev pub miss_events : ℕ → ℕ → List Miss → List ServiceEvent
-miss_events id sender misses = map (miss_event id sender) misses

@@ -6,10 +6,11 @@ ghost use Rattle.housekeeping.specs.Counters.{ticked};
 ghost use Rattle.housekeeping.specs.Packet.{housekeeping_packet};
 ghost use Rattle.bus_events.specs.Events.{served_event};
 ghost use Rattle.bus_words.specs.Counters.{event_counter};
-ghost use Rattle.bus_records.specs.Records.{no_recordings, told_event, told_all, miss_event, miss_events, counter_ticked, peaks_raised};
+ghost use Rattle.bus_words.specs.Events.{miss_event, miss_events};
+ghost use Rattle.bus_records.specs.Records.{no_recordings, told_event, told_all, counter_ticked, peaks_raised};
 
 use bus_events::ServiceEvent;
-use bus_tables::{Miss, MissCause};
+use bus_words::{Miss, MissCause};
 use evs_events::EventDesk;
 use fsw_base::{AppNo, EventKind, EvsStatus, FilterList};
 use housekeeping::{CounterName, Counters, InUse, PACKET_BYTES};

@@ -1,11 +1,11 @@
-mod Active
-mod Allowed
-pub mod Crossing
+mod ActiveStandings
+mod EmptyBags
 mod Laws
-mod Lent
+mod LentBuffers
 mod Looks
-pub mod Meanwhile
 mod Openings
-mod Refused
-mod Unowned
+pub mod OthersCalls
+mod PermitTests
+mod Refusals
+pub mod Threads
 mod Visits

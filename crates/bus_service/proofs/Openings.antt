@@ -20,8 +20,8 @@ use Rattle.core_port.proofs.Histories.{none_of_them}
 use Rattle.bus_service.specs.Ports.{Begins, KeepsLongerOf, left_by, buffers_for}
 use Rattle.bus_service.specs.Words.{Tells}
 use Rattle.bus_service.specs.declared.permits.Permits.{Permits}
-use Rattle.bus_service.proofs.Active.{active_alone}
-use Rattle.bus_service.proofs.Allowed.{at_most, tested}
+use Rattle.bus_service.proofs.ActiveStandings.{active_alone}
+use Rattle.bus_service.proofs.PermitTests.{at_most, tested}
 
 -- what an application's own entries leave is what the history leaves
 pub own_left : (core : Core) (app : ℕ) (mine : List Entry) → 1 ≤ app → app ≤ length core.log.budgets → All (λ (e : Entry). 1 ≤ e.app) core.log.entries → own_entries app core.log.entries ≡ mine →

@@ -92,9 +92,9 @@ impl<'r> Served<BusKind> for BusCore<'r> {
 }
 
 /// [`BusPort::look`](crate::BusPort::look).
-pub(crate) struct Look;
+pub(crate) struct LookAgain;
 
-impl<'r> PortLook<BusKind, BusCore<'r>> for Look {
+impl<'r> PortLook<BusKind, BusCore<'r>> for LookAgain {
     ghost use Rattle.std.specs.Prelude.{◌≡◌};
     ghost use Rattle.bus_words.specs.Bus.{standing_of, waited_on};
     ghost use Rattle.bus_words.specs.declared.history.Call.TheVariants as made;

@@ -65,7 +65,7 @@
 //!
 //! Not claimed: progress, waking, fairness, order in time between ports that never met, and that a
 //! port goes to another thread (`Send`, `Sync`): who starts a thread shows it by the lemmas of
-//! `Crossing`. A caller of `buffer` doesn't learn what the port becomes, since this kit passes on
+//! `Threads`. A caller of `buffer` doesn't learn what the port becomes, since this kit passes on
 //! no such clause through an `Option` of a slice; by `bytes_of_mut` it does.
 //!
 //! # Implementation
@@ -82,12 +82,13 @@ mod counters;
 mod events;
 mod kind;
 mod leaving;
-mod messages;
 mod permits;
 mod pipes;
 mod pools;
 mod ports;
 mod receiving;
+mod sending;
+mod subscribing;
 mod unsent;
 
 pub use bus::{Bus, BusMain};

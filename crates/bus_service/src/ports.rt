@@ -3,22 +3,21 @@ ghost use Rattle.std.specs.Prelude.{◌≡◌, ◌-◌, true, length};
 ghost use Rattle.std.specs.Option.{option_map};
 ghost use Rattle.journal_store.specs.Budgets.{allowance_of};
 ghost use Rattle.bus_words.specs.Log.{left_of};
-ghost use Rattle.bus_words.specs.Bus.{standing_of, waited_on, has_ended};
-ghost use Rattle.bus_words.specs.declared.history.Call.TheVariants.{Look};
+ghost use Rattle.bus_words.specs.Bus.{standing_of, has_ended};
 ghost use Rattle.sb_calls.specs.Bags.{HasBag, last_message};
 ghost use Rattle.sb_calls.specs.Core.{MayCall, state_of};
 ghost use Rattle.sb_calls.specs.Views.{bytes_seen};
 ghost use Rattle.bus_words.specs.Runs.{own_entries};
-ghost use Rattle.bus_service.specs.Ports.{Answers, AnswersLook, FindsRoom, left_by};
+ghost use Rattle.bus_service.specs.Ports.{Answers, FindsRoom, left_by};
 
 use crate::bus::Bus;
-use crate::kind::{BusKind, Look};
+use crate::kind::BusKind;
 use crate::unsent::MessageView;
 use buf_desc::{Bag, Memory};
 use core_port::{Port, PortCall};
 use fsw_base::AppNo;
 use lend_block::View;
-use sb_calls::{BusCore, Pended, bags_stay};
+use sb_calls::{BusCore, bags_stay};
 use std::marker::Model;
 use std::sync::Wait;
 
@@ -161,24 +160,5 @@ impl<'r> BusPort<'r> {
         ensures left { C.leaves call self.old.bag self.new.bag result }
     {
         self.port.visit(&bus.service, rt, &mut self.bag, call)
-    }
-
-    /// Looks again for a message on the pipe that the application waits on, as [`BusCore::look`]
-    /// does at the application's turn. If its last look was in vain, it first sleeps until a
-    /// waiting application has news. It may wake earlier; nothing is claimed of how long it sleeps.
-    ///
-    /// [`BusCore::look`]: sb_calls::BusCore::look
-    pub fn look<R: Wait>(&mut self, bus: &Bus<'r>, rt: &R) -> Pended
-        requires bus { self.old.lock ≡ bus.now }
-        requires may { MayCall self.old.seen self.old.app
-            (Look (waited_on (standing_of (state_of self.old.seen) self.old.app))) }
-        ensures answers { AnswersLook self.old self.new
-            (waited_on (standing_of (state_of self.old.seen) self.old.app)) result }
-        ensures still { result ≡ Pended.Pending → self.new.bag ≡ self.old.bag }
-        ensures buffers { self.new.bag ≡ record self.old.bag { views = self.new.bag.views } }
-    {
-        self.port.recall();
-        self.port
-            .look::<BusCore<'r>, Look, R>(&bus.service, rt, &mut self.bag)
     }
 }

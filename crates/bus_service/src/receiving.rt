@@ -1,14 +1,16 @@
-//! Receives, by ports.
+//! Receives and looks, by ports.
 ghost use Rattle.std.specs.Prelude.{◌≡◌, Err, OnErr};
 ghost use Rattle.fsw_base.specs.declared.statuses.SbStatus.TheVariants.{BadArgument};
 ghost use Rattle.bus_words.specs.declared.history.Call.TheVariants as made;
 ghost use Rattle.sb_plain.specs.Answers.{got};
 ghost use Rattle.sb_calls.specs.Answers.{pended};
-ghost use Rattle.sb_calls.specs.Core.{MayCall};
-ghost use Rattle.bus_service.specs.Ports.{Answers};
+ghost use Rattle.sb_calls.specs.Core.{MayCall, state_of};
+ghost use Rattle.bus_service.specs.Ports.{Answers, AnswersLook};
+ghost use Rattle.bus_words.specs.Bus.{standing_of, waited_on};
+ghost use Rattle.bus_words.specs.declared.history.Call.TheVariants.{Look};
 
 use crate::bus::Bus;
-use crate::kind::BusKind;
+use crate::kind::{BusKind, LookAgain};
 use crate::ports::BusPort;
 use buf_desc::Held;
 use core_port::PortCall;
@@ -104,5 +106,24 @@ impl<'r> BusPort<'r> {
         ensures bag_refused { OnErr result (self.new.bag ≡ self.old.bag) }
     {
         self.visit(bus, rt, Pend { pipe })
+    }
+
+    /// Looks again for a message on the pipe that the application waits on, as [`BusCore::look`]
+    /// does at the application's turn. If its last look was in vain, it first sleeps until a
+    /// waiting application has news. It may wake earlier; nothing is claimed of how long it sleeps.
+    ///
+    /// [`BusCore::look`]: sb_calls::BusCore::look
+    pub fn look<R: Wait>(&mut self, bus: &Bus<'r>, rt: &R) -> Pended
+        requires bus { self.old.lock ≡ bus.now }
+        requires may { MayCall self.old.seen self.old.app
+            (Look (waited_on (standing_of (state_of self.old.seen) self.old.app))) }
+        ensures answers { AnswersLook self.old self.new
+            (waited_on (standing_of (state_of self.old.seen) self.old.app)) result }
+        ensures still { result ≡ Pended.Pending → self.new.bag ≡ self.old.bag }
+        ensures buffers { self.new.bag ≡ record self.old.bag { views = self.new.bag.views } }
+    {
+        self.port.recall();
+        self.port
+            .look::<BusCore<'r>, LookAgain, R>(&bus.service, rt, &mut self.bag)
     }
 }

@@ -12,7 +12,7 @@ use Rattle.bus_words.specs.Held.{is_on_pipes, held, has_class, each_below, bytes
 use Rattle.bus_words.proofs.HeldBlocks.{bytes_of_sends}
 use Rattle.bus_store.specs.Words.{with_held}
 use Rattle.bus_store.specs.Inside.{store_of, Keeps, account_in, returned, after_send, after_release}
-use Rattle.bus_store.proofs.Blocked.{out_held, in_use_held}
+use Rattle.bus_store.proofs.BlocksOut.{out_held, in_use_held}
 
 each-same : (f g : ℕ → ℕ) → ((i : ℕ) → f i ≡ g i) → (n : ℕ) → each_below f n ≡ each_below g n
 each-same f g same zero = refl

@@ -13,7 +13,7 @@ use Rattle.bus_words.specs.Bus.{Item, Pipe, owns}
 use Rattle.bus_tables.specs.declared.tables.ItemRow.{ItemRow}
 use Rattle.bus_words.specs.Pipes.{pipe_at, with_pipe, after_receive, oldest, oldest_on, last_on, IsRising, pipe_by}
 use Rattle.bus_tables.specs.Rows.{Row}
-use Rattle.bus_tables.proofs.UsesCounted.{with_row_sum}
+use Rattle.bus_tables.proofs.UseCounts.{with_row_sum}
 use Rattle.bus_store.specs.Store.{Store, LastLoan}
 use Rattle.bus_store.specs.Words.{loan_of}
 use Rattle.bus_store.specs.Bag.{view_due, views_due}

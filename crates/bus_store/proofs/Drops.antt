@@ -6,7 +6,6 @@ use Rattle.std.proofs.lemmas.Bool.Decides.{nat_tests}
 use Rattle.std.proofs.lemmas.List.Elements.{All-nil, All-cons, All-head, All-tail, All-weaker}
 use Rattle.std.proofs.lemmas.List.Sums.{sum_by-cons}
 use Rattle.fsw_base.specs.Blocks.{class_of}
-use Rattle.fsw_base.specs.PoolAccounts.{Account}
 use Rattle.es_pool.specs.Pool.{is_out, size_at, most_cut}
 use Rattle.buf_desc.specs.Block.{Sealed as SealedBlock}
 use Rattle.buf_desc.specs.Desk.{Buffers, resealed, freed, after_drop}
@@ -21,7 +20,7 @@ use Rattle.bus_store.proofs.Accounts.{OutAlone, alone_as, alone_then, returned_i
 use Rattle.bus_store.proofs.Items.{items_weaker, items_both, unused, queue_unused, lasts_few}
 use Rattle.bus_store.proofs.Pool.{returned_for, out_given_back}
 use Rattle.bus_store.proofs.Receives.{AreUsed, retied, used_resealed, used_freed, stays_then, stays_still, item_use-here, item_use-there}
-use Rattle.bus_store.proofs.Tied.{Stays, KeepsOpen, sealed_live, sealed_number, sealed_asked, open_still, open_then, open_resealed, open_freed, here_set, others_set, stays_resealed, stays_freed, named_stay, tied_resealed, tied_freed}
+use Rattle.bus_store.proofs.Ties.{Stays, KeepsOpen, sealed_live, sealed_number, sealed_asked, open_still, open_then, open_resealed, open_freed, here_set, others_set, stays_resealed, stays_freed, named_stay, tied_resealed, tied_freed}
 
 eqb_same : (n : ℕ) → eqb n n ≡ true
 eqb_same n = grind (arith, nat_tests)

@@ -5,7 +5,7 @@ use Rattle.bus_words.specs.Pipes.{last_on}
 use Rattle.bus_store.specs.declared.store.BusStore.TheInside.{Inside}
 use Rattle.bus_store.specs.Store.{Store}
 use Rattle.bus_store.specs.Inside.{store_of}
-use Rattle.bus_store.proofs.Removed.{rows_last}
+use Rattle.bus_store.proofs.PipeRemovals.{rows_last}
 
 module _ (a : Inside) (old : Store) (app pipe : ℕ) (viewed : store_of a ≡ old) (none : last_on old.pipes pipe ≡ None) where
   pub nothing_last : ◌≡◌ {A = Option ItemRow} None (last_on a.tables.pipes pipe)

@@ -16,7 +16,7 @@ use Rattle.bus_words.specs.declared.verdict.Verdict.{Verdict}
 use Rattle.bus_words.specs.declared.verdict.Verdict.TheVariants.{Skip, OverLimit, In, Oldest, Full}
 use Rattle.bus_tables.specs.Rows.{Row, verdict_on, item_of, offered_row, row_drops, deliver_rows, dropped_rows}
 use Rattle.bus_tables.specs.Uses.{item_use, uses_in, uses_of}
-use Rattle.bus_tables.proofs.UsesCounted.{with_row_sum}
+use Rattle.bus_tables.proofs.UseCounts.{with_row_sum}
 use Rattle.bus_store.specs.Inside.{item_in, pipes_in, OfItems, AllItems, lasts_of}
 
 -- One pipe. --

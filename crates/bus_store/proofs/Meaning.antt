@@ -4,13 +4,12 @@ use Rattle.std.specs.List.{All}
 use Rattle.std.specs.Option.{IfSome, option_map}
 use Rattle.std.proofs.lemmas.List.Elements.{All-head, All-tail}
 use Rattle.buf_desc.specs.declared.slot.Slot.{Slot}
-use Rattle.bus_words.specs.Bus.{Item, Subscription, Sending, item_for, deliver, reached, drops}
+use Rattle.bus_words.specs.Bus.{Item, Subscription, Sending, item_for, deliver, reached, drops, missed}
 use Rattle.bus_words.specs.Bus as bus
 use Rattle.bus_words.specs.Pipes.{pipe_by}
 use Rattle.bus_words.proofs.PipeItems.{IsOffer, deliver-map, reached-map, drops-map}
 use Rattle.bus_tables.specs.declared.message.Message.{Message}
 use Rattle.bus_tables.specs.declared.tables.ItemRow.{ItemRow}
-use Rattle.bus_tables.specs.Missed.{missed}
 use Rattle.bus_tables.specs.Rows.{Row, offer_of, deliver_rows, reached_rows, drops_rows, missed_rows}
 use Rattle.bus_tables.proofs.MissedItems.{misses_of-map}
 use Rattle.bus_store.specs.Inside.{item_in, OfItems, AllItems}

@@ -13,7 +13,7 @@ use Rattle.bus_store.specs.declared.store.BusStore.TheInside.{Inside}
 use Rattle.bus_store.proofs.Bags.{loan-rows}
 use Rattle.bus_store.proofs.Items.{last_found}
 use Rattle.bus_words.proofs.PipeItems.{last_on-map}
-use Rattle.bus_store.proofs.Tied.{sealed_live, sealed_number}
+use Rattle.bus_store.proofs.Ties.{sealed_live, sealed_number}
 
 module _ (slots : List Slot) (numbers : HaveOwnNumbers slots) where
   -- they lie in one block

@@ -15,13 +15,13 @@ use Rattle.bus_tables.specs.declared.tables.ItemRow.{ItemRow}
 use Rattle.bus_words.specs.Pipes.{pipe_at, with_pipe, after_receive, oldest_on, last_on, IsRising}
 use Rattle.bus_tables.specs.Rows.{Row}
 use Rattle.bus_tables.specs.Uses.{item_use, uses_of}
-use Rattle.bus_tables.proofs.UsesCounted.{taken_uses}
+use Rattle.bus_tables.proofs.UseCounts.{taken_uses}
 use Rattle.bus_store.specs.Inside.{item_in, pipes_in, account_in, AllItems, IsNamed, lasts_of, AreTied, Backed, let_go, shown, returned, after_release}
 use Rattle.bus_store.proofs.Bags.{last_item-taken}
-use Rattle.bus_store.proofs.Counted.{is_on_pipes-rows}
+use Rattle.bus_store.proofs.UseCounts.{is_on_pipes-rows}
 use Rattle.bus_store.proofs.Items.{items_weaker, items_both, items_taken, unused, lasts_taken, lasts_unlasted, last_found}
 use Rattle.bus_store.proofs.Pool.{returned_for}
-use Rattle.bus_store.proofs.Tied.{Stays, KeepsOpen, sealed_live, sealed_number, sealed_asked, open_still, open_then, open_resealed, open_freed, here_set, others_set, stays_resealed, stays_freed, named_stay, tied_resealed, tied_freed}
+use Rattle.bus_store.proofs.Ties.{Stays, KeepsOpen, sealed_live, sealed_number, sealed_asked, open_still, open_then, open_resealed, open_freed, here_set, others_set, stays_resealed, stays_freed, named_stay, tied_resealed, tied_freed}
 
 -- Ties. --
 

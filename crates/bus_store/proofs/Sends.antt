@@ -1,5 +1,5 @@
 -- What a send leaves of the blocks, the pipes and the account.
-use Rattle.std.proofs.Common.{◌≡◌, ℕ, ◌+◌, ◌≤◌, ◌⊎◌, inl, inr, Some, Bool, true, false, cond, eqb, leb, List, [], ◌∷◌, ◌++◌, map, refl, ap, sym, ◌∙◌, subst, arith}
+use Rattle.std.proofs.Common.{◌≡◌, ℕ, ◌+◌, ◌≤◌, ◌⊎◌, inl, inr, Some, Bool, true, false, cond, eqb, leb, List, [], ◌∷◌, map, refl, ap, sym, ◌∙◌, subst, arith}
 use Rattle.std.specs.List.{All}
 use Rattle.std.proofs.lemmas.Bool.{cases_eq}
 use Rattle.std.proofs.lemmas.Bool.Decides.{nat_tests}
@@ -19,7 +19,7 @@ use Rattle.bus_tables.specs.declared.tables.ItemRow.{ItemRow}
 use Rattle.bus_words.specs.Pipes.{with_pipe, IsRising}
 use Rattle.bus_tables.specs.Rows.{Row, offered_row, deliver_rows, reached_rows, missed_rows, dropped_rows, drops_rows}
 use Rattle.bus_tables.specs.Uses.{uses_among, uses_of}
-use Rattle.bus_tables.proofs.UsesCounted.{delivered_uses}
+use Rattle.bus_tables.proofs.UseCounts.{delivered_uses}
 use Rattle.bus_store.specs.Store.{LastLoan}
 use Rattle.bus_store.specs.Words.{missed}
 use Rattle.bus_store.specs.Blocks.{IsGiven}
@@ -28,7 +28,7 @@ use Rattle.bus_store.proofs.Drops.{HaveLoose}
 use Rattle.bus_store.proofs.Items.{items_weaker, items_both, items_delivered, items_dropped, no_uses, unused, queue_unused, lasts_few, lasts_delivered}
 use Rattle.bus_store.proofs.Meaning.{IsSending, message_of, deliver-rows, reached-rows, drops-rows, missed-rows}
 use Rattle.bus_store.proofs.Pool.{returned_for}
-use Rattle.bus_store.proofs.Tied.{Stays, Moves, sealed_live, sealed_number, here_set, others_set, stays_apart, stays_freed, pipes_stay, named_stay, loans_stay, tied_moved, tied_freed}
+use Rattle.bus_store.proofs.Ties.{Stays, Moves, sealed_live, sealed_number, here_set, others_set, stays_apart, stays_freed, pipes_stay, named_stay, loans_stay, tied_moved, tied_freed}
 
 -- a delivery changes no last message
 loans_delivered : (slots : List Slot) (message : Message) (subs : List Subscription) (rows : List Row) → map (loan_in slots) (deliver_rows message subs rows) ≡ map (loan_in slots) rows

@@ -11,27 +11,27 @@ use Rattle.bus_words.specs.Bus.{Pipe, Subscription, Buffer, Sending, route, deli
 use Rattle.bus_words.specs.Machine.{stamped}
 use Rattle.bus_words.specs.Acts.{next_in}
 use Rattle.bus_tables.specs.declared.message.Message.{Message}
-use Rattle.bus_tables.specs.declared.misses.Miss.{Miss}
+use Rattle.bus_words.specs.declared.miss.Miss.{Miss}
 use Rattle.bus_tables.specs.Missed.{Missed}
 use Rattle.bus_words.specs.Pipes.{with_pipe, IsRising}
 use Rattle.bus_tables.specs.Rows.{Row, offered_row, deliver_rows, reached_rows, missed_rows, dropped_rows}
 use Rattle.bus_tables.specs.Tables.{Tables}
-use Rattle.bus_tables.proofs.UsesCounted.{dropped_few}
+use Rattle.bus_tables.proofs.UseCounts.{dropped_few}
 use Rattle.bus_store.specs.declared.store.BusStore.TheInside.{Inside}
 use Rattle.bus_store.specs.Store.{Store, LastLoan, BufferDesc}
 use Rattle.bus_store.specs.Words.{next_of, reads_of, sending_of, missed, counted_up, with_held}
 use Rattle.bus_store.specs.Inside.{AreLoose, all_dropped, store_of, Keeps, Backed, Seals, Adds, account_in, pipes_in, descs_in, loan_in, after_send}
-use Rattle.bus_store.proofs.Added.{length-counted}
+use Rattle.buf_desc.proofs.Copied.{length-counted}
 use Rattle.lend_block.specs.Loan.{LentBytes}
 use Rattle.buf_desc.specs.Held.{Holding}
 use Rattle.bus_store.proofs.Accounts.{OutAlone, held_law, held_now, alone_as, alone_then, sent_alone}
 use Rattle.bus_store.proofs.Drops.{AreGone, are_loose, all_gone, gone_backed}
 use Rattle.bus_store.proofs.Lasts.{AreLike, HasDue, holds_like, like_delivered}
 use Rattle.bus_store.proofs.Meaning.{message_of}
-use Rattle.bus_store.proofs.Listed.{listed_kept, unsent_kept, descs_kept}
+use Rattle.bus_store.proofs.BufferLists.{listed_kept, unsent_kept, descs_kept}
 use Rattle.bus_store.proofs.Pool.{IsDrawn, drawn_for, most_drawn}
 use Rattle.bus_store.proofs.Sends.{Begins, IsSent, is_sent}
-use Rattle.bus_store.proofs.Tied.{KeepsOpen, sealed_live, sealed_number, dead_closed, dead_unsealed, open_apart, open_then, pipes_stay, loans_stay}
+use Rattle.bus_store.proofs.Ties.{KeepsOpen, sealed_live, sealed_number, dead_closed, dead_unsealed, open_apart, open_then, pipes_stay, loans_stay}
 
 -- Lengths. --
 

@@ -5,7 +5,7 @@ use Rattle.std.specs.Option.{option_map_or}
 use Rattle.fsw_base.specs.Blocks.{class_of}
 use Rattle.fsw_base.specs.PoolAccounts.{Account, after_return}
 use Rattle.bucket_list.specs.Lists.{times}
-use Rattle.es_pool.specs.Pool.{PoolState, DrawsFor, made_in, out_in, class_at, most_cut}
+use Rattle.es_pool.specs.Pool.{PoolState, DrawsFor, is_out, made_in, out_in, class_at, most_cut}
 use Rattle.es_pool.specs.Account.{IsAccountOf}
 use Rattle.lend_block.specs.Loan.{LentBytes}
 use Rattle.buf_desc.specs.Slots.{slot_at, sealed_at, is_sealed, is_open, is_live, number_in, asked_in, HaveOwnNumbers}
@@ -193,6 +193,11 @@ pub record AreLoose (buffers : Buffers) (items : List ItemRow) : Type 0 where
       (sealed_at buffers.slots desc).uses
 
 -- Steps. --
+
+-- the live blocks are those that are out of the pool
+abbrev pub OutAreLive : Buffers → Type 0
+OutAreLive buffers =
+    (desc : ℕ) → is_live (slot_at buffers.slots desc) ≡ is_out buffers.pool desc
 
 -- a block was sealed for a send, with this message, no use and no view yet; the others stay
 pub record Seals (old new : Buffers) (number asked : ℕ) (message : List ℕ) (desc : ℕ) : Type 0 where

@@ -4,7 +4,7 @@ use Rattle.std.specs.Prelude.{ℕ, List, [], replicate, length}
 use Rattle.fsw_base.specs.Limits.{Limits}
 use Rattle.fsw_base.specs.PoolAccounts.{Account}
 use Rattle.bus_words.specs.Bus.{Pipe, Subscription, Buffer}
-use Rattle.bus_tables.specs.declared.misses.Miss.{Miss}
+use Rattle.bus_words.specs.declared.miss.Miss.{Miss}
 use Rattle.bus_tables.specs.Rows.{RouteRow}
 use Rattle.bus_tables.specs.Tables.{Room, room_for}
 

@@ -9,7 +9,7 @@ use Rattle.bus_words.specs.Bus.{Pipe, Buffer, Sending, pipe_at, unsent_size}
 use Rattle.bus_words.specs.Held.{blocks_held}
 use Rattle.bus_words.specs.Machine.{Reads, stamped, front_of}
 use Rattle.bus_words.specs.Acts.{NextCount, next_in}
-pub use Rattle.bus_tables.specs.Missed.{missed}
+pub use Rattle.bus_words.specs.Bus.{missed}
 use Rattle.bus_tables.specs.Rows.{RouteRow, counted_on}
 use Rattle.bus_store.specs.Store.{Store, LastLoan, BufferDesc}
 

@@ -7,56 +7,13 @@ ghost use Rattle.es_pool.specs.Pool.{fits};
 ghost use Rattle.buf_desc.specs.Desk.{Takes, IsOf, resealed, after_settle};
 ghost use Rattle.buf_desc.specs.Held.{view_at};
 ghost use Rattle.buf_desc.specs.Slots.{slot_at, sealed_at, is_sealed, HaveOwnNumbers};
-ghost use Rattle.bus_store.specs.Inside.{Adds, Seals, AreLoose, all_dropped, let_go, shown, view_in};
+ghost use Rattle.bus_store.specs.Inside.{Adds, Seals, OutAreLive, AreLoose, all_dropped, let_go, shown, view_in};
 
-use buf_desc::{Block, Desk, Held};
+use buf_desc::{Block, Desk, Held, with_its_count};
 use bus_tables::ItemRow;
-use ccsds_msg::{set_count, size_of};
+use ccsds_msg::size_of;
 use lend_block::View;
 use step_count::{Ledger, Steps};
-
-// The block with this sequence count in its message.
-fn with_count<'r>(block: Block<'r>, count: u16) -> Block<'r>
-    requires header { 6 ≤ length block.bytes }
-    requires count { count < 16384 }
-    ensures { result ≡ record block.entry { bytes = with_count block.entry.bytes count } }
-{
-    let mut block = block;
-    set_count(block.bytes_mut(), count);
-    block
-}
-
-// The block as it is sent: with the count, where there is one.
-fn with_its_count<'r>(block: Block<'r>, count: Option<u16>) -> Block<'r>
-    requires header { 6 ≤ length block.bytes }
-    requires count { IfSome count (λ n. n < 16384) }
-    ensures { result ≡
-        record block.entry {
-          bytes = option_map_or (with_count block.entry.bytes) count block.entry.bytes;
-        } }
-{
-    match count {
-        Some(count) => with_count(block, count),
-        None => block,
-    }
-}
-
-// Draws a block with a copy of the bytes.
-fn drawn<'r, L: Ledger>(
-    desk: &mut Desk<'r>,
-    bytes: &[u8],
-    number: u64,
-    steps: &mut Steps<L>,
-) -> Block<'r>
-    requires most { length bytes.now < 4294967296 }
-    requires room { fits desk.old.pool (length bytes.now) 1 ≡ true }
-    ensures taken { Takes desk.old desk.new (length bytes.now) number result }
-    ensures own { IsOf desk.new result }
-    ensures copied { result.bytes ≡ bytes.now }
-    ensures cost { steps.new ≤ steps.old + 8 }
-{
-    desk.take_copy(bytes, number, steps).unwrap()
-}
 
 /// Draws a block for the message, writes it once, with the count where there is one, and seals it.
 /// Answers its descriptor, which has no use yet. At most 8 steps.
@@ -73,11 +30,13 @@ pub(crate) fn put_message<L: Ledger>(
     requires room { fits desk.old.pool (length bytes.now) 1 ≡ true }
     ensures added { Adds desk.old desk.new number
         (option_map_or (with_count bytes.now) count bytes.now) result }
+    ensures live { OutAreLive desk.new }
     ensures cost { steps.new ≤ steps.old + 8 }
 {
-    let copy = drawn(desk, bytes, number, steps);
-    let message = with_its_count(copy, count);
-    desk.seal(message, bytes.len() as u32)
+    let desc = desk.put_copy(bytes, count, number, steps);
+    // Does nothing; the proof learns of it, here and below, which blocks are out.
+    desk.recall_live();
+    desc
 }
 
 /// Draws a block of zeros for a buffer of this size and number. At most 8 steps.
@@ -109,10 +68,13 @@ pub(crate) fn seal_front<'r>(desk: &mut Desk<'r>, block: Block<'r>, count: Optio
         (front_of block.entry.bytes)) block.entry.desc }
     ensures pool { desk.new.pool ≡ desk.old.pool }
     ensures numbers { HaveOwnNumbers desk.old.slots → HaveOwnNumbers desk.new.slots }
+    ensures live { OutAreLive desk.new }
 {
     let size = size_of(block.bytes());
     let message = with_its_count(block, count);
-    desk.seal(message, size)
+    let desc = desk.seal(message, size);
+    desk.recall_live();
+    desc
 }
 
 /// Counts a use of the block for each pipe that took the message. Where none did, the block goes
@@ -129,24 +91,27 @@ pub(crate) fn settle_message<L: Ledger>(
     ensures after { desk.new ≡
         after_settle
         (resealed desk.old desc (record (sealed_at desk.old.slots desc) { uses = reached })) desc }
+    ensures live { OutAreLive desk.new }
     ensures cost { steps.new ≤ steps.old + 8 }
 {
-    desk.add_uses(desc, reached);
-    desk.settle(desc, steps);
+    desk.settle_at(desc, reached, steps);
+    desk.recall_live();
 }
 
 /// Lets messages go that pipes dropped: drops a use of the block of each. At most 8 steps for each.
 pub(crate) fn drop_uses<L: Ledger>(desk: &mut Desk<'_>, items: &[ItemRow], steps: &mut Steps<L>)
     requires loose { AreLoose desk.old items.now }
     ensures dropped { desk.new ≡ all_dropped desk.old items.now }
+    ensures live { OutAreLive desk.new }
     ensures cost { steps.new ≤ steps.old + 8 * length items.now }
 {
     for oldest in items {
         desk.drop_use(oldest.desc, steps);
     }
+    desk.recall_live();
 }
 
-// Gives the view of an item's message back, and then drops that use of its block. At most 8 steps.
+// Gives the view of an item's message back, and drops that use of its block. At most 8 steps.
 fn hand_back<'r, L: Ledger>(
     desk: &mut Desk<'r>,
     item: ItemRow,
@@ -161,8 +126,7 @@ fn hand_back<'r, L: Ledger>(
     ensures desk { desk.new ≡ let_go desk.old (Some item) }
     ensures cost { steps.new ≤ steps.old + 8 }
 {
-    desk.give_back(item.desc, view);
-    desk.drop_use(item.desc, steps);
+    desk.let_use_go(item.desc, view, steps);
 }
 
 // Takes the view of a pipe's last message out of the bag, and hands it back. At most 8 steps.

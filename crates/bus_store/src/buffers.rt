@@ -4,18 +4,17 @@ ghost use Rattle.ccsds_msg.specs.Message.{message_id, front_fault};
 ghost use Rattle.fsw_base.specs.PoolAccounts.{has_room, after_request};
 ghost use Rattle.lend_block.specs.Loan.{LentBytes};
 ghost use Rattle.buf_desc.specs.Held.{Holding, buffer_at, bytes_at, with_bytes_at};
-ghost use Rattle.bus_words.specs.Bus.{Pipe, Buffer, route, deliver, reached, drops, has_unsent, unsent_of, with_unsent, without_unsent, without_all_unsent};
-ghost use Rattle.bus_tables.specs.Missed.{missed};
+ghost use Rattle.bus_words.specs.Bus.{Pipe, Buffer, route, deliver, reached, drops, missed, has_unsent, unsent_of, with_unsent, without_unsent, without_all_unsent};
 ghost use Rattle.bus_tables.specs.Rows.{has_way};
 ghost use Rattle.bus_store.specs.Bag.{HoldsViews, HoldsBuffers};
 ghost use Rattle.bus_store.specs.Store.{LastLoan, BufferDesc};
 ghost use Rattle.bus_store.specs.Words.{desc_of, passing_of, counted_up, with_held};
 
 use crate::blocks::{drawn_empty, drop_uses, seal_front, settle_message};
-use crate::sending::{Sent, next_count};
+use crate::sending::{Sent, next_count, place_of_route};
 use crate::store::BusStore;
 use buf_desc::Held;
-use bus_tables::Message;
+use bus_tables::{Message, RouteNo};
 use ccsds_msg::id_of;
 use fsw_base::AppNo;
 use step_count::{Ledger, Steps};
@@ -140,26 +139,25 @@ impl<'r> BusStore<'r> {
             8 * drops (passing_of self.old app buf (bytes_at held.old buf) inc)
             (route self.old.subscriptions (message_id (bytes_at held.old buf))) self.old.pipes }
     {
-        // Do nothing; the proof learns of them that the pipes stand in order, and, here and below,
-        // which blocks are out.
+        // Do nothing; the proof learns of them that the pipes stand in order, and which blocks are
+        // out.
         self.tables.recall_order();
         self.desk.recall_live();
         let block = held.take_buffer(buf).unwrap();
         self.lists.let_go(app, block.desc(), steps);
         let id = id_of(block.bytes());
-        let count = next_count(&mut self.tables, id, inc);
+        let place = place_of_route(&self.tables, id);
+        let way = RouteNo { id, place };
+        let count = next_count(&mut self.tables, way, inc);
         let desc = seal_front(&mut self.desk, block, count);
-        self.desk.recall_live();
         let message = Message {
             sender: app,
             number: buf,
             desc,
         };
-        let reached = self.tables.deliver(id, &message, &mut self.misses, steps);
+        let reached = self.tables.deliver(way, &message, &mut self.misses, steps);
         settle_message(&mut self.desk, desc, reached, steps);
-        self.desk.recall_live();
         drop_uses(&mut self.desk, self.misses.dropped_messages(), steps);
-        self.desk.recall_live();
         Sent {
             number: buf,
             reached,

@@ -75,7 +75,6 @@
 
 mod blocks;
 mod buffers;
-mod deleting;
 mod held;
 mod pipes;
 mod receiving;

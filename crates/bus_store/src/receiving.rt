@@ -1,5 +1,5 @@
 //! Receives.
-ghost use Rattle.std.specs.Prelude.{◌≡◌, ◌≢◌, ℕ, ◌+◌, ◌≤◌, true, length, None};
+ghost use Rattle.std.specs.Prelude.{◌≡◌, ◌≢◌, ℕ, ◌+◌, ◌≤◌, true, length, None, is_some, IfSome};
 ghost use Rattle.std.specs.Option.{option_map};
 ghost use Rattle.bus_words.specs.Bus.{owns, with_pipe, after_receive};
 ghost use Rattle.buf_desc.specs.Held.{Holding};
@@ -57,6 +57,55 @@ impl<'r> BusStore<'r> {
         let number = show_next(&mut self.desk, held, pipe, items.before, items.after, steps);
         self.desk.recall_live();
         number
+    }
+
+    /// Does the same where the pipe is the application's; None if and only if it has no such pipe,
+    /// and then nothing changes. The pipe is looked up once. At most 8 steps.
+    pub fn receive_if_owned<L: Ledger>(
+        &mut self,
+        app: AppNo,
+        pipe: u32,
+        held: &mut Held<'r>,
+        steps: &mut Steps<L>,
+    ) -> Option<Option<u64>>
+        requires bag { HoldsViews self.old.pipes self.old.loans self.old.room.pipes app held.old }
+        ensures owned { is_some result ≡ owns self.old.pipes app pipe }
+        ensures same { result ≡ None → self.new ≡ self.old }
+        ensures bag_same { result ≡ None → held.new ≡ held.old }
+        ensures number { IfSome result
+            (λ number. number ≡
+            option_map (λ item. item.number) (oldest_on self.old.pipes pipe)) }
+        ensures after { IfSome result (λ number. self.new ≡ record self.old {
+          pipes = with_pipe after_receive pipe self.old.pipes;
+          account = with_held self.old.account self.new.pipes self.old.unsent
+              self.old.numbers_given;
+          loans = self.new.loans;
+        }) }
+        ensures loans { IfSome result
+            (λ number. (other : ℕ) → pipe ≢ other →
+            loan_of self.new.loans other ≡ loan_of self.old.loans other) }
+        ensures bag { IfSome result
+            (λ number. HoldsViews self.new.pipes self.new.loans self.new.room.pipes app held.new) }
+        ensures other_bags { IfSome result
+            (λ number. (other : ℕ) (bag : Holding LentBytes) → other ≢ app →
+            HoldsViews self.old.pipes self.old.loans self.old.room.pipes other bag →
+            HoldsViews self.new.pipes self.new.loans self.new.room.pipes other bag) }
+        ensures buffers { held.new ≡ record held.old { views = held.new.views } }
+        ensures held { IfSome result
+            (λ number. length
+            (numbers_held self.new.pipes self.new.unsent self.new.numbers_given) ≤
+            length (numbers_held self.old.pipes self.old.unsent self.old.numbers_given)) }
+        ensures less { IfSome result
+            (λ number. bytes_in_use self.new.account ≤ bytes_in_use self.old.account) }
+        ensures cost { steps.new ≤ steps.old + 8 }
+    {
+        // Do nothing, as above.
+        self.tables.recall_order();
+        self.desk.recall_live();
+        let items = self.tables.take_if_owned(app, pipe)?;
+        let number = show_next(&mut self.desk, held, pipe, items.before, items.after, steps);
+        self.desk.recall_live();
+        Some(number)
     }
 
     /// Takes the message that waits longest on the application's pipe, which has no last message,

@@ -2,9 +2,8 @@
 ghost use Rattle.std.specs.Prelude.{◌≡◌, ℕ, ◌+◌, ◌*◌, ◌<◌, ◌≤◌, ◌^◌, true, length, map, Some, None, IfSome, if◌then◌else◌};
 ghost use Rattle.ccsds_msg.specs.Message.{message_id};
 ghost use Rattle.fsw_base.specs.PoolAccounts.{has_room, after_request};
-ghost use Rattle.bus_words.specs.Bus.{route, deliver, reached, drops};
-ghost use Rattle.bus_tables.specs.Missed.{missed};
-ghost use Rattle.bus_tables.specs.Rows.{has_way};
+ghost use Rattle.bus_words.specs.Bus.{route, deliver, reached, drops, missed};
+ghost use Rattle.bus_tables.specs.Rows.{has_way, way_of};
 ghost use Rattle.bus_words.specs.Acts.{next_in};
 ghost use Rattle.buf_desc.specs.Held.{Holding};
 ghost use Rattle.lend_block.specs.Loan.{LentBytes};
@@ -13,7 +12,8 @@ ghost use Rattle.bus_store.specs.Words.{next_of, sending_of, counted_up, with_he
 
 use crate::blocks::{drop_uses, put_message, settle_message};
 use crate::store::BusStore;
-use bus_tables::{BusTables, Message, Miss};
+use bus_tables::{BusTables, Message, RouteNo};
+use bus_words::Miss;
 use ccsds_msg::id_of;
 use fsw_base::AppNo;
 use step_count::{Ledger, Steps};
@@ -27,18 +27,28 @@ pub struct Sent {
     pub reached: u32,
 }
 
-/// The id's next count, which then counts as given, where the send asks for it.
-pub(crate) fn next_count(tables: &mut BusTables, id: u16, inc: bool) -> Option<u16>
-    requires { has_way tables.old.routes id ≡ true }
+/// The place of the route of an id that has one.
+pub(crate) fn place_of_route(tables: &BusTables, id: u16) -> u32
+    requires { has_way tables.now.routes id ≡ true }
+    ensures { way_of tables.now.routes id ≡ Some result }
+{
+    tables.route_of(id).unwrap()
+}
+
+/// The next count of the route's id, which then counts as given, where the send asks for it.
+pub(crate) fn next_count(tables: &mut BusTables, way: RouteNo, inc: bool) -> Option<u16>
+    requires some { has_way tables.old.routes way.id ≡ true }
+    requires way { way_of tables.old.routes way.id ≡ Some way.place }
     ensures count { result ≡
-        (if inc then Some (next_in (map (next_of tables.old.room.starts) tables.old.routes) id)
-        else None) }
+        (if inc then
+        Some (next_in (map (next_of tables.old.room.starts) tables.old.routes) way.id) else None) }
     ensures few { IfSome result (λ n. n < 16384) }
     ensures after { tables.new ≡
-        record tables.old { routes = counted_up tables.old.routes id inc } }
+        record tables.old { routes = counted_up tables.old.routes way.id inc } }
+    ensures way { way_of tables.new.routes way.id ≡ Some way.place }
 {
     if inc {
-        return Some(tables.next_count(id));
+        return Some(tables.next_count(way));
     }
     None
 }
@@ -106,25 +116,24 @@ impl<'r> BusStore<'r> {
             8 * drops (sending_of self.old sender bytes.now inc)
             (route self.old.subscriptions (message_id bytes.now)) self.old.pipes }
     {
-        // Do nothing; the proof learns of them that the pipes stand in order, and, here and below,
-        // which blocks are out.
+        // Do nothing; the proof learns of them that the pipes stand in order, and which blocks are
+        // out.
         self.tables.recall_order();
         self.desk.recall_live();
         let id = id_of(bytes);
-        let count = next_count(&mut self.tables, id, inc);
+        let place = place_of_route(&self.tables, id);
+        let way = RouteNo { id, place };
+        let count = next_count(&mut self.tables, way, inc);
         let number = self.given + 1;
         let desc = put_message(&mut self.desk, bytes, count, number, steps);
-        self.desk.recall_live();
         let message = Message {
             sender,
             number,
             desc,
         };
-        let reached = self.tables.deliver(id, &message, &mut self.misses, steps);
+        let reached = self.tables.deliver(way, &message, &mut self.misses, steps);
         settle_message(&mut self.desk, desc, reached, steps);
-        self.desk.recall_live();
         drop_uses(&mut self.desk, self.misses.dropped_messages(), steps);
-        self.desk.recall_live();
         self.given = number;
         Sent { number, reached }
     }

@@ -11,6 +11,13 @@ use fsw_base::Scope;
 use step_count::{Ledger, Steps};
 
 impl<'r> BusStore<'r> {
+    /// How many subscriptions were made, which is the newest one's number.
+    pub fn subscriptions_made(&self) -> u32
+        ensures { result ≡ self.now.subscriptions_made }
+    {
+        self.tables.subscriptions_made()
+    }
+
     /// Whether the pipe is subscribed to the id. At most 2 steps for each subscription of the id,
     /// and 2 more.
     pub fn is_subscribed<L: Ledger>(&self, id: u16, pipe: u32, steps: &mut Steps<L>) -> bool

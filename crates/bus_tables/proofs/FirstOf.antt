@@ -13,7 +13,7 @@ use Rattle.subscriptions.specs.Subs.{Subscribed, Subscription, number_of, live_a
 use Rattle.routing.specs.Dests.{Dest, first_dest}
 use Rattle.routing.specs.Routing.{Routing, route_of, dests_at}
 use Rattle.bus_tables.specs.Inside.{of_id, ties, first_of, AreRouted}
-use Rattle.bus_tables.proofs.Along.{each_found, left_more, first_left, stands_at}
+use Rattle.bus_tables.proofs.Deliveries.{each_found, left_more, first_left, stands_at}
 use Rattle.bus_tables.proofs.OffersSubs.{subs_rise}
 
 -- the first of an id to a pipe is found among the id's

@@ -1,18 +1,18 @@
-mod Along
+mod Deliveries
 mod Offers
 mod OffersLists
 mod OffersRows
 mod OffersSubs
-mod Takings
+mod Takes
 pub mod Endings
 pub mod EndingsLists
 pub mod Removals
-mod Placed
+mod PipePlaces
 mod Ties
-mod Counting
-mod Makings
-mod MakingsRouted
+mod Routes
+mod PipeChanges
+mod NewSubscriptions
 mod Readers
 pub mod MissedItems
-pub mod UsesCounted
+pub mod UseCounts
 mod FirstOf

@@ -1,11 +1,10 @@
 -- What pipes miss commutes with a map of items, as what is delivered does.
 use Rattle.std.proofs.Common.{◌≡◌, List, [], ◌∷◌, ◌++◌, map, Option, Some, None, refl, ap, sym, ◌∙◌}
 use Rattle.std.specs.Option.{option_map, option_map_or, option_and_then}
-use Rattle.bus_words.specs.Pipes.{PipeOf, Subscription, Offer, verdict, pipe_at, with_pipe, offered, pipe_by}
+use Rattle.bus_words.specs.Pipes.{PipeOf, Subscription, Offer, cause_of, verdict, pipe_at, with_pipe, offered, misses_by, misses_of, pipe_by}
 use Rattle.bus_words.proofs.PipeItems.{IsOffer, pipe_at-map, verdict-map, with_pipe-map, offered-map}
-use Rattle.bus_tables.specs.declared.misses.Miss.{Miss}
-use Rattle.bus_tables.specs.declared.misses.MissCause.{MissCause}
-use Rattle.bus_tables.specs.Missed.{cause_of, misses_by, misses_of}
+use Rattle.bus_words.specs.declared.miss.Miss.{Miss}
+use Rattle.bus_words.specs.declared.miss.MissCause.{MissCause}
 
 module _ {A B : Type 0} (read : A → B) (from : Offer A) (to : Offer B) (is : IsOffer read from to) where
   -- of one subscription

@@ -7,7 +7,7 @@ use Rattle.std.proofs.lemmas.List.Elements.{All-map, All-weaker, All-push}
 use Rattle.std.proofs.lemmas.List.Sums.{sum_by_push}
 use Rattle.pipe_queue.specs.declared.item.Item.{Item}
 use Rattle.bus_words.specs.declared.verdict.Verdict.{Verdict}
-use Rattle.bus_words.specs.Pipes.{PipeOf, IsRising, pipe_at, with_pipe, is_queued, waiting_of, verdict_over, verdict, queue_after, dropped_at, without_front, oldest, oldest_on, offered_over}
+use Rattle.bus_words.specs.Pipes.{PipeOf, IsRising, cause_of, pipe_at, with_pipe, is_queued, waiting_of, verdict_over, verdict, queue_after, dropped_at, without_front, oldest, oldest_on, offered_over}
 use Rattle.bus_words.specs.declared.verdict.Verdict.TheVariants as verdicts
 use Rattle.bus_words.proofs.PipeItems.{waiting_of-map, verdict_over-map, dropped_at-map, offered_over-map}
 use Rattle.pipe_table.specs.Table.{place_of}
@@ -19,9 +19,8 @@ use Rattle.subscriptions.specs.declared.words.Verdict as own
 use Rattle.subscriptions.specs.declared.words.Verdict.TheVariants.{Inside, OverLimit}
 use Rattle.subscriptions.specs.Subs.{Subscribed, Subscription, row_of, goes_by, live_at, verdict_of, one_more, with_change, AreInOrder}
 use Rattle.bus_tables.specs.declared.message.Message.{Message}
-use Rattle.bus_tables.specs.declared.misses.Miss.{Miss}
+use Rattle.bus_words.specs.declared.miss.Miss.{Miss}
 use Rattle.bus_tables.specs.declared.tables.ItemRow.{ItemRow}
-use Rattle.bus_tables.specs.Missed.{cause_of}
 use Rattle.bus_tables.specs.Rows.{Row, item_of, offered_row, row_takes, row_misses, row_drops}
 use Rattle.bus_tables.specs.Inside.{item_in, row_in, sub_in, waiting_at, still, IsCounted, IsPlaced, ArePlaced, IsOf, IsQueued, AreQueued}
 use Rattle.bus_tables.proofs.OffersLists.{all_both, found_is, found_passes}

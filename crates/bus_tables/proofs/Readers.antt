@@ -9,7 +9,7 @@ use Rattle.routing.specs.Routing.{Route, route_from, route_of}
 use Rattle.bus_tables.specs.declared.tables.ItemRow.{ItemRow}
 use Rattle.bus_words.specs.Pipes.{pipe_at, owns, oldest_on, last_on, PipeOf, pipe_named, first_owned}
 use Rattle.bus_words.proofs.PipeItems.{oldest_on-map, last_on-map}
-use Rattle.bus_tables.specs.Rows.{Row, last_row_item, has_way}
+use Rattle.bus_tables.specs.Rows.{Row, last_row_item, has_way, way_from}
 use Rattle.bus_tables.specs.Inside.{item_in, row_in, way_in}
 
 -- whether a pipe is the application's
@@ -76,3 +76,8 @@ route_there number (route ∷ routes) id = by_test (eqb route.id id) (route_ther
 
 pub way_there : (routes : List Route) (id : ℕ) → is_some (route_of routes id) ≡ has_way (map way_in routes) id
 way_there routes id = route_there 0 routes id
+
+-- the place of an id's route, wherever places begin
+pub place_there : (number : ℕ) (routes : List Route) (id : ℕ) → way_from number (map way_in routes) id ≡ route_from number routes id
+place_there number [] id = refl
+place_there number (route ∷ routes) id = ap (cond {A = Option ℕ} (eqb route.id id) (Some number)) (place_there (number + 1) routes id)

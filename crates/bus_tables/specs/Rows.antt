@@ -1,6 +1,6 @@
 -- The pipes, subscriptions and routes of a software bus as lists, and what becomes of a message on
 -- its way to the pipes.
-use Rattle.std.specs.Prelude.{ℕ, ◌+◌, ◌%◌, ◌==◌, Bool, List, [], ◌∷◌, ◌++◌, map, find, Option, None, if◌then◌else◌}
+use Rattle.std.specs.Prelude.{ℕ, ◌+◌, ◌%◌, ◌==◌, Bool, List, [], ◌∷◌, ◌++◌, map, find, Option, Some, None, if◌then◌else◌}
 use Rattle.std.specs.List.{list_any}
 use Rattle.std.specs.Option.{option_map_or}
 use Rattle.bus_words.specs.Pipes.{PipeOf, Subscription, Offer, is_queued, owns, last_on}
@@ -8,8 +8,8 @@ use Rattle.bus_words.specs.Pipes as words
 use Rattle.bus_words.specs.declared.verdict.Verdict.{Verdict}
 use Rattle.bus_tables.specs.declared.message.Message.{Message}
 use Rattle.bus_tables.specs.declared.tables.ItemRow.{ItemRow}
-use Rattle.bus_tables.specs.declared.misses.Miss.{Miss}
-use Rattle.bus_tables.specs.Missed.{misses_by, misses_of, drops_by, dropped_of}
+use Rattle.bus_words.specs.declared.miss.Miss.{Miss}
+use Rattle.bus_tables.specs.Missed.{drops_by, dropped_of}
 
 -- Pipes. --
 
@@ -63,11 +63,11 @@ drops_rows message subs rows = words.drops (offer_of message) subs rows
 
 -- the subscription's pipe and why a message is missed there for this one, where one is
 abbrev pub row_misses : Message → Subscription → List Row → List Miss
-row_misses message sub rows = misses_by (offer_of message) sub rows
+row_misses message sub rows = words.misses_by (offer_of message) sub rows
 
 -- these pipes, in the order of the subscriptions, each as its turn comes
 abbrev pub missed_rows : Message → List Subscription → List Row → List Miss
-missed_rows message subs rows = misses_of (offer_of message) subs rows
+missed_rows message subs rows = words.misses_of (offer_of message) subs rows
 
 -- the item that leaves the subscription's pipe for the message, where one does
 abbrev pub row_drops : Message → Subscription → List Row → List ItemRow
@@ -92,6 +92,16 @@ ids_of routes = map (λ route. route.id) routes
 -- whether the id has a route
 abbrev pub has_way : List RouteRow → ℕ → Bool
 has_way routes id = list_any (λ route. route.id == id) routes
+
+-- the place of the id's route, where places are numbered on from this one
+abbrev pub way_from : ℕ → List RouteRow → ℕ → Option ℕ
+way_from place [] id = None
+way_from place (route ∷ routes) id =
+    if route.id == id then Some place else way_from (place + 1) routes id
+
+-- the place of the id's route among the routes
+abbrev pub way_of : List RouteRow → ℕ → Option ℕ
+way_of routes id = way_from 0 routes id
 
 -- how many counts the id has given, modulo 16384, as its route says it
 abbrev pub counted_in : List RouteRow → ℕ → ℕ

@@ -1,7 +1,8 @@
 //! A message on its way to the pipes.
-ghost use Rattle.std.specs.Prelude.{◌≡◌, ◌+◌, ◌*◌, ◌<◌, ◌≤◌, ◌^◌, ◌++◌, length, map, IsSome};
+ghost use Rattle.std.specs.Prelude.{◌≡◌, ◌+◌, ◌*◌, ◌<◌, ◌≤◌, ◌^◌, ◌++◌, length, map, IsSome, Some};
 ghost use Rattle.std.specs.Option.{ForSome};
 ghost use Rattle.bus_words.specs.Bus.{route};
+ghost use Rattle.routing.specs.Routing.{route_of};
 ghost use Rattle.subscriptions.specs.Subs.{live_at};
 ghost use Rattle.bus_words.specs.Pipes.{with_pipe};
 ghost use Rattle.bus_tables.specs.Rows.{offered_row, row_takes, deliver_rows, reached_rows, row_misses, missed_rows, row_drops, dropped_rows};
@@ -9,60 +10,63 @@ ghost use Rattle.bus_tables.specs.Inside.{AreQueued, ArePlaced, AreRouted, row_i
 
 use crate::making::{count_down, item_row};
 use crate::message::Message;
-use crate::misses::{MissCause, Misses};
-use bus_words::Verdict;
+use crate::misses::Misses;
+use crate::route_no::RouteNo;
+use bus_words::{MissCause, Verdict};
 use pipe_queue::Item;
 use pipe_table::{PipeNo, PipeTable};
 use routing::Routes;
 use step_count::{Ledger, Steps};
 use subscriptions::{SubNo, Subs};
 
-/// Offers the message to the subscriptions of its id, in order, and tells how many
+/// Offers the message to the subscriptions of the route's id, in order, and tells how many
 /// pipes took it.
 pub(crate) fn along<L: Ledger>(
     pipes: &mut PipeTable,
     subs: &mut Subs,
     routes: &Routes,
-    id: u16,
+    way: RouteNo,
     message: &Message,
     misses: &mut Misses,
     steps: &mut Steps<L>,
 ) -> u32
+    requires way { route_of routes.now.routes way.id ≡ Some way.place }
     requires room { routes.now.dests ≤ misses.old.room }
     requires few { length subs.old.live < 2 ^ 32 }
     requires queued { AreQueued pipes.old.live subs.old }
     requires placed { ArePlaced pipes.old.places subs.old }
     requires routed { AreRouted subs.old routes.now }
     ensures rows { map row_in pipes.new.live ≡
-        deliver_rows message.now (route (map sub_in subs.old.live) id)
+        deliver_rows message.now (route (map sub_in subs.old.live) way.id)
         (map row_in pipes.old.live) }
     ensures reached { result ≡
-        reached_rows message.now (route (map sub_in subs.old.live) id)
+        reached_rows message.now (route (map sub_in subs.old.live) way.id)
         (map row_in pipes.old.live) }
     ensures missed { misses.new ≡
         record
         misses.old {
-          items = missed_rows message.now (route (map sub_in subs.old.live) id)
+          items = missed_rows message.now (route (map sub_in subs.old.live) way.id)
               (map row_in pipes.old.live);
-          dropped = dropped_rows message.now (route (map sub_in subs.old.live) id)
+          dropped = dropped_rows message.now (route (map sub_in subs.old.live) way.id)
               (map row_in pipes.old.live);
         } }
     ensures frame { frame pipes.new ≡ frame pipes.old }
     ensures subs { still subs.new ≡ still subs.old }
     ensures queued { AreQueued pipes.new.live subs.new }
-    ensures cost { steps.new ≤ steps.old + 2 * length (route (map sub_in subs.old.live) id) + 2 }
+    ensures cost { steps.new
+        ≤ steps.old + 2 * length (route (map sub_in subs.old.live) way.id) + 2 }
 {
     misses.clear();
+    // Nothing that is written into a pipe can change this copy, so it isn't read again for each.
+    let copy = *message;
+    let message = &copy;
     // Do nothing; the proof learns of them that no two subscriptions have one number, and that no
     // route has more destinations than may be.
     subs.recall_order();
     routes.recall_routes();
-    let Some(route) = routes.route_of(id) else {
-        return 0;
-    };
-    let mut at = routes.first(route, steps);
+    let mut at = routes.first(way.place, steps);
     let mut reached = 0;
-    for _ in 0..routes.dests_of(route) {
+    for _ in 0..routes.dests_of(way.place) {
         let Some((node, sub)) = at else {
             return reached;
         };
@@ -117,28 +121,30 @@ fn offer(
         sub,
     };
     let is_over = row.verdict() == subscriptions::Verdict::OverLimit;
+    // The pipe's number is read again where it misses the message, so it isn't kept where it
+    // doesn't.
     let offered = pipes.offer(pipe, message.sender, is_over, item);
     match offered.verdict {
         Verdict::Skip => 0,
         Verdict::OverLimit => {
-            misses.push(row.pipe, MissCause::OverLimit);
+            misses.push(subs.at(sub).pipe, MissCause::OverLimit);
             0
         }
         Verdict::In => {
-            subs.queued(sub);
+            subs.add_waiting(sub);
             1
         }
         Verdict::Oldest => {
             prove!(row.waiting < u32::MAX);
+            misses.push_drop(subs.at(sub).pipe, item_row(offered.dropped));
             count_down(subs, offered.dropped);
             // Does nothing, as above.
             subs.recall_order();
-            subs.queued(sub);
-            misses.push_drop(row.pipe, item_row(offered.dropped));
+            subs.add_waiting(sub);
             1
         }
         Verdict::Full => {
-            misses.push(row.pipe, MissCause::Full);
+            misses.push(subs.at(sub).pipe, MissCause::Full);
             0
         }
     }

@@ -22,7 +22,9 @@
 //! {
 //!     let pipe = tables.create_pipe(name, message.sender, 4);
 //!     tables.subscribe(0x0801, pipe, 4, Scope::Global, steps);
-//!     tables.deliver(0x0801, message, misses, steps);
+//!     let place = tables.route_of(0x0801).unwrap();
+//!     let route = RouteNo { id: 0x0801, place };
+//!     tables.deliver(route, message, misses, steps);
 //!     tables.oldest(pipe)
 //! }
 //! ```
@@ -30,13 +32,13 @@
 //! # Proved
 //!
 //! - Each call changes what its contract says of the three lists and leaves the rest:
-//!   `create_pipe`, `delete_pipe` (if no message is left in the pipe), `set_bits`, `take`,
-//!   `take_front`, `take_last`, `subscribe`, `unsubscribe`, `next_count`. `take` answers the
-//!   message that was the pipe's last and the one that is it now.
-//! - `deliver` offers a message to the live subscriptions of its id in order, each by the verdict
-//!   at its turn. It answers how many pipes took it, and leaves those that missed it, or dropped
-//!   their oldest message for it, in a list, with the cause, in order; at most 2 counted steps for
-//!   each and 2 more.
+//!   `create_pipe`, `delete_pipe` (if no message is left in the pipe), `set_bits`, the `take`
+//!   calls, `subscribe`, `unsubscribe`, `next_count`. `take` answers the message that was the
+//!   pipe's last and the one that is it now; `take_if_owned` does so for the pipe's owner alone.
+//! - `deliver` offers a message to the live subscriptions of the route's id in order, each by the
+//!   verdict at its turn. It answers how many pipes took it, and leaves those that missed it, or
+//!   dropped their oldest message for it, in a list, with the cause, in order; at most 2 counted
+//!   steps for each and 2 more.
 //! - `recall_uses`: a delivery adds a use of its send for each pipe that took it, and each message
 //!   that a pipe dropped for it loses one. The next message of a pipe takes away one of the send
 //!   received last, and a message taken out takes away one of its own send.
@@ -56,10 +58,16 @@ mod making;
 mod message;
 mod misses;
 mod pairs;
+mod pipes;
+mod receiving;
+mod route_no;
+mod sending;
+mod subscribing;
 mod tables;
 mod uses;
 
 pub use message::Message;
-pub use misses::{Miss, MissCause, Misses};
+pub use misses::Misses;
+pub use route_no::RouteNo;
 pub use tables::{BusTables, ItemRow, LastItems};
 pub use uses::recall_uses;

@@ -16,7 +16,7 @@ use Rattle.bus_words.specs.Bus.{Item, Pipe, Buffer, Subscription, State, Sending
 use Rattle.bus_words.specs.Held.{named_by, is_on_pipes, is_unsent, is_held, numbers_to, held, items_of, buffers_in, size_in, asked_of, has_class, each_below, blocks_held, account_of, account_drawn, IsAccounted}
 use Rattle.bus_words.specs.Machine.{allocated, buffer_gone, step, state_after}
 use Rattle.bus_words.proofs.Buffers.{of_buffer, OtherBuffer, unsent_in, unsent_here, Each-unsent_of, Each-with_unsent, Each-without_unsent, Each-without_all}
-use Rattle.bus_words.proofs.Drawn.{may_allocate, length-made, AreDrawn-after}
+use Rattle.bus_words.proofs.Draws.{may_allocate, length-made, AreDrawn-after}
 use Rattle.bus_words.proofs.Finds.{Each, Each-push, Each-filter, Each-drop, both}
 use Rattle.bus_words.proofs.Items.{OfPipe, OfPipe-drop, OfPipe-receive, OfPipe-offer, to_items, count-cons, or_true, of_number, Other, named_items, was_held}
 use Rattle.bus_words.proofs.Owners.{Each-with_pipe, Each-deliver}

@@ -21,7 +21,7 @@ use Rattle.bus_words.specs.Alone.{Alone, Input, Send, Received, unmade, solo, so
 use Rattle.bus_words.proofs.Steps.{AreNumbered, AreNumbered-step, with_subscription, by_bus-none, by_bus-some, transmit_buffer_cause-none}
 use Rattle.bus_words.proofs.Firsts.{AreFirst, AreFirst-step, AreFirst-opening, first-of}
 use Rattle.bus_words.proofs.Ties.{AreTied, AreTied-step}
-use Rattle.bus_words.proofs.Solo.{newest_on, changed_here, Stand, Goes, goes_by, goes-create, goes-delete, goes-opts, goes-duplicate, goes-subscribe, goes-unsubscribe, goes-got, goes-empty, goes-send, goes-early, goes-end}
+use Rattle.bus_words.proofs.OnePipe.{newest_on, changed_here, Stand, Goes, goes_by, goes-create, goes-delete, goes-opts, goes-duplicate, goes-subscribe, goes-unsubscribe, goes-got, goes-empty, goes-send, goes-early, goes-end}
 
 -- what holds of the bus by itself
 pub record AreOrdered (s : State) : Type 0 where

@@ -1,10 +1,10 @@
 pub mod Acts
-pub mod Alike
+pub mod AlikePipes
 pub mod Balance
 pub mod Bounds
 pub mod Buffers
-pub mod Counted
-pub mod Drawn
+pub mod Draws
+pub mod EventDesks
 pub mod Finds
 pub mod Firsts
 pub mod HeldBlocks
@@ -15,6 +15,7 @@ pub mod KeptPipes
 pub mod Lasts
 pub mod LegalSteps
 pub mod Numbers
+pub mod OnePipe
 pub mod OwnEntries
 pub mod OwnStandings
 pub mod Owners
@@ -22,10 +23,9 @@ pub mod PipeItems
 pub mod PoolGrants
 pub mod Readings
 pub mod Replay
-pub mod Solo
+pub mod Statistics
 pub mod Steps
 pub mod Ties
-pub mod Told
-pub mod Unsent
+pub mod UnsentBuffers
 pub mod UnsentSteps
 pub mod VersionBits

@@ -8,6 +8,7 @@ use Rattle.fsw_base.specs.EventDesk.{Desk, new_desk}
 use Rattle.housekeeping.specs.Statistics.{Statistics, no_statistics}
 use Rattle.pool_words.specs.Grants.{Pools, IsNumbered}
 pub use Rattle.bus_words.specs.Pipes.{PipeOf, Subscription, Offer, is_queued, is_oldest, all_bits, oldest, pipe_at, is_live, owns, pipe_named, is_named, with_pipe, without_pipe, new_pipe, ignores_own, after_receive, with_bits}
+use Rattle.bus_words.specs.declared.miss.Miss.{Miss}
 use Rattle.bus_words.specs.declared.verdict.Verdict.{Verdict}
 use Rattle.bus_words.specs.Pipes as words
 
@@ -78,8 +79,9 @@ opening limits apps = record {
   statistics = no_statistics;
 }
 
--- the memory pools of a bus after so many entries: they have the limits' block sizes, the grants of
--- each that are out are numbered, and each gave at most as many grants as there are entries
+-- the memory pools of a bus after so many entries: they have the limits' block sizes, the grants
+-- that are out of each stand in order of number, and each gave at most as many grants as there are
+-- entries
 pub record ArePools (limits : Limits) (entries : ℕ) (pools : Pools) : Type 0 where
   pub most : pools.most ≡ limits.apppool
   pub sizes : pools.sizes ≡ limits.sizes
@@ -184,6 +186,11 @@ reached sending subs pipes = words.reached (offer_of sending) subs pipes
 -- how many of them have the verdict Oldest
 abbrev pub drops : Sending → List Subscription → List Pipe → ℕ
 drops sending subs pipes = words.drops (offer_of sending) subs pipes
+
+-- the pipes that miss what is sent, or their oldest message, with the cause of each, in order of
+-- these subscriptions
+abbrev pub missed : Sending → List Subscription → List Pipe → List Miss
+missed sending subs pipes = words.misses_of (offer_of sending) subs pipes
 
 -- whether no message is queued on the pipe of this number
 abbrev pub is_empty : List Pipe → ℕ → Bool

@@ -85,6 +85,6 @@ with_text text (TransmitBuffer buf bytes inc) = TransmitBuffer buf text inc
 with_text text (SendEvent id kind own) = SendEvent id kind text
 with_text text call = call
 
--- how many they are
+-- how many bytes a call brings
 abbrev pub call_bytes : Call → ℕ
 call_bytes call = length (call_text call)

@@ -1,7 +1,6 @@
 -- The events that the bus tells of its calls, and the event desk (cFE Event Services) after each
 -- call.
-use Rattle.std.specs.Prelude.{ℕ, true, List, [], ◌∷◌, ◌++◌, fold, if◌then◌else◌}
-use Rattle.std.specs.Option.{option_map_or}
+use Rattle.std.specs.Prelude.{ℕ, true, List, [], ◌∷◌, map, fold, if◌then◌else◌}
 use Rattle.fsw_base.specs.EventDesk.{Desk, new_desk, registered, unregistered, sent, reset, with_mode, cleared}
 use Rattle.fsw_base.specs.Limits.{Limits}
 use Rattle.ccsds_msg.specs.Message.{message_id}
@@ -14,9 +13,10 @@ use Rattle.bus_words.specs.declared.calls.BusAnswer.TheVariants.{Sb, Es, Evs}
 use Rattle.bus_words.specs.declared.history.Call.{Call}
 use Rattle.bus_words.specs.declared.history.Call.TheVariants.{Subscribe, Unsubscribe, Transmit, TransmitBuffer, Register, SendEvent, ResetFilter, LogMode, ClearLog, Housekeeping, End}
 use Rattle.bus_words.specs.declared.history.Entry.{Entry}
-use Rattle.bus_words.specs.Bus.{Pipe, Subscription, State, Sending, verdict, pipe_at, with_pipe, offered, route, is_subscribed}
-use Rattle.bus_words.specs.declared.verdict.Verdict.{Verdict}
-use Rattle.bus_words.specs.declared.verdict.Verdict.TheVariants.{Skip, OverLimit, In, Oldest, Full}
+use Rattle.bus_words.specs.declared.miss.Miss.{Miss}
+use Rattle.bus_words.specs.declared.miss.MissCause.{MissCause}
+use Rattle.bus_words.specs.declared.miss.MissCause.TheVariants.{OverLimit, Full, Oldest}
+use Rattle.bus_words.specs.Bus.{Pipe, Subscription, State, Sending, missed, route, is_subscribed}
 use Rattle.bus_words.specs.Sends.{Reads, sending_from, sending_in, packet_in}
 
 -- An entry of a history at its moment: what its call saw beside the bus, the bus before it, the
@@ -29,28 +29,24 @@ pub record Moment : Type 0 where
 
 -- Sends. --
 
--- what is told of a destination with this verdict: that its pipe misses the message, by its limit
--- or by its depth, or that it dropped its oldest one
-abbrev pub verdict_events : Verdict → ℕ → ℕ → ℕ → List ServiceEvent
-verdict_events Skip id pipe sender = []
-verdict_events OverLimit id pipe sender = MessageLimit id pipe sender ∷ []
-verdict_events In id pipe sender = []
-verdict_events Oldest id pipe sender = OldestDropped id pipe sender ∷ []
-verdict_events Full id pipe sender = PipeOverflow id pipe sender ∷ []
+-- what is told of a pipe that misses a message of this id and sender, or its oldest one for it, for
+-- this cause
+abbrev pub cause_event : MissCause → ℕ → ℕ → ℕ → ServiceEvent
+cause_event OverLimit id pipe sender = MessageLimit id pipe sender
+cause_event Full id pipe sender = PipeOverflow id pipe sender
+cause_event Oldest id pipe sender = OldestDropped id pipe sender
 
--- what is told of one destination of a message of this id
-abbrev pub destination_events : ℕ → Sending → Subscription → List Pipe → List ServiceEvent
-destination_events id sending sub pipes =
-    option_map_or
-    (λ pipe. verdict_events (verdict pipe sub sending.sender) id sub.pipe sending.sender)
-    (pipe_at pipes sub.pipe) []
+-- what is told of a pipe that misses a message of this id and sender or drops its oldest one for it
+abbrev pub miss_event : ℕ → ℕ → Miss → ServiceEvent
+miss_event id sender miss = cause_event miss.cause id miss.pipe sender
 
--- what is told of these destinations, in order, each as its turn comes
+-- what is told of all such pipes, in order
+abbrev pub miss_events : ℕ → ℕ → List Miss → List ServiceEvent
+miss_events id sender misses = map (miss_event id sender) misses
+
+-- what is told of these destinations of a message of this id, in order
 abbrev pub delivery_events : ℕ → Sending → List Subscription → List Pipe → List ServiceEvent
-delivery_events id sending [] pipes = []
-delivery_events id sending (sub ∷ subs) pipes =
-    destination_events id sending sub pipes ++
-    delivery_events id sending subs (with_pipe (offered sending sub) sub.pipe pipes)
+delivery_events id sending subs pipes = miss_events id sending.sender (missed sending subs pipes)
 
 -- what is told of a send of this id that isn't refused: that nobody subscribes to the id, or which
 -- pipes miss the message or dropped their oldest one for it

@@ -6,6 +6,9 @@ use Rattle.std.specs.List.{list_any}
 use Rattle.std.specs.Option.{option_map, option_map_or, option_and_then}
 use Rattle.std.specs.Str.{bytes_eq}
 use Rattle.fsw_base.specs.declared.config.Scope.{Scope}
+use Rattle.bus_words.specs.declared.miss.Miss.{Miss}
+use Rattle.bus_words.specs.declared.miss.MissCause.{MissCause}
+use Rattle.bus_words.specs.declared.miss.MissCause.TheVariants as causes
 use Rattle.bus_words.specs.declared.verdict.Verdict.{Verdict}
 use Rattle.bus_words.specs.declared.verdict.Verdict.TheVariants.{Skip, OverLimit, In, Oldest, Full}
 
@@ -51,6 +54,15 @@ is_oldest OverLimit = false
 is_oldest In = false
 is_oldest Oldest = true
 is_oldest Full = false
+
+-- why a message is missed at a pipe: the one sent, or the oldest one that the pipe drops for it;
+-- none where the pipe takes it and drops none, or ignores its sender
+abbrev pub cause_of : Verdict → Option MissCause
+cause_of Skip = None
+cause_of OverLimit = Some causes.OverLimit
+cause_of In = None
+cause_of Oldest = Some causes.Oldest
+cause_of Full = Some causes.Full
 
 -- the option bits that a version has, added up: 0x01 in version 1, 0x01 and 0x02 in version 2
 abbrev pub all_bits : ℕ → ℕ
@@ -233,6 +245,22 @@ module _ {item : Type 0} where
   -- how many of them have the verdict Oldest
   abbrev pub drops : Offer item → List Subscription → List (PipeOf item) → ℕ
   drops offer subs pipes = verdicts_of is_oldest offer subs pipes
+
+  -- the subscription's pipe and why a message is missed there for the one that it is offered, where
+  -- one is
+  abbrev pub misses_by : Offer item → Subscription → List (PipeOf item) → List Miss
+  misses_by offer sub pipes =
+      option_map_or (λ cause. record { pipe = sub.pipe; cause = cause } ∷ [])
+      (option_and_then (λ pipe. cause_of (verdict offer.subscription_of pipe sub offer.sender))
+      (pipe_at pipes sub.pipe)) []
+
+  -- the pipes at which a message is missed, with the cause of each, in order of the subscriptions,
+  -- each as its turn comes
+  abbrev pub misses_of : Offer item → List Subscription → List (PipeOf item) → List Miss
+  misses_of offer [] pipes = []
+  misses_of offer (sub ∷ subs) pipes =
+      misses_by offer sub pipes ++
+      misses_of offer subs (with_pipe (offered offer sub) sub.pipe pipes)
 
 -- a pipe, with each of its items read in this way
 abbrev pub pipe_by : {item other : Type 0} → (item → other) → PipeOf item → PipeOf other

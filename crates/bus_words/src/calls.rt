@@ -176,7 +176,9 @@ impl<'a> BusCall<'a> {
         }
     }
 
-    /// The same call with these bytes in place of its own; itself, where it brings none.
+    /// The same call with these bytes in place of its own; itself, where it brings none. Inlined,
+    /// it makes the call where that goes.
+    #[inline(always)]
     pub(crate) fn with_text<'b>(&self, text: &'b [u8]) -> BusCall<'b>
         ensures call { call_of result ≡ with_text text.entry.now (call_of self.now) }
         ensures other { (other : List ℕ) →

@@ -1,6 +1,8 @@
 //! The journal of the bus: every call with its answer, in the order in which they took effect.
 ghost use Rattle.std.specs.Prelude.{◌≡◌, ◌+◌, ◌^◌, ◌<◌, ◌≤◌, List, [], ◌∷◌, ◌++◌, length, slice_get, IfOk, Some};
 ghost use Rattle.journal_store.specs.Budgets.{AreBudgets, HasRoom, allowance_of, entries_left};
+ghost use Rattle.bus_words.specs.declared.calls.BusAnswer.TheVariants as BusAnswer;
+ghost use Rattle.bus_words.specs.declared.history.Call.TheVariants as Call;
 ghost use Rattle.bus_words.specs.declared.history.Entry.{Entry};
 ghost use Rattle.bus_words.specs.Log.{Log, with_entry, left_of};
 ghost use Rattle.bus_words.specs.Entries.{call_of, entry_of, lent_of, call_bytes};
@@ -110,7 +112,8 @@ impl BusJournal {
         requires { HasRoom (left_of self.old) entry.now.app (call_bytes (call_of entry.now.call)) }
         ensures { self.new ≡ with_entry self.old (entry_of entry.now) }
     {
-        // A send that was accepted goes by itself: its row is known, so it is made where it stands.
+        // An accepted send goes by itself, and so does a receive that gave a message: their rows
+        // are known, so they are made where they go.
         match (&entry.call, &entry.answer) {
             (BusCall::Transmit { bytes, inc }, BusAnswer::Sent { number, reached }) => {
                 let row = Row {
@@ -125,8 +128,25 @@ impl BusJournal {
                 };
                 self.store.push(entry.app, row, bytes);
             }
+            (BusCall::Receive { pipe }, BusAnswer::Got(number)) => {
+                self.push_received(entry.app, *pipe, *number);
+            }
             _ => self.push_any(entry),
         }
+    }
+
+    // As `push`, for a receive that gave a message.
+    #[inline(never)]
+    fn push_received(&mut self, app: AppNo, pipe: u32, number: u32)
+        requires { HasRoom (left_of self.old) app 0 }
+        ensures { self.new ≡ with_entry self.old
+            (record { app = app; call = Call.Receive pipe; answer = BusAnswer.Got number }) }
+    {
+        let row = Row {
+            call: BusCall::Receive { pipe },
+            answer: BusAnswer::Got(number),
+        };
+        self.store.push(app, row, b"");
     }
 
     // As `push`, for an entry of any call and answer.

@@ -50,6 +50,7 @@ mod history;
 mod journal;
 mod laws;
 mod message_receipts;
+mod miss;
 mod number_laws;
 mod pipe_text;
 mod pool_laws;
@@ -65,6 +66,7 @@ pub use laws::{
     histories_are_runs, housekeeping_is_a_send, own_entries_decide, pipes_stand_alone,
     pools_are_counted, states_are_enough, statistics_are_counted,
 };
+pub use miss::{Miss, MissCause};
 pub use number_laws::send_numbers_are_new;
 pub use pipe_text::{NAME_BYTES, PipeText};
 pub use pool_laws::pool_counts_are_read;

@@ -1,6 +1,6 @@
-mod Entering
-mod Few
-mod Found
+mod ApplicationCounts
 pub mod Histories
 mod Mains
+mod TurnFinds
+mod TurnsAfterSleep
 mod Visits

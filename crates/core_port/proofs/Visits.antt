@@ -12,7 +12,7 @@ use Rattle.core_port.specs.Ports.{Answers, AnswersLook, look_entries}
 use Rattle.core_port.specs.Turns.{Entered, MadeOne}
 use Rattle.core_port.specs.declared.history.NotedCall.{NotedCall}
 use Rattle.core_port.proofs.Histories.{pairs-push, with_notes-push, called_history, core_again}
-use Rattle.core_port.proofs.Found.{fixed_found, others_called, known_found}
+use Rattle.core_port.proofs.TurnFinds.{fixed_found, others_called, known_found}
 
 module _ {S N C A L : Type 0} (w : Words S N C A L) (l : Laws w) (s : SeatView Fixed (NotedCall C A)) (app : ℕ) (told : L) (port : IsPort w s app told) (old : S) (e : Entered w (view_of s) old) where
   abbrev v : Known Fixed (NotedCall C A)

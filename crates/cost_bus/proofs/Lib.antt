@@ -1,3 +1,3 @@
-pub mod Loading
-pub mod Making
-pub mod Written
+pub mod NumberCounts
+pub mod VersionCounts
+pub mod WrittenBags

@@ -6,7 +6,8 @@ ghost use Rattle.sb_plain.specs.Bags.{HasBag};
 ghost use Rattle.cost_bus.specs.Calls.{MayMake, Made};
 ghost use Rattle.cost_bus.specs.Written.{IsWrittenOver};
 
-use crate::pipes::{IDS, id_of, open};
+use crate::figures::Figures;
+use crate::pipes::{IDS, id_of, open, place_of};
 use buf_desc::{Held, recall_written};
 use ccsds_msg::write_header;
 use fsw_base::{AppNo, Config};
@@ -15,16 +16,15 @@ use std::alloc::{AllocError, Global};
 use std::marker::Brand;
 use step_count::{Blank, Ledger, Steps};
 
-// The bytes of a buffer.
-const BUFFER_SIZE: u32 = 64;
+/// The bytes of a buffer, and of a grant.
+pub const BUFFER_SIZE: u32 = 64;
 
-/// Sends so many buffers as they lie, and receives them. Answers how many messages were received,
-/// and how many blocks are in use then.
+/// Sends so many buffers as they lie, and receives them.
 ///
 /// # Errors
 /// Where memory runs out.
-pub fn time_buffers(alloc: Global, rounds: u32) -> Result<(u32, u32), AllocError>
-    requires rounds { rounds ≤ 100000000 }
+pub fn time_buffers(alloc: Global, rounds: u64) -> Result<Figures, AllocError>
+    requires rounds { rounds ≤ 100000000000 }
 {
     let cfg = Config::usual();
     let mut region = vec![in alloc; 0; cfg.pool as usize]?;
@@ -36,14 +36,14 @@ fn run_buffers<L: Ledger>(
     alloc: Global,
     cfg: &Config,
     region: &mut [u8],
-    rounds: u32,
+    rounds: u64,
     blank: Blank,
-) -> Result<(u32, u32), AllocError>
+) -> Result<Figures, AllocError>
     requires name { blank.name ≡ L.name }
     requires parts { blank.parts ≡ L.parts }
     requires some_part { 0 < blank.parts }
     requires region { cfg.now.pool ≤ length region.old }
-    requires rounds { rounds ≤ 100000000 }
+    requires rounds { rounds ≤ 100000000000 }
 {
     let mut core = PlainBus::new(alloc, cfg, 1, region)?;
     carry_buffers::<L>(alloc, &mut core, rounds, blank)
@@ -54,9 +54,9 @@ fn run_buffers<L: Ledger>(
 fn carry_buffers<'r, L: Ledger>(
     alloc: Global,
     core: &mut PlainBus<'r>,
-    rounds: u32,
+    rounds: u64,
     blank: Blank,
-) -> Result<(u32, u32), AllocError>
+) -> Result<Figures, AllocError>
     requires name { blank.name ≡ L.name }
     requires parts { blank.parts ≡ L.parts }
     requires some_part { 0 < blank.parts }
@@ -67,31 +67,53 @@ fn carry_buffers<'r, L: Ledger>(
           loans = [];
           descs = [];
         } }
-    requires rounds { rounds ≤ 100000000 }
+    requires rounds { rounds ≤ 100000000000 }
 {
-    let mut held = core.new_bag(alloc, AppNo::try_new(1).unwrap(), 1)?;
-    let received = carry::<L>(core, &mut held, rounds, blank);
-    Ok((received, core.pool().blocks_in_use()))
+    let app = AppNo::try_new(1).unwrap();
+    let mut steps = Steps::<L>::new(blank);
+    let mut held = core.new_bag(alloc, app, 1)?;
+    let received = carry(core, app, &mut held, rounds, &mut steps);
+    let blocks = core.pool().blocks_in_use();
+    let next = next_number(core, app, &mut held, &mut steps);
+    Ok(Figures {
+        received,
+        blocks,
+        next,
+    })
 }
 
-// Has application 1 make a pipe for each message id, then send so many buffers and receive each.
+/// The number of the buffer that is asked for now, or 0 where it is refused.
+pub fn next_number<'r, L: Ledger>(
+    core: &mut PlainBus<'r>,
+    app: AppNo,
+    held: &mut Held<'r>,
+    steps: &mut Steps<L>,
+) -> u64
+    requires may { MayMake core.old app 0 1 }
+    requires bag { HasBag core.old app held.old }
+{
+    if held.buffer_room() == 0 {
+        return 0;
+    }
+    core.allocate(app, BUFFER_SIZE, held, steps).unwrap_or(0)
+}
+
+// Has the application make a pipe for each message id, then send so many buffers and receive each.
 // Answers how many were received.
 fn carry<'r, L: Ledger>(
     core: &mut PlainBus<'r>,
+    app: AppNo,
     held: &mut Held<'r>,
-    rounds: u32,
-    blank: Blank,
-) -> u32
-    requires name { blank.name ≡ L.name }
-    requires parts { blank.parts ≡ L.parts }
-    requires some_part { 0 < blank.parts }
-    requires may { MayMake core.old 1 (128 + 3 * rounds) }
-    requires bag { HasBag core.old 1 held.old }
+    rounds: u64,
+    steps: &mut Steps<L>,
+) -> u64
+    requires may { MayMake core.old app 128 rounds }
+    requires bag { HasBag core.old app held.old }
+    ensures made { Made core.old core.new 128 rounds }
+    ensures bag { HasBag core.new app held.new }
 {
-    let mut steps = Steps::<L>::new(blank);
-    let app = AppNo::try_new(1).unwrap();
-    open(core, app, IDS, &mut steps);
-    carry_all(core, app, held, rounds, &mut steps)
+    open(core, app, IDS, steps);
+    carry_all(core, app, held, rounds, steps)
 }
 
 // Sends so many buffers and receives each. Answers how many were received.
@@ -99,16 +121,18 @@ fn carry_all<'r, L: Ledger>(
     core: &mut PlainBus<'r>,
     app: AppNo,
     held: &mut Held<'r>,
-    rounds: u32,
+    rounds: u64,
     steps: &mut Steps<L>,
-) -> u32
-    requires may { MayMake core.old app (3 * rounds) }
+) -> u64
+    requires may { MayMake core.old app 0 rounds }
     requires bag { HasBag core.old app held.old }
+    ensures made { Made core.old core.new 0 rounds }
+    ensures bag { HasBag core.new app held.new }
 {
-    let mut received = 0u32;
+    let mut received = 0u64;
     for round in 0..rounds {
-        let got = carry_one(core, app, held, round % IDS, steps);
-        received = received.saturating_add(got);
+        let got = carry_one(core, app, held, place_of(round), steps);
+        received = received.saturating_add(u64::from(got));
     }
     received
 }
@@ -123,9 +147,9 @@ fn carry_one<'r, L: Ledger>(
     steps: &mut Steps<L>,
 ) -> u32
     requires place { place ≤ 3 }
-    requires may { MayMake core.old app 3 }
+    requires may { MayMake core.old app 0 1 }
     requires bag { HasBag core.old app held.old }
-    ensures made { Made core.old core.new 3 }
+    ensures made { Made core.old core.new 0 1 }
     ensures bag { HasBag core.new app held.new }
 {
     if held.buffer_room() == 0 {
@@ -149,9 +173,9 @@ fn send_and_receive<'r, L: Ledger>(
     steps: &mut Steps<L>,
 ) -> u32
     requires place { place ≤ 3 }
-    requires may { MayMake core.old app 2 }
+    requires may { MayMake core.old app 0 0 }
     requires bag { HasBag core.old app held.old }
-    ensures made { Made core.old core.new 2 }
+    ensures made { Made core.old core.new 0 0 }
     ensures bag { HasBag core.new app held.new }
 {
     let sent = core.transmit_buffer(app, number, true, held, steps);

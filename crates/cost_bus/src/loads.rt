@@ -19,13 +19,12 @@ const HANDLE: u32 = 1;
 // The bytes of the table.
 const TABLE_SIZE: usize = 16_384;
 
-/// Loads a table so many times, takes its address and reads the first byte there each time. Answers
-/// how often it was read, and how many blocks are in use then.
+/// Loads a table so many times, takes its address and reads the first byte there each time.
 ///
 /// # Errors
 /// Where memory runs out.
-pub fn time_loads(alloc: Global, rounds: u32) -> Result<(u32, u32), AllocError>
-    requires rounds { rounds ≤ 100000000 }
+pub fn time_loads(alloc: Global, rounds: u64) -> Result<Figures, AllocError>
+    requires rounds { rounds ≤ 100000000000 }
 {
     let cfg = Config::usual();
     let mut region = vec![in alloc; 0; cfg.tablepool as usize]?;
@@ -43,16 +42,16 @@ fn run_loads<L: Ledger>(
     region: &mut [u8],
     work: &mut [u8],
     value: &[u8],
-    rounds: u32,
+    rounds: u64,
     blank: Blank,
-) -> Result<(u32, u32), AllocError>
+) -> Result<Figures, AllocError>
     requires name { blank.name ≡ L.name }
     requires parts { blank.parts ≡ L.parts }
     requires some_part { 0 < blank.parts }
     requires region { cfg.now.tablepool ≤ length region.old }
     requires work { 4 * cfg.now.tablemax ≤ length work.old }
     requires value { (1 ≤ length value.now) × (length value.now ≤ 65536) }
-    requires rounds { rounds ≤ 100000000 }
+    requires rounds { rounds ≤ 100000000000 }
 {
     let mut core = PlainTables::new(alloc, cfg, 1, region, work)?;
     load_and_read::<L>(alloc, cfg, &mut core, value, rounds, blank)
@@ -65,9 +64,9 @@ fn load_and_read<'r, L: Ledger>(
     cfg: &Config,
     core: &mut PlainTables<'r>,
     value: &[u8],
-    rounds: u32,
+    rounds: u64,
     blank: Blank,
-) -> Result<(u32, u32), AllocError>
+) -> Result<Figures, AllocError>
     requires name { blank.name ≡ L.name }
     requires parts { blank.parts ≡ L.parts }
     requires some_part { 0 < blank.parts }
@@ -78,7 +77,7 @@ fn load_and_read<'r, L: Ledger>(
           lent = [];
         } }
     requires value { (1 ≤ length value.now) × (length value.now ≤ 65536) }
-    requires rounds { rounds ≤ 100000000 }
+    requires rounds { rounds ≤ 100000000000 }
 {
     let mut steps = Steps::<L>::new(blank);
     let mut held = HeldTables::new(alloc, cfg.handles)?;
@@ -91,8 +90,13 @@ fn load_and_read<'r, L: Ledger>(
         &RuleList::new(),
         &mut steps,
     );
-    let read = read_all(core, app, &mut held, value, rounds);
-    Ok((read, core.pool().blocks_in_use()))
+    let received = read_all(core, app, &mut held, value, rounds);
+    let blocks = core.pool().blocks_in_use();
+    Ok(Figures {
+        received,
+        blocks,
+        next: 0,
+    })
 }
 
 // Loads and reads the table so many times. Answers how often it was read.
@@ -101,15 +105,15 @@ fn read_all<'r>(
     app: AppNo,
     held: &mut HeldTables<'r>,
     value: &[u8],
-    rounds: u32,
-) -> u32
+    rounds: u64,
+) -> u64
     requires value { (1 ≤ length value.now) × (length value.now ≤ 65536) }
     requires may { MayCallTables core.old.state app (3 * rounds) }
     requires bag { Holds core.old app held.old }
 {
-    let mut read = 0u32;
+    let mut read = 0u64;
     for _round in 0..rounds {
-        read = read.saturating_add(read_once(core, app, held, value));
+        read = read.saturating_add(u64::from(read_once(core, app, held, value)));
     }
     read
 }

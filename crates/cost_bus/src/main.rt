@@ -1,6 +1,6 @@
 //! Makes calls of the bus, without a journal, again and again, so that what they cost, and that
 //! they take no memory, can be measured from outside. The first argument says what a round is; the
-//! second is the number of rounds, at most 100,000,000.
+//! second is the number of rounds, at most 100,000,000,000.
 //!
 //! ```text
 //! send1, fan16    a message of 64 bytes is sent to 1 or 16 pipes, and received on each
@@ -8,35 +8,41 @@
 //! full            a message of 64 bytes is sent to 1 pipe, and not received: it is full after 256
 //! zc              a buffer of 64 bytes is asked for, written, sent as it lies, and received
 //! table           16384 bytes are loaded, the address is taken, a byte is read, and it goes back
+//! grants          a grant of 64 bytes of a memory pool is taken, and given back
 //! ```
 //!
 //! There are four message ids, each with pipes of its own, and the rounds take them in turn. What
-//! is printed depends on no time: how many messages were received, or how often the table was read,
-//! and how many blocks are in use then.
+//! is printed depends on no time: how many messages were received, how often the table was read, or
+//! how many grants had the number after the last; how many blocks are in use then; and the number
+//! that the next buffer or grant has.
 #![tactic(auto)]
 
 ghost use Rattle.std.specs.Prelude.{◌≡◌, ◌<◌, ◌≤◌, ◌*◌, [], length};
 ghost use Rattle.bus_words.specs.Acts.{opening_whole};
 
 mod buffers;
+mod figures;
+mod grants;
 mod loads;
 mod pipes;
 mod sends;
 mod turns;
 
-use buffers::time_buffers;
+use buffers::{next_number, time_buffers};
+use figures::Figures;
 use fsw_base::{AppNo, Config};
+use grants::time_grants;
 use loads::time_loads;
 use sb_plain::PlainBus;
 use sends::{Sends, sends_of};
 use std::alloc::{AllocError, Global};
 use std::marker::Brand;
 use std::{env, io};
-use step_count::{Blank, Ledger};
+use step_count::{Blank, Ledger, Steps};
 use turns::{Load, carry};
 
 // The most rounds: there are numbers for all their calls.
-const MOST_ROUNDS: u32 = 100_000_000;
+const MOST_ROUNDS: u64 = 100_000_000_000;
 
 fn main(rt: HostRuntime) -> io::Result<()> {
     let mut words = env::args(&rt)?.skip(1);
@@ -44,30 +50,34 @@ fn main(rt: HostRuntime) -> io::Result<()> {
         return println!(rt; "a word and a number of rounds are wanted");
     };
     let rounds = number_in(words.next()).min(MOST_ROUNDS);
-    let (received, blocks) = if let Some(sends) = sends_of(&word) {
+    let figures = if let Some(sends) = sends_of(&word) {
         time_sends(rt.alloc(), sends, rounds)?
     } else if word.as_str() == "zc" {
         time_buffers(rt.alloc(), rounds)?
     } else if word.as_str() == "table" {
         time_loads(rt.alloc(), rounds)?
+    } else if word.as_str() == "grants" {
+        time_grants(rt.alloc(), rounds)?
     } else {
         return println!(rt; "{word} is none of the words");
     };
-    println!(rt; "{word} rounds={rounds} received={received} blocks={blocks}")
+    println!(rt;
+        "{word} rounds={rounds} received={} blocks={} next={}",
+        figures.received, figures.blocks, figures.next
+    )
 }
 
 // The number that a word is, or 0 where there is none.
-fn number_in(word: Option<String>) -> u32 {
+fn number_in(word: Option<String>) -> u64 {
     word.and_then(|word| word.parse().ok()).unwrap_or(0)
 }
 
-// Makes so many sends with their receives. Answers how many messages were received, and how many
-// blocks are in use then.
-fn time_sends(alloc: Global, sends: Sends, rounds: u32) -> Result<(u32, u32), AllocError>
+// Makes so many sends with their receives.
+fn time_sends(alloc: Global, sends: Sends, rounds: u64) -> Result<Figures, AllocError>
     requires size { (7 ≤ sends.size) × (sends.size ≤ 32768) }
     requires dests { sends.dests ≤ 16 }
     requires reads { sends.reads ≤ 16 }
-    requires rounds { rounds ≤ 100000000 }
+    requires rounds { rounds ≤ 100000000000 }
 {
     let cfg = Config::usual();
     let mut region = vec![in alloc; 0; cfg.pool as usize]?;
@@ -90,13 +100,13 @@ fn run_load<L: Ledger>(
     message: &mut [u8],
     load: Load,
     blank: Blank,
-) -> Result<(u32, u32), AllocError>
+) -> Result<Figures, AllocError>
     requires name { blank.name ≡ L.name }
     requires parts { blank.parts ≡ L.parts }
     requires some_part { 0 < blank.parts }
     requires region { cfg.now.pool ≤ length region.old }
     requires message { (7 ≤ length message.old) × (length message.old ≤ 65542) }
-    requires load { (load.turns ≤ 100000000) × (load.dests ≤ 16) × (load.reads ≤ 16) }
+    requires load { (load.turns ≤ 100000000000) × (load.dests ≤ 16) × (load.reads ≤ 16) }
 {
     let mut core = PlainBus::new(alloc, cfg, 1, region)?;
     carry_load::<L>(alloc, &mut core, message, load, blank)
@@ -110,7 +120,7 @@ fn carry_load<'r, L: Ledger>(
     message: &mut [u8],
     load: Load,
     blank: Blank,
-) -> Result<(u32, u32), AllocError>
+) -> Result<Figures, AllocError>
     requires name { blank.name ≡ L.name }
     requires parts { blank.parts ≡ L.parts }
     requires some_part { 0 < blank.parts }
@@ -122,9 +132,17 @@ fn carry_load<'r, L: Ledger>(
           descs = [];
         } }
     requires message { (7 ≤ length message.old) × (length message.old ≤ 65542) }
-    requires load { (load.turns ≤ 100000000) × (load.dests ≤ 16) × (load.reads ≤ 16) }
+    requires load { (load.turns ≤ 100000000000) × (load.dests ≤ 16) × (load.reads ≤ 16) }
 {
-    let mut held = core.new_bag(alloc, AppNo::try_new(1).unwrap(), 0)?;
-    let received = carry::<L>(core, &mut held, message, load, blank);
-    Ok((received, core.pool().blocks_in_use()))
+    let app = AppNo::try_new(1).unwrap();
+    let mut steps = Steps::<L>::new(blank);
+    let mut held = core.new_bag(alloc, app, 1)?;
+    let received = carry(core, app, &mut held, message, load, &mut steps);
+    let blocks = core.pool().blocks_in_use();
+    let next = next_number(core, app, &mut held, &mut steps);
+    Ok(Figures {
+        received,
+        blocks,
+        next,
+    })
 }

@@ -3,46 +3,44 @@ ghost use Rattle.std.specs.Prelude.{◌≡◌, ◌*◌, ◌+◌, ◌<◌, ◌≤
 ghost use Rattle.sb_plain.specs.Bags.{HasBag};
 ghost use Rattle.cost_bus.specs.Calls.{MayMake, Made};
 
-use crate::pipes::{IDS, id_of, open};
+use crate::pipes::{IDS, id_of, open, place_of};
 use buf_desc::Held;
 use ccsds_msg::write_header;
 use fsw_base::AppNo;
 use sb_plain::PlainBus;
-use step_count::{Blank, Ledger, Steps};
+use step_count::{Ledger, Steps};
 
 /// What the bus carries.
 #[derive(Clone, Copy)]
 pub struct Load {
     /// How many messages are sent.
-    pub turns: u32,
+    pub turns: u64,
     /// The pipes that are subscribed to each message id.
     pub dests: u32,
     /// On how many of them each message is received.
     pub reads: u32,
 }
 
-/// Has application 1 make the pipes of the load, send its messages and receive them. Answers how
+/// Has the application make the pipes of the load, send its messages and receive them. Answers how
 /// many were received.
 pub fn carry<'r, L: Ledger>(
     core: &mut PlainBus<'r>,
+    app: AppNo,
     held: &mut Held<'r>,
     message: &mut [u8],
     load: Load,
-    blank: Blank,
-) -> u32
-    requires name { blank.name ≡ L.name }
-    requires parts { blank.parts ≡ L.parts }
-    requires some_part { 0 < blank.parts }
+    steps: &mut Steps<L>,
+) -> u64
     requires message { (7 ≤ length message.old) × (length message.old ≤ 65542) }
     requires dests { load.dests ≤ 16 }
     requires reads { load.reads ≤ 16 }
-    requires may { MayMake core.old 1 (128 + 17 * load.turns) }
-    requires bag { HasBag core.old 1 held.old }
+    requires may { MayMake core.old app 128 load.turns }
+    requires bag { HasBag core.old app held.old }
+    ensures made { Made core.old core.new 128 load.turns }
+    ensures bag { HasBag core.new app held.new }
 {
-    let mut steps = Steps::<L>::new(blank);
-    let app = AppNo::try_new(1).unwrap();
-    open(core, app, IDS * load.dests, &mut steps);
-    carry_all(core, app, held, message, load.turns, load.reads, &mut steps)
+    open(core, app, IDS * load.dests, steps);
+    carry_all(core, app, held, message, load.turns, load.reads, steps)
 }
 
 // Sends so many messages and receives each on so many pipes. Answers how many were received.
@@ -51,19 +49,21 @@ fn carry_all<'r, L: Ledger>(
     app: AppNo,
     held: &mut Held<'r>,
     message: &mut [u8],
-    turns: u32,
+    turns: u64,
     reads: u32,
     steps: &mut Steps<L>,
-) -> u32
+) -> u64
     requires message { (7 ≤ length message.old) × (length message.old ≤ 65542) }
     requires reads { reads ≤ 16 }
-    requires may { MayMake core.old app (17 * turns) }
+    requires may { MayMake core.old app 0 turns }
     requires bag { HasBag core.old app held.old }
+    ensures made { Made core.old core.new 0 turns }
+    ensures bag { HasBag core.new app held.new }
 {
-    let mut received = 0u32;
+    let mut received = 0u64;
     for turn in 0..turns {
-        let got = carry_one(core, app, held, message, turn % IDS, reads, steps);
-        received = received.saturating_add(got);
+        let got = carry_one(core, app, held, message, place_of(turn), reads, steps);
+        received = received.saturating_add(u64::from(got));
     }
     received
 }
@@ -81,10 +81,10 @@ fn carry_one<'r, L: Ledger>(
     requires message { (7 ≤ length message.old) × (length message.old ≤ 65542) }
     requires place { place ≤ 3 }
     requires reads { reads ≤ 16 }
-    requires may { MayMake core.old app 17 }
+    requires may { MayMake core.old app 0 1 }
     requires bag { HasBag core.old app held.old }
     ensures message { length message.new ≡ length message.old }
-    ensures made { Made core.old core.new 17 }
+    ensures made { Made core.old core.new 0 1 }
     ensures bag { HasBag core.new app held.new }
 {
     write_header(message, id_of(place), 0);
@@ -106,9 +106,9 @@ fn receive_all<'r, L: Ledger>(
 ) -> u32
     requires place { place ≤ 3 }
     requires reads { reads ≤ 16 }
-    requires may { MayMake core.old app 16 }
+    requires may { MayMake core.old app 0 0 }
     requires bag { HasBag core.old app held.old }
-    ensures made { Made core.old core.new 16 }
+    ensures made { Made core.old core.new 0 0 }
     ensures bag { HasBag core.new app held.new }
 {
     let mut received = 0;

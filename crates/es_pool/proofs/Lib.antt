@@ -1,9 +1,9 @@
-pub mod Law
 pub mod Accounts
+pub mod ClassChoice
 pub mod Keeps
+pub mod Law
 pub mod Marks
-pub mod Recent
 pub mod Rooms
 pub mod Sizes
-pub mod Surely
+pub mod SureFits
 pub mod Totals

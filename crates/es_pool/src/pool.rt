@@ -1,5 +1,5 @@
 //! The pool.
-ghost use Rattle.std.specs.Prelude.{◌≡◌, ℕ, ◌+◌, ◌<◌, ◌≤◌, ◌↔◌, [], ◌∷◌, ◌++◌, true, false, length, slice_index, slice_index_or, slice_set, Some, IsTrue, IsSome, IfSome, IsOk, IfOk, IfErr, OnOk, OnErr};
+ghost use Rattle.std.specs.Prelude.{◌≡◌, ℕ, ◌+◌, ◌<◌, ◌≤◌, ◌↔◌, [], ◌∷◌, ◌++◌, true, false, length, slice_index, slice_index_or, slice_set, Some, None, IsTrue, IsSome, IfSome, IsOk, IfOk, IfErr, OnOk, OnErr};
 ghost use Rattle.fsw_base.specs.PoolAccounts.{counted, overhead};
 ghost use Rattle.fsw_base.specs.Blocks.{class_of};
 ghost use Rattle.es_pool.specs.Pool.{PoolState, IsWhole, fits, fits_class, DrawsFor, Draws, made_in, free_in, in_use_by, out_among, rest_of, is_out, is_free, class_at, size_at, most_cut, given_back};
@@ -140,18 +140,37 @@ impl Pool {
         ensures unchanged { OnErr result (self.new ≡ self.old) }
         ensures cost { steps.new ≤ steps.old + 8 }
     {
+        match self.try_draw(size, steps) {
+            Some(block) => Ok(block),
+            None => Err(EsStatus::ErrMemBlockSize),
+        }
+    }
+
+    /// Draws a block as [`Pool::get`] does. None if and only if that one refuses, and then nothing
+    /// changes. At most 8 steps.
+    pub fn try_draw<L: Ledger>(&mut self, size: u32, steps: &mut Steps<L>) -> Option<BlockNo>
+        ensures given { IsSome result ↔ IsTrue (fits self.old size 1) }
+        ensures drawn { IfSome result (DrawsFor self.old self.new size) }
+        ensures was_not_out { IfSome result (λ block. is_out self.old block ≡ false) }
+        ensures is_out { IfSome result (λ block. is_out self.new block ≡ true) }
+        ensures rest_sufficed { IfSome result
+            (λ block. length self.old.blocks ≤ block →
+            size_at self.new block + overhead ≤ rest_of self.old) }
+        ensures unchanged { result ≡ None → self.new ≡ self.old }
+        ensures cost { steps.new ≤ steps.old + 8 }
+    {
         match self.class_for(size) {
             Some(class) => {
                 if !self.fits_class(class, 1) {
-                    return Err(EsStatus::ErrMemBlockSize);
+                    return None;
                 }
                 if self.free.len(class) > 0 {
-                    Ok(self.reuse(class, steps))
+                    Some(self.reuse(class, steps))
                 } else {
-                    Ok(self.cut(class))
+                    Some(self.cut(class))
                 }
             }
-            None => Err(EsStatus::ErrMemBlockSize),
+            None => None,
         }
     }
 
@@ -278,8 +297,8 @@ impl Pool {
         let _ = &self.blocks;
     }
 
-    // The class of the blocks for so many bytes. It is that of the block drawn last where messages
-    // have one size, and is looked for where it isn't.
+    // The class for so many bytes. The class drawn last is tried first: messages of one size have
+    // it. Otherwise it is searched for.
     fn class_for(&self, size: u32) -> Option<u32>
         ensures class { result ≡ class_of size self.now.sizes }
         ensures within { IfSome result (λ class. class < length self.now.sizes) }
@@ -342,7 +361,7 @@ impl Pool {
     {
         match self.free.pop(class, steps) {
             Some(block) => {
-                self.blocks[block as usize] = CutBlock { class, out: true };
+                self.blocks[block as usize].out = true;
                 self.in_use += self.sizes.at(class);
                 self.out += 1;
                 self.requests = self.requests.saturating_add(1);
@@ -381,7 +400,7 @@ impl Pool {
         ensures cost { steps.new ≤ steps.old + 4 }
     {
         let class = self.blocks[block as usize].class;
-        self.blocks[block as usize] = CutBlock { class, out: false };
+        self.blocks[block as usize].out = false;
         self.in_use -= self.sizes.at(class);
         self.out -= 1;
         self.free.push(class, block, steps);

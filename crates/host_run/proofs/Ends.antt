@@ -1,5 +1,5 @@
 -- Why the program ended as it did, and that a script is run where nothing fails.
-use Rattle.std.proofs.Common.{◌≡◌, ◌⊎◌, ℕ, true, true≢false, ◌<◌, List, ◌++◌, length, map, Option, Some, None, Result, Ok, Err, IfOk, IfErr, IfSome, inl, inr, refl, sym, ap, subst, ◌∙◌, arith, length-append}
+use Rattle.std.proofs.Common.{◌≡◌, ◌⊎◌, ℕ, true, true≢false, ◌<◌, ◌≤◌, List, [], ◌∷◌, ◌++◌, length, map, Option, Some, None, Result, Ok, Err, IfOk, IfErr, IfSome, inl, inr, refl, sym, ap, subst, ◌∙◌, arith, length-append}
 use Rattle.std.specs.List.{range_with_len}
 use Rattle.fsw_base.specs.declared.script_faults.ScriptFault.{ScriptFault}
 use Rattle.bus_words.specs.declared.history.Entry.{Entry}
@@ -14,8 +14,8 @@ use Rattle.app_script.specs.Script.{ScriptText}
 use Rattle.script_runs.specs.Told.{receipts_told}
 use Rattle.script_runs.specs.Runs.{IsRunOf}
 use Rattle.script_runs.proofs.EndsCome.{run-guarantees}
-use Rattle.script_runs.proofs.Merged.{rotation-legal}
-use Rattle.script_runs.proofs.TablesMerged.{rotation-legal_tables, rotation-merges_both}
+use Rattle.script_runs.proofs.ScriptHistories.{rotation-legal}
+use Rattle.script_runs.proofs.TableHistories.{rotation-legal_tables, rotation-merges_both}
 use Rattle.host_run.proofs.Sizes.{length-grammar}
 use Rattle.fsw_base.specs.Outside.{Rose}
 use Rattle.std.specs.Result.{result_ok}
@@ -24,7 +24,11 @@ use Rattle.app_run.specs.Runners.{histories_of}
 use Rattle.host_run.specs.Input.{most_input, IsWhole, IsTooLarge}
 use Rattle.sb_calls.specs.Core.{Core, apps_of, state_of}
 use Rattle.tbl_load.specs.Core.{Core as TableCore, apps_of as table_apps_of}
-use Rattle.host_run.specs.Serve.{Fed, Made, Outside, Served, Runs, IsLeftBy, Read, TooLong, SourceFailed, NoRoom, OtherWords, Serves, Ends, EndsInput, EndsScript, EndsRun, EndsText, EndsRefused, IsRead, Soaks, Tells, TellsFront, ReportsRunFront, fault_text, HasCauses, Completes, CompletesUnread, Headline, MakesNothing, Reports, ReportsRun, Way, Rotating, OnThreads, too_large, figures_after, report_part, part_shown}
+use Rattle.tbl_file.specs.declared.image.ImageFault.{ImageFault}
+use Rattle.tbl_file.specs.declared.image.ImageFault.TheVariants as no_image
+use Rattle.tbl_file.specs.Image.{image_fault, name_in, offset_in, sub_in, table_in}
+use Rattle.host_run.specs.Images.{most_image, most_table, image_text, image_fault_text, packed_file}
+use Rattle.host_run.specs.Serve.{Fed, Made, Outside, Served, Takes, Runs, Shows, Packs, EndsNoImage, EndsShown, EndsPacked, CompletesImage, CompletesPack, IsLeftBy, Read, TooLong, SourceFailed, NoRoom, OtherWords, Serves, Ends, EndsInput, EndsScript, EndsRun, EndsText, EndsRefused, IsRead, Soaks, Tells, TellsFront, ReportsRunFront, fault_text, HasCauses, Completes, CompletesUnread, Headline, MakesNothing, Reports, ReportsRun, Way, Rotating, OnThreads, too_large, figures_after, report_part, part_shown}
 use Rattle.host_run.specs.Audit.{GuardedAudit}
 use Rattle.host_run.specs.Status.{IsNoMemory}
 use Rattle.host_run.specs.declared.memory.MemoryRefusal.{MemoryRefusal}
@@ -34,7 +38,7 @@ use Rattle.host_run.specs.declared.reporting.Part.TheVariants.{Whole, Ending}
 use Rattle.host_run.specs.declared.words.Task.{Task}
 use Rattle.host_run.specs.declared.words.Task.TheVariants as task
 use Rattle.host_run.specs.declared.status.HostStatus.{HostStatus}
-use Rattle.host_run.specs.declared.status.HostStatus.TheVariants.{Done, Usage, Script as Refused, ReadFault, WriteFault, NoMemory}
+use Rattle.host_run.specs.declared.status.HostStatus.TheVariants.{Done, Usage, Script as Refused, ReadFault, WriteFault, NoMemory, Image as NoImage}
 
 -- an end has its cause, where the wanted one has and a front is written of a failed sink alone
 causes-ends : (wanted result : HostStatus) (Due Front Without : Type 0) (fed fed' : Fed) (old new : Made) → HasCauses wanted fed fed' old new →
@@ -45,6 +49,7 @@ causes-ends wanted (Refused fault) Due Front Without fed fed' old new wants rose
 causes-ends wanted ReadFault Due Front Without fed fed' old new wants rose ends = subst (λ r. HasCauses r fed fed' old new) (sym ends.0) wants
 causes-ends wanted WriteFault Due Front Without fed fed' old new wants rose ends = rose ends
 causes-ends wanted (NoMemory refused) Due Front Without fed fed' old new wants rose ends = tt
+causes-ends wanted (NoImage fault) Due Front Without fed fed' old new wants rose ends = tt
 
 causes-refused : (result : HostStatus) (fault : ScriptFault) (fed fed' : Fed) (old new : Made) → EndsRefused result fault old new → HasCauses result fed fed' old new
 causes-refused result fault fed fed' old new ends =
@@ -54,9 +59,9 @@ causes-script : (result : HostStatus) (how : Way) (part : Part) (script : Script
 causes-script result how part script fed fed' old new ends =
     causes-ends Done result (ReportsRun how part script old new) (ReportsRunFront how part script old new) (MakesNothing old new) fed fed' old new tt (λ front. front.2.cause) ends
 
-causes-text : (result : HostStatus) (text : List ℕ) (fed fed' : Fed) (old new : Made) → EndsText Done result text (MakesNothing old new) old new → HasCauses result fed fed' old new
-causes-text result text fed fed' old new ends =
-    causes-ends Done result (Tells old new text) (TellsFront old new text) (MakesNothing old new) fed fed' old new tt (λ front. front.cause) ends
+causes-text : (wanted result : HostStatus) (text : List ℕ) (without : Type 0) (fed fed' : Fed) (old new : Made) → HasCauses wanted fed fed' old new → EndsText wanted result text without old new → HasCauses result fed fed' old new
+causes-text wanted result text without fed fed' old new wants ends =
+    causes-ends wanted result (Tells old new text) (TellsFront old new text) without fed fed' old new wants (λ front. front.cause) ends
 
 causes-input : (result : HostStatus) (how : Way) (found : Result ScriptText ScriptFault) (fed fed' : Fed) (old new : Made) → EndsInput result how found old new → HasCauses result fed fed' old new
 causes-input result how (Ok script) fed fed' old new ends = causes-script result how Whole script fed fed' old new ends
@@ -69,6 +74,7 @@ causes-none (Refused fault) fed fed' old new is = absurd is
 causes-none ReadFault fed fed' old new is = absurd is
 causes-none WriteFault fed fed' old new is = absurd is
 causes-none (NoMemory refused) fed fed' old new is = tt
+causes-none (NoImage fault) fed fed' old new is = absurd is
 
 -- each end has its cause
 causes-runs : (result : HostStatus) (how : Way) (fed fed' : Fed) (old new : Made) → Runs how result fed fed' old new → HasCauses result fed fed' old new
@@ -77,12 +83,39 @@ causes-runs result how fed fed' old new (TooLong large ends) = causes-refused re
 causes-runs result how fed fed' old new (SourceFailed is rose part nothing) = subst (λ r. HasCauses r fed fed' old new) (sym is) rose
 causes-runs result how fed fed' old new (NoRoom is unread nothing) = causes-none result fed fed' old new is
 
+causes-shown : (result : HostStatus) (found : Option ImageFault) (file : List ℕ) (fed fed' : Fed) (old new : Made) → EndsShown result found file old new → HasCauses result fed fed' old new
+causes-shown result (Some fault) file fed fed' old new ends = causes-text (NoImage fault) result (image_fault_text fault) ⊥ fed fed' old new tt ends
+causes-shown result None file fed fed' old new ends =
+    causes-text Done result (image_text (name_in file) (offset_in file) (table_in file) (sub_in file)) ⊥ fed fed' old new tt ends
+
+causes-too_large : (result : HostStatus) (fed fed' : Fed) (old new : Made) → EndsNoImage result no_image.TooLarge old new → HasCauses result fed fed' old new
+causes-too_large result fed fed' old new ends = causes-text (NoImage no_image.TooLarge) result (image_fault_text no_image.TooLarge) ⊥ fed fed' old new tt ends
+
+causes-packed : (result : HostStatus) (name : List ℕ) (offset sub : ℕ) (bytes : List ℕ) (fed fed' : Fed) (old new : Made) → EndsPacked result name offset sub bytes old new → HasCauses result fed fed' old new
+causes-packed result name offset sub [] fed fed' old new ends = causes-text (NoImage no_image.Empty) result (image_fault_text no_image.Empty) ⊥ fed fed' old new tt ends
+causes-packed result name offset sub (byte ∷ bytes) fed fed' old new ends =
+    causes-text Done result (packed_file name offset sub (byte ∷ bytes)) (MakesNothing old new) fed fed' old new tt ends
+
+causes-shows : (result : HostStatus) (fed fed' : Fed) (old new : Made) → Shows result fed fed' old new → HasCauses result fed fed' old new
+causes-shows result fed fed' old new (Read bytes whole ends) = causes-shown result (image_fault bytes) bytes fed fed' old new ends
+causes-shows result fed fed' old new (TooLong large ends) = causes-too_large result fed fed' old new ends
+causes-shows result fed fed' old new (SourceFailed is rose part nothing) = subst (λ r. HasCauses r fed fed' old new) (sym is) rose
+causes-shows result fed fed' old new (NoRoom is unread nothing) = causes-none result fed fed' old new is
+
+causes-packs : (result : HostStatus) (name : List ℕ) (offset sub : ℕ) (fed fed' : Fed) (old new : Made) → Packs result name offset sub fed fed' old new → HasCauses result fed fed' old new
+causes-packs result name offset sub fed fed' old new (Read bytes whole ends) = causes-packed result name offset sub bytes fed fed' old new ends
+causes-packs result name offset sub fed fed' old new (TooLong large ends) = causes-too_large result fed fed' old new ends
+causes-packs result name offset sub fed fed' old new (SourceFailed is rose part nothing) = subst (λ r. HasCauses r fed fed' old new) (sym is) rose
+causes-packs result name offset sub fed fed' old new (NoRoom is unread nothing) = causes-none result fed fed' old new is
+
 pub causes-task : (wanted : Option Task) (result : HostStatus) (fed fed' : Fed) (old new : Made) → Serves wanted result fed fed' old new →
     (asked : Task) → wanted ≡ Some asked → HasCauses result fed fed' old new
 causes-task wanted result fed fed' old new serves task.Run is = causes-runs result OnThreads fed fed' old new (serves.on_threads is)
 causes-task wanted result fed fed' old new serves task.Lockstep is = causes-runs result Rotating fed fed' old new (serves.lockstep is)
-causes-task wanted result fed fed' old new serves (task.Generate number) is = causes-text result (spelled_script (generated number)) fed fed' old new (serves.generates number is).ends
+causes-task wanted result fed fed' old new serves (task.Generate number) is = causes-text Done result (spelled_script (generated number)) (MakesNothing old new) fed fed' old new tt (serves.generates number is).ends
 causes-task wanted result fed fed' old new serves (task.Soak number) is = causes-script result Rotating Ending (generated number) fed fed' old new (serves.soaks number is).ends
+causes-task wanted result fed fed' old new serves task.ShowImage is = causes-shows result fed fed' old new (serves.shows is)
+causes-task wanted result fed fed' old new serves (task.Pack name offset sub) is = causes-packs result name offset sub fed fed' old new (serves.packs name offset sub is)
 
 -- what was to be done is done, or there was no memory, where the sink didn't fail
 done-ends : (result : HostStatus) (Due Front Without : Type 0) (old new : Made) → (Front → Rose old.faults new.faults) → Ends Done result Due Front Without →
@@ -93,40 +126,67 @@ done-ends (Refused fault) Due Front Without old new rose ends = λ clean. inl en
 done-ends ReadFault Due Front Without old new rose ends = λ clean. inl ends.0
 done-ends WriteFault Due Front Without old new rose ends = λ clean. absurd (clean (rose ends))
 done-ends (NoMemory refused) Due Front Without old new rose ends = λ clean. inr tt
+done-ends (NoImage fault) Due Front Without old new rose ends = λ clean. inl ends.0
 
 pub script-done : (result : HostStatus) (how : Way) (part : Part) (script : ScriptText) (old new : Made) → EndsScript result how part script old new → CompletesUnread result old new
 script-done result how part script old new ends =
     done-ends result (ReportsRun how part script old new) (ReportsRunFront how part script old new) (MakesNothing old new) old new (λ front. front.2.cause) ends
 
 -- and so does the writing of a text
-pub text-done : (result : HostStatus) (text : List ℕ) (old new : Made) → EndsText Done result text (MakesNothing old new) old new → CompletesUnread result old new
-text-done result text old new ends = done-ends result (Tells old new text) (TellsFront old new text) (MakesNothing old new) old new (λ front. front.cause) ends
+pub text-done : (result : HostStatus) (text : List ℕ) (without : Type 0) (old new : Made) → EndsText Done result text without old new → CompletesUnread result old new
+text-done result text without old new ends = done-ends result (Tells old new text) (TellsFront old new text) without old new (λ front. front.cause) ends
 
 -- the input that was read whole is the one that was told
-whole-told : (bytes input : List ℕ) (left left' : Option (List ℕ)) → IsWhole bytes left left' → left ≡ Some input → bytes ≡ input
-whole-told bytes input left left' whole told =
+whole-told : (most : ℕ) (bytes input : List ℕ) (left left' : Option (List ℕ)) → IsWhole most bytes left left' → left ≡ Some input → bytes ≡ input
+whole-told most bytes input left left' whole told =
     sym (subst (λ l. IfSome l (λ i. i ≡ bytes)) told whole.exactly)
 
--- an input of which too much was read is longer than any script
-large-long : (input : List ℕ) (left left' : Option (List ℕ)) → IsTooLarge left left' → left ≡ Some input → most_input < length input
-large-long input left (Some rest) large told =
+-- an input of which too much was read is longer than what is taken
+large-long : (most : ℕ) (input : List ℕ) (left left' : Option (List ℕ)) → IsTooLarge most left left' → left ≡ Some input → most < length input
+large-long most input left (Some rest) large told =
     let is : Some (large.0 ++ rest) ≡ Some input = sym large.2 ∙ told in
     omega (arith, large.1, length-append large.0 rest, ap (λ o. option_length o) is)
   where
     option_length : Option (List ℕ) → ℕ
     option_length (Some l) = length l
     option_length None = 0
-large-long input left None large told = absurd (cc (large.2, told))
+large-long most input left None large told = absurd (cc (large.2, told))
 
 pub completes-runs : (result : HostStatus) (how : Way) (fed fed' : Fed) (old new : Made) → Runs how result fed fed' old new → Completes result fed fed' old new
 completes-runs result how fed fed' old new (Read bytes whole ends) = λ input script told form source sink.
-    let same = whole-told bytes input fed.left fed'.left whole told in
+    let same = whole-told most_input bytes input fed.left fed'.left whole told in
     script-done result how Whole script old new
     (subst (λ found. EndsInput result how found old new) (ap grammar same ∙ form) ends) sink
 completes-runs result how fed fed' old new (TooLong large ends) = λ input script told form source sink.
-    absurd (omega (arith, length-grammar input script form, large-long input fed.left fed'.left large told))
+    absurd (omega (arith, length-grammar input script form, large-long most_input input fed.left fed'.left large told))
 completes-runs result how fed fed' old new (SourceFailed is rose part nothing) = λ input script told form source sink. absurd (source rose)
 completes-runs result how fed fed' old new (NoRoom is unread nothing) = λ input script told form source sink. inr is
+
+completes-shown : (result : HostStatus) (found : Option ImageFault) (file : List ℕ) (old new : Made) → found ≡ None → EndsShown result found file old new → CompletesUnread result old new
+completes-shown result (Some fault) file old new none ends = absurd (cc none)
+completes-shown result None file old new none ends = text-done result (image_text (name_in file) (offset_in file) (table_in file) (sub_in file)) ⊥ old new ends
+
+completes-shows : (result : HostStatus) (fed fed' : Fed) (old new : Made) → Shows result fed fed' old new → CompletesImage result fed fed' old new
+completes-shows result fed fed' old new (Read bytes whole ends) = λ input told small form source sink.
+    let same = whole-told most_image bytes input fed.left fed'.left whole told in
+    completes-shown result (image_fault bytes) bytes old new (ap image_fault same ∙ form) ends sink
+completes-shows result fed fed' old new (TooLong large ends) = λ input told small form source sink.
+    absurd (omega (arith, small, large-long most_image input fed.left fed'.left large told))
+completes-shows result fed fed' old new (SourceFailed is rose part nothing) = λ input told small form source sink. absurd (source rose)
+completes-shows result fed fed' old new (NoRoom is unread nothing) = λ input told small form source sink. inr is
+
+completes-packed : (result : HostStatus) (name : List ℕ) (offset sub : ℕ) (bytes : List ℕ) (old new : Made) → 1 ≤ length bytes → EndsPacked result name offset sub bytes old new → CompletesUnread result old new
+completes-packed result name offset sub [] old new some ends = absurd (omega (arith, some))
+completes-packed result name offset sub (byte ∷ bytes) old new some ends = text-done result (packed_file name offset sub (byte ∷ bytes)) (MakesNothing old new) old new ends
+
+completes-packs : (result : HostStatus) (name : List ℕ) (offset sub : ℕ) (fed fed' : Fed) (old new : Made) → Packs result name offset sub fed fed' old new → CompletesPack result fed fed' old new
+completes-packs result name offset sub fed fed' old new (Read bytes whole ends) = λ input told some small source sink.
+    let same = whole-told most_table bytes input fed.left fed'.left whole told in
+    completes-packed result name offset sub bytes old new (subst (λ (l : List ℕ). 1 ≤ length l) (sym same) some) ends sink
+completes-packs result name offset sub fed fed' old new (TooLong large ends) = λ input told some small source sink.
+    absurd (omega (arith, small, large-long most_table input fed.left fed'.left large told))
+completes-packs result name offset sub fed fed' old new (SourceFailed is rose part nothing) = λ input told some small source sink. absurd (source rose)
+completes-packs result name offset sub fed fed' old new (NoRoom is unread nothing) = λ input told some small source sink. inr is
 
 pub ends-other : (result : HostStatus) (fed fed' : Fed) (old new : Made) → OtherWords result fed fed' old new → (result ≡ Usage) ⊎ (result ≡ WriteFault)
 ends-other Done fed fed' old new words = inl words.usage.0
@@ -135,16 +195,17 @@ ends-other (Refused fault) fed fed' old new words = inl words.usage.0
 ends-other ReadFault fed fed' old new words = inl words.usage.0
 ends-other WriteFault fed fed' old new words = inr refl
 ends-other (NoMemory refused) fed fed' old new words = absurd words.usage
+ends-other (NoImage fault) fed fed' old new words = inl words.usage.0
 
 -- a text that was read whole, and is this script
-pub read-script : (result : Result ScriptText HostStatus) (bytes text : List ℕ) (left left' : Option (List ℕ)) → text ≡ bytes → IsWhole bytes left left' →
+pub read-script : (result : Result ScriptText HostStatus) (bytes text : List ℕ) (left left' : Option (List ℕ)) → text ≡ bytes → IsWhole most_input bytes left left' →
     IfOk result (λ script. grammar text ≡ Ok script) → IfOk result (λ script. IsRead script left left')
 read-script (Ok script) bytes text left left' same whole is = (bytes, whole, ap grammar (sym same) ∙ is)
 read-script (Err status) bytes text left left' same whole is = tt
 
 -- a text that was read whole, and is none
 pub read-end : (result : Result ScriptText HostStatus) (bytes text : List ℕ) (fed fed' : Fed) (old new : GuardedAudit → Made) → text ≡ bytes →
-    IsWhole bytes fed.left fed'.left →
+    IsWhole most_input bytes fed.left fed'.left →
     IfErr result (λ status. (how : Way) (audit : GuardedAudit) → EndsInput status how (grammar text) (old audit) (new audit)) →
     IfErr result (λ status. (how : Way) (audit : GuardedAudit) → Runs how status fed fed' (old audit) (new audit))
 read-end (Ok script) bytes text fed fed' old new same whole ends = tt
@@ -171,11 +232,15 @@ serves-run (Some task.Run) result fed fed' old new needs runs = record {
   lockstep = λ words. absurd (cc words);
   generates = λ number words. absurd (cc words);
   soaks = λ number words. absurd (cc words);
+  shows = λ words. absurd (cc words);
+  packs = λ name offset sub words. absurd (cc words);
   other_words = λ words. absurd (cc words);
 }
 serves-run (Some task.Lockstep) result fed fed' old new needs runs = absurd (true≢false (sym needs))
 serves-run (Some (task.Generate number)) result fed fed' old new needs runs = absurd (true≢false (sym needs))
 serves-run (Some (task.Soak number)) result fed fed' old new needs runs = absurd (true≢false (sym needs))
+serves-run (Some task.ShowImage) result fed fed' old new needs runs = absurd (true≢false (sym needs))
+serves-run (Some (task.Pack name offset sub)) result fed fed' old new needs runs = absurd (true≢false (sym needs))
 serves-run None result fed fed' old new needs runs = absurd (true≢false (sym needs))
 
 -- what happens on words that the program doesn't know is what happens
@@ -185,6 +250,8 @@ serves-other wanted result fed fed' old new none other = record {
   lockstep = λ words. absurd (cc (none, words));
   generates = λ number words. absurd (cc (none, words));
   soaks = λ number words. absurd (cc (none, words));
+  shows = λ words. absurd (cc (none, words));
+  packs = λ name offset sub words. absurd (cc (none, words));
   other_words = λ words. other;
 }
 
@@ -196,6 +263,38 @@ serves-soaks wanted number result fed fed' old new is done = record {
   lockstep = λ words. absurd (cc (is, words));
   generates = λ other words. absurd (cc (is, words));
   soaks = λ other words. subst (λ n. Soaks result n fed fed' old new) (cc (is, words)) done;
+  shows = λ words. absurd (cc (is, words));
+  packs = λ name offset sub words. absurd (cc (is, words));
+  other_words = λ words. absurd (cc (is, words));
+}
+
+-- what happens on `image` is what happens
+pub serves-shows : (wanted : Option Task) (result : HostStatus) (fed fed' : Fed) (old new : Made) → wanted ≡ Some task.ShowImage →
+    Shows result fed fed' old new → Serves wanted result fed fed' old new
+serves-shows wanted result fed fed' old new is done = record {
+  on_threads = λ words. absurd (cc (is, words));
+  lockstep = λ words. absurd (cc (is, words));
+  generates = λ number words. absurd (cc (is, words));
+  soaks = λ number words. absurd (cc (is, words));
+  shows = λ words. done;
+  packs = λ name offset sub words. absurd (cc (is, words));
+  other_words = λ words. absurd (cc (is, words));
+}
+
+-- what happens on `pack` is what happens
+pub serves-packs : (wanted : Option Task) (name : List ℕ) (offset sub : ℕ) (result : HostStatus) (fed fed' : Fed) (old new : Made) → wanted ≡ Some (task.Pack name offset sub) →
+    Packs result name offset sub fed fed' old new → Serves wanted result fed fed' old new
+serves-packs wanted name offset sub result fed fed' old new is done = record {
+  on_threads = λ words. absurd (cc (is, words));
+  lockstep = λ words. absurd (cc (is, words));
+  generates = λ number words. absurd (cc (is, words));
+  soaks = λ number words. absurd (cc (is, words));
+  shows = λ words. absurd (cc (is, words));
+  packs = λ other at what words.
+      let one : name ≡ other = cc (is, words) in
+      let two : offset ≡ at = cc (is, words) in
+      let three : sub ≡ what = cc (is, words) in
+      subst (λ n. Packs result n at what fed fed' old new) one (subst (λ n. Packs result name n what fed fed' old new) two (subst (λ n. Packs result name offset n fed fed' old new) three done));
   other_words = λ words. absurd (cc (is, words));
 }
 
@@ -208,7 +307,7 @@ run-left OnThreads script histories run = run
 
 -- where all was done the headline holds
 headline-input : (how : Way) (found : Result ScriptText ScriptFault) (bytes : List ℕ) (fed fed' : Fed) (old new : Made) → grammar bytes ≡ found →
-    IsWhole bytes fed.left fed'.left → EndsInput Done how found old new → Headline Done fed fed' old new
+    IsWhole most_input bytes fed.left fed'.left → EndsInput Done how found old new → Headline Done fed fed' old new
 headline-input how (Err fault) bytes fed fed' old new built whole ends = absurd (cc ends.0)
 headline-input how (Ok script) bytes fed fed' old new built whole ends =
     let run = run-left how script ends.1.0 ends.1.1 in
@@ -232,6 +331,16 @@ table-figures-run : (script : ScriptText) (core : TableCore) → core.limits ≡
     table_figures_shown core.limits (table_apps_of core) core.log.entries ≡ table_figures_shown script.limits (length script.apps) core.log.entries
 table-figures-run script core limits apps =
     ap (λ l. table_figures_shown l (table_apps_of core) core.log.entries) limits ∙ ap (λ n. table_figures_shown script.limits n core.log.entries) apps
+
+-- without a byte no image is packed, and of any an image is due
+pub packed-none : (result : HostStatus) (name : List ℕ) (offset sub : ℕ) (bytes : List ℕ) (old new : Made) → length bytes ≡ 0 → EndsNoImage result no_image.Empty old new → EndsPacked result name offset sub bytes old new
+packed-none result name offset sub [] old new none ends = ends
+packed-none result name offset sub (byte ∷ bytes) old new none ends = absurd (omega (arith, none))
+
+pub packed-some : (result : HostStatus) (name : List ℕ) (offset sub : ℕ) (bytes : List ℕ) (old new : Made) → 1 ≤ length bytes →
+    EndsText Done result (packed_file name offset sub bytes) (MakesNothing old new) old new → EndsPacked result name offset sub bytes old new
+packed-some result name offset sub [] old new some ends = absurd (omega (arith, some))
+packed-some result name offset sub (byte ∷ bytes) old new some ends = ends
 
 -- what is reported of both services after a run of the script is the report of their histories: their limits and their applications
 -- are the script's
@@ -265,6 +374,7 @@ ends-as ReadFault how part script histories text old new left is ends = (ends.0,
 ends-as WriteFault how part script histories text old new left is ends =
     (histories, left, record { front = subst (CutShort old.written new.written) is ends.front; cause = ends.cause; shown = ends.shown })
 ends-as (NoMemory refused) how part script histories text old new left is ends = absurd ends
+ends-as (NoImage fault) how part script histories text old new left is ends = (ends.0, whole-as how part script histories text old new left is ends.1)
 
 pub ends-run : (result : HostStatus) (how : Way) (part : Part) (script : ScriptText) (core : Core) (tables : TableCore) (lists : List Receipts) (old new : Made) →
     core.limits ≡ script.limits → tables.limits ≡ script.limits → apps_of core ≡ length script.apps → table_apps_of tables ≡ length script.apps →
@@ -310,11 +420,15 @@ served wanted result before after serves = record {
   lockstep = serves.lockstep;
   generates = serves.generates;
   soaks = serves.soaks;
+  shows = serves.shows;
+  packs = serves.packs;
   other_words = serves.other_words;
   causes = causes-task wanted result before.fed after.fed before.made after.made serves;
   usage_or_fault = λ words. ends-other result before.fed after.fed before.made after.made (serves.other_words words);
   complete_on_run = λ words. completes-runs result OnThreads before.fed after.fed before.made after.made (serves.on_threads words);
   complete = λ words. completes-runs result Rotating before.fed after.fed before.made after.made (serves.lockstep words);
-  complete_generates = λ number words. text-done result (spelled_script (generated number)) before.made after.made (serves.generates number words).ends;
+  complete_generates = λ number words. text-done result (spelled_script (generated number)) (MakesNothing before.made after.made) before.made after.made (serves.generates number words).ends;
   complete_soaks = λ number words. script-done result Rotating Ending (generated number) before.made after.made (serves.soaks number words).ends;
+  complete_shows = λ words. completes-shows result before.fed after.fed before.made after.made (serves.shows words);
+  complete_packs = λ name offset sub words. completes-packs result name offset sub before.fed after.fed before.made after.made (serves.packs name offset sub words);
 }

@@ -8,7 +8,7 @@ use Rattle.fsw_base.specs.declared.outside.ReadAnswer.TheVariants.{Got, End, Fai
 use Rattle.host_run.specs.declared.reading.Reading.{Reading}
 use Rattle.host_run.specs.declared.reading.Reading.TheVariants.{Whole, TooLarge, Fault}
 
--- the most bytes that an input may have
+-- the most bytes that a script may have
 abbrev pub most_input : ℕ
 most_input = 1048576
 
@@ -16,26 +16,26 @@ most_input = 1048576
 abbrev pub input_of : List ℕ → Option (List ℕ) → Option (List ℕ)
 input_of bytes left = option_map (λ rest. bytes ++ rest) left
 
--- the input was just these bytes, not too many, and nothing is left
-pub record IsWhole (bytes : List ℕ) (old new : Option (List ℕ)) : Type 0 where
+-- the input was just these bytes, at most as many as are taken, and nothing is left
+pub record IsWhole (most : ℕ) (bytes : List ℕ) (old new : Option (List ℕ)) : Type 0 where
   pub read : old ≡ input_of bytes new
   pub nothing_left : IfSome new (λ left. left ≡ [])
   pub exactly : IfSome old (λ input. input ≡ bytes)
-  pub small : length bytes ≤ most_input
+  pub small : length bytes ≤ most
 
--- one byte more than an input may have was read, and no other
-abbrev pub IsTooLarge : Option (List ℕ) → Option (List ℕ) → Type 0
-IsTooLarge old new = (bytes : List ℕ) × (length bytes ≡ most_input + 1) × (old ≡ input_of bytes new)
+-- one byte more than are taken was read, and no other
+abbrev pub IsTooLarge : ℕ → Option (List ℕ) → Option (List ℕ) → Type 0
+IsTooLarge most old new = (bytes : List ℕ) × (length bytes ≡ most + 1) × (old ≡ input_of bytes new)
 
--- a beginning of the input was read, no more than an input may have
-abbrev pub IsPartRead : Option (List ℕ) → Option (List ℕ) → Type 0
-IsPartRead old new = (bytes : List ℕ) × (length bytes ≤ most_input) × (old ≡ input_of bytes new)
+-- a beginning of the input was read, no more than are taken
+abbrev pub IsPartRead : ℕ → Option (List ℕ) → Option (List ℕ) → Type 0
+IsPartRead most old new = (bytes : List ℕ) × (length bytes ≤ most) × (old ≡ input_of bytes new)
 
--- What was read, by the answer of the reading.
-abbrev pub ReadsAll : Reading → Option (List ℕ) → Option (List ℕ) → Type 0
-ReadsAll (Whole v) old new = IsWhole v.items old new
-ReadsAll TooLarge old new = IsTooLarge old new
-ReadsAll Fault old new = IsPartRead old new
+-- What was read, by the answer of a reading that takes so many bytes at most.
+abbrev pub ReadsAll : Reading → ℕ → Option (List ℕ) → Option (List ℕ) → Type 0
+ReadsAll (Whole v) most old new = IsWhole most v.items old new
+ReadsAll TooLarge most old new = IsTooLarge most old new
+ReadsAll Fault most old new = IsPartRead most old new
 
 -- What the count of faults did, by the answer of the reading.
 abbrev pub HasCause : Reading → ℕ → ℕ → Type 0

@@ -1,5 +1,6 @@
 pub mod Audit
 pub mod Copies
+pub mod Images
 pub mod Input
 pub mod Memory
 pub mod Serve

@@ -1,5 +1,5 @@
 -- What the program does: what it reads, what it writes and what it shows an audit, by how it ended.
-use Rattle.std.specs.Prelude.{◌≡◌, ◌⊎◌, ℕ, List, ◌++◌, length, map, codes, decimal, Option, Some, None, Result, Ok, Err}
+use Rattle.std.specs.Prelude.{◌≡◌, ◌⊎◌, ℕ, ◌≤◌, List, [], ◌∷◌, ◌++◌, length, map, codes, decimal, Option, Some, None, Result, Ok, Err}
 use Rattle.fsw_base.specs.Guards.{GuardedSink, GuardedSource}
 use Rattle.fsw_base.specs.Outside.{Rose}
 use Rattle.fsw_base.specs.ScriptFaults.{fault_name}
@@ -25,7 +25,11 @@ use Rattle.script_printing.specs.ScriptSpelling.{spelled_script}
 use Rattle.host_run.specs.Audit.{IsShown, GuardedAudit}
 use Rattle.app_run.specs.Runners.{histories_of}
 use Rattle.host_run.specs.Status.{IsNoMemory}
-use Rattle.host_run.specs.Input.{IsWhole, IsTooLarge, IsPartRead}
+use Rattle.host_run.specs.Input.{most_input, IsWhole, IsTooLarge, IsPartRead}
+use Rattle.host_run.specs.Images.{most_image, most_table, image_text, image_fault_text, packed_file}
+use Rattle.tbl_file.specs.Image.{image_fault, name_in, offset_in, sub_in, table_in}
+use Rattle.tbl_file.specs.declared.image.ImageFault.{ImageFault}
+use Rattle.tbl_file.specs.declared.image.ImageFault.TheVariants as no_image
 use Rattle.host_run.specs.declared.reporting.Part.{Part}
 use Rattle.host_run.specs.declared.reporting.Part.TheVariants.{Whole, Ending}
 use Rattle.host_run.specs.declared.words.Task.{Task}
@@ -37,7 +41,7 @@ use Rattle.host_run.specs.declared.status.HostStatus.TheVariants as status
 
 -- the line that tells which words the program knows
 abbrev pub usage_text : List ℕ
-usage_text = codes "usage: run | lockstep | gen N | soak N\n"
+usage_text = codes "usage: run | lockstep | gen N | soak N | image | pack NAME OFFSET SUB\n"
 
 -- the line that tells a fault
 abbrev pub fault_text : ScriptFault → List ℕ
@@ -197,21 +201,65 @@ EndsInput result how (Err fault) old new = EndsRefused result fault old new
 
 -- the whole input was read, and is this script
 abbrev pub IsRead : ScriptText → Option (List ℕ) → Option (List ℕ) → Type 0
-IsRead script left left' = (bytes : List ℕ) × IsWhole bytes left left' × (grammar bytes ≡ Ok script)
+IsRead script left left' =
+    (bytes : List ℕ) × IsWhole most_input bytes left left' × (grammar bytes ≡ Ok script)
 
--- On a word that has a script read and run in this way, one of these happened.
-pub data Runs (how : Way) (result : HostStatus) (fed fed' : Fed) (old new : Made) : Type 0 where
+-- how an input ends that is no image, or of which none can be packed: the line of its fault is due;
+-- no memory is asked for after the reading
+abbrev pub EndsNoImage : HostStatus → ImageFault → Made → Made → Type 0
+EndsNoImage result fault old new =
+    EndsText (status.Image fault) result (image_fault_text fault) ⊥ old new
+
+-- how an input ends on `image`, by the fault that it has as one
+abbrev pub EndsShown : HostStatus → Option ImageFault → List ℕ → Made → Made → Type 0
+EndsShown result (Some fault) file old new = EndsNoImage result fault old new
+EndsShown result None file old new =
+    EndsText status.Done result
+    (image_text (name_in file) (offset_in file) (table_in file) (sub_in file)) ⊥ old new
+
+-- how an input ends on `pack` with a name, an offset and a sub: an image of it is due, if it has a
+-- byte
+abbrev pub EndsPacked : HostStatus → List ℕ → ℕ → ℕ → List ℕ → Made → Made → Type 0
+EndsPacked result name offset sub [] old new = EndsNoImage result no_image.Empty old new
+EndsPacked result name offset sub (byte ∷ bytes) old new =
+    EndsText status.Done result (packed_file name offset sub (byte ∷ bytes)) (MakesNothing old new)
+    old new
+
+-- On a word that takes an input of so many bytes at most, one of these happened. `ends` is how an
+-- input ends that is read whole, and `refuses` how a longer one does.
+pub data Takes (most : ℕ) (ends : List ℕ → Type 0) (refuses : Type 0) (result : HostStatus)
+    (fed fed' : Fed) (old new : Made) : Type 0 where
   -- the whole input was read, and made what it is worth
-  Read : (bytes : List ℕ) → IsWhole bytes fed.left fed'.left →
-      EndsInput result how (grammar bytes) old new → Runs how result fed fed' old new
-  -- the input is longer than any script
-  TooLong : IsTooLarge fed.left fed'.left → EndsRefused result too_large old new →
-      Runs how result fed fed' old new
+  Read : (bytes : List ℕ) → IsWhole most bytes fed.left fed'.left → ends bytes →
+      Takes most ends refuses result fed fed' old new
+  -- the input is longer than any of the word
+  TooLong : IsTooLarge most fed.left fed'.left → refuses →
+      Takes most ends refuses result fed fed' old new
   -- the source failed
   SourceFailed : result ≡ status.ReadFault → Rose fed.faults fed'.faults →
-      IsPartRead fed.left fed'.left → MakesNothing old new → Runs how result fed fed' old new
+      IsPartRead most fed.left fed'.left → MakesNothing old new →
+      Takes most ends refuses result fed fed' old new
   -- no memory for the input, of which nothing was read
-  NoRoom : IsNoMemory result → fed' ≡ fed → MakesNothing old new → Runs how result fed fed' old new
+  NoRoom : IsNoMemory result → fed' ≡ fed → MakesNothing old new →
+      Takes most ends refuses result fed fed' old new
+
+-- on a word that has a script read and run in this way, the script is run or its first fault told
+abbrev pub Runs : Way → HostStatus → Fed → Fed → Made → Made → Type 0
+Runs how result fed fed' old new =
+    Takes most_input (λ bytes. EndsInput result how (grammar bytes) old new)
+    (EndsRefused result too_large old new) result fed fed' old new
+
+-- on `image` the table image that is read is shown, or its fault told
+abbrev pub Shows : HostStatus → Fed → Fed → Made → Made → Type 0
+Shows result fed fed' old new =
+    Takes most_image (λ bytes. EndsShown result (image_fault bytes) bytes old new)
+    (EndsNoImage result no_image.TooLarge old new) result fed fed' old new
+
+-- on `pack` with a name, an offset and a sub, the image of the bytes that are read is written
+abbrev pub Packs : HostStatus → List ℕ → ℕ → ℕ → Fed → Fed → Made → Made → Type 0
+Packs result name offset sub fed fed' old new =
+    Takes most_table (λ bytes. EndsPacked result name offset sub bytes old new)
+    (EndsNoImage result no_image.TooLarge old new) result fed fed' old new
 
 -- on `gen` and a number nothing is read, and the generated script of this number is written
 pub record Generates (result : HostStatus) (number : ℕ) (fed fed' : Fed)
@@ -239,6 +287,9 @@ pub record Serves (wanted : Option Task) (result : HostStatus) (fed fed' : Fed)
   pub generates : (number : ℕ) → wanted ≡ Some (task.Generate number) →
       Generates result number fed fed' old new
   pub soaks : (number : ℕ) → wanted ≡ Some (task.Soak number) → Soaks result number fed fed' old new
+  pub shows : wanted ≡ Some task.ShowImage → Shows result fed fed' old new
+  pub packs : (name : List ℕ) (offset sub : ℕ) → wanted ≡ Some (task.Pack name offset sub) →
+      Packs result name offset sub fed fed' old new
   pub other_words : wanted ≡ None → OtherWords result fed fed' old new
 
 -- Causes. --
@@ -252,12 +303,28 @@ HasCauses status.WriteFault fed fed' old new = Rose old.faults new.faults
 HasCauses status.Done fed fed' old new = Unit {0}
 HasCauses (status.Script fault) fed fed' old new = Unit {0}
 HasCauses (status.NoMemory refused) fed fed' old new = Unit {0}
+HasCauses (status.Image fault) fed fed' old new = Unit {0}
 
 -- If the input is shown and is a script, and neither count of faults rose, all was done or there
 -- was no memory.
 abbrev pub Completes : HostStatus → Fed → Fed → Made → Made → Type 0
 Completes result fed fed' old new =
     (input : List ℕ) (script : ScriptText) → fed.left ≡ Some input → grammar input ≡ Ok script →
+    ¬ Rose fed.faults fed'.faults → ¬ Rose old.faults new.faults →
+    (result ≡ status.Done) ⊎ IsNoMemory result
+
+-- If the input is shown and is a table image that `image` takes, and neither count of faults rose,
+-- all was done or there was no memory.
+abbrev pub CompletesImage : HostStatus → Fed → Fed → Made → Made → Type 0
+CompletesImage result fed fed' old new =
+    (input : List ℕ) → fed.left ≡ Some input → length input ≤ most_image →
+    image_fault input ≡ None → ¬ Rose fed.faults fed'.faults → ¬ Rose old.faults new.faults →
+    (result ≡ status.Done) ⊎ IsNoMemory result
+
+-- the same of an input that `pack` takes, of one byte at least
+abbrev pub CompletesPack : HostStatus → Fed → Fed → Made → Made → Type 0
+CompletesPack result fed fed' old new =
+    (input : List ℕ) → fed.left ≡ Some input → 1 ≤ length input → length input ≤ most_table →
     ¬ Rose fed.faults fed'.faults → ¬ Rose old.faults new.faults →
     (result ≡ status.Done) ⊎ IsNoMemory result
 
@@ -281,7 +348,7 @@ CompletesUnread result old new =
 abbrev pub Headline : HostStatus → Fed → Fed → Made → Made → Type 0
 Headline result fed fed' old new =
     result ≡ status.Done → (bytes : List ℕ) × (script : ScriptText) × (histories : Histories)
-    × IsWhole bytes fed.left fed'.left
+    × IsWhole most_input bytes fed.left fed'.left
     × (grammar bytes ≡ Ok script)
     × IsRunOf script histories
     × Guarantees script histories
@@ -320,6 +387,10 @@ pub record Served (wanted : Option Task) (result : HostStatus)
       Generates result number before.fed after.fed before.made after.made
   pub soaks : (number : ℕ) → wanted ≡ Some (task.Soak number) →
       Soaks result number before.fed after.fed before.made after.made
+  pub shows : wanted ≡ Some task.ShowImage →
+      Shows result before.fed after.fed before.made after.made
+  pub packs : (name : List ℕ) (offset sub : ℕ) → wanted ≡ Some (task.Pack name offset sub) →
+      Packs result name offset sub before.fed after.fed before.made after.made
   pub other_words : wanted ≡ None → OtherWords result before.fed after.fed before.made after.made
   -- why it ended so; these follow from those above
   pub causes : (asked : Task) → wanted ≡ Some asked →
@@ -333,3 +404,8 @@ pub record Served (wanted : Option Task) (result : HostStatus)
       CompletesUnread result before.made after.made
   pub complete_soaks : (number : ℕ) → wanted ≡ Some (task.Soak number) →
       CompletesUnread result before.made after.made
+  pub complete_shows : wanted ≡ Some task.ShowImage →
+      CompletesImage result before.fed after.fed before.made after.made
+  pub complete_packs : (name : List ℕ) (offset sub : ℕ) →
+      wanted ≡ Some (task.Pack name offset sub) →
+      CompletesPack result before.fed after.fed before.made after.made

@@ -1,7 +1,7 @@
 -- The numbers with which the program ends, and what an end says of failures.
 use Rattle.std.specs.Prelude.{ℕ, Bool, true, false}
 use Rattle.host_run.specs.declared.status.HostStatus.{HostStatus}
-use Rattle.host_run.specs.declared.status.HostStatus.TheVariants.{Done, Usage, Script, ReadFault, WriteFault, NoMemory}
+use Rattle.host_run.specs.declared.status.HostStatus.TheVariants.{Done, Usage, Script, ReadFault, WriteFault, NoMemory, Image}
 
 abbrev pub exit_status : HostStatus → ℕ
 exit_status Done = 0
@@ -10,6 +10,7 @@ exit_status (Script fault) = 3
 exit_status ReadFault = 4
 exit_status WriteFault = 5
 exit_status (NoMemory refused) = 6
+exit_status (Image fault) = 8
 
 -- whether it tells that the source failed
 abbrev pub is_read_fault : HostStatus → Bool
@@ -19,6 +20,7 @@ is_read_fault (Script fault) = false
 is_read_fault ReadFault = true
 is_read_fault WriteFault = false
 is_read_fault (NoMemory refused) = false
+is_read_fault (Image fault) = false
 
 -- whether it tells that the sink failed
 abbrev pub is_write_fault : HostStatus → Bool
@@ -28,6 +30,7 @@ is_write_fault (Script fault) = false
 is_write_fault ReadFault = false
 is_write_fault WriteFault = true
 is_write_fault (NoMemory refused) = false
+is_write_fault (Image fault) = false
 
 -- it tells that memory was refused
 abbrev pub IsNoMemory : HostStatus → Type 0
@@ -37,3 +40,4 @@ IsNoMemory (Script fault) = ⊥
 IsNoMemory ReadFault = ⊥
 IsNoMemory WriteFault = ⊥
 IsNoMemory (NoMemory refused) = Unit {0}
+IsNoMemory (Image fault) = ⊥

@@ -3,8 +3,9 @@ use Rattle.std.specs.Prelude.{ℕ, Bool, true, false, ◌&&◌, nat_le, nat_lt, 
 use Rattle.std.specs.Option.{option_map}
 use Rattle.std.specs.Str.{bytes_eq}
 use Rattle.script_words.specs.Numbers.{is_decimal, value_in}
+use Rattle.tbl_file.specs.Image.{is_table_name}
 use Rattle.host_run.specs.declared.words.Task.{Task}
-use Rattle.host_run.specs.declared.words.Task.TheVariants.{Run, Lockstep, Generate, Soak}
+use Rattle.host_run.specs.declared.words.Task.TheVariants.{Run, Lockstep, Generate, Soak, ShowImage, Pack}
 
 -- the words with the first 64 bytes of one more, where there are fewer than five
 abbrev pub with_word : List (List ℕ) → List ℕ → List (List ℕ)
@@ -16,11 +17,12 @@ decimal_number word =
     if is_decimal word && nat_le (value_in 10 word) 4294967295 then Some (value_in 10 word)
     else None
 
--- what one word asks for: `run` or `lockstep`
+-- what one word asks for: `run`, `lockstep` or `image`
 abbrev pub task_alone : List ℕ → Option Task
 task_alone word =
     if bytes_eq word (codes "run") then Some Run
-    else (if bytes_eq word (codes "lockstep") then Some Lockstep else None)
+    else (if bytes_eq word (codes "lockstep") then Some Lockstep
+    else (if bytes_eq word (codes "image") then Some ShowImage else None))
 
 -- what a word asks for with a number behind it: `gen N` or `soak N`
 abbrev pub task_with : List ℕ → List ℕ → Option Task
@@ -28,12 +30,26 @@ task_with word number =
     if bytes_eq word (codes "gen") then option_map Generate (decimal_number number)
     else (if bytes_eq word (codes "soak") then option_map Soak (decimal_number number) else None)
 
+-- to pack an image of this name, where both numbers are spelled
+abbrev pub packing : List ℕ → Option ℕ → Option ℕ → Option Task
+packing name (Some offset) (Some sub) = Some (Pack name offset sub)
+packing name (Some offset) None = None
+packing name None sub = None
+
+-- what a word asks for with three behind it: `pack NAME OFFSET SUB`
+abbrev pub task_of_four : List ℕ → List ℕ → List ℕ → List ℕ → Option Task
+task_of_four word name offset sub =
+    if bytes_eq word (codes "pack") && is_table_name name
+    then packing name (decimal_number offset) (decimal_number sub) else None
+
 -- what the words ask for; none where the program doesn't know them
 abbrev pub task_of : List (List ℕ) → Option Task
 task_of [] = None
 task_of (word ∷ []) = task_alone word
 task_of (word ∷ number ∷ []) = task_with word number
-task_of (word ∷ number ∷ other ∷ others) = None
+task_of (word ∷ second ∷ third ∷ []) = None
+task_of (word ∷ name ∷ offset ∷ sub ∷ []) = task_of_four word name offset sub
+task_of (word ∷ name ∷ offset ∷ sub ∷ other ∷ others) = None
 
 -- whether what is asked for needs threads: `run` alone
 abbrev pub needs_threads : Option Task → Bool
@@ -42,3 +58,5 @@ needs_threads (Some Run) = true
 needs_threads (Some Lockstep) = false
 needs_threads (Some (Generate number)) = false
 needs_threads (Some (Soak number)) = false
+needs_threads (Some ShowImage) = false
+needs_threads (Some (Pack name offset sub)) = false

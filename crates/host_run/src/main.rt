@@ -1,9 +1,13 @@
 //! The program: reads a script, runs its applications on the software bus and on Table Services,
-//! each on a thread of its own or all in rotation, and writes a report.
+//! each on a thread of its own or all in rotation, and writes a report. It also looks at table
+//! images and packs them.
 #![tactic(auto)]
 
 mod audit;
 mod fault_line;
+#[cfg(test)]
+mod image_tests;
+mod images;
 mod mem_audit;
 mod memory;
 #[cfg(test)]

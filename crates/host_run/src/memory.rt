@@ -1,5 +1,5 @@
 //! The memory that the program takes.
-ghost use Rattle.std.specs.Prelude.{◌≡◌, [], false, true, length, map, vec_capacity, IfOk, IfSome};
+ghost use Rattle.std.specs.Prelude.{◌≡◌, [], false, true, length, map, replicate, vec_capacity, IfOk, IfSome};
 ghost use Rattle.std.specs.List.{range_with_len};
 ghost use Rattle.std.specs.Option.{is_none};
 ghost use Rattle.std.specs.Result.{result_ok};
@@ -75,6 +75,15 @@ impl Memory {
         ensures refused { self.new.refused ≡ is_none result }
     {
         let taken = Vec::with_capacity(self.alloc, bytes);
+        self.note(taken)
+    }
+
+    /// A list of so many zeros.
+    pub fn zeros(&mut self, bytes: usize) -> Option<Vec<u8>>
+        ensures zeros { IfSome result (λ v. v.items ≡ replicate bytes 0) }
+        ensures refused { self.new.refused ≡ is_none result }
+    {
+        let taken = vec![in self.alloc; 0; bytes];
         self.note(taken)
     }
 

@@ -1,16 +1,10 @@
-//! Reading a source to its end, as far as a script may reach.
-ghost use Rattle.std.specs.Prelude.{◌≡◌, ℕ, [], ◌+◌, ◌<◌, ◌≤◌, true, false, length, vec_len, vec_capacity};
+//! Reading a source to its end, as far as an input of the word may reach.
+ghost use Rattle.std.specs.Prelude.{◌≡◌, ℕ, [], ◌+◌, ◌^◌, ◌<◌, ◌≤◌, true, false, length, vec_len, vec_capacity};
 ghost use Rattle.fsw_base.specs.Guards.{is_failed_read};
 ghost use Rattle.fsw_base.specs.Outside.{Rose};
 ghost use Rattle.host_run.specs.Input.{input_of, ReadsAll, HasCause, Adds, is_fault};
 
-use fsw_base::{MAX_SCRIPT_BYTES, ReadAnswer, Source, SourceGuard};
-
-// The most bytes that an input may have.
-const MAX_INPUT: usize = MAX_SCRIPT_BYTES;
-
-/// How many bytes of an input are read at most: one more shows that it is too long.
-pub const INPUT_ROOM: usize = MAX_INPUT + 1;
+use fsw_base::{ReadAnswer, Source, SourceGuard};
 
 // The bytes that one read asks for; the last read may ask for fewer.
 const PIECE: usize = 4096;
@@ -18,30 +12,35 @@ const PIECE: usize = 4096;
 /// What reading a source to its end tells.
 #[derive(Drop)]
 pub enum Reading {
-    /// The whole input, at most [`MAX_INPUT`] bytes.
+    /// The whole input, at most as many bytes as are taken.
     Whole(Vec<u8>),
-    /// More than [`MAX_INPUT`] bytes came.
+    /// More bytes came.
     TooLarge,
     /// The source failed.
     Fault,
 }
 
-/// Reads a source to its end, at most one byte more than an input may have, and no further after a
-/// failure. What is read is put into the list, which is empty and has room for [`INPUT_ROOM`]
-/// bytes. No read through this guard may have failed before.
-pub fn read_all<S: Source>(mut kept: Vec<u8>, source: &mut SourceGuard<'_, S>) -> Reading
+/// Reads a source to its end, at most one byte more than are taken, and no further after a failure.
+/// What is read is put into the list, which is empty and has room for all of it. At most
+/// 2,147,483,647 bytes may be asked for. No read through this guard may have failed before.
+pub fn read_all<S: Source>(
+    mut kept: Vec<u8>,
+    most: usize,
+    source: &mut SourceGuard<'_, S>,
+) -> Reading
     requires none_failed { source.old.failed ≡ false }
     requires empty { kept.items ≡ [] }
-    requires room { vec_capacity kept ≡ INPUT_ROOM }
-    ensures bytes { ReadsAll result source.old.left source.new.left }
+    requires few { most < 2 ^ 31 }
+    requires room { vec_capacity kept ≡ most + 1 }
+    ensures bytes { ReadsAll result most source.old.left source.new.left }
     ensures failed { source.new.failed ≡ is_fault result }
     ensures cause { HasCause result source.old.faults source.new.faults }
     ensures same_source { source.new.source ≡ source.old.source }
 {
     let mut piece = [0; PIECE];
-    while kept.len() <= MAX_INPUT {
-        let most = PIECE.min(MAX_INPUT + 1 - kept.len());
-        match read_piece(source, &mut piece[..most], &mut kept) {
+    while kept.len() <= most {
+        let next = PIECE.min(most + 1 - kept.len());
+        match read_piece(source, &mut piece[..next], &mut kept) {
             ReadAnswer::Got(_) => {}
             ReadAnswer::End => return Reading::Whole(kept),
             ReadAnswer::Failed => return Reading::Fault,

@@ -11,15 +11,19 @@ ghost use Rattle.host_run.specs.Words.{needs_threads, task_of};
 
 use crate::audit::{Audit, AuditGuard};
 use crate::fault_line::write_fault;
+use crate::images::{Head, pack, show_image};
 use crate::memory::Memory;
-use crate::reading::{INPUT_ROOM, Reading, read_all};
+use crate::reading::{Reading, read_all};
 use crate::reporting::{Part, write_part};
 use crate::status::HostStatus;
 use crate::words::{Task, Words};
 use app_run::Finished;
 use app_script::Script;
 use bus_words::ReceiptList;
-use fsw_base::{FaultKind, Gate, ScriptFault, Sink, SinkGuard, Source, SourceGuard, WriteFault};
+use fsw_base::{
+    FaultKind, Gate, MAX_SCRIPT_BYTES, ScriptFault, Sink, SinkGuard, Source, SourceGuard,
+    WriteFault,
+};
 use sb_calls::BusCore;
 use script_printing::print_script;
 use std::alloc::Global;
@@ -33,6 +37,9 @@ const TOO_LARGE: ScriptFault = ScriptFault {
     line: 0,
     kind: FaultKind::TooLarge,
 };
+
+// Which words the program knows: each of their forms, as `Words::task` reads them.
+const USAGE: &[u8] = b"usage: run | lockstep | gen N | soak N | image | pack NAME OFFSET SUB\n";
 
 // By what applications run on threads: the runtime, and the gate round their lines.
 #[derive(Drop)]
@@ -48,7 +55,10 @@ struct ByThreads<'a, R, G> {
 /// threads and without the gate. On `gen N` it reads nothing, and writes the generated script of
 /// number N. On `soak N` it reads nothing, runs that script as `lockstep` would, shows both to the
 /// audit, and writes the end of the report, from its line `counters` on. N is in decimal, with no
-/// needless 0 before it, at most 4294967295.
+/// needless 0 before it, at most 4294967295. On `image` it reads a table image to its end, and
+/// writes `name=NAME offset=N size=N sum=N sub=N`. On `pack NAME OFFSET SUB` it reads a table's
+/// bytes, and writes the image of them with this name, of 1 to 39 visible ASCII characters, and
+/// with these numbers, which are spelled like N.
 ///
 /// - `Usage`, on all other words: nothing is read, and the usage line is written.
 /// - `Script`, where the input is no script, or is longer than 1,048,576 bytes; at most one byte
@@ -60,6 +70,9 @@ struct ByThreads<'a, R, G> {
 ///   of the text due is written.
 /// - `NoMemory`, never on other words, and only after a request for memory was refused: nothing is
 ///   written; by the code, no application ran.
+///
+/// - `Image`, on `image` where the input is no table image, and on `pack` where it has no byte; on
+///   both where it has more than 1,048,576 bytes of a table. The line of the fault is written.
 ///
 /// On every word but `run` it returns: nothing that it does then waits. On `gen N` and `soak N` no
 /// answer but `Done`, `WriteFault` and `NoMemory` comes.
@@ -189,6 +202,15 @@ fn serve_alone<S: Source, K: Sink, A: Audit>(
         Some(Task::Lockstep) => rotate(memory, source, sink, audit),
         Some(Task::Generate(number)) => write_generated(&mut memory, number, sink),
         Some(Task::Soak(number)) => soak(memory, number, sink, audit),
+        Some(Task::ShowImage) => show_image(&mut memory, source, sink),
+        Some(Task::Pack { name, offset, sub }) => {
+            let head = Head {
+                name: name.as_slice(),
+                offset,
+                sub,
+            };
+            pack(&mut memory, &head, source, sink)
+        }
         None => tell_usage(sink),
         Some(Task::Run) => unreachable!(),
     }
@@ -238,10 +260,10 @@ fn read_input<S: Source, K: Sink>(
     ensures same_source { source.new.source ≡ source.old.source }
     ensures same_sink { sink.new.sink ≡ sink.old.sink }
 {
-    let Some(room) = memory.room(INPUT_ROOM) else {
+    let Some(room) = memory.room(MAX_SCRIPT_BYTES + 1) else {
         return Err(HostStatus::NoMemory(memory.refusal()));
     };
-    match read_all(room, source) {
+    match read_all(room, MAX_SCRIPT_BYTES, source) {
         Reading::Whole(text) => script_of(memory, &text, sink),
         Reading::TooLarge => Err(refuse(sink, TOO_LARGE)),
         Reading::Fault => Err(HostStatus::ReadFault),
@@ -432,7 +454,7 @@ fn tell_usage<K: Sink>(sink: &mut SinkGuard<'_, K>) -> HostStatus
     ensures no_read_fault { is_read_fault result ≡ false }
     ensures same_sink { sink.new.sink ≡ sink.old.sink }
 {
-    match write_text(sink, b"usage: run | lockstep | gen N | soak N\n") {
+    match write_text(sink, USAGE) {
         Ok(()) => HostStatus::Usage,
         Err(WriteFault) => HostStatus::WriteFault,
     }

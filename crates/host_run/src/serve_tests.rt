@@ -218,7 +218,7 @@ fn scripts_print_their_reports(rt: HostRuntime) -> Result<(), Fail> {
 
 #[test]
 fn other_words_are_told_the_usage(rt: HostRuntime) -> Result<(), Fail> {
-    let cases: [&[&str]; 11] = [
+    let cases: [&[&str]; 20] = [
         &[],
         &["walk"],
         &["lockstep", "x"],
@@ -230,6 +230,15 @@ fn other_words_are_told_the_usage(rt: HostRuntime) -> Result<(), Fail> {
         &["soak", "4294967296"],
         &["soak", "99999999999999999999"],
         &["gen", "1", "2"],
+        &["image", "A.T"],
+        &["pack"],
+        &["pack", "A.T", "0"],
+        &["pack", "A.T", "0", "8", "8"],
+        &["pack", "A.T", "00", "8"],
+        &["pack", "A.T", "0", "4294967296"],
+        &["pack", "A T", "0", "8"],
+        &["pack", "", "0", "8"],
+        &["pack", "NNNNNNNNNNNNNNNNNNNNNNNNNNNNNNNNNNNNNNNN", "0", "8"],
     ];
     for case in &cases {
         let mut source = MemSource::new(SCRIPT, 1000, &[]);
@@ -238,7 +247,7 @@ fn other_words_are_told_the_usage(rt: HostRuntime) -> Result<(), Fail> {
         assert_eq!(rt; status.exit_status(), 2);
         assert_eq!(rt;
             sink.written(),
-            b"usage: run | lockstep | gen N | soak N\n".as_slice()
+            b"usage: run | lockstep | gen N | soak N | image | pack NAME OFFSET SUB\n".as_slice()
         );
     }
     Ok(())

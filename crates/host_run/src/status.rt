@@ -4,6 +4,7 @@ ghost use Rattle.host_run.specs.Status.{exit_status};
 
 use crate::memory::MemoryRefusal;
 use fsw_base::ScriptFault;
+use tbl_file::ImageFault;
 
 /// The number with which the program ends where there was no memory.
 pub const NO_MEMORY: u8 = 6;
@@ -23,6 +24,8 @@ pub enum HostStatus {
     WriteFault,
     /// There was no memory; nothing was written, and, by the code, no application ran.
     NoMemory(MemoryRefusal),
+    /// The input is no table image, or no table that one can have; the fault was written.
+    Image(ImageFault),
 }
 
 impl HostStatus {
@@ -37,6 +40,7 @@ impl HostStatus {
             HostStatus::ReadFault => 4,
             HostStatus::WriteFault => 5,
             HostStatus::NoMemory(_) => NO_MEMORY,
+            HostStatus::Image(_) => 8,
         }
     }
 }

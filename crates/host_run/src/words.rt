@@ -1,10 +1,11 @@
 //! The words of the command line, as far as any form of them needs, and what they ask for.
 ghost use Rattle.std.specs.Prelude.{◌≡◌, ℕ, ◌≤◌, List, [], length, take};
-ghost use Rattle.host_run.specs.Words.{with_word, decimal_number, task_alone, task_with, task_of, needs_threads};
+ghost use Rattle.host_run.specs.Words.{with_word, decimal_number, task_alone, task_with, task_of_four, task_of, needs_threads};
 
 use arrayvec::ArrayVec;
 use script_words::numbers::number;
 use std::marker::Model;
+use tbl_file::is_table_name;
 
 // How many words are kept at most: no form of the words has a fifth.
 const MAX_WORDS: usize = 5;
@@ -13,7 +14,7 @@ const MAX_WORDS: usize = 5;
 const MAX_WORD_BYTES: usize = 64;
 
 /// What the words of a command line ask for.
-#[derive(Clone, Copy, Debug, PartialEq, Eq)]
+#[derive(Drop)]
 pub enum Task {
     /// `run`: to run the script that is read, each application on a thread of its own, and to write
     /// the report.
@@ -24,11 +25,23 @@ pub enum Task {
     Generate(u32),
     /// `soak N`: to run the generated script of this number, and to write the end of its report.
     Soak(u32),
+    /// `image`: to write what the table image is that is read.
+    ShowImage,
+    /// `pack NAME OFFSET SUB`: to write the table image of the bytes that are read.
+    Pack {
+        /// The table's name, 1 to 39 visible ASCII characters.
+        name: Word,
+        /// Where in the table the bytes are loaded, in bytes.
+        offset: u32,
+        /// What the file is of, 8 for a table in cFE.
+        sub: u32,
+    },
 }
 
-// The first bytes of a word.
+/// The first bytes of a word.
 #[derive(Drop)]
-struct Word {
+pub struct Word {
+    // At most 64 of them.
     bytes: ArrayVec<u8, MAX_WORD_BYTES>,
 }
 
@@ -41,6 +54,8 @@ impl Default for Word {
 }
 
 impl Model for Word {
+    ghost use Rattle.std.specs.Prelude.{ℕ, List};
+
     ghost Value = { List ℕ };
 
     ghost view = { λ w. w.bytes.items };
@@ -67,6 +82,13 @@ impl Word {
         let mut kept = ArrayVec::new();
         let _ = kept.try_extend_from_slice(front(bytes));
         Word { bytes: kept }
+    }
+
+    /// Its bytes.
+    pub fn as_slice(&self) -> &[u8]
+        ensures { result.now ≡ self.now }
+    {
+        self.bytes.as_slice()
     }
 }
 
@@ -102,8 +124,14 @@ impl Words {
         ensures { result ≡ task_of self.now }
     {
         match self.words.as_slice() {
-            [word] => task_alone(word.bytes.as_slice()),
-            [word, number] => task_with(word.bytes.as_slice(), number.bytes.as_slice()),
+            [word] => task_alone(word.as_slice()),
+            [word, number] => task_with(word.as_slice(), number.as_slice()),
+            [word, name, offset, sub] => task_of_four(
+                word.as_slice(),
+                name.as_slice(),
+                offset.as_slice(),
+                sub.as_slice(),
+            ),
             _ => None,
         }
     }
@@ -117,6 +145,8 @@ fn task_alone(word: &[u8]) -> Option<Task>
         Some(Task::Run)
     } else if word == b"lockstep".as_slice() {
         Some(Task::Lockstep)
+    } else if word == b"image".as_slice() {
+        Some(Task::ShowImage)
     } else {
         None
     }
@@ -134,6 +164,22 @@ fn task_with(word: &[u8], number: &[u8]) -> Option<Task>
     } else {
         None
     }
+}
+
+// What a word asks for with three behind it.
+fn task_of_four(word: &[u8], name: &[u8], offset: &[u8], sub: &[u8]) -> Option<Task>
+    ensures { result ≡ task_of_four word.now name.now offset.now sub.now }
+{
+    if word != b"pack".as_slice() || !is_table_name(name) {
+        return None;
+    }
+    let offset = decimal_number(offset)?;
+    let sub = decimal_number(sub)?;
+    Some(Task::Pack {
+        name: Word::front_of(name),
+        offset,
+        sub,
+    })
 }
 
 // The number that a word spells in decimal, with no needless 0 before it.

@@ -1,5 +1,5 @@
-pub mod Borrowed
-pub mod Crossing
+pub mod Borrows
 pub mod Fields
 pub mod Steps
+pub mod Threads
 pub mod Tokens

@@ -10,7 +10,7 @@ use Rattle.pipe_queue.specs.declared.item.Item.{Item}
 use Rattle.bus_words.specs.Pipes.{PipeOf, with_pipe, without_pipe, offered_over}
 use Rattle.pipe_table.specs.Table.{without_place}
 use Rattle.pipe_table.specs.Inside.{PlaceState, pipe_in, pipe_of, number_of, place_under, live_in, table_of, AreFiled, IsFree, AreKept}
-use Rattle.pipe_table.proofs.Filing.{StandsAt, nowhere, is_same, pipe_here, ordered, under_index, stands_under, as_many, changed, filed_changed, live_apart, filed_apart, free_apart, removed, filed_removed, removed_apart, pipe_elsewhere, pipe_there, IsApart, pairs_push, pairs_without, pairs_removed}
+use Rattle.pipe_table.proofs.NumberedPipes.{StandsAt, nowhere, is_same, pipe_here, ordered, under_index, stands_under, as_many, changed, filed_changed, live_apart, filed_apart, free_apart, removed, filed_removed, removed_apart, pipe_elsewhere, pipe_there, IsApart, pairs_push, pairs_without, pairs_removed}
 
 -- Where no pipe has the number. --
 

@@ -1,4 +1,4 @@
 mod Changes
-mod Filing
+mod NumberedPipes
 mod Order
 mod Searches

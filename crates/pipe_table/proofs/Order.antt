@@ -3,7 +3,7 @@ use Rattle.std.proofs.Common.{ℕ, List, [], ◌∷◌, ◌++◌, sym, subst, ar
 use Rattle.std.specs.Option.{option_to_list}
 use Rattle.bus_words.specs.Pipes.{IsRising}
 use Rattle.pipe_table.specs.Inside.{PlaceState, live_in, AreFiled}
-use Rattle.pipe_table.proofs.Filing.{stands_here}
+use Rattle.pipe_table.proofs.NumberedPipes.{stands_here}
 
 pub in_order : (below : ℕ) (places : List PlaceState) (numbers at : List ℕ) → AreFiled below places numbers at → IsRising below (live_in places at)
 in_order below places [] [] filed = tt

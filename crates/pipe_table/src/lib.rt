@@ -22,7 +22,7 @@
 //! # Proved
 //!
 //! - `create` puts a pipe last, numbered one more than were created; `remove` takes out that one;
-//!   `set_bits`, `take`, `take_front`, `take_last` and `offer` change that one. The readers answer
+//!   `set_bits`, the `take` calls and `offer` change that one. The readers answer
 //!   the pipe of a number, and none if it isn't live.
 //! - `offer` answers the bus's own verdict (`verdict_over` of `bus_words`), the first that applies:
 //!   Skip if the pipe ignores its owner's messages and the owner sent, OverLimit if the caller says
@@ -30,7 +30,8 @@
 //!   has option bit 0x02, otherwise Full. At In and Oldest the message waits last; at Oldest the
 //!   one that waited longest leaves and is answered.
 //! - `take` makes the oldest the last received, and answers that one and the one before;
-//!   `take_front` and `take_last` take the oldest or the last out.
+//!   `take_if_owned` does so for the pipe's owner alone; `take_front` and `take_last` take the
+//!   oldest or the last out.
 //!
 //! By reading: `offer` looks once at one place; a look-up by number looks first at the place of the
 //! number less 1, then by halves; only `new` takes memory.

@@ -127,6 +127,17 @@ impl Place {
         }
     }
 
+    /// Whether the pipe, which there is, has this owner.
+    pub(crate) fn has_owner(&self, app: AppNo) -> bool
+        requires { IsSome self.now.pipe }
+        ensures { result ≡ option_map_or (λ pipe. pipe.owner == app) self.now.pipe false }
+    {
+        match &self.label {
+            Some(label) => label.owner == app,
+            None => unreachable!(),
+        }
+    }
+
     /// The pipe's option bits.
     pub(crate) fn bits(&self) -> Option<u8>
         ensures { result ≡ option_map (λ pipe. pipe.bits) self.now.pipe }
@@ -259,22 +270,24 @@ impl Place {
 
     // Whether the pipe drops its oldest message where it is full.
     fn drops_oldest(&self) -> bool
+        requires { IsSome self.now.pipe }
         ensures { result ≡ option_map_or drops_oldest self.now.pipe false }
     {
         match &self.label {
             Some(label) => label.bits / 2 % 2 == 1,
-            None => false,
+            None => unreachable!(),
         }
     }
 
     // Whether the pipe ignores what the application sends.
     fn ignores(&self, sender: AppNo) -> bool
+        requires { IsSome self.now.pipe }
         ensures { result ≡
             option_map_or (λ pipe. ignores_sender pipe sender) self.now.pipe false }
     {
         match &self.label {
             Some(label) => label.bits % 2 == 1 && label.owner == sender,
-            None => false,
+            None => unreachable!(),
         }
     }
 }

@@ -1,5 +1,5 @@
 //! The table.
-ghost use Rattle.std.specs.Prelude.{◌≡◌, ℕ, ◌==◌, ◌+◌, ◌<◌, ◌≤◌, ◌^◌, ◌↔◌, ◌++◌, ◌∷◌, [], length, map, replicate, true, false, All, IfOk, IsErr, IsSome, IfSome, IsTrue, slice_index, slice_index_or, None, Some, vec_len, vec_capacity};
+ghost use Rattle.std.specs.Prelude.{◌≡◌, ℕ, ◌==◌, ◌+◌, ◌<◌, ◌≤◌, ◌^◌, ◌↔◌, ◌++◌, ◌∷◌, [], length, map, replicate, true, false, All, IfOk, IsErr, IsSome, IfSome, is_some, IsTrue, slice_index, slice_index_or, None, Some, vec_len, vec_capacity};
 ghost use Rattle.std.specs.List.{list_any, range_with_len};
 ghost use Rattle.std.specs.Option.{option_map, option_map_or, option_and_then, option_to_list};
 ghost use Rattle.bus_words.specs.Pipes.{pipe_at, is_live, owns, pipe_named, first_owned, oldest_on, last_on, IsRising, with_pipe, without_pipe, new_pipe, with_bits, after_receive, without_front, without_last, verdict_over, dropped_at, offered_over};
@@ -250,6 +250,23 @@ impl PipeTable {
         }
     }
 
+    /// Does the same where the live pipe of this number is the application's; None if and only if
+    /// it has no such pipe, and then nothing changes. By the code, the number is looked up once.
+    pub fn take_if_owned(&mut self, app: AppNo, number: u32) -> Option<(Option<Item>, Option<Item>)>
+        ensures owned { is_some result ≡ owns self.old.live app number }
+        ensures last { IfSome result (λ items. items.0 ≡ last_on self.old.live number) }
+        ensures oldest { IfSome result (λ items. items.1 ≡ oldest_on self.old.live number) }
+        ensures after { IfSome result (λ items. self.new ≡
+            record self.old { live = with_pipe after_receive number self.old.live }) }
+        ensures same { result ≡ None → self.new ≡ self.old }
+    {
+        let at = at_number(&self.live, &self.at, number)?;
+        if !self.places[at as usize].has_owner(app) {
+            return None;
+        }
+        Some(self.places[at as usize].take())
+    }
+
     /// Takes what waits longest out of the live pipe of this number.
     pub fn take_front(&mut self, number: u32) -> Option<Item>
         ensures oldest { result ≡ oldest_on self.old.live number }
@@ -297,7 +314,8 @@ impl PipeTable {
 }
 
 // Where a number stands among those of the live pipes. It is looked for at the place where it
-// stands while no pipe was deleted, and by halves where it isn't there.
+// stands while no pipe was deleted, and by halves where it isn't there. For 0, which no pipe has,
+// that place is past the end.
 fn index_of(live: &Vec<u32>, number: u32) -> Option<usize>
     requires { AreRising 0 live.now.items }
     ensures some { IfSome result
@@ -305,7 +323,7 @@ fn index_of(live: &Vec<u32>, number: u32) -> Option<usize>
     ensures none { result ≡ None → (k : ℕ) → k < length live.now.items →
         slice_index live.now.items k ≡ number → ⊥ }
 {
-    let likely = (number as usize).saturating_sub(1);
+    let likely = (number as usize).wrapping_sub(1);
     if likely < live.len() && live[likely] == number {
         return Some(likely);
     }

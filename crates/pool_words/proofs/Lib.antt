@@ -1,4 +1,4 @@
 pub mod Accounts
-pub mod Following
-pub mod Numbered
+pub mod GrantNumbers
+pub mod PoolCalls
 pub mod Tests

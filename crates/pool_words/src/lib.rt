@@ -2,7 +2,7 @@
 //! Executive Services, memory pools). The bus's definitions and the pools themselves cite them.
 //!
 //! A pool is its bytes, the blocks made, its counts and the grants that are out; nothing is kept of
-//! a grant that came back. It promises that its account moves with them as accounts do.
+//! a grant that came back. Each call changes the pool's account as `fsw_base` defines it.
 //!
 //! ```text
 //! let pool = new_pool sizes bytes in

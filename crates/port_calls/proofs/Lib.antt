@@ -1,3 +1,3 @@
-pub mod Answered
 pub mod Buffers
-mod Formed
+pub mod PortAnswers
+mod BufferMessages

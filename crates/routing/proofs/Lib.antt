@@ -1,7 +1,7 @@
 pub mod Links
-pub mod Made
+pub mod ListViews
+pub mod NewLists
 pub mod Nodes
 pub mod Numbers
 pub mod Room
-pub mod Seen
 pub mod Walk

@@ -13,7 +13,7 @@ use Rattle.bus_words.specs.Bus.{State, opening}
 use Rattle.bus_words.specs.Machine.{LegalFrom, state_after, state_from, step}
 use Rattle.text_page.specs.Texts.{numbered}
 use Rattle.run_report.specs.BusText.{answer_text, call_text, entry_text}
-use Rattle.run_report.proofs.Splitting.{split_once}
+use Rattle.run_report.proofs.Splits.{split_once}
 use Rattle.run_report.proofs.Words.{line_parts, word}
 use Rattle.app_script.specs.Script.{ScriptText, app_at}
 use Rattle.script_runs.specs.Trace.{first_registers, own_entries}

@@ -4,10 +4,10 @@ mod Entries
 mod TableEntries
 mod Reports
 mod Fronts
-mod Wrong
-mod Begun
+mod WrongLines
+mod Beginnings
 mod Texts
-mod Behind
-mod Judged
+mod NextLines
+mod Judgements
 mod Progress
 mod TableProgress

@@ -18,7 +18,7 @@ use Rattle.script_runs.specs.Trace.{AfterAnswer, IsEnd, LineEntries, Registers, 
 use Rattle.script_runs.specs.Written.{Written, first_written, written_after, written_by}
 use Rattle.run_check.specs.Begun.{AreAllOf}
 use Rattle.run_check.specs.Progress.{ApplicationsGoOn, IsAnswered, IsAt, NextCallsAreKnown, NextCallsMayCome, behind_line, first_call, next_call, standing_then}
-use Rattle.run_check.proofs.Begun.{trace_some}
+use Rattle.run_check.proofs.Beginnings.{trace_some}
 use Rattle.run_check.proofs.Entries.{app_range, own_at}
 
 -- Which call comes next. --

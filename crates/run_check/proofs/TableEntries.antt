@@ -13,7 +13,7 @@ use Rattle.tbl_words.specs.Tables.{State, opening}
 use Rattle.tbl_words.specs.Machine.{LegalFrom, state_after, state_from, step}
 use Rattle.text_page.specs.Texts.{numbered}
 use Rattle.run_report.specs.TableText.{table_answer_text, table_call_text, table_entry_text}
-use Rattle.run_report.proofs.Splitting.{split_once}
+use Rattle.run_report.proofs.Splits.{split_once}
 use Rattle.run_report.proofs.Words.{line_parts, word}
 use Rattle.app_script.specs.Script.{ScriptText, app_at}
 use Rattle.script_runs.specs.TableTrace.{first_handles, own_table_entries}

@@ -16,7 +16,7 @@ use Rattle.script_runs.specs.Rotation.{Running, behind_table}
 use Rattle.script_runs.specs.TableTrace.{IsTableEnd, TableLineEntries, TableTrace, handles_after, own_table_entries, table_call_of}
 use Rattle.run_check.specs.Begun.{AreAllTablesOf}
 use Rattle.run_check.specs.TableProgress.{ApplicationsGoOnAtTables, IsAtTables, IsTableAnswered, NextTableCallsAreKnown, NextTableCallsMayCome, first_table_call, next_table_call}
-use Rattle.run_check.proofs.Begun.{table_trace_some}
+use Rattle.run_check.proofs.Beginnings.{table_trace_some}
 use Rattle.run_check.proofs.TableEntries.{own_at, table_app_range}
 
 -- what a line owes, with what comes behind it

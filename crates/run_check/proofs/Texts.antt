@@ -4,7 +4,7 @@ use Rattle.std.proofs.lemmas.Bool.{leb-true}
 use Rattle.std.proofs.lemmas.Fmt.{decimal_injective}
 use Rattle.std.proofs.lemmas.List.{append_cancel_left}
 use Rattle.text_page.specs.Texts.{numbered}
-use Rattle.run_report.proofs.Splitting.{above, above-append, and_first, and_second, decimal_above, split_once}
+use Rattle.run_report.proofs.Splits.{above, above-append, and_first, and_second, decimal_above, split_once}
 use Rattle.run_report.proofs.Words.{word}
 use Rattle.run_check.specs.Fronts.{EndsLine}
 use Rattle.run_check.specs.Judged.{Begins, entry_head}

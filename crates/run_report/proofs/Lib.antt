@@ -1,8 +1,8 @@
 pub mod Accounts
-pub mod Legal
-pub mod Splitting
-pub mod TableLegal
-pub mod TableTelling
-pub mod Telling
+pub mod LegalAnswers
+pub mod LegalTableAnswers
+pub mod ReportLines
+pub mod Splits
+pub mod TableLines
 pub mod Versions
 pub mod Words

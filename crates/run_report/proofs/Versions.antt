@@ -3,7 +3,7 @@ use Rattle.std.proofs.Common.{◌≡◌, ℕ, List, [], ◌∷◌, ◌++◌, con
 use Rattle.std.proofs.lemmas.Bool.{eq-eqb, ne_eqb}
 use Rattle.housekeeping.specs.Counters.{Counts}
 use Rattle.run_report.specs.CounterText.{field_text, oldest_text}
-use Rattle.run_report.proofs.Splitting.{split_once, decimal_above}
+use Rattle.run_report.proofs.Splits.{split_once, decimal_above}
 
 -- the counter of version 2 is told of it, and of no other
 pub oldest_told : (version : ℕ) (counts : Counts) → version ≡ 2 → oldest_text version counts ≡ field_text (codes "oldest") counts.oldest

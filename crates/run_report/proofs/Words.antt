@@ -4,7 +4,7 @@ use Rattle.std.specs.List.{list_all}
 use Rattle.std.proofs.lemmas.Bool.{leb-true}
 use Rattle.text_page.specs.Texts.{name_text}
 use Rattle.run_report.specs.ReadBack.{is_visible}
-use Rattle.run_report.proofs.Splitting.{above, above-from_within, split_once, split_thrice, decimal_above}
+use Rattle.run_report.proofs.Splits.{above, above-from_within, split_once, split_thrice, decimal_above}
 
 pub short : (n : ℕ) → nat_lt n (2 ^ 32) ≡ true → n < 2 ^ 64
 short n holds = let below : n < 2 ^ 32 = leb-true (suc n) (2 ^ 32) holds in omega arith

@@ -16,7 +16,7 @@ use Rattle.sb_calls.specs.Core.{Core, state_of}
 use Rattle.sb_calls.specs.Inside.{core_of, Stands}
 use Rattle.sb_calls.specs.Notes.{noted, noted_desc}
 use Rattle.sb_calls.proofs.Holds.{holds-alike, last-live, loan_of-told, buffers-alike, desc_of-told}
-use Rattle.sb_calls.proofs.Over.{bus_is}
+use Rattle.sb_calls.proofs.EntryLemma.{bus_is}
 
 -- the loan that was noted of a pipe is that of its last message
 pub loan_is : (a : Inside) → Stands a → (pipe : ℕ) → is_some (last_on a.core.whole.bus.pipes pipe) ≡ true → loan_of (loans_of (core_of a)) pipe ≡ loan_of a.core.loans pipe

@@ -11,7 +11,7 @@ use Rattle.sb_calls.specs.Bags.{loans_of, descs_of}
 use Rattle.sb_calls.specs.Core.{state_of}
 use Rattle.sb_calls.specs.Inside.{core_of, Stands}
 use Rattle.sb_calls.proofs.CoreBags.{loan_is, desc_is}
-use Rattle.sb_calls.proofs.Over.{bus_is}
+use Rattle.sb_calls.proofs.EntryLemma.{bus_is}
 
 pub blocks_over : (a : Inside) (b : Buffers) → Stands a → AreBlocks b a.core.whole.bus.pipes a.core.loans a.core.whole.bus.unsent a.core.descs →
     AreBlocks b (state_of (core_of a)).pipes (loans_of (core_of a)) (state_of (core_of a)).unsent (descs_of (core_of a))

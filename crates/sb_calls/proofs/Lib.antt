@@ -1,17 +1,17 @@
-pub mod Allowed
-pub mod Alone
+pub mod Budgets
+pub mod BufferEffects
+pub mod CallEffects
 pub mod CoreBags
 pub mod CoreBlocks
+pub mod EntryLemma
 pub mod Fares
 pub mod Grants
 pub mod Holds
 pub mod Looks
-pub mod Made
-pub mod MadeBuffers
+pub mod NoteRoom
 pub mod Notes
-pub mod Opened
 mod OpeningBags
 pub mod OthersBags
-pub mod Over
-pub mod Pushed
+pub mod PermitTests
+pub mod PipeMessages
 pub mod UnsentBuffers

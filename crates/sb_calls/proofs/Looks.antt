@@ -11,7 +11,7 @@ use Rattle.sb_plain.specs.Core.{Plain, Acts}
 use Rattle.sb_calls.specs.declared.bus_core.BusCore.TheInside.{Inside}
 use Rattle.sb_calls.specs.Core.{Core, Does, Looks, state_of}
 use Rattle.sb_calls.specs.Inside.{core_of, Stands}
-use Rattle.sb_calls.proofs.Over.{bus_is, step_is}
+use Rattle.sb_calls.proofs.EntryLemma.{bus_is, step_is}
 
 pub pending_is : (answer : Pended) → is_pending answer ≡ true → answer ≡ waits.Pending
 pending_is (waits.Got n) is = absurd (cc (is))

@@ -19,7 +19,7 @@ use Rattle.bus_words.proofs.KeptPipes.{IsKept, single-rising, owns-one}
 use Rattle.bus_words.proofs.Lasts.{gets-owns, count-step}
 use Rattle.bus_words.proofs.LegalSteps.{AreWaiters, AreWaiters-after, kept-step, legal-last, legal-front}
 use Rattle.bus_words.proofs.Replay.{state_from-push}
-use Rattle.bus_words.proofs.Unsent.{AreUnsent-after}
+use Rattle.bus_words.proofs.UnsentBuffers.{AreUnsent-after}
 use Rattle.bus_words.proofs.UnsentSteps.{unsent-other}
 use Rattle.bus_store.specs.Bag.{HoldsViews, HoldsBuffers}
 use Rattle.bus_store.specs.Store.{LastLoan, BufferDesc}

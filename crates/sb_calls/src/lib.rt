@@ -85,20 +85,22 @@
 #![tactic(auto)]
 
 mod answers;
-mod buffer_calls;
+mod buffers;
 mod bus_core;
-mod calls;
-mod counter_calls;
-mod event_calls;
+mod counters;
+mod events;
 mod laws;
+mod leaving;
 mod noted;
 mod opening;
-mod pending;
 mod permits;
-mod pipe_calls;
-mod pool_calls;
+mod pipes;
+mod pools;
+mod receiving;
 mod results;
+mod sending;
 mod short;
+mod subscribing;
 
 pub use bus_core::BusCore;
 pub use laws::{bags_stay, version_1_drops_nothing};

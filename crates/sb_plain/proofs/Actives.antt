@@ -13,7 +13,7 @@ use Rattle.sb_plain.specs.declared.activities.Activity.TheVariants as activities
 use Rattle.sb_plain.specs.Core.{Plain, MayAct, is_within}
 use Rattle.sb_plain.specs.Inside.{plain_of, means}
 use Rattle.sb_plain.specs.Rows.{standing_in, activity_at}
-use Rattle.sb_plain.proofs.Ready.{standing_at}
+use Rattle.sb_plain.proofs.WaitingApplications.{standing_at}
 
 -- a call that only an active application may make
 abbrev pub IsOfActive : Call → Type 0

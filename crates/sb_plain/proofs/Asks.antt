@@ -13,7 +13,7 @@ use Rattle.bus_words.specs.Machine.{by_bus, cause, refused_if}
 use Rattle.bus_words.specs.Refusals.{OfBus}
 use Rattle.sb_plain.specs.declared.plain.PlainBus.TheInside.{Inside}
 use Rattle.sb_plain.specs.Inside.{means}
-use Rattle.sb_plain.proofs.After.{bare, bare_by}
+use Rattle.sb_plain.proofs.CallLaws.{bare, bare_by}
 
 -- A search tells what a test tells. --
 

@@ -11,7 +11,7 @@ use Rattle.sb_plain.specs.declared.activities.Activity.{Activity}
 use Rattle.sb_plain.specs.declared.activities.Activity.TheVariants as activities
 use Rattle.sb_plain.specs.Inside.{AreInOrder, AreReady}
 use Rattle.sb_plain.specs.Rows.{activity_at}
-use Rattle.sb_plain.proofs.Ready.{ready_all, ready_others, ready_pushed, ready_set_bits, ready_received, ready_without}
+use Rattle.sb_plain.proofs.WaitingApplications.{ready_all, ready_others, ready_pushed, ready_set_bits, ready_received, ready_without}
 
 module _ (a : Inside) (next : Store) (keeps : AreInOrder a) where
   -- a pipe more

@@ -22,9 +22,9 @@ use Rattle.sb_plain.specs.declared.activities.Activity.{Activity}
 use Rattle.sb_plain.specs.declared.activities.Activity.TheVariants as activities
 use Rattle.sb_plain.specs.Inside.{means, AreInOrder, AreReady}
 use Rattle.sb_plain.specs.Rows.{standing_in}
-use Rattle.sb_plain.proofs.After.{bare}
+use Rattle.sb_plain.proofs.CallLaws.{bare}
 use Rattle.sb_plain.proofs.Bags.{HasViews, SameBuffers}
-use Rattle.sb_plain.proofs.Ready.{ready_set, ready_left}
+use Rattle.sb_plain.proofs.WaitingApplications.{ready_set, ready_left}
 use Rattle.sb_plain.proofs.Releases.{OutAlone}
 
 -- the store without the application's pipes, their subscriptions, and its buffers

@@ -13,11 +13,11 @@ use Rattle.bus_words.specs.Held.{in_use}
 use Rattle.bus_words.specs.Counters.{stats_in}
 use Rattle.bus_words.specs.Machine.{packet_in}
 use Rattle.bus_words.specs.Acts.{act}
-use Rattle.bus_words.proofs.Counted.{tells_as_sends}
+use Rattle.bus_words.proofs.Statistics.{tells_as_sends}
 use Rattle.sb_plain.specs.declared.plain.PlainBus.TheInside.{Inside}
 use Rattle.sb_plain.specs.Core.{Plain, Acts}
 use Rattle.sb_plain.specs.Inside.{plain_of, Keeps}
-use Rattle.sb_plain.proofs.After.{acts_still}
+use Rattle.sb_plain.proofs.CallLaws.{acts_still}
 
 module _ (a : Inside) (old : Plain) (viewed : plain_of a ≡ old) (now : InUse) (looked : now ≡ in_use old.limits old.whole.bus) where
   -- the figures, by the counters and what is in use

@@ -1,9 +1,7 @@
 -- What a receive that may wait leaves, and a look.
-use Rattle.std.proofs.Common.{◌≡◌, zero-add, ℕ, ◌+◌, ◌-◌, ◌<◌, ◌≤◌, Bool, true, false, ◌&&◌, not, cond, if◌then◌else◌, eqb, List, [], ◌∷◌, length, map, set, get_or, Some, None, count_by, refl, ap, sym, ◌∙◌, subst, arith, Vec, Global}
+use Rattle.std.proofs.Common.{add-one, zero, suc, ◌≡◌, ℕ, ◌+◌, ◌-◌, ◌<◌, ◌≤◌, Bool, true, false, ◌&&◌, not, cond, if◌then◌else◌, List, [], ◌∷◌, length, map, set, take, drop, Some, None, refl, ap, sym, ◌∙◌, subst, arith, Vec, Global}
 use Rattle.std.specs.List.{list_all}
-use Rattle.std.proofs.lemmas.Bool.Decides.{nat_tests}
 use Rattle.std.proofs.lemmas.List.{map-set, length-set}
-use Rattle.std.proofs.lemmas.List.Sums.{sum_by-set, sum_by-cons}
 use Rattle.std.proofs.lemmas.List.Folds.{list_all-map}
 use Rattle.fsw_base.specs.Limits.{limits_of}
 use Rattle.fsw_base.specs.declared.statuses.SbStatus.{SbStatus}
@@ -19,41 +17,35 @@ use Rattle.bus_store.specs.Store.{Store}
 use Rattle.bus_words.specs.Pipes.{IsRising}
 use Rattle.bus_store.specs.Words.{with_held}
 use Rattle.sb_plain.specs.declared.plain.PlainBus.TheInside.{Inside}
-use Rattle.sb_plain.specs.declared.pending.Pended.{Pended}
-use Rattle.sb_plain.specs.declared.pending.Pended.TheVariants as waits
+use Rattle.sb_plain.specs.declared.receiving.Pended.{Pended}
+use Rattle.sb_plain.specs.declared.receiving.Pended.TheVariants as waits
 use Rattle.sb_plain.specs.declared.activities.Activity.{Activity}
 use Rattle.sb_plain.specs.declared.activities.Activity.TheVariants as activities
 use Rattle.sb_plain.specs.Answers.{waited, is_pending}
 use Rattle.sb_plain.specs.Inside.{means, AreInOrder, IsReady, AreReady}
 use Rattle.sb_plain.specs.Rows.{standing_in, activity_at, idle_in}
-use Rattle.sb_plain.proofs.After.{bare, accepted_by}
+use Rattle.sb_plain.proofs.CallLaws.{bare, accepted_by}
 use Rattle.sb_plain.proofs.Changes.{received_keeps}
 use Rattle.sb_plain.proofs.Owners.{owns_changed, last_received}
-use Rattle.sb_plain.proofs.Ready.{ready_set, ready_others, ready_received}
+use Rattle.sb_plain.proofs.WaitingApplications.{ready_set, ready_others, ready_received}
 use Rattle.sb_plain.proofs.Waits.{oldest_told, empty-none, empty-some, oldest-some, none-told}
 
--- Counting the busy. --
+-- The others. --
 
--- all pass where none fails
-pub none_fails : {X : Type 0} (p : X → Bool) (xs : List X) → list_all p xs ≡ eqb (count_by (λ x. not (p x)) xs) 0
-none_fails p [] = refl
-none_fails {X} p (x ∷ xs) = at (p x) (none_fails p xs) ∙ ap (λ n. eqb n 0) (sym (sum_by-cons (λ (y : X). cond {A = ℕ} (not (p y)) 1 0) x xs))
+-- all but one pass where all before it pass and all behind it
+pub others_beside : {X : Type 0} (p : X → Bool) (xs : List X) (i : ℕ) (y : X) → i < length xs → p y ≡ true →
+    (list_all p (take i xs) && list_all p (drop (i + 1) xs)) ≡ list_all p (set xs i y)
+others_beside {X} p xs i y within passes = rw add-one (beside xs i within)
   where
-    at : (b : Bool) → list_all p xs ≡ eqb (count_by (λ y. not (p y)) xs) 0 → (b && list_all p xs) ≡ eqb (cond {A = ℕ} (not b) 1 0 + count_by (λ y. not (p y)) xs) 0
-    at true ih = ih ∙ ap (λ n. eqb n 0) (sym (zero-add (count_by (λ y. not (p y)) xs)))
-    at false ih = grind (arith, nat_tests)
+    by : (a b c : Bool) → ((a && b) && c) ≡ (a && (b && c))
+    by true b c = refl
+    by false b c = refl
 
--- all but one pass where no other fails
-pub others_pass : {X : Type 0} (p : X → Bool) (xs : List X) (i : ℕ) (y d : X) → i < length xs → p y ≡ true →
-    list_all p (set xs i y) ≡ eqb (count_by (λ x. not (p x)) xs) (cond {A = ℕ} (not (p (get_or xs i d))) 1 0)
-others_pass {X} p xs i y d within passes =
-    let f : X → ℕ = λ x. cond {A = ℕ} (not (p x)) 1 0 in
-    let moved = sum_by-set f xs i y d within in
-    let none : f y ≡ 0 = ap (λ b. cond {A = ℕ} (not b) 1 0) passes in
-    none_fails p (set xs i y) ∙ same (count_by (λ x. not (p x)) (set xs i y)) (count_by (λ x. not (p x)) xs) (f (get_or xs i d)) (omega (arith, moved, none))
-  where
-    same : (a b own : ℕ) → a + own ≡ b → eqb a 0 ≡ eqb b own
-    same a b own is = grind (arith, nat_tests)
+    beside : (xs : List X) (i : ℕ) → i < length xs → (list_all p (take i xs) && list_all p (drop (suc i) xs)) ≡ list_all p (set xs i y)
+    beside [] i within = absurd (omega (arith, within))
+    beside (x ∷ xs) zero within = sym (ap (λ b. b && list_all p xs) passes)
+    beside (x ∷ xs) (suc i) within =
+        by (p x) (list_all p (take i xs)) (list_all p (drop (suc i) xs)) ∙ ap (λ b. p x && b) (beside xs i (omega (arith, within)))
 
 -- Answers. --
 

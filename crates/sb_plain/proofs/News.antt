@@ -1,17 +1,16 @@
 -- News for applications that wait: without news each look is in vain, and with news a look is answered.
-use Rattle.std.proofs.Common.{◌≡◌, ◌≢◌, ℕ, zero, suc, ◌+◌, ◌-◌, ◌<◌, ◌||◌, ◌&&◌, not, Bool, true, false, true≢false, cond, eqb, ne_eqb, nat_eq, if◌then◌else◌, List, [], ◌∷◌, length, map, get_or, set, count_by, refl, ap, ap₂, sym, ◌∙◌, subst, arith}
+use Rattle.std.proofs.Common.{◌≡◌, ◌≢◌, ℕ, zero, suc, ◌+◌, ◌-◌, ◌<◌, ◌||◌, ◌&&◌, not, Bool, true, false, true≢false, cond, eqb, ne_eqb, if◌then◌else◌, List, [], ◌∷◌, length, map, get_or, set, refl, ap, ap₂, sym, ◌∙◌, arith}
 use Rattle.std.specs.List.{list_any, list_all}
-use Rattle.std.proofs.lemmas.List.Folds.{list_any_at, list_all-map, Any-from_list_any}
+use Rattle.std.proofs.lemmas.List.Folds.{list_any_at, list_all-map}
 use Rattle.bus_words.specs.declared.calls.BusAnswer.{BusAnswer}
 use Rattle.bus_words.specs.declared.calls.BusAnswer.TheVariants.{Got, TimeOut, Pending}
-use Rattle.bus_words.specs.Bus.{Pipe, State, Standing, Active, Waiting, Ended, is_empty, is_idle, others_idle, standing_of, waited_on}
+use Rattle.bus_words.specs.Bus.{State, Standing, Active, Waiting, Ended, is_empty, is_idle, others_idle, standing_of, waited_on}
 use Rattle.bus_words.specs.Machine.{oldest_number, pended_answer}
 use Rattle.sb_plain.specs.declared.activities.Activity.{Activity}
 use Rattle.sb_plain.specs.declared.plain.PlainBus.TheInside.{Inside}
 use Rattle.sb_plain.specs.Inside.{means}
 use Rattle.sb_plain.specs.News.{is_waiting, has_message, has_news}
 use Rattle.sb_plain.specs.Rows.{standing_in, idle_in}
-use Rattle.sb_plain.proofs.Looks.{none_fails, others_pass}
 
 -- Lists. --
 
@@ -36,10 +35,9 @@ either_false false b is = (refl, is)
 
 -- an element in the place of one that is as idle leaves whether all are
 all_as_before : {X : Type 0} (p : X → Bool) (xs : List X) (i : ℕ) (y d : X) → i < length xs → p y ≡ true → p (get_or xs i d) ≡ true → list_all p (set xs i y) ≡ list_all p xs
-all_as_before p xs i y d within passes passed =
-    others_pass p xs i y d within passes
-    ∙ ap (λ b. eqb (count_by (λ x. not (p x)) xs) (cond {A = ℕ} (not b) 1 0)) passed
-    ∙ sym (none_fails p xs)
+all_as_before p [] i y d within passes passed = absurd (omega (arith, within))
+all_as_before p (x ∷ xs) zero y d within passes passed = ap (λ b. b && list_all p xs) (passes ∙ sym passed)
+all_as_before p (x ∷ xs) (suc i) y d within passes passed = ap (λ b. p x && b) (all_as_before p xs i y d (omega (arith, within)) passes passed)
 
 -- what passes for all passes for each
 all_at : {X : Type 0} (p : X → Bool) (xs : List X) (i : ℕ) (d : X) → list_all p xs ≡ true → i < length xs → p (get_or xs i d) ≡ true
@@ -166,19 +164,19 @@ module _ (s : State) where
 -- as the core's fields say it
 news-acts : (a : Inside) →
     (list_any (λ (x : Activity). has_message a.store.pipes (standing_in x)) a.activities.items
-    || (list_any (λ (x : Activity). is_waiting (standing_in x)) a.activities.items && nat_eq (count_by (λ (x : Activity). not (idle_in a.store.pipes x)) a.activities.items) 0))
+    || (list_any (λ (x : Activity). is_waiting (standing_in x)) a.activities.items && list_all (idle_in a.store.pipes) a.activities.items))
     ≡ has_news (means a).bus
 news-acts a =
     let pipes = a.store.pipes in
     let acts = a.activities.items in
-    ap₂ (λ (x y : Bool). x || (y && nat_eq (count_by (λ (k : Activity). not (idle_in pipes k)) acts) 0)) (sym (list_any-map (has_message pipes) standing_in acts)) (sym (list_any-map is_waiting standing_in acts))
-    ∙ ap (λ (z : Bool). list_any (has_message pipes) (map standing_in acts) || (list_any is_waiting (map standing_in acts) && z)) (sym (none_fails (idle_in pipes) acts) ∙ sym (list_all-map (is_idle pipes) standing_in acts))
+    ap₂ (λ (x y : Bool). x || (y && list_all (idle_in pipes) acts)) (sym (list_any-map (has_message pipes) standing_in acts)) (sym (list_any-map is_waiting standing_in acts))
+    ∙ ap (λ (z : Bool). list_any (has_message pipes) (map standing_in acts) || (list_any is_waiting (map standing_in acts) && z)) (sym (list_all-map (is_idle pipes) standing_in acts))
 
 -- the same of a slice of the activities
 pub news-told : (a : Inside) (acts : List Activity) → acts ≡ a.activities.items →
     (list_any (λ (x : Activity). has_message a.store.pipes (standing_in x)) acts
-    || (list_any (λ (x : Activity). is_waiting (standing_in x)) acts && nat_eq (count_by (λ (x : Activity). not (idle_in a.store.pipes x)) acts) 0))
+    || (list_any (λ (x : Activity). is_waiting (standing_in x)) acts && list_all (idle_in a.store.pipes) acts))
     ≡ has_news (means a).bus
 news-told a acts same =
-    ap (λ (l : List Activity). list_any (λ (x : Activity). has_message a.store.pipes (standing_in x)) l || (list_any (λ (x : Activity). is_waiting (standing_in x)) l && nat_eq (count_by (λ (x : Activity). not (idle_in a.store.pipes x)) l) 0)) same
+    ap (λ (l : List Activity). list_any (λ (x : Activity). has_message a.store.pipes (standing_in x)) l || (list_any (λ (x : Activity). is_waiting (standing_in x)) l && list_all (idle_in a.store.pipes) l)) same
     ∙ news-acts a

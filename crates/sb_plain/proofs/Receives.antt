@@ -12,7 +12,7 @@ use Rattle.bus_store.specs.Store.{Store}
 use Rattle.bus_store.specs.Words.{with_held}
 use Rattle.sb_plain.specs.declared.plain.PlainBus.TheInside.{Inside}
 use Rattle.sb_plain.specs.Inside.{means}
-use Rattle.sb_plain.proofs.After.{bare, bare_by, accepted_by}
+use Rattle.sb_plain.proofs.CallLaws.{bare, bare_by, accepted_by}
 use Rattle.sb_plain.proofs.Peaks.{AreAsMany}
 use Rattle.sb_plain.proofs.Waits.{oldest_told, empty-none, empty-some, oldest-some}
 

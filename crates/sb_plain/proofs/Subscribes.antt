@@ -30,7 +30,7 @@ use Rattle.sb_plain.specs.Inside.{means, AreInOrder}
 use Rattle.bus_store.specs.Store.{Store}
 use Rattle.bus_store.specs.Words.{next_of, nexts_in}
 use Rattle.sb_plain.specs.Rows.{AreOnce}
-use Rattle.sb_plain.proofs.After.{bare, accepted_by}
+use Rattle.sb_plain.proofs.CallLaws.{bare, accepted_by}
 use Rattle.sb_plain.proofs.Refusals.{has_route-rows}
 
 -- Routes. --

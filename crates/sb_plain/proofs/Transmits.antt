@@ -16,12 +16,13 @@ use Rattle.bus_words.specs.declared.calls.BusAnswer.{BusAnswer}
 use Rattle.bus_words.specs.declared.calls.BusAnswer.TheVariants.{Sent}
 use Rattle.bus_words.specs.declared.history.Call.TheVariants.{Transmit}
 use Rattle.bus_words.specs.Bus.{State, Subscription, Sending, route, deliver, reached}
+use Rattle.bus_words.specs.Events.{miss_events}
 use Rattle.bus_words.specs.Held.{account_of, account_drawn}
 use Rattle.bus_words.specs.Machine.{transmit_cause, sent_along, refused_if}
 use Rattle.bus_words.specs.Acts.{Whole, NextCount, nexts_after, moved_on, completed}
-use Rattle.bus_tables.specs.declared.misses.Miss.{Miss}
+use Rattle.bus_words.specs.declared.miss.Miss.{Miss}
 use Rattle.bus_tables.specs.Rows.{RouteRow, ids_of, has_way, counted_on}
-use Rattle.bus_records.specs.Records.{Recordings, told_all, miss_events}
+use Rattle.bus_records.specs.Records.{Recordings, told_all}
 use Rattle.bus_words.proofs.Bounds.{length-deliver}
 use Rattle.bus_store.specs.Store.{Store}
 use Rattle.bus_store.specs.Words.{next_of, nexts_in, sending_of, missed, counted_up, with_held}
@@ -30,8 +31,8 @@ use Rattle.sb_plain.specs.Inside.{means, AreInOrder}
 use Rattle.sb_plain.specs.Rows.{AreOnce}
 use Rattle.sb_plain.proofs.Peaks.{AreAsMany, as_many_routes}
 use Rattle.sb_plain.proofs.Accounts.{IsHeld, account_is}
-use Rattle.sb_plain.proofs.After.{bare, accepted_by}
-use Rattle.sb_plain.proofs.Ready.{ready_all, ready_sent}
+use Rattle.sb_plain.proofs.CallLaws.{bare, accepted_by}
+use Rattle.sb_plain.proofs.WaitingApplications.{ready_all, ready_sent}
 use Rattle.sb_plain.proofs.Refusals.{message_least}
 
 -- Causes. --

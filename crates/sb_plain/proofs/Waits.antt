@@ -8,8 +8,8 @@ use Rattle.bus_words.specs.Machine.{oldest_number}
 use Rattle.bus_words.specs.Held.{items_of}
 use Rattle.bus_words.specs.Pipes.{oldest_on}
 use Rattle.bus_store.specs.Blocks.{IsGiven}
-use Rattle.sb_plain.specs.declared.pending.Pended.{Pended}
-use Rattle.sb_plain.specs.declared.pending.Pended.TheVariants as waits
+use Rattle.sb_plain.specs.declared.receiving.Pended.{Pended}
+use Rattle.sb_plain.specs.declared.receiving.Pended.TheVariants as waits
 
 -- the number of the message that waits longest, as the store tells it
 abbrev pub oldest_told : List Pipe → ℕ → Option ℕ

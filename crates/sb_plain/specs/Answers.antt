@@ -6,9 +6,9 @@ use Rattle.fsw_base.specs.declared.statuses.EsStatus.{EsStatus}
 use Rattle.fsw_base.specs.declared.statuses.EvsStatus.{EvsStatus}
 use Rattle.bus_words.specs.declared.calls.BusAnswer.{BusAnswer}
 use Rattle.bus_words.specs.declared.calls.BusAnswer.TheVariants as answers
-use Rattle.sb_plain.specs.declared.calls.Sent.{Sent}
-use Rattle.sb_plain.specs.declared.pending.Pended.{Pended}
-use Rattle.sb_plain.specs.declared.pending.Pended.TheVariants as waits
+use Rattle.sb_plain.specs.declared.sending.Sent.{Sent}
+use Rattle.sb_plain.specs.declared.receiving.Pended.{Pended}
+use Rattle.sb_plain.specs.declared.receiving.Pended.TheVariants as waits
 
 -- the number of a pipe or of a buffer, or the option bits; or the refusal
 abbrev pub numbered : Result ℕ SbStatus → BusAnswer

@@ -30,7 +30,7 @@
 //! ) -> Option<()> {
 //!     let app = AppNo::try_new(1)?;
 //!     let mut core = PlainBus::new(alloc, &Config::usual(), 1, region).ok()?;
-//!     let mut bag = Held::new(alloc, 64, 0).ok()?;          // room for a view of each pipe
+//!     let mut bag = core.new_bag(alloc, app, 0).ok()?;      // a view for each pipe, no buffer
 //!     let pipe = core.create_pipe(app, 4, b"TLM");          // Ok(1): pipes are numbered from 1
 //!     let done = core.subscribe(app, 0x0801, 1, 4, Scope::Global, steps);
 //!     let sent = core.transmit(app, packet, true, steps);   // Ok(Sent { number: 1, reached: 1 })
@@ -71,22 +71,24 @@
 #![tactic(auto)]
 
 mod activities;
-mod buffer_calls;
-mod calls;
+mod buffers;
 mod causes;
-mod counter_calls;
-mod event_calls;
+mod counters;
+mod events;
+mod leaving;
 mod opening;
-mod pending;
 mod permits;
-mod pipe_calls;
 mod pipe_ends;
+mod pipes;
 mod plain;
-mod pool_calls;
+mod pools;
 mod readers;
+mod receiving;
 mod refused;
+mod sending;
+mod subscribing;
 mod uses;
 
-pub use calls::Sent;
-pub use pending::Pended;
 pub use plain::PlainBus;
+pub use receiving::Pended;
+pub use sending::Sent;

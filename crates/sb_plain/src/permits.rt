@@ -8,8 +8,8 @@ ghost use Rattle.sb_plain.specs.Core.{MayAct, apps_in, is_within, has_pipe_numbe
 ghost use Rattle.sb_plain.specs.Rows.{standing_in};
 
 use crate::activities::Activity;
-use crate::pending::activity_of;
 use crate::plain::PlainBus;
+use crate::receiving::activity_of;
 use bus_words::BusCall;
 use fsw_base::{AppNo, MAX_MESSAGE_BYTES, MAX_NAME_BYTES, MAX_TEXT_BYTES};
 

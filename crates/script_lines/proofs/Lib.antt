@@ -1,6 +1,7 @@
 pub mod Booleans
-pub mod Holding
-pub mod Trimming
+pub mod FileReadings
+pub mod ReadLines
 pub mod ReadTexts
 pub mod ReadWords
-pub mod ReadLines
+pub mod ReadingLaws
+pub mod Trims

@@ -28,9 +28,9 @@ use Rattle.script_lines.specs.TableLines.{table_alone, triple_word, rule_of, tab
 use Rattle.script_lines.specs.CallLines.{call_line_of}
 use Rattle.script_lines.specs.Ranges.{is_visible, is_event_text, is_content, is_filter, is_rule, is_readable}
 use Rattle.script_lines.proofs.Booleans.{and_first, and_second, both}
-use Rattle.script_lines.proofs.Holding.{Holds, then, any, guard, either, given}
+use Rattle.script_lines.proofs.ReadingLaws.{Holds, then, any, guard, either, given}
 use Rattle.script_lines.proofs.ReadTexts.{words_visible, behind_is_text, trimmed_is_text, same_self}
-use Rattle.script_lines.proofs.Trimming.{trimmed_again}
+use Rattle.script_lines.proofs.Trims.{trimmed_again}
 use Rattle.script_lines.proofs.ReadWords.{number_in, within_in, below_in, pipe_in, buffer_in, pool_in, grant_in, table_in, hex_word_in, name_in, filling_in, content_in, are_visible, two_visible, three_visible, next_two_visible, few_in, each_in}
 
 abbrev Readable : Line → Type 0

@@ -12,7 +12,7 @@ use Rattle.script_words.specs.Content.{name_of, filling_of, content_of}
 use Rattle.script_lines.specs.BusLines.{hex_word}
 use Rattle.script_lines.specs.Ranges.{is_visible, is_name, is_spelled, is_content}
 use Rattle.script_lines.proofs.Booleans.{and_first, and_second, both, at_most}
-use Rattle.script_lines.proofs.Holding.{Holds, then, any, guard, either, accept, decides}
+use Rattle.script_lines.proofs.ReadingLaws.{Holds, then, any, guard, either, accept, decides}
 
 -- ---- numbers
 

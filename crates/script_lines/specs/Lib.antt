@@ -4,3 +4,4 @@ pub mod EventLines
 pub mod TableLines
 pub mod CallLines
 pub mod Ranges
+pub mod FileLines

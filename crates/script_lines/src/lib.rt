@@ -20,8 +20,10 @@
 //!
 //! Proved: `call_word`, `call_line`: a line is read if and only if its words are those of a call
 //! line (`call_line_of`), and then as that line; otherwise the answer is its first fault, unless
-//! memory runs out. `read_lines_are_readable`: each line that is read is one that a script can
-//! have, all within its ranges (`is_readable`).
+//! memory runs out. `table_file`: the line of a table file is read as two call lines if and only if
+//! its words are those of one, with an image that a script can load (`tfile_of`).
+//! `read_lines_are_readable`, `read_files_are_readable`: each line that is read is one that a
+//! script can have, all within its ranges (`is_readable`).
 //!
 //! Tested: a `Line` takes at most 64 bytes; one line read.
 #![tactic(auto)]
@@ -29,6 +31,7 @@
 mod bus_lines;
 mod call_lines;
 mod event_lines;
+mod file_lines;
 mod laws;
 mod line;
 mod memory_lines;
@@ -37,7 +40,8 @@ mod table_lines;
 pub use bus_lines::BusWord;
 pub use call_lines::{CallWord, call_line, call_word};
 pub use event_lines::EventWord;
-pub use laws::read_lines_are_readable;
+pub use file_lines::table_file;
+pub use laws::{read_files_are_readable, read_lines_are_readable};
 pub use line::{BoxedRules, Line};
 pub use memory_lines::MemoryWord;
 pub use script_words::numbers::REGISTERS;

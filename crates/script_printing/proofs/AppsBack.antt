@@ -31,7 +31,7 @@ use Rattle.app_script.specs.Grammar.{Progress, opening, apps_of, after_app, afte
 use Rattle.script_printing.specs.ScriptSpelling.{app_lines, ended, version_lines, set_lines, sizes_lines, seq_text, spelled_lines, spelled_script}
 use Rattle.app_script.specs.ScriptRanges.{have_new_names, is_application, all_calls, all_bytes, IsScript}
 use Rattle.app_script.proofs.ScriptLemmas.{account_of_push}
-use Rattle.app_script.proofs.Leading.{Calling, Ready, account_grows, nothing_taken, progress_back, grammar_back}
+use Rattle.app_script.proofs.ReadingStates.{Calling, Ready, account_grows, nothing_taken, progress_back, grammar_back}
 use Rattle.script_printing.proofs.PrintLemmas.{same_numbers}
 use Rattle.script_printing.proofs.LinesAgain.{lines_again, Leads, leads_none, leads_one, leads_then, known_line, spaced_line}
 use Rattle.script_printing.proofs.SettingsBack.{Starting, settings_lead}

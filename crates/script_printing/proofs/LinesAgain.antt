@@ -14,6 +14,7 @@ use Rattle.line_spelling.proofs.PieceLemmas.{spaced_parts}
 use Rattle.line_spelling.proofs.WordLemmas.{is_word, visible_is_text, words-first, words-behind, behind-first, AreWords, words_are_text}
 use Rattle.app_script.specs.declared.forms.Form.{Form}
 use Rattle.app_script.specs.Forms.{form_of, is_misplaced}
+use Rattle.app_script.proofs.ScriptLemmas.{known_form}
 use Rattle.app_script.specs.Grammar.{Progress, after_form, after_known, after_words, after_line, after_lines, at_line, ◌>=>◌}
 use Rattle.script_printing.specs.ScriptSpelling.{ended}
 
@@ -98,7 +99,7 @@ pub known_line : (s : Progress) (text first : List ℕ) (others : List Word) (fo
 unfolding after_line after_words after_known
 known_line s text first others form short printed words hash known placed =
     let long = le-ltb 1024 (length text) short in
-    rw (long, printed, words, hash, known, placed) refl
+    rw (long, printed, words, hash, known_form s.limits.version first form known, placed) refl
 
 -- ---- lines of words
 

@@ -24,7 +24,7 @@ use Rattle.bus_words.proofs.LegalSteps.{legal-step, caller-first}
 use Rattle.bus_words.proofs.Steps.{after_refusal, after_step, state_from-keeps, refused_if-none}
 use Rattle.script_lines.specs.declared.line.Line.{Line}
 use Rattle.script_lines.specs.declared.line.Line.TheVariants as lines
-use Rattle.script_runs.specs.LineCalls.{calls_of}
+use Rattle.script_runs.specs.LineCalls.{line_call_of}
 use Rattle.script_runs.specs.Messages.{fill_byte, sent_message}
 use Rattle.script_runs.specs.Trace.{Registers, call_of}
 use Rattle.script_runs.specs.Written.{Written, first_written, bytes_in, with_buffer, with_bytes, written_after, put_in, written_by}
@@ -192,7 +192,7 @@ length-written unsent app number written agree = as_long (written number) (unsen
 -- a line's call brings the bytes that it is about
 brings-made : (unsent : List (List Buffer)) (app : ℕ) (registers : Registers) (written : Written) (line : Line) → AreWritten unsent app written →
     brings_option unsent app (call_of registers written line) ≡ true
-unfolding call_of calls_of
+unfolding call_of line_call_of
 brings-made unsent app registers written (lines.TransmitBuffer buf inc) agree =
     eq-eqb _ _ (length-written unsent app (slice_index registers.buffers buf) written agree)
 brings-made unsent app registers written line agree = refl

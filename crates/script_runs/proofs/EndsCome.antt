@@ -36,8 +36,8 @@ use Rattle.script_runs.specs.TableTrace.{TableLineEntries, TableTrace, IsTableEn
 use Rattle.script_runs.specs.Trace.{AfterAnswer, IsEnd, LineEntries, Registers, Trace, call_of, first_registers, own_entries, registers_after}
 use Rattle.script_runs.specs.Written.{Written, first_written, written_after, written_by}
 use Rattle.script_runs.proofs.OneTurn.{is_ended}
-use Rattle.script_runs.proofs.Merged.{caller-live}
-use Rattle.script_runs.proofs.TablesMerged.{closed_at}
+use Rattle.script_runs.proofs.ScriptHistories.{caller-live}
+use Rattle.script_runs.proofs.TableHistories.{closed_at}
 
 -- The end among entries. --
 

@@ -19,7 +19,7 @@ use Rattle.bus_words.proofs.Steps.{with_subscription}
 use Rattle.script_lines.specs.declared.line.Line.{Line}
 use Rattle.script_lines.specs.declared.line.Line.TheVariants as lines
 use Rattle.tbl_words.specs.declared.history.Call.{Call as TableCall}
-use Rattle.script_runs.specs.LineCalls.{calls_of}
+use Rattle.script_runs.specs.LineCalls.{line_call_of}
 use Rattle.script_runs.specs.Owing.{Owes}
 use Rattle.script_runs.specs.Rotation.{Running, SoFar, answer_to, after_call, after_look, table_answer_to, after_end, behind, behind_table, other_turn, line_turn, active_turn, turn_in}
 use Rattle.script_runs.specs.TableTrace.{table_call_of, handles_after}
@@ -41,7 +41,7 @@ is_line_option None = true
 is_line_option (Some call) = is_line_call call
 
 line_calls : (registers : Registers) (written : Written) (line : Line) → is_line_option (call_of registers written line) ≡ true
-unfolding call_of calls_of
+unfolding call_of line_call_of
 line_calls registers written (lines.Create pipe depth name) = refl
 line_calls registers written line = refl
 
@@ -392,7 +392,7 @@ turn-end limits apps sofar running sound is has =
 
 -- a line that the tables see writes nothing
 unwritten : (handles : List ℕ) (written : Written) (buffers : List ℕ) (line : Line) (call : TableCall) → table_call_of handles line ≡ Some call → written_by written buffers line ≡ written
-unfolding table_call_of calls_of written_by
+unfolding table_call_of line_call_of written_by
 unwritten handles written buffers (lines.Form buf id fill) call is = absurd (true≢false (sym (ap is_some is)))
 unwritten handles written buffers (lines.Put buf offset bytes) call is = absurd (true≢false (sym (ap is_some is)))
 unwritten handles written buffers line call is = refl

@@ -17,7 +17,7 @@ use Rattle.tbl_words.proofs.Ends.{is_closed, ended_by, has_number, closed-other,
 use Rattle.tbl_words.proofs.Replay.{goes_on}
 use Rattle.script_lines.specs.declared.line.Line.{Line}
 use Rattle.script_lines.specs.declared.line.Line.TheVariants as lines
-use Rattle.script_runs.specs.LineCalls.{LineCall, AtTables, bus_call, calls_of, table_call}
+use Rattle.script_runs.specs.LineCalls.{LineCall, AtTables, bus_call, line_call_of, table_call}
 use Rattle.script_runs.specs.Owing.{TableOwes, first_left}
 use Rattle.script_runs.specs.Rotation.{Running, SoFar, answer_to, after_call, after_look, table_answer_to, after_table_call, after_end, behind, other_turn, line_turn, active_turn, turn_in}
 use Rattle.script_runs.specs.TableTrace.{table_call_of, handles_after, TableLineEntries, IsTableEnd, TableTrace}
@@ -35,7 +35,7 @@ one_service handles registers written made call is = refl
 -- a line that the bus sees is none that the tables see
 bus_line : (handles : List ℕ) (registers : Registers) (written : Written) (line : Line) (call : BusCall) → call_of registers written line ≡ Some call → table_call_of handles line ≡ None
 unfolding call_of table_call_of
-bus_line handles registers written line call is = one_service handles registers written (calls_of line) call is
+bus_line handles registers written line call is = one_service handles registers written (line_call_of line) call is
 
 -- who has ended once this call was made, where one was
 abbrev ended_by_option : ℕ → Option Call → List Bool → List Bool
@@ -44,7 +44,7 @@ ended_by_option app (Some call) ended = ended_by app call ended
 
 -- no line ends its application
 line_ends : (handles : List ℕ) (line : Line) (app : ℕ) (ended : List Bool) → ended_by_option app (table_call_of handles line) ended ≡ ended
-unfolding table_call_of calls_of
+unfolding table_call_of line_call_of
 line_ends handles (lines.TableRegister handle name size option rules) app ended = refl
 line_ends handles line app ended = refl
 

@@ -27,8 +27,8 @@ first_registers =
       grants = replicate 64 0;
     }
 
--- The call of a line, its registers still to be filled in: of the bus, with what was written into
--- buffers too; of the tables, with the registers of handles; or none.
+-- What a line calls: the bus, by its registers and what was written into buffers; the tables, by
+-- its registers of handles; or neither.
 pub data LineCall : Type 0 where
   AtBus : (Registers → Written → Call) → LineCall
   AtTables : (List ℕ → TableCall) → LineCall
@@ -36,76 +36,78 @@ pub data LineCall : Type 0 where
 
 -- The call that a line makes. A buffer is sent with its bytes as they were written, and with none
 -- where the application has no such buffer.
-unfoldable pub calls_of : Line → LineCall
-calls_of (lines.Create pipe depth name) = AtBus (λ registers written. calls.Create depth name)
-calls_of (lines.Delete pipe) =
+unfoldable pub line_call_of : Line → LineCall
+line_call_of (lines.Create pipe depth name) = AtBus (λ registers written. calls.Create depth name)
+line_call_of (lines.Delete pipe) =
     AtBus (λ registers written. calls.Delete (slice_index registers.pipes pipe))
-calls_of (lines.SetOpts pipe bits) =
+line_call_of (lines.SetOpts pipe bits) =
     AtBus (λ registers written. calls.SetOpts (slice_index registers.pipes pipe) bits)
-calls_of (lines.GetOpts pipe) =
+line_call_of (lines.GetOpts pipe) =
     AtBus (λ registers written. calls.GetOpts (slice_index registers.pipes pipe))
-calls_of (lines.Find pipe name) = AtBus (λ registers written. calls.Find name)
-calls_of (lines.PipeName pipe) =
+line_call_of (lines.Find pipe name) = AtBus (λ registers written. calls.Find name)
+line_call_of (lines.PipeName pipe) =
     AtBus (λ registers written. calls.PipeName (slice_index registers.pipes pipe))
-calls_of (lines.Subscribe id pipe limit scope) =
+line_call_of (lines.Subscribe id pipe limit scope) =
     AtBus (λ registers written. calls.Subscribe id (slice_index registers.pipes pipe) limit scope)
-calls_of (lines.Unsubscribe id pipe) =
+line_call_of (lines.Unsubscribe id pipe) =
     AtBus (λ registers written. calls.Unsubscribe id (slice_index registers.pipes pipe))
-calls_of (lines.Send id size fill inc) =
+line_call_of (lines.Send id size fill inc) =
     AtBus (λ registers written. calls.Transmit (sent_message id size fill) inc)
-calls_of (lines.SendRaw bytes inc) = AtBus (λ registers written. calls.Transmit bytes inc)
-calls_of (lines.Receive pipe) =
+line_call_of (lines.SendRaw bytes inc) = AtBus (λ registers written. calls.Transmit bytes inc)
+line_call_of (lines.Receive pipe) =
     AtBus (λ registers written. calls.Receive (slice_index registers.pipes pipe))
-calls_of (lines.Pend pipe) =
+line_call_of (lines.Pend pipe) =
     AtBus (λ registers written. calls.Pend (slice_index registers.pipes pipe))
-calls_of (lines.Allocate buf size) = AtBus (λ registers written. calls.Allocate size)
-calls_of (lines.TransmitBuffer buf inc) =
+line_call_of (lines.Allocate buf size) = AtBus (λ registers written. calls.Allocate size)
+line_call_of (lines.TransmitBuffer buf inc) =
     AtBus (λ registers written.
     calls.TransmitBuffer (slice_index registers.buffers buf)
     (bytes_in written (slice_index registers.buffers buf)) inc)
-calls_of (lines.Release buf) =
+line_call_of (lines.Release buf) =
     AtBus (λ registers written. calls.Release (slice_index registers.buffers buf))
-calls_of (lines.PoolCreate pool bytes) = AtBus (λ registers written. calls.PoolCreate bytes)
-calls_of (lines.PoolGet grant pool size) =
+line_call_of (lines.PoolCreate pool bytes) = AtBus (λ registers written. calls.PoolCreate bytes)
+line_call_of (lines.PoolGet grant pool size) =
     AtBus (λ registers written. calls.PoolGet (slice_index registers.pools pool) size)
-calls_of (lines.PoolPut pool grant) =
+line_call_of (lines.PoolPut pool grant) =
     AtBus (λ registers written.
     calls.PoolPut (slice_index registers.pools pool) (slice_index registers.grants grant))
-calls_of (lines.PoolFigures pool) =
+line_call_of (lines.PoolFigures pool) =
     AtBus (λ registers written. calls.PoolFigures (slice_index registers.pools pool))
-calls_of (lines.Register filters) = AtBus (λ registers written. calls.Register filters)
-calls_of (lines.SendEvent id kind text) = AtBus (λ registers written. calls.SendEvent id kind text)
-calls_of (lines.ResetFilter id) = AtBus (λ registers written. calls.ResetFilter id)
-calls_of (lines.LogMode mode) = AtBus (λ registers written. calls.LogMode mode)
-calls_of lines.ClearLog = AtBus (λ registers written. calls.ClearLog)
-calls_of lines.Housekeeping = AtBus (λ registers written. calls.Housekeeping)
-calls_of lines.Figures = AtBus (λ registers written. calls.Figures)
-calls_of (lines.TableRegister handle name size option rules) =
+line_call_of (lines.Register filters) = AtBus (λ registers written. calls.Register filters)
+line_call_of (lines.SendEvent id kind text) =
+    AtBus (λ registers written. calls.SendEvent id kind text)
+line_call_of (lines.ResetFilter id) = AtBus (λ registers written. calls.ResetFilter id)
+line_call_of (lines.LogMode mode) = AtBus (λ registers written. calls.LogMode mode)
+line_call_of lines.ClearLog = AtBus (λ registers written. calls.ClearLog)
+line_call_of lines.Housekeeping = AtBus (λ registers written. calls.Housekeeping)
+line_call_of lines.Figures = AtBus (λ registers written. calls.Figures)
+line_call_of (lines.TableRegister handle name size option rules) =
     AtTables (λ handles. table_calls.Register name size option rules)
-calls_of (lines.TableShare handle name) = AtTables (λ handles. table_calls.Share name)
-calls_of (lines.TableUnregister handle) =
+line_call_of (lines.TableShare handle name) = AtTables (λ handles. table_calls.Share name)
+line_call_of (lines.TableUnregister handle) =
     AtTables (λ handles. table_calls.Unregister (slice_index handles handle))
-calls_of (lines.Stage handle offset content) =
+line_call_of (lines.Stage handle offset content) =
     AtTables (λ handles.
     table_calls.Stage (slice_index handles handle) offset (content_bytes content))
-calls_of (lines.Validate handle) =
+line_call_of (lines.Validate handle) =
     AtTables (λ handles. table_calls.Validate (slice_index handles handle))
-calls_of (lines.Update handle) =
+line_call_of (lines.Update handle) =
     AtTables (λ handles. table_calls.Update (slice_index handles handle))
-calls_of (lines.Abort handle) = AtTables (λ handles. table_calls.Abort (slice_index handles handle))
-calls_of (lines.Load handle offset content) =
+line_call_of (lines.Abort handle) =
+    AtTables (λ handles. table_calls.Abort (slice_index handles handle))
+line_call_of (lines.Load handle offset content) =
     AtTables (λ handles.
     table_calls.Load (slice_index handles handle) offset (content_bytes content))
-calls_of (lines.GetAddress handle) =
+line_call_of (lines.GetAddress handle) =
     AtTables (λ handles. table_calls.GetAddress (slice_index handles handle))
-calls_of (lines.ReleaseAddress handle) =
+line_call_of (lines.ReleaseAddress handle) =
     AtTables (λ handles. table_calls.ReleaseAddress (slice_index handles handle))
-calls_of (lines.Status handle) =
+line_call_of (lines.Status handle) =
     AtTables (λ handles. table_calls.Status (slice_index handles handle))
-calls_of (lines.Form buf id fill) = NoCall
-calls_of (lines.Put buf offset bytes) = NoCall
-calls_of (lines.ShowPipe pipe) = NoCall
-calls_of (lines.ShowTable handle) = NoCall
+line_call_of (lines.Form buf id fill) = NoCall
+line_call_of (lines.Put buf offset bytes) = NoCall
+line_call_of (lines.ShowPipe pipe) = NoCall
+line_call_of (lines.ShowTable handle) = NoCall
 
 -- the call of the bus, its registers filled in; None for one of the tables and for none
 abbrev pub bus_call : Registers → Written → LineCall → Option Call

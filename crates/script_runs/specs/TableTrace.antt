@@ -8,7 +8,7 @@ use Rattle.tbl_words.specs.declared.history.Call.TheVariants as calls
 use Rattle.tbl_words.specs.declared.history.Entry.{Entry}
 use Rattle.script_lines.specs.declared.line.Line.{Line}
 use Rattle.script_lines.specs.declared.line.Line.TheVariants as lines
-use Rattle.script_runs.specs.LineCalls.{calls_of, table_call}
+use Rattle.script_runs.specs.LineCalls.{line_call_of, table_call}
 
 -- an application's registers of table handles: at first all 64 are 0
 abbrev pub first_handles : List ℕ
@@ -16,7 +16,7 @@ first_handles = replicate 64 0
 
 -- the call of the tables that a line makes; None for a line that the tables don't see
 unfoldable pub table_call_of : List ℕ → Line → Option Call
-table_call_of handles line = table_call handles (calls_of line)
+table_call_of handles line = table_call handles (line_call_of line)
 
 -- the handle of a successful answer, a duplicate registration's too; 0 of a refusal
 abbrev pub handle_of : TblAnswer → ℕ

@@ -10,12 +10,12 @@ pub use Rattle.bus_words.specs.Runs.{own_entries}
 use Rattle.script_lines.specs.declared.line.Line.{Line}
 use Rattle.script_lines.specs.declared.line.Line.TheVariants as lines
 pub use Rattle.script_runs.specs.LineCalls.{Registers, first_registers}
-use Rattle.script_runs.specs.LineCalls.{bus_call, calls_of}
+use Rattle.script_runs.specs.LineCalls.{bus_call, line_call_of}
 use Rattle.script_runs.specs.Written.{Written, written_after, written_by}
 
 -- the call of the bus that a line makes; None for a line that the bus doesn't see
 unfoldable pub call_of : Registers → Written → Line → Option Call
-call_of registers written line = bus_call registers written (calls_of line)
+call_of registers written line = bus_call registers written (line_call_of line)
 
 -- the number of a successful answer, 0 of a refusal
 abbrev pub number_of : BusAnswer → ℕ

@@ -9,8 +9,8 @@ use Rattle.subscriptions.specs.declared.words.SubNo.{SubNo}
 use Rattle.subscriptions.specs.Subs.{Subscription, goes_by}
 use Rattle.subscriptions.specs.Inside.{held_in, numbered, live_upto, number_in, number_at}
 use Rattle.subscriptions.proofs.Lists.{filter_same}
-use Rattle.subscriptions.proofs.Live.{in_range, numbered_none, numbered_one, numbered_beside, live_beside}
-use Rattle.subscriptions.proofs.Found.{Stands, numbered_stand}
+use Rattle.subscriptions.proofs.LiveSubscriptions.{in_range, numbered_none, numbered_one, numbered_beside, live_beside}
+use Rattle.subscriptions.proofs.Finds.{Stands, numbered_stand}
 use Rattle.subscriptions.proofs.Numbers.{zero_more, differ, both_equal, one_differs}
 
 -- the number of a slot that holds something

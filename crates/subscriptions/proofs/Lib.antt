@@ -1,14 +1,14 @@
 pub mod Changes
-pub mod Ended
-pub mod Found
-pub mod Kept
+pub mod Ends
+pub mod Finds
+pub mod FreeSlots
+pub mod Grown
 pub mod Lists
-pub mod Live
+pub mod LiveSubscriptions
+pub mod NewSlots
 pub mod Numbers
-pub mod Opened
 pub mod Order
-mod Top
-pub mod Unused
+pub mod Slots
 pub mod Upkeep
-pub mod Waiting
+pub mod WaitingCounts
 pub mod Writes

@@ -5,9 +5,9 @@ use Rattle.std.proofs.lemmas.List.Elements.{All-weaker, All-head, All-tail}
 use Rattle.subscriptions.specs.declared.place.Place.{Place}
 use Rattle.subscriptions.specs.Subs.{Subscription, IsRising, AreInOrder}
 use Rattle.subscriptions.specs.Inside.{held_in, numbered, live_upto, number_at, AreKept}
-use Rattle.subscriptions.proofs.Live.{in_range, numbered_none}
-use Rattle.subscriptions.proofs.Found.{StandsUpto, live_stand}
-use Rattle.subscriptions.proofs.Waiting.{shown}
+use Rattle.subscriptions.proofs.LiveSubscriptions.{in_range, numbered_none}
+use Rattle.subscriptions.proofs.Finds.{StandsUpto, live_stand}
+use Rattle.subscriptions.proofs.WaitingCounts.{shown}
 use Rattle.subscriptions.proofs.Numbers.{equal}
 
 -- at most one subscription has a number
@@ -47,10 +47,13 @@ live_rising slots (suc upto) distinct =
     (All-weaker (StandsUpto slots upto) (λ s. s.number ≤ upto) (λ s st. st.within) (live_upto slots upto) (live_stand slots upto))
     (numbered_rising upto 0 slots distinct)
 
-pub in_order : (slots : List (Option Place)) (free : List ℕ) (made : ℕ) → AreKept slots free made → AreInOrder (shown slots made)
-in_order slots free made kept = record {
+pub in_order : (slots : List (Option Place)) (free : List ℕ) (made room : ℕ) → AreKept slots free made → length slots ≤ room → AreInOrder (shown room slots made)
+in_order slots free made room kept few = record {
   rising = live_rising slots made kept.distinct;
   numbers = All-weaker (StandsUpto slots made) (λ s. s.number ≤ made) (λ s st. st.within) (live_upto slots made) (live_stand slots made);
-  slots = All-weaker (StandsUpto slots made) (λ s. s.slot < length slots) (λ s st. in_range slots s.slot st.place st.here) (live_upto slots made) (live_stand slots made);
-  fit = omega (arith, kept.full);
+  slots = All-weaker (StandsUpto slots made) (λ s. s.slot < room) (λ s st. inside s (in_range slots s.slot st.place st.here)) (live_upto slots made) (live_stand slots made);
+  fit = omega (arith, kept.full, few);
 }
+  where
+    inside : (s : Subscription) → s.slot < length slots → s.slot < room
+    inside s h = omega (arith, h, few)

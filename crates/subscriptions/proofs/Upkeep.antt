@@ -5,8 +5,8 @@ use Rattle.std.proofs.lemmas.List.{length-set, length_push}
 use Rattle.subscriptions.specs.declared.place.Place.{Place}
 use Rattle.subscriptions.specs.Inside.{held_in, live_upto, number_in, number_at, with_waiting, AreKept}
 use Rattle.subscriptions.proofs.Changes.{live_added, live_shorter}
-use Rattle.subscriptions.proofs.Live.{in_range}
-use Rattle.subscriptions.proofs.Unused.{last_free, free_taken, free_given}
+use Rattle.subscriptions.proofs.LiveSubscriptions.{in_range}
+use Rattle.subscriptions.proofs.FreeSlots.{last_free, free_taken, free_given}
 use Rattle.subscriptions.proofs.Writes.{written, same_at, number_waiting, some_waiting, nothing_there}
 
 -- numbers stay distinct where a slot gets one that is above all, or none

@@ -85,6 +85,12 @@ pub record AreKept (slots : List (Option Place)) (free : List ℕ) (made : ℕ) 
   pub numbers : (slot : ℕ) → number_at slots slot ≤ made
   pub full : length free + length (live_upto slots made) ≡ length slots
 
--- no slot from this one on holds anything
-abbrev pub IsTop : List (Option Place) → ℕ → Type 0
-IsTop slots top = (slot : ℕ) → top ≤ slot → slice_index_or slots slot None ≡ None
+-- the slots, with one more if none of them is free
+abbrev pub with_slot : List (Option Place) → List ℕ → List (Option Place)
+with_slot slots [] = slots ++ None ∷ []
+with_slot slots (slot ∷ free) = slots
+
+-- the free slots, with that one more
+abbrev pub with_free : List (Option Place) → List ℕ → List ℕ
+with_free slots [] = length slots ∷ []
+with_free slots (slot ∷ free) = slot ∷ free

@@ -20,10 +20,11 @@
 //!
 //! Proved: a list in order of number. `add` puts one at the end with a number never given before,
 //! `remove` takes out that one; `queued` and `unqueued` move its count of waiting messages by one,
-//! or change nothing if it has ended. `admit` answers OverLimit if and only if a live one's count
-//! has reached its limit, and `verdict` says the same of what `at` answers. `at` is exact.
-//! `any_of_pipe` answers a live one of the pipe, if there is any, and leaves open which. Numbers
-//! rise along the list (`recall_order`). By reading: how many slots a call looks at.
+//! or change nothing if it has ended; `add_waiting` counts one more of a live one. `admit` answers
+//! OverLimit if and only if a live one's count has reached its limit, and `verdict` says the same
+//! of what `at` answers. `at` is exact. `any_of_pipe` answers a live one of the pipe, if there is
+//! any, and leaves open which. Numbers rise along the list (`recall_order`). By reading: how many
+//! slots a call looks at.
 //!
 //! Tested: it can be opened; a limit of one message.
 #![tactic(auto)]

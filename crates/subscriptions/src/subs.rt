@@ -3,7 +3,7 @@ ghost use Rattle.std.specs.Prelude.{◌≡◌, ℕ, ◌==◌, ◌+◌, ◌-◌, 
 ghost use Rattle.std.specs.List.{list_any};
 ghost use Rattle.std.specs.Option.{ForSome};
 ghost use Rattle.subscriptions.specs.Subs.{Subscribed, Subscription, live_at, row_of, verdict_at, one_more, one_fewer, with_change, without, AreInOrder};
-ghost use Rattle.subscriptions.specs.Inside.{held_at, recounted};
+ghost use Rattle.subscriptions.specs.Inside.{held_at, recounted, with_slot, with_free};
 
 use crate::place::Place;
 use crate::words::{SubNo, SubRow, Verdict};
@@ -15,14 +15,15 @@ use std::marker::Model;
 /// and those that are live, in order of number.
 #[derive(Drop)]
 pub struct Subs {
-    // What each slot holds; None where it is free. Each subscription has a number of its own.
+    // What each slot that was ever used holds; None where it is free. Each subscription has a
+    // number of its own.
     slots: Vec<Option<Place>>,
-    // The free slots, each once, the next one to use last. It has room for all slots.
+    // Those of them that are free, each once, the next one to use last.
     free: Vec<u32>,
     // How many subscriptions were made, which is the newest one's number.
     made: u32,
-    // No slot from this one on was ever used.
-    top: u32,
+    // How many slots there may be. Both lists have room for as many.
+    room: u32,
 }
 
 impl Model for Subs {
@@ -31,18 +32,14 @@ impl Model for Subs {
 
     ghost Value = { Subscribed };
 
-    ghost use Rattle.subscriptions.specs.Inside.{live_upto, AreKept, IsTop};
+    ghost use Rattle.subscriptions.specs.Inside.{live_upto, AreKept};
 
     ghost view = { λ s.
-        record {
-          room = length s.slots.items;
-          made = s.made;
-          live = live_upto s.slots.items s.made;
-        } };
+        record { room = s.room; made = s.made; live = live_upto s.slots.items s.made } };
 
     ghost invariant = { λ s. AreKept s.slots.items s.free.items s.made ×
-        (length s.slots.items < 2 ^ 32) × (length s.slots.items ≤ vec_capacity s.free) ×
-        IsTop s.slots.items s.top × (s.top ≤ length s.slots.items) };
+        (length s.slots.items ≤ s.room) × (s.room ≤ vec_capacity s.free) ×
+        (s.room ≤ vec_capacity s.slots) × (s.room < 2 ^ 32) };
 }
 
 impl Subs {
@@ -54,13 +51,13 @@ impl Subs {
     pub fn new(alloc: Global, room: u32) -> Result<Subs, AllocError>
         ensures { IfOk result (λ subs. subs ≡ record { room = room; made = 0; live = [] }) }
     {
-        let slots = free_slots(alloc, room)?;
-        let free = all_slots(alloc, room)?;
+        let slots = Vec::with_capacity(alloc, room as usize)?;
+        let free = Vec::with_capacity(alloc, room as usize)?;
         Ok(Subs {
             slots,
             free,
             made: 0,
-            top: 0,
+            room,
         })
     }
 
@@ -109,9 +106,8 @@ impl Subs {
               } ∷ [];
         } }
     {
-        let slot = self.free.pop().unwrap();
+        let slot = take_slot(&mut self.slots, &mut self.free);
         self.made += 1;
-        self.top = self.top.max(slot + 1);
         self.slots[slot as usize] = Some(Place {
             number: self.made,
             id,
@@ -168,6 +164,16 @@ impl Subs {
         }
     }
 
+    /// One more message of a live subscription waits. By the code, it takes a constant time, and
+    /// doesn't look whether the subscription is live.
+    pub fn add_waiting(&mut self, sub: SubNo)
+        requires live { IsSome (live_at self.old sub) }
+        requires few { ForSome (live_at self.old sub) (λ s. s.waiting + 1 < 2 ^ 32) }
+        ensures { self.new ≡ with_change self.old sub one_more }
+    {
+        count_up_held(&mut self.slots[sub.slot as usize], sub.number);
+    }
+
     /// One message of a subscription, of which at least one waits, waits no longer; no effect where
     /// it has ended. By the code, it takes a constant time.
     pub fn unqueued(&mut self, sub: SubNo)
@@ -186,7 +192,7 @@ impl Subs {
         ensures own { IfSome result
             (λ sub. option_map (λ s. s.pipe) (live_at self.now sub) ≡ Some pipe) }
     {
-        for slot in 0..self.top {
+        for slot in 0..self.slots.len() as u32 {
             if let Some(place) = self.slots[slot as usize] {
                 if place.pipe == pipe {
                     return Some(SubNo {
@@ -232,6 +238,18 @@ fn count_up(slot: &mut Option<Place>, number: u32)
     }
 }
 
+// One message more waits of the subscription of this number, which the slot holds.
+fn count_up_held(slot: &mut Option<Place>, number: u32)
+    requires held { option_map (λ p. p.number) slot.old ≡ Some number }
+    requires few { ForSome slot.old (λ p. p.waiting + 1 < 2 ^ 32) }
+    ensures { slot.new ≡ recounted number (λ waiting. waiting + 1) slot.old }
+{
+    match slot {
+        Some(place) => place.waiting += 1,
+        None => unreachable!(),
+    }
+}
+
 // One message fewer waits of the subscription of this number, where the slot holds it.
 fn count_down(slot: &mut Option<Place>, number: u32)
     requires { ForSome slot.old (λ p. p.number ≡ number → 1 ≤ p.waiting) }
@@ -244,27 +262,18 @@ fn count_down(slot: &mut Option<Place>, number: u32)
     }
 }
 
-// So many free slots.
-fn free_slots(alloc: Global, room: u32) -> Result<Vec<Option<Place>>, AllocError>
-    ensures { IfOk result (λ slots. slots.items ≡ replicate room None) }
+// Takes a free slot out of the list: the one given back last, or one that was never used.
+fn take_slot(slots: &mut Vec<Option<Place>>, free: &mut Vec<u32>) -> u32
+    requires few { length slots.old.items < 2 ^ 32 }
+    requires room { length free.old.items ≡ 0 → length slots.old.items < vec_capacity slots.old }
+    ensures slots { slots.new.items ≡ with_slot slots.old.items free.old.items }
+    ensures taken { free.new.items ++ result ∷ [] ≡ with_free slots.old.items free.old.items }
+    ensures capacities { (vec_capacity slots.new ≡ vec_capacity slots.old)
+        × (vec_capacity free.new ≡ vec_capacity free.old) }
 {
-    let mut slots = Vec::with_capacity(alloc, room as usize)?;
-    for _slot in 0..room {
-        slots.push_reserved(None);
+    if let Some(slot) = free.pop() {
+        return slot;
     }
-    Ok(slots)
-}
-
-// The numbers of so many slots, the first one last.
-fn all_slots(alloc: Global, room: u32) -> Result<Vec<u32>, AllocError>
-    ensures all { IfOk result (λ free. length free.items ≡ room) }
-    ensures each { IfOk result
-        (λ free. (i : ℕ) → i < room → slice_index free.items i + i + 1 ≡ room) }
-    ensures room { IfOk result (λ free. room ≤ vec_capacity free) }
-{
-    let mut free = Vec::with_capacity(alloc, room as usize)?;
-    for above in 0..room {
-        free.push_reserved(room - 1 - above);
-    }
-    Ok(free)
+    slots.push_reserved(None);
+    (slots.len() - 1) as u32
 }

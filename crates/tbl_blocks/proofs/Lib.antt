@@ -1,6 +1,6 @@
 mod Keeps
-mod Opened
-mod Opening
+mod NewStores
+mod TableOpenings
 mod Places
 mod Sets
 mod Store

@@ -55,9 +55,12 @@
 
 mod blocks;
 mod held;
+mod holding;
 mod laws;
+mod loading;
 mod memory;
 mod next;
+mod registering;
 mod rows;
 mod slot;
 mod space;

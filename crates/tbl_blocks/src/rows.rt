@@ -81,9 +81,9 @@ pub fn tell_tables_apart(tables: &mut Vec<Option<Table<'_>>>, key: u32, other: u
     ensures same { tables.new.items ≡ tables.old.items }
 {
     let mut table = take_table(tables, key);
-    let mut its = take_table(tables, other);
-    table.tell_apart(&mut its);
-    put_table(tables, other, its);
+    let mut other_table = take_table(tables, other);
+    table.tell_apart(&mut other_table);
+    put_table(tables, other, other_table);
     put_table(tables, key, table);
 }
 

@@ -1,12 +1,13 @@
 -- The file of an image, part by part, and what its fields read as.
 use Rattle.std.proofs.Common.{◌≡◌, ℕ, suc, ◌+◌, ◌-◌, ◌<◌, ◌≤◌, ◌^◌, ◌&&◌, eqb, nat_le, nat_lt, Bool, true, false, cond, List, [], ◌∷◌, ◌++◌, length, take, drop, replicate, flat_map, Some, None, refl, sym, ap, ◌∙◌, arith, append_assoc, not}
 use Rattle.std.specs.List.{list_all, position, position_or_len, before_first}
-use Rattle.std.proofs.lemmas.Bool.{leb-true, le-ltb, ltb-false, eq-eqb, ne_eqb}
+use Rattle.std.proofs.lemmas.Bool.{leb-true, le-ltb, ltb-false, eqb-true, eqb-false, eq-eqb, ne_eqb}
 use Rattle.std.proofs.lemmas.List.{take_at, drop_at, take_all, drop-drop, length-append, length-drop, drop-replicate, length-replicate}
 use Rattle.byteorder.specs.Endian.{big_number, big_bytes}
 use Rattle.byteorder.specs.Numbers.{big_number-reads_back}
 use Rattle.tbl_file.specs.declared.image.Image.{Image}
-use Rattle.tbl_file.specs.Image.{number_at, content_id, name_in, size_said, is_table_name, name_field, table_numbers, image_file, IsImage, image_fault}
+use Rattle.tbl_file.specs.declared.image.ImageFault.TheVariants.{Short, NotCfe, BadName, Empty, Size}
+use Rattle.tbl_file.specs.Image.{number_at, table_in, content_id, name_in, size_said, is_table_name, name_field, table_numbers, image_file, IsImage, image_fault}
 use Rattle.tbl_file.specs.Inside.{HasShortNumbers}
 
 -- ---- names
@@ -73,6 +74,23 @@ no_fault file image is =
     let some : eqb (size_said file) 0 ≡ false = ne_eqb (size_said file) 0 (λ e. omega (arith, e, is.size, is.some)) in
     let size : eqb (size_said file) (length file - 116) ≡ true = eq-eqb (size_said file) (length file - 116) (is.size ∙ given) in
     rw (long, content, named, some, size) refl
+
+-- a file without a fault has a name that is one, and a byte of a table
+pub named_file : (file : List ℕ) → image_fault file ≡ None → (is_table_name (name_in file) ≡ true) × (1 ≤ length (table_in file))
+unfolding image_fault
+named_file file none =
+    decide (nat_lt (length file) 116) (eqb (number_at 0 file) content_id) (is_table_name (name_in file)) (eqb (size_said file) 0) (eqb (size_said file) (length file - 116)) refl refl refl none
+  where
+    decide : (short content named empty size : Bool) → is_table_name (name_in file) ≡ named → eqb (size_said file) 0 ≡ empty → eqb (size_said file) (length file - 116) ≡ size
+        → cond short (Some Short) (cond (not content) (Some (NotCfe (number_at 0 file))) (cond (not named) (Some BadName) (cond empty (Some Empty) (cond size None (Some (Size (size_said file) (length file - 116))))))) ≡ None
+        → (is_table_name (name_in file) ≡ true) × (1 ≤ length (table_in file))
+    decide true content named empty size is_named is_empty is_size e = absurd cc
+    decide false false named empty size is_named is_empty is_size e = absurd cc
+    decide false true false empty size is_named is_empty is_size e = absurd cc
+    decide false true true true size is_named is_empty is_size e = absurd cc
+    decide false true true false false is_named is_empty is_size e = absurd cc
+    decide false true true false true is_named is_empty is_size e =
+        (is_named, omega (arith, eqb-false (size_said file) 0 is_empty, eqb-true (size_said file) (length file - 116) is_size, length-drop 116 file))
 
 -- ---- parts
 

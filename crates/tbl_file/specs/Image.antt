@@ -29,6 +29,18 @@ is_table_name name =
     nat_le 1 (length name) && nat_le (length name) 39 &&
     list_all (λ byte. nat_le 0x21 byte && nat_le byte 0x7e) name
 
+-- SubType, 8 for a table in cFE
+abbrev pub sub_in : List ℕ → ℕ
+sub_in file = number_at 4 file
+
+-- Offset: where in the table its bytes are loaded
+abbrev pub offset_in : List ℕ → ℕ
+offset_in file = number_at 68 file
+
+-- the table's bytes, behind both headers
+abbrev pub table_in : List ℕ → List ℕ
+table_in file = drop 116 file
+
 -- NumBytes: how many bytes the header says that the table has
 abbrev pub size_said : List ℕ → ℕ
 size_said file = number_at 72 file

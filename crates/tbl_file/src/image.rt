@@ -1,4 +1,6 @@
 //! An image, and why bytes are none.
+ghost use Rattle.std.specs.Prelude.{◌≡◌};
+ghost use Rattle.tbl_file.specs.FaultNames.{image_fault_name};
 
 /// The bytes of both headers, behind which the table's bytes follow.
 pub const HEADER_BYTES: usize = 116;
@@ -12,8 +14,11 @@ pub(crate) const DESCRIPTION_AT: usize = 32;
 // The bytes of a description.
 const DESCRIPTION_BYTES: usize = 32;
 
+/// The bytes of the file header, which cFE writes into the field `length`.
+pub const FILE_HEADER_BYTES: usize = DESCRIPTION_AT + DESCRIPTION_BYTES;
+
 /// Where the header of the table begins.
-pub(crate) const TABLE_AT: usize = DESCRIPTION_AT + DESCRIPTION_BYTES;
+pub(crate) const TABLE_AT: usize = FILE_HEADER_BYTES;
 
 /// Where this header has the offset.
 pub(crate) const OFFSET_AT: usize = TABLE_AT + 4;
@@ -77,4 +82,20 @@ pub enum ImageFault {
         /// The number of bytes that there are.
         given: u32,
     },
+}
+
+impl ImageFault {
+    /// Its name, without its numbers.
+    pub fn name(self) -> &'static str
+        ensures { result.now ≡ image_fault_name self }
+    {
+        match self {
+            ImageFault::TooLarge => "TooLarge",
+            ImageFault::Short => "Short",
+            ImageFault::NotCfe(_) => "NotCfe",
+            ImageFault::BadName => "BadName",
+            ImageFault::Empty => "Empty",
+            ImageFault::Size { .. } => "Size",
+        }
+    }
 }

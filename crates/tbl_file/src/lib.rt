@@ -19,7 +19,7 @@ mod laws;
 mod reading;
 mod writing;
 
-pub use image::{HEADER_BYTES, Image, ImageFault};
+pub use image::{FILE_HEADER_BYTES, HEADER_BYTES, Image, ImageFault};
 pub use laws::images_have_no_fault;
-pub use reading::read_image;
+pub use reading::{is_table_name, read_image};
 pub use writing::write_image;

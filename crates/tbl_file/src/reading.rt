@@ -93,9 +93,9 @@ fn first_zero(field: &[u8]) -> Option<usize>
     field.iter().position(|&byte| byte == 0)
 }
 
-// Whether a table may have this name.
+/// Whether an image may have this name: 1 to 39 visible ASCII characters.
 #[tactic(auto, unfolding(crate::specs::Image::is_table_name))]
-fn is_table_name(name: &[u8]) -> bool
+pub fn is_table_name(name: &[u8]) -> bool
     ensures { result ≡ is_table_name name.now }
 {
     1 <= name.len() && name.len() < NAME_BYTES && are_visible(name)

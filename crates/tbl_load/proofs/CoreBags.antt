@@ -13,7 +13,7 @@ use Rattle.tbl_load.specs.Core.{Core, state_of}
 use Rattle.tbl_load.specs.Inside.{core_of, Stands}
 use Rattle.tbl_load.specs.Notes.{noted}
 use Rattle.tbl_load.proofs.Dues.{due_by, due_alike, told_each}
-use Rattle.tbl_load.proofs.Own.{Rise}
+use Rattle.tbl_load.proofs.OwnHandles.{Rise}
 
 pub rise_in : (a : Inside) → Stands a → Rise a.core.state.handles
 rise_in a stands = subst (λ (s : State). Rise s.handles) (sym stands.state) (handles_rise a.core.limits (length a.noted.log.budgets) a.noted.log.entries)

@@ -9,7 +9,7 @@ use Rattle.tbl_words.specs.Holds.{hold_of}
 use Rattle.tbl_words.specs.Tables.{Handle, Hold, handle_at}
 use Rattle.tbl_blocks.specs.Held.{HeldViews}
 use Rattle.tbl_plain.specs.Core.{Lent, Plain, Holds, loan_of, view_of, view_due}
-use Rattle.tbl_load.proofs.Own.{Rise, owned, rise-head, rise-tail}
+use Rattle.tbl_load.proofs.OwnHandles.{Rise, owned, rise-head, rise-tail}
 
 -- the view of what is held, lent by this loan
 abbrev pub viewed : ℕ → Option Hold → Option LentBytes

@@ -1,15 +1,15 @@
-pub mod Allowed
+pub mod BagViews
+pub mod Budgets
+pub mod CallEffects
 pub mod CoreBags
 pub mod Dues
+pub mod EntryLemma
 pub mod Journals
-mod Located
-pub mod Made
+pub mod NoteRoom
 pub mod Notes
-pub mod Opened
 mod OpeningBags
 pub mod OthersBags
-pub mod Over
-pub mod Own
-pub mod Pushed
-pub mod Shown
+pub mod OwnHandles
+pub mod PermitTests
+mod TablePlaces
 mod Versions

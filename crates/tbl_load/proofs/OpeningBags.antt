@@ -1,4 +1,4 @@
--- A bag with nothing in it, and room for a view of each handle, is each application's at tables at which no call was made.
+-- A bag with nothing in it, and room for a view of each handle, is each application's of tables on which no call was made.
 use Rattle.std.proofs.Common.{◌≡◌, ℕ, ◌≤◌, List, [], length, ap, sym, subst}
 use Rattle.lend_block.specs.Loan.{LentBytes}
 use Rattle.tbl_words.specs.declared.history.Entry.{Entry}

@@ -19,7 +19,7 @@ use Rattle.tbl_load.specs.Core.{Core, Does, IsLegalCore, IsNoted, with_noted, ap
 use Rattle.tbl_load.specs.Notes.{gives_for, noted, note_due}
 use Rattle.tbl_load.proofs.Dues.{due_of, due_alike, due_own, dues_own, told_each, viewed}
 use Rattle.tbl_load.proofs.Notes.{due-append, due-front, even-due, noted-other}
-use Rattle.tbl_load.proofs.Own.{Rise, owned, step_alone, gives_alone}
+use Rattle.tbl_load.proofs.OwnHandles.{Rise, owned, step_alone, gives_alone}
 
 -- Legal histories. --
 

@@ -55,8 +55,10 @@ AreOneLoan core =
 -- what two handles hold of two tables, or of two versions of one, has two loans noted
 abbrev pub AreTwoLoans : Core → ℕ → ℕ → Type 0
 AreTwoLoans core number other =
-    (table its version second : ℕ) → HoldsVersion (state_of core).handles number table version →
-    HoldsVersion (state_of core).handles other its second → (table ≡ its → version ≢ second) →
+    (table other_table version other_version : ℕ) →
+    HoldsVersion (state_of core).handles number table version →
+    HoldsVersion (state_of core).handles other other_table other_version →
+    (table ≡ other_table → version ≢ other_version) →
     noted number core.log.entries core.notes ≢ noted other core.log.entries core.notes
 
 -- Only others called meanwhile: their entries, each with the note that is due, stand behind those

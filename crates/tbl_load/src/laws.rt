@@ -7,7 +7,7 @@ ghost use Rattle.tbl_blocks.specs.Held.{HeldViews};
 ghost use Rattle.tbl_load.specs.Bags.{HasBag, KeepsOtherBags, CalledByOthers, bytes_seen, held_bytes};
 ghost use Rattle.tbl_load.specs.Core.{Core, Does, state_of};
 
-/// A new bag, with room for a view of each handle, is the bag of any application at tables at which
+/// A new bag, with room for a view of each handle, is the bag of any application of tables on which
 /// no call was made. An application's bag shows the bytes of what each of its handles holds, and
 /// nothing of any other handle; and it stays its bag whatever others call, by one entry or by many:
 /// a call of another is one of others, and so is one that follows such calls. Does nothing.

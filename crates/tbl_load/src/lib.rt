@@ -43,8 +43,8 @@
 //!   views of one block (`journal`, clause `loans`).
 //! - After each call the caller's bag is its own, by the history, its notes and the bag alone
 //!   (`HasBag`): a view for each of its handles that hold something, with the bytes that were held
-//!   then. A new bag is any application's at new tables (`opens` of `bags_stay`). The bags of
-//!   others stay (`KeepsOtherBags`, and `bags_stay` for any calls of others). The caller's views
+//!   then. A new bag is a bag of any application of new tables (`opens` of `bags_stay`). The bags
+//!   of others stay (`KeepsOtherBags`, and `bags_stay` for any calls of others). The caller's views
 //!   for other handles and the bag's room stay (`others`, `room`), and the last call leaves no view
 //!   (`empty`). So held bytes stay until their own application asks for the handle's address again,
 //!   releases it or gives it back.

@@ -115,8 +115,8 @@ impl<'r> TblCore<'r> {
         self.noted.journal()
     }
 
-    /// What two live handles hold of two tables, or of two versions of one, has two loans noted:
-    /// it lies in two blocks. Does nothing.
+    /// If two live handles hold two tables, or two versions of one, the loans noted for them
+    /// differ, since they lie in two blocks. Does nothing.
     pub fn recall_apart(&mut self, handle: u32, other: u32)
         ensures apart { AreTwoLoans self.old handle other }
         ensures same { self.new ≡ self.old }

@@ -8,7 +8,7 @@ use Rattle.tbl_blocks.specs.declared.next.Next.TheVariants.{Nothing, Inactive}
 use Rattle.tbl_blocks.specs.Versions.{LentVersion}
 use Rattle.tbl_blocks.specs.Contents.{Content, is_double, is_staged, staged_in, older_in, beside, lent, without_staged}
 use Rattle.tbl_plain.specs.Inside.{staged_of, table_with}
-use Rattle.tbl_plain.proofs.Beside.{KeepsPresent}
+use Rattle.tbl_plain.proofs.OtherVersions.{KeepsPresent}
 use Rattle.tbl_plain.proofs.Validations.{with_staging, staged_there, none_older}
 
 -- what a table has beside its version where nothing is staged

@@ -14,7 +14,7 @@ use Rattle.tbl_words.specs.Tables as state
 use Rattle.tbl_words.specs.Machine as machine
 use Rattle.tbl_registry.specs.declared.rows.Handle.{Handle}
 use Rattle.tbl_registry.specs.Listing.{Table, Listing, IsTied, handle_at, is_registered, with_handle, with_hold, without_hold}
-use Rattle.tbl_registry.proofs.Numbered.{same_number}
+use Rattle.tbl_registry.proofs.HandleNumbers.{same_number}
 use Rattle.tbl_blocks.specs.Blocks.{Stored, with_content}
 use Rattle.tbl_blocks.specs.Held.{HeldViews, held_at}
 use Rattle.tbl_blocks.specs.Versions.{LentVersion}
@@ -24,10 +24,10 @@ use Rattle.tbl_plain.specs.Core.{Plain, Holds, Acts}
 use Rattle.tbl_plain.specs.Answers.{told_by}
 use Rattle.tbl_plain.specs.Inside.{plain_of, means, table_in, table_with, handle_in, handle_with, Keeps}
 use Rattle.tbl_plain.specs.Views.{held_by, views_of, after_back, with_back}
-use Rattle.tbl_plain.proofs.Beside.{key_room}
+use Rattle.tbl_plain.proofs.OtherVersions.{key_room}
 use Rattle.tbl_plain.proofs.Figures.{HasContent}
 use Rattle.tbl_plain.proofs.Meaning.{handle_here, table_here}
-use Rattle.tbl_plain.proofs.Reheld.{reheld_keeps, reheld_acts, reheld_bag}
+use Rattle.tbl_plain.proofs.HandleViews.{reheld_keeps, reheld_acts, reheld_bag}
 use Rattle.tbl_plain.proofs.Relends.{Relends, back_relends, given_relends}
 use Rattle.tbl_plain.proofs.Returns.{set_set, content_set, back_tables, back_pool, back_most, view_out, few_views, told_before}
 

@@ -7,7 +7,7 @@ use Rattle.std.proofs.lemmas.List.{get_or-set_same, get_or-set_other}
 use Rattle.tbl_words.specs.Tables as state
 use Rattle.tbl_registry.specs.declared.rows.Handle.{Handle}
 use Rattle.tbl_registry.specs.Listing.{Table, table_at, is_registered}
-use Rattle.tbl_registry.proofs.Numbered.{same_number, other_number}
+use Rattle.tbl_registry.proofs.HandleNumbers.{same_number, other_number}
 use Rattle.tbl_blocks.specs.Contents.{Content, no_content, content_at}
 use Rattle.tbl_plain.specs.Inside.{table_in, table_with, handle_in, handle_with}
 use Rattle.tbl_plain.specs.Views.{held_by}

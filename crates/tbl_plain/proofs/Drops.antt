@@ -15,8 +15,8 @@ use Rattle.tbl_words.specs.Machine as machine
 use Rattle.tbl_registry.specs.declared.rows.Handle.{Handle}
 use Rattle.tbl_registry.specs.Listing.{Table, Listing, IsTied, handle_at, is_live, has_handle, table_at, without_handle}
 use Rattle.tbl_registry.specs.Listed.{without_handle_of}
-use Rattle.tbl_registry.proofs.Leaving.{handles_go_on}
-use Rattle.tbl_registry.proofs.Numbered.{same_number, other_number}
+use Rattle.tbl_registry.proofs.HandleDrops.{handles_go_on}
+use Rattle.tbl_registry.proofs.HandleNumbers.{same_number, other_number}
 use Rattle.tbl_blocks.specs.Blocks.{Stored}
 use Rattle.tbl_blocks.specs.Held.{HeldViews}
 use Rattle.tbl_blocks.specs.Contents.{Content, no_content, version_at, kept_at, content_at, is_open, is_staged, older_in}
@@ -25,11 +25,11 @@ use Rattle.tbl_plain.specs.Core.{Holds}
 use Rattle.tbl_plain.specs.Inside.{plain_of, means, table_in, table_with, handle_in, handle_with, each_below, is_this, is_other, IsRecent, IsFilled, Keeps}
 use Rattle.tbl_plain.specs.Views.{held_by}
 use Rattle.tbl_plain.proofs.Bags.{due_by, is_due, known_handle, bags_go_on}
-use Rattle.tbl_plain.proofs.Beside.{itself}
+use Rattle.tbl_plain.proofs.OtherVersions.{itself}
 use Rattle.tbl_plain.proofs.Changes.{map-map}
 use Rattle.tbl_plain.proofs.Figures.{HasContent}
 use Rattle.tbl_plain.proofs.Meaning.{found_all}
-use Rattle.tbl_plain.proofs.Only.{only_handle, only_table}
+use Rattle.tbl_plain.proofs.UniqueNumbers.{only_handle, only_table}
 use Rattle.tbl_plain.proofs.Registers.{map_all, none_staged}
 
 -- Lists with what has a number left out. --

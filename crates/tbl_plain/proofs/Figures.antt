@@ -15,7 +15,7 @@ use Rattle.tbl_blocks.specs.Contents.{Content, older_in, content_at, is_open}
 use Rattle.tbl_plain.specs.declared.plain.PlainTables.TheInside.{Inside}
 use Rattle.tbl_plain.specs.Core.{Plain, Acts}
 use Rattle.tbl_plain.specs.Inside.{plain_of, means, handle_in, hold_of, figures_in, is_this, is_other, IsFilled, Keeps}
-use Rattle.tbl_plain.proofs.After.{step_by, acts_still}
+use Rattle.tbl_plain.proofs.CallLaws.{step_by, acts_still}
 use Rattle.tbl_plain.proofs.Access.{IsOwned, access_by}
 use Rattle.tbl_plain.proofs.Meaning.{IsOf, its_table, known_by, table_here, found_all}
 

@@ -20,8 +20,8 @@ use Rattle.tbl_words.proofs.Accounts.{leaving_returns}
 use Rattle.tbl_registry.specs.declared.rows.Handle.{Handle}
 use Rattle.tbl_registry.specs.Listing.{Table, Listing, IsTied, handle_at, is_live, has_handle, table_at, number_at, table_under, without_handle, without_table}
 use Rattle.tbl_registry.specs.Listed.{without_handle_of, key_under}
-use Rattle.tbl_registry.proofs.Leaving.{drop_leaves}
-use Rattle.tbl_registry.proofs.Numbered.{same_number, other_number}
+use Rattle.tbl_registry.proofs.HandleDrops.{drop_leaves}
+use Rattle.tbl_registry.proofs.HandleNumbers.{same_number, other_number}
 use Rattle.tbl_blocks.specs.Blocks.{Stored, IsWhole, closed, after_abort}
 use Rattle.tbl_blocks.specs.Held.{HeldViews}
 use Rattle.tbl_blocks.specs.Memory.{all_given_back}
@@ -35,11 +35,11 @@ use Rattle.tbl_plain.specs.Inside.{plain_of, means, table_in, each_below, is_thi
 use Rattle.tbl_plain.specs.Views.{after_owner}
 use Rattle.tbl_plain.proofs.Aborts.{aborted_here, aborted_keeps}
 use Rattle.tbl_plain.proofs.Access.{any_found}
-use Rattle.tbl_plain.proofs.Beside.{beside_keeps, beside_means, beside_bags, itself, key_room}
+use Rattle.tbl_plain.proofs.OtherVersions.{beside_keeps, beside_means, beside_bags, itself, key_room}
 use Rattle.tbl_plain.proofs.Changes.{map-map}
 use Rattle.tbl_plain.proofs.Drops.{counted, unstaged_left, dropped_means, dropped_keeps, dropped_bags}
 use Rattle.tbl_plain.proofs.Figures.{HasContent}
-use Rattle.tbl_plain.proofs.Kept.{blocks_still}
+use Rattle.tbl_plain.proofs.TableContents.{blocks_still}
 use Rattle.tbl_plain.proofs.Meaning.{found_all, table_here}
 use Rattle.tbl_plain.proofs.Pools.{made_counted}
 use Rattle.tbl_plain.proofs.RegisterCalls.{not_so}

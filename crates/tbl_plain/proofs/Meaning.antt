@@ -10,7 +10,7 @@ use Rattle.tbl_words.specs.Tables as state
 use Rattle.tbl_registry.specs.declared.rows.Handle.{Handle}
 use Rattle.tbl_registry.specs.Listing.{Table, IsTied, handle_at, table_at, number_at, table_named}
 use Rattle.tbl_registry.specs.Listed.{facts_of, facts_in, handle_facts_of, handle_facts_in, IsListed, FindsAlike}
-use Rattle.tbl_registry.proofs.Leaving.{either_way}
+use Rattle.tbl_registry.proofs.HandleDrops.{either_way}
 use Rattle.tbl_registry.proofs.Listings.{finds_alike}
 use Rattle.tbl_blocks.specs.Contents.{Content}
 use Rattle.tbl_plain.specs.declared.plain.PlainTables.TheInside.{Inside}

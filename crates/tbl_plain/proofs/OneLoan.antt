@@ -5,7 +5,7 @@ use Rattle.fsw_base.proofs.Lists.{find-map}
 use Rattle.tbl_words.specs.Tables as state
 use Rattle.tbl_registry.specs.declared.rows.Handle.{Handle}
 use Rattle.tbl_registry.specs.Listing.{Table, IsTied, handle_at, table_at, number_at}
-use Rattle.tbl_registry.proofs.Leaving.{either_way}
+use Rattle.tbl_registry.proofs.HandleDrops.{either_way}
 use Rattle.tbl_blocks.specs.Contents.{version_at, content_at}
 use Rattle.tbl_plain.specs.declared.plain.PlainTables.TheInside.{Inside}
 use Rattle.tbl_plain.specs.Core.{Lent, HoldsVersion, AreOneLoan, loan_of}

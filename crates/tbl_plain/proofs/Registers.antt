@@ -19,8 +19,8 @@ use Rattle.tbl_words.proofs.Accounts.{registrations_draw}
 use Rattle.tbl_registry.specs.declared.rows.Handle.{Handle}
 use Rattle.tbl_registry.specs.Listing.{Table, Listing, IsTied, is_live, handle_at, table_at, number_at, with_new_handle, made_handle, AddsTable}
 use Rattle.tbl_registry.specs.Listed.{AllHaveHandles}
-use Rattle.tbl_registry.proofs.Leaving.{handles_go_on}
-use Rattle.tbl_registry.proofs.Numbered.{same_number, other_number}
+use Rattle.tbl_registry.proofs.HandleDrops.{handles_go_on}
+use Rattle.tbl_registry.proofs.HandleNumbers.{same_number, other_number}
 use Rattle.tbl_registry.proofs.Ties.{none_has}
 use Rattle.tbl_blocks.specs.declared.next.Next.{Next}
 use Rattle.tbl_blocks.specs.declared.next.Next.TheVariants.{Nothing, Inactive, Staged}

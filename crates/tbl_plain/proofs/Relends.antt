@@ -5,7 +5,7 @@ use Rattle.lend_block.specs.Loan.{LentBytes}
 use Rattle.tbl_words.specs.Tables as state
 use Rattle.tbl_registry.specs.declared.rows.Handle.{Handle}
 use Rattle.tbl_registry.specs.Listing.{Table}
-use Rattle.tbl_registry.proofs.Numbered.{same_number}
+use Rattle.tbl_registry.proofs.HandleNumbers.{same_number}
 use Rattle.tbl_blocks.specs.declared.next.Next.{Next}
 use Rattle.tbl_blocks.specs.declared.next.Next.TheVariants.{Nothing, Inactive, Staged}
 use Rattle.tbl_blocks.specs.Versions.{LentVersion}

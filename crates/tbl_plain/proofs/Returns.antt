@@ -6,7 +6,7 @@ use Rattle.std.proofs.lemmas.List.Sums.{sum_by-cons, count_by-le-length}
 use Rattle.lend_block.specs.Loan.{LentBytes}
 use Rattle.tbl_registry.specs.declared.rows.Handle.{Handle}
 use Rattle.tbl_registry.specs.Listing.{IsTied, handle_at}
-use Rattle.tbl_registry.proofs.Numbered.{same_number}
+use Rattle.tbl_registry.proofs.HandleNumbers.{same_number}
 use Rattle.tbl_blocks.specs.Blocks.{Stored}
 use Rattle.tbl_blocks.specs.Held.{HeldViews, held_at}
 use Rattle.tbl_blocks.specs.Contents.{Content, no_content, version_at, content_at, kept_at, is_open, older_in}

@@ -17,13 +17,13 @@ use Rattle.tbl_words.specs.Tables as state
 use Rattle.tbl_words.specs.Machine as machine
 use Rattle.tbl_registry.specs.declared.rows.Handle.{Handle}
 use Rattle.tbl_registry.specs.Listing.{Table, Listing, IsTied, is_live, table_at, table_named, with_new_handle, made_handle, AddsHandle}
-use Rattle.tbl_registry.proofs.Leaving.{handles_go_on}
-use Rattle.tbl_registry.proofs.Numbered.{same_number, other_number}
+use Rattle.tbl_registry.proofs.HandleDrops.{handles_go_on}
+use Rattle.tbl_registry.proofs.HandleNumbers.{same_number, other_number}
 use Rattle.tbl_blocks.specs.Contents.{Content, content_at}
 use Rattle.tbl_plain.specs.declared.plain.PlainTables.TheInside.{Inside}
 use Rattle.tbl_plain.specs.Core.{Plain, Acts, has_handle_number}
 use Rattle.tbl_plain.specs.Inside.{plain_of, means, table_in, table_with, handle_in, is_this, is_other, IsRecent, IsFilled, Keeps}
-use Rattle.tbl_plain.proofs.After.{step_by, acts_from, acts_refused}
+use Rattle.tbl_plain.proofs.CallLaws.{step_by, acts_from, acts_refused}
 use Rattle.tbl_plain.proofs.Access.{share_checked}
 use Rattle.tbl_plain.proofs.Bags.{bags_grown}
 use Rattle.tbl_plain.proofs.Meaning.{named_here, found_all}

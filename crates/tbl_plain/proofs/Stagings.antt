@@ -17,9 +17,9 @@ use Rattle.tbl_blocks.specs.Contents.{Content, content_at, is_double, is_staged,
 use Rattle.tbl_plain.specs.declared.plain.PlainTables.TheInside.{Inside}
 use Rattle.tbl_plain.specs.Inside.{means, handle_in, hold_of, staged_of, is_other, Keeps}
 use Rattle.tbl_plain.specs.Refusals.{is_partial, is_lent_apart, is_lent, lacks_buffer, bars_in}
-use Rattle.tbl_plain.proofs.Beside.{KeepsPresent}
+use Rattle.tbl_plain.proofs.OtherVersions.{KeepsPresent}
 use Rattle.tbl_plain.proofs.Buffers.{staged_alike, taken_alike, all_taken}
-use Rattle.tbl_plain.proofs.Called.{table_by}
+use Rattle.tbl_plain.proofs.TableQuestions.{table_by}
 use Rattle.tbl_plain.proofs.Figures.{HasContent, holds_here}
 use Rattle.tbl_plain.proofs.Meaning.{count_alike}
 

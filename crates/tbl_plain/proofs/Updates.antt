@@ -10,7 +10,7 @@ use Rattle.tbl_words.specs.Tables as state
 use Rattle.tbl_words.specs.Machine as machine
 use Rattle.tbl_registry.specs.declared.rows.Handle.{Handle}
 use Rattle.tbl_registry.specs.Listing.{Table, IsTied, is_live, is_registered}
-use Rattle.tbl_registry.proofs.Numbered.{same_number}
+use Rattle.tbl_registry.proofs.HandleNumbers.{same_number}
 use Rattle.tbl_blocks.specs.declared.next.Next.{Next}
 use Rattle.tbl_blocks.specs.declared.next.Next.TheVariants.{Nothing, Inactive}
 use Rattle.tbl_blocks.specs.Blocks.{Stored}
@@ -20,13 +20,13 @@ use Rattle.tbl_plain.specs.declared.plain.PlainTables.TheInside.{Inside}
 use Rattle.tbl_plain.specs.Core.{Plain, Acts}
 use Rattle.tbl_plain.specs.Inside.{plain_of, means, table_in, table_with, handle_with, hold_of, staged_of, is_this, is_other, IsRecent, IsFilled, Keeps}
 use Rattle.tbl_plain.proofs.Aborts.{nothing_beside}
-use Rattle.tbl_plain.proofs.After.{step_by, acts_from}
-use Rattle.tbl_plain.proofs.Beside.{itself, key_room, of_table, of_others, holds_present, tables_now, kept_now, now, means_by, none_counted}
+use Rattle.tbl_plain.proofs.CallLaws.{step_by, acts_from}
+use Rattle.tbl_plain.proofs.OtherVersions.{itself, key_room, of_table, of_others, holds_present, tables_now, kept_now, now, means_by, none_counted}
 use Rattle.tbl_plain.specs.Views.{held_by}
 use Rattle.tbl_plain.proofs.Bags.{held_view, bags_still}
 use Rattle.tbl_plain.proofs.Changes.{handles_changed, views_still}
 use Rattle.tbl_plain.proofs.Figures.{HasContent}
-use Rattle.tbl_plain.proofs.Kept.{changed_keeps}
+use Rattle.tbl_plain.proofs.TableContents.{changed_keeps}
 use Rattle.tbl_plain.proofs.Registers.{count_none}
 use Rattle.tbl_plain.proofs.Meaning.{count_alike}
 

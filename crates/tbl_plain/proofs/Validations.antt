@@ -19,7 +19,7 @@ use Rattle.tbl_registry.specs.declared.rows.TableRow.{TableRow}
 use Rattle.tbl_registry.specs.Listing.{Table, Tells}
 use Rattle.tbl_plain.specs.declared.plain.PlainTables.TheInside.{Inside}
 use Rattle.tbl_plain.specs.Inside.{staged_of, table_with, Keeps}
-use Rattle.tbl_plain.proofs.Beside.{KeepsPresent}
+use Rattle.tbl_plain.proofs.OtherVersions.{KeepsPresent}
 use Rattle.tbl_plain.proofs.Figures.{HasContent}
 use Rattle.tbl_plain.proofs.Meaning.{found_all}
 

@@ -70,8 +70,10 @@ AreOneLoan core =
 -- what two handles hold of two tables, or of two versions of one, is lent by two loans
 abbrev pub AreTwoLoans : Plain → ℕ → ℕ → Type 0
 AreTwoLoans core number other =
-    (table its version second : ℕ) → HoldsVersion core.state.handles number table version →
-    HoldsVersion core.state.handles other its second → (table ≡ its → version ≢ second) →
+    (table other_table version other_version : ℕ) →
+    HoldsVersion core.state.handles number table version →
+    HoldsVersion core.state.handles other other_table other_version →
+    (table ≡ other_table → version ≢ other_version) →
     loan_of core.lent number ≢ loan_of core.lent other
 
 -- Calls. --

@@ -57,7 +57,6 @@
 #![tactic(auto)]
 
 mod answers;
-mod calls;
 mod handles;
 mod holding;
 mod leaving;

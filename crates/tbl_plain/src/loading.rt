@@ -122,8 +122,7 @@ impl<'r> PlainTables<'r> {
             return Err(TblStatus::InfoTableLocked);
         }
         if !self.blocks.has_next_version(key) {
-            // No other refusal holds, but there is no later version.
-            return Err(TblStatus::InfoTableLocked);
+            return Err(TblStatus::InfoTableLocked); // no other refusal, but no later version
         }
         self.blocks.recall_table(key);
         self.blocks.update(key);

@@ -53,8 +53,8 @@ impl<'r> PlainTables<'r> {
         self.registry.recall_ties();
     }
 
-    /// What two live handles hold of two tables, or of two versions of one, is lent by two loans:
-    /// it lies in two blocks. Does nothing.
+    /// If two live handles hold two tables, or two versions of one, the loans that lend them
+    /// differ, since they lie in two blocks. Does nothing.
     pub fn recall_apart(&mut self, handle: u32, other: u32)
         ensures apart { AreTwoLoans self.old handle other }
         ensures same { self.new ≡ self.old }
@@ -63,14 +63,15 @@ impl<'r> PlainTables<'r> {
         let Some(row) = self.registry.find(handle) else {
             return;
         };
-        let Some(its) = self.registry.find(other) else {
+        let Some(other_row) = self.registry.find(other) else {
             return;
         };
-        if row.key == its.key {
+        if row.key == other_row.key {
             self.blocks.recall_versions(row.key as u32);
             return;
         }
-        self.blocks.recall_apart(row.key as u32, its.key as u32);
+        self.blocks
+            .recall_apart(row.key as u32, other_row.key as u32);
     }
 
     /// The blocks in which the tables lie: of each table its present value in one, what is held of

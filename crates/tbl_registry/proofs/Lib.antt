@@ -1,7 +1,7 @@
-pub mod Shelves
-pub mod Numbered
-pub mod Ties
-pub mod Places
+pub mod HandleDrops
+pub mod HandleNumbers
 pub mod Keeps
 pub mod Listings
-pub mod Leaving
+pub mod Places
+pub mod Shelves
+pub mod Ties

@@ -16,8 +16,8 @@ use Rattle.tbl_registry.specs.declared.rows.Handle.{Handle}
 use Rattle.tbl_registry.specs.Listing.{Table, Listing, IsTied, handle_at, is_live, has_handle, table_at, number_at, with_new_handle, made_handle, without_handle, AddsTable}
 use Rattle.tbl_registry.specs.Inside.{AreRising}
 use Rattle.tbl_registry.specs.Listed.{TableFacts, HandleFacts, facts_of, facts_in, handle_facts_of, handle_facts_in, IsListed, FindsAlike, without_handle_of}
-use Rattle.tbl_registry.proofs.Leaving.{found_holds, either_way}
-use Rattle.tbl_registry.proofs.Numbered.{same_number, other_number, later_others}
+use Rattle.tbl_registry.proofs.HandleDrops.{found_holds, either_way}
+use Rattle.tbl_registry.proofs.HandleNumbers.{same_number, other_number, later_others}
 
 -- whether one passes is told by what both know
 alike_any : (p : HandleFacts → Bool) (hs : List state.Handle) (ks : List Handle) → map handle_facts_of hs ≡ map handle_facts_in ks → list_any (λ h. p (handle_facts_of h)) hs ≡ list_any (λ h. p (handle_facts_in h)) ks

@@ -8,7 +8,7 @@ use Rattle.std.proofs.lemmas.List.Elements.{All-weaker, All-push, All-filter, Al
 use Rattle.std.proofs.lemmas.List.Sums.{sum_by-set}
 use Rattle.tbl_registry.specs.Listing.{Table, table_at, without_table}
 use Rattle.tbl_registry.specs.Inside.{table_in, tables_in, IsFiled}
-use Rattle.tbl_registry.proofs.Numbered.{same_number, other_number}
+use Rattle.tbl_registry.proofs.HandleNumbers.{same_number, other_number}
 
 is_same : (m n : ℕ) → eqb m n ≡ true → m ≡ n
 is_same m n is = grind (arith, nat_tests)

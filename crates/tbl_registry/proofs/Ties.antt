@@ -10,7 +10,7 @@ use Rattle.std.proofs.lemmas.List.Quantifiers.{all_pairs_push}
 use Rattle.std.proofs.lemmas.List.Sums.{length-filter, count_by-le-length}
 use Rattle.tbl_registry.specs.declared.rows.Handle.{Handle}
 use Rattle.tbl_registry.specs.Listing.{Table, Listing, IsTied, table_at, number_at, has_handle, with_new_handle, made_handle, with_handle, without_handle, without_table}
-use Rattle.tbl_registry.proofs.Numbered.{same_number, other_number}
+use Rattle.tbl_registry.proofs.HandleNumbers.{same_number, other_number}
 
 is_same : (m n : ℕ) → eqb m n ≡ true → m ≡ n
 is_same m n is = grind (arith, nat_tests)

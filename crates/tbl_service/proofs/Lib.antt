@@ -1,9 +1,9 @@
 mod Allowances
-mod Allowed
-pub mod Crossing
+mod EmptyBags
 mod Laws
-mod Meanwhile
 mod Openings
-mod Standing
-mod Unowned
+mod OthersCalls
+mod PermitTests
+mod Standings
+pub mod Threads
 mod Visits

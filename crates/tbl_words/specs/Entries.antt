@@ -41,6 +41,14 @@ call_text (ReleaseAddress handle) = []
 call_text (Status handle) = []
 call_text End = []
 
--- how many they are
+-- the call with these bytes in place of those that it brings; itself, where it brings none
+abbrev pub with_text : List ℕ → Call → Call
+with_text text (Register name size option rules) = Register text size option rules
+with_text text (Share name) = Share text
+with_text text (Stage handle offset bytes) = Stage handle offset text
+with_text text (Load handle offset bytes) = Load handle offset text
+with_text text call = call
+
+-- how many bytes a call brings
 abbrev pub call_bytes : Call → ℕ
 call_bytes call = length (call_text call)

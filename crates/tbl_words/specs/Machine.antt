@@ -74,7 +74,7 @@ abbrev pub handle_cause : Bool → Bool → Option TblStatus → Option TblStatu
 handle_cause live own others =
     refused_if (not live) ErrInvalidHandle (refused_if (not own) ErrNoAccess others)
 
--- a table is registered no more; then the others
+-- a table is no longer registered; then the others
 abbrev pub unregistered_cause : Bool → Option TblStatus → Option TblStatus
 unregistered_cause registered others = refused_if (not registered) ErrUnregistered others
 

@@ -1,6 +1,6 @@
 //! The calls of Table Services, their answers, and both together as an entry of the journal.
 ghost use Rattle.std.specs.Prelude.{◌≡◌};
-ghost use Rattle.tbl_words.specs.Entries.{call_of, call_text, call_bytes};
+ghost use Rattle.tbl_words.specs.Entries.{call_of, call_text, with_text, call_bytes};
 
 use crate::statuses::TblStatus;
 use fsw_base::AppNo;
@@ -92,6 +92,48 @@ impl<'a> TblCall<'a> {
             TblCall::Register { name, .. } | TblCall::Share { name } => name,
             TblCall::Stage { bytes, .. } | TblCall::Load { bytes, .. } => bytes,
             _ => &[],
+        }
+    }
+
+    /// The same call with these bytes in place of its own; itself, where it brings none. Inlined,
+    /// it makes the call where that goes.
+    #[inline(always)]
+    pub(crate) fn with_text<'b>(&self, text: &'b [u8]) -> TblCall<'b>
+        ensures call { call_of result ≡ with_text text.entry.now (call_of self.now) }
+        ensures own { with_text (call_text (call_of self.now)) (call_of result) ≡
+            call_of self.now }
+    {
+        match self {
+            TblCall::Register {
+                size,
+                option,
+                rules,
+                ..
+            } => TblCall::Register {
+                name: text,
+                size: *size,
+                option: *option,
+                rules: rules.again(),
+            },
+            TblCall::Share { .. } => TblCall::Share { name: text },
+            TblCall::Unregister { handle } => TblCall::Unregister { handle: *handle },
+            TblCall::Stage { handle, offset, .. } => TblCall::Stage {
+                handle: *handle,
+                offset: *offset,
+                bytes: text,
+            },
+            TblCall::Validate { handle } => TblCall::Validate { handle: *handle },
+            TblCall::Update { handle } => TblCall::Update { handle: *handle },
+            TblCall::Abort { handle } => TblCall::Abort { handle: *handle },
+            TblCall::Load { handle, offset, .. } => TblCall::Load {
+                handle: *handle,
+                offset: *offset,
+                bytes: text,
+            },
+            TblCall::GetAddress { handle } => TblCall::GetAddress { handle: *handle },
+            TblCall::ReleaseAddress { handle } => TblCall::ReleaseAddress { handle: *handle },
+            TblCall::Status { handle } => TblCall::Status { handle: *handle },
+            TblCall::End => TblCall::End,
         }
     }
 

@@ -2,61 +2,19 @@
 ghost use Rattle.std.specs.Prelude.{◌≡◌, ◌+◌, ◌^◌, ◌<◌, ◌≤◌, [], length, slice_get, IfOk, Some};
 ghost use Rattle.journal_store.specs.Budgets.{AreBudgets, HasRoom, allowance_of, entries_left};
 ghost use Rattle.tbl_words.specs.Log.{Log, with_entry, left_of};
-ghost use Rattle.tbl_words.specs.Entries.{call_of, entry_of, call_text, call_bytes};
-ghost use Rattle.tbl_words.specs.Inside.{call_in};
+ghost use Rattle.tbl_words.specs.Entries.{call_of, entry_of, call_bytes};
 
 use crate::calls::{TblAnswer, TblCall, TblEntry};
 use fsw_base::{AppNo, Budget};
 use journal_store::{Allowance, JournalStore};
 use std::alloc::{AllocError, Global};
 use std::marker::Model;
-use tbl_rules::RuleList;
-
-// A call but for its bytes.
-#[derive(Debug, Drop)]
-enum RowCall {
-    Register {
-        size: u32,
-        option: u32,
-        rules: RuleList,
-    },
-    Share,
-    Unregister {
-        handle: u32,
-    },
-    Stage {
-        handle: u32,
-        offset: u32,
-    },
-    Validate {
-        handle: u32,
-    },
-    Update {
-        handle: u32,
-    },
-    Abort {
-        handle: u32,
-    },
-    Load {
-        handle: u32,
-        offset: u32,
-    },
-    GetAddress {
-        handle: u32,
-    },
-    ReleaseAddress {
-        handle: u32,
-    },
-    Status {
-        handle: u32,
-    },
-    End,
-}
 
 // An entry but for its application and its bytes.
 #[derive(Debug, Drop)]
 struct Row {
-    call: RowCall,
+    // The call without its bytes, which lie beside the row.
+    call: TblCall<'static>,
     answer: TblAnswer,
 }
 
@@ -127,7 +85,7 @@ impl TblJournal {
         let row = self.store.row(i);
         TblEntry {
             app: self.store.app(i),
-            call: call_with(&row.call, self.store.text(i)),
+            call: row.call.with_text(self.store.text(i)),
             answer: row.answer,
         }
     }
@@ -139,81 +97,9 @@ impl TblJournal {
         ensures { self.new ≡ with_entry self.old (entry_of entry.now) }
     {
         let row = Row {
-            call: row_of(&entry.call),
+            call: entry.call.with_text(b""),
             answer: entry.answer,
         };
         self.store.push(entry.app, row, entry.call.text());
-    }
-}
-
-// The call of a row with these bytes.
-fn call_with<'a>(call: &RowCall, text: &'a [u8]) -> TblCall<'a>
-    ensures { call_of result ≡ call_in call.now text.entry.now }
-{
-    match call {
-        RowCall::Register {
-            size,
-            option,
-            rules,
-        } => TblCall::Register {
-            name: text,
-            size: *size,
-            option: *option,
-            rules: rules.again(),
-        },
-        RowCall::Share => TblCall::Share { name: text },
-        RowCall::Unregister { handle } => TblCall::Unregister { handle: *handle },
-        RowCall::Stage { handle, offset } => TblCall::Stage {
-            handle: *handle,
-            offset: *offset,
-            bytes: text,
-        },
-        RowCall::Validate { handle } => TblCall::Validate { handle: *handle },
-        RowCall::Update { handle } => TblCall::Update { handle: *handle },
-        RowCall::Abort { handle } => TblCall::Abort { handle: *handle },
-        RowCall::Load { handle, offset } => TblCall::Load {
-            handle: *handle,
-            offset: *offset,
-            bytes: text,
-        },
-        RowCall::GetAddress { handle } => TblCall::GetAddress { handle: *handle },
-        RowCall::ReleaseAddress { handle } => TblCall::ReleaseAddress { handle: *handle },
-        RowCall::Status { handle } => TblCall::Status { handle: *handle },
-        RowCall::End => TblCall::End,
-    }
-}
-
-// The call but for its bytes.
-fn row_of(call: &TblCall<'_>) -> RowCall
-    ensures { call_in result (call_text (call_of call.now)) ≡ call_of call.now }
-{
-    match call {
-        TblCall::Register {
-            size,
-            option,
-            rules,
-            ..
-        } => RowCall::Register {
-            size: *size,
-            option: *option,
-            rules: rules.again(),
-        },
-        TblCall::Share { .. } => RowCall::Share,
-        TblCall::Unregister { handle } => RowCall::Unregister { handle: *handle },
-        TblCall::Stage { handle, offset, .. } => RowCall::Stage {
-            handle: *handle,
-            offset: *offset,
-        },
-        TblCall::Validate { handle } => RowCall::Validate { handle: *handle },
-        TblCall::Update { handle } => RowCall::Update { handle: *handle },
-        TblCall::Abort { handle } => RowCall::Abort { handle: *handle },
-        TblCall::Load { handle, offset, .. } => RowCall::Load {
-            handle: *handle,
-            offset: *offset,
-        },
-        TblCall::GetAddress { handle } => RowCall::GetAddress { handle: *handle },
-        TblCall::ReleaseAddress { handle } => RowCall::ReleaseAddress { handle: *handle },
-        TblCall::Status { handle } => RowCall::Status { handle: *handle },
-        TblCall::End => RowCall::End,
     }
 }

@@ -6,7 +6,7 @@ ghost use Rattle.bus_records.specs.Records.{told_event};
 
 use bus_events::ServiceEvent;
 use bus_records::Records;
-use bus_tables::{Miss, MissCause};
+use bus_words::{Miss, MissCause};
 use evs_events::EventDesk;
 use fsw_base::AppNo;
 use housekeeping::CounterName;

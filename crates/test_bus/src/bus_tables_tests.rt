@@ -3,8 +3,8 @@ ghost use Rattle.std.specs.Prelude.{◌≡◌, ◌<◌, ◌≤◌, Some};
 ghost use Rattle.fsw_base.specs.Limits.{usual_limits};
 ghost use Rattle.bus_tables.specs.Tables.{opened};
 
-use bus_tables::{BusTables, ItemRow, Message, Miss, MissCause, Misses};
-use bus_words::PipeText;
+use bus_tables::{BusTables, ItemRow, Message, Misses, RouteNo};
+use bus_words::{Miss, MissCause, PipeText};
 use fsw_base::{AppNo, Config, Scope};
 use std::marker::Brand;
 use std::process::Abort;
@@ -26,7 +26,9 @@ fn first_waiting<L: Ledger>(
 {
     let pipe = tables.create_pipe(name, message.sender, 4);
     tables.subscribe(0x0801, pipe, 4, Scope::Global, steps);
-    tables.deliver(0x0801, message, misses, steps);
+    let place = tables.route_of(0x0801).unwrap();
+    let route = RouteNo { id: 0x0801, place };
+    tables.deliver(route, message, misses, steps);
     tables.oldest(pipe)
 }
 
@@ -115,14 +117,16 @@ fn come_and_go<L: Ledger, R: Abort>(
     let second = tables.create_pipe(name, app, 4);
     tables.subscribe(0x0801, first, 1, Scope::Global, &mut steps);
     tables.subscribe(0x0801, second, 1, Scope::Global, &mut steps);
-    assert_eq!(rt; tables.next_count(0x0801), 1);
+    let place = tables.route_of(0x0801).unwrap();
+    let route = RouteNo { id: 0x0801, place };
+    assert_eq!(rt; tables.next_count(route), 1);
     assert_eq!(rt;
-        tables.deliver(0x0801, &message(app, 7), misses, &mut steps),
+        tables.deliver(route, &message(app, 7), misses, &mut steps),
         2
     );
     tables.take(first);
     assert_eq!(rt;
-        tables.deliver(0x0801, &message(app, 8), misses, &mut steps),
+        tables.deliver(route, &message(app, 8), misses, &mut steps),
         1
     );
     let miss = Miss {

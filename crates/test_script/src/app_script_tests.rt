@@ -1,5 +1,6 @@
 //! A script on its happy path, and one with a fault.
 use app_script::{ReadFail, read_script};
+use fsw_base::FaultKind;
 use std::alloc::Global;
 use std::test::Fail;
 
@@ -67,4 +68,29 @@ fn lines_of_events_figures_and_tables_are_read(rt: HostRuntime) -> Result<(), Fa
     let tables = b"app A\ntreg t0 LIMITS 8 0 0:1:9\ntload t0 0 fill:8:1\ntget t0\nshow t0\n";
     assert_eq!(rt; apps_of(rt.alloc(), tables), Some(1));
     Ok(())
+}
+
+// The fault of an input, where it has one.
+fn fault_of(alloc: Global, input: &[u8]) -> Option<FaultKind> {
+    match read_script(alloc, input) {
+        Ok(_) => None,
+        Err(ReadFail::Memory(_)) => None,
+        Err(ReadFail::Fault(fault)) => Some(fault.kind),
+    }
+}
+
+#[test]
+fn table_files_have_lines_in_version_2_alone(rt: HostRuntime) {
+    let cases: [(&[u8], FaultKind); 7] = [
+        (b"tfile t0 00\n", FaultKind::UnknownWord),
+        (b"script 1\napp A\ntfile t0 00\n", FaultKind::UnknownWord),
+        (b"script 2\ntfile t0 00\n", FaultKind::Misplaced),
+        (b"script 2\napp A\ntfile t0\n", FaultKind::WrongCount),
+        (b"script 2\napp A\ntfile t64 00\n", FaultKind::BadWord),
+        (b"script 2\napp A\ntfile t0 000\n", FaultKind::BadWord),
+        (b"script 2\napp A\ntfile t0 00\n", FaultKind::BadImage),
+    ];
+    for (input, kind) in cases {
+        assert_eq!(rt; fault_of(rt.alloc(), input), Some(kind));
+    }
 }

@@ -399,7 +399,7 @@ fn run_all<'r, R: Threads + Wait + Sync>(
 
 // Opens a bus for sixteen applications, runs them, and closes it; None where not all went as
 // planned.
-#[tactic(auto, using(crate::proofs::Joining::all_joined))]
+#[tactic(auto, using(crate::proofs::Joins::all_joined))]
 fn run_plan<'r, R: Threads + Wait + Sync>(
     rt: &R,
     alloc: Global,

@@ -92,3 +92,9 @@ fn each_fault_is_told_of_bytes_that_have_it(rt: HostRuntime) -> Result<(), Fail>
     assert_eq!(rt; cut, Err(ImageFault::Size { said: 4, given: 0 }));
     Ok(())
 }
+
+#[test]
+fn faults_have_names_without_their_numbers(rt: HostRuntime) {
+    assert_eq!(rt; ImageFault::NotCfe(7).name(), "NotCfe");
+    assert_eq!(rt; ImageFault::Size { said: 5, given: 4 }.name(), "Size");
+}

@@ -8,7 +8,7 @@ use tbl_registry::{HandleRow, Registry};
 use tbl_rules::RuleList;
 
 /// A handle that was dropped tells nothing any more.
-#[tactic(auto, using(tbl_registry::proofs::Numbered::gone))]
+#[tactic(auto, using(tbl_registry::proofs::HandleNumbers::gone))]
 fn look_for_dropped(registry: &mut Registry, handle: u32) -> Option<HandleRow>
     requires { is_live registry.old.handles handle ≡ true }
     ensures { result ≡ None }

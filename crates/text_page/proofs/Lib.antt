@@ -1,3 +1,3 @@
 pub mod Digits
-pub mod Following
-pub mod Putting
+pub mod ListTexts
+pub mod PieceTexts

@@ -65,7 +65,7 @@ impl Page {
 /// Puts a piece of text on the page. A full page is written out first. After a failed write nothing
 /// is written any more, and what is put is lost.
 #[inline(always)]
-#[tactic(auto, using(crate::proofs::Putting::waits_behind))]
+#[tactic(auto, using(crate::proofs::PieceTexts::waits_behind))]
 pub fn put<K: Sink>(sink: &mut SinkGuard<'_, K>, page: &mut Page, text: &[u8])
     ensures { Puts sink.old sink.new page.old page.new text.now }
 {

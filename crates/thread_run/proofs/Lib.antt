@@ -1,6 +1,6 @@
-mod Crossing
+mod Threads
+pub mod BetweenTurns
+pub mod FirstTurns
+pub mod Joins
 pub mod Numbers
 pub mod Ways
-pub mod BetweenTurns
-pub mod Opened
-pub mod Joined

@@ -25,7 +25,7 @@ use Rattle.script_runs.specs.Written.{first_written}
 use Rattle.script_runs.specs.Told.{receipts_told}
 use Rattle.script_runs.proofs.OneTurn.{IsTurn, is_ended, listed, turn-in}
 use Rattle.script_runs.proofs.TableTurn.{IsTableTurn, table-turn-in}
-use Rattle.app_calls.proofs.Wrote.{bag-written}
+use Rattle.app_calls.proofs.BufferBytes.{bag-written}
 use Rattle.app_run.specs.Rounds.{HasTold, histories_with, telling_now, told_on}
 use Rattle.app_run.specs.Runners.{Services, Progress, Equipped, running_of, standing_for, standing_in, going}
 use Rattle.app_run.specs.Turns.{ByTurn, OthersAtBus, OthersAtTables, Stands, TakesTurn, so_far}

@@ -10,7 +10,7 @@ use Rattle.turn_lock.specs.declared.view.Stage.TheVariants.{Has}
 use Rattle.turn_lock.specs.Views.{entries_of, is_live, is_served, passed_place}
 use Rattle.turn_lock.specs.Rule.{Fits, IsHome, IsOutWithOne, Kept}
 use Rattle.turn_lock.specs.Steps.{Grows, Passes}
-use Rattle.turn_lock.proofs.Counting.{turn_set, turn_kept}
+use Rattle.turn_lock.proofs.LockWords.{turn_set, turn_kept}
 use Rattle.turn_lock.proofs.Entries.{entries_of-append_other}
 use Rattle.turn_lock.proofs.Stages.{off, live_there}
 use Rattle.turn_lock.proofs.ViewLists.{each_set, differ_set, alone, main_set}

@@ -14,7 +14,7 @@ use Rattle.turn_lock.specs.declared.view.Stage.TheVariants.{Main, Away}
 use Rattle.turn_lock.specs.Views.{entries_of, is_live, is_served, is_main, is_there, with_seat, seat_place, joined_place, spent_place}
 use Rattle.turn_lock.specs.Rule.{Fits, Differ, Each, IsAmong, Governs, IsHomeOrOut, Kept}
 use Rattle.turn_lock.specs.Steps.{Meets}
-use Rattle.turn_lock.proofs.Counting.{set_same}
+use Rattle.turn_lock.proofs.LockWords.{set_same}
 use Rattle.turn_lock.proofs.Entries.{entries_of-beginning}
 use Rattle.turn_lock.proofs.Stages.{off}
 use Rattle.turn_lock.proofs.TakesTurns.{stays}

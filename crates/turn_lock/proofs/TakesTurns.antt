@@ -14,7 +14,7 @@ use Rattle.turn_lock.specs.declared.view.Stage.TheVariants.{Away}
 use Rattle.turn_lock.specs.Views.{entries_of, is_live, served_place}
 use Rattle.turn_lock.specs.Rule.{Fits, IsHome, IsOutWithOne, IsHomeOrOut, Kept}
 use Rattle.turn_lock.specs.Steps.{Seizes}
-use Rattle.turn_lock.proofs.Counting.{set_same, turn_set}
+use Rattle.turn_lock.proofs.LockWords.{set_same, turn_set}
 use Rattle.turn_lock.proofs.Stages.{off, live_there}
 use Rattle.turn_lock.proofs.ViewLists.{inside, each_set, differ_set, main_set}
 

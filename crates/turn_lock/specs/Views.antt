@@ -1,4 +1,4 @@
--- What the table keeps of a seat, its place, and what each kind of step makes of it.
+-- What the table keeps of a seat (its place), and how each kind of step changes it.
 use Rattle.std.specs.Prelude.{ℕ, ◌==◌, Bool, true, false, List, [], ◌∷◌, ◌++◌, filter, Some, None, map, All, Contains}
 use Rattle.turn_lock.specs.declared.view.View.{View}
 use Rattle.turn_lock.specs.declared.view.Stage.{Stage}

@@ -1,6 +1,6 @@
 use Rattle.std.proofs.Common.{IsSome, sym, subst, ap, ◌∙◌}
 use Rattle.std.specs.Option.{option_map}
-use Rattle.app_run.proofs.TakenHeld.{few-held, version-known, shown-hold, none-held}
+use Rattle.app_run.proofs.VersionReceipts.{few-held, version-known, shown-hold, none-held}
 use Rattle.app_run.proofs.receipts.hold_receipt.Goals as goal
 
 pub unwrap-version-requires : goal.unwrap-version-requires

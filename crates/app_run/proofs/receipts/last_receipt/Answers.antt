@@ -1,6 +1,6 @@
 use Rattle.std.proofs.Common.{IsSome, sym, subst, ap, ◌∙◌}
 use Rattle.std.specs.Option.{option_map}
-use Rattle.app_run.proofs.Taken.{is-message, newest-known, shown-one, none-shown}
+use Rattle.app_run.proofs.MessageReceipts.{is-message, newest-known, shown-one, none-shown}
 use Rattle.app_run.proofs.receipts.last_receipt.Goals as goal
 
 pub unwrap-number-requires : goal.unwrap-number-requires

@@ -1,7 +1,7 @@
 use Rattle.std.proofs.Common.{◌≡◌, ◌-◌, suc, None, ap, sym, ◌∙◌, arith, drop, subst}
 use Rattle.std.proofs.lemmas.List.{drop_all}
 use Rattle.app_run.specs.Received.{newest_number}
-use Rattle.app_run.proofs.Newest.{newest-found, newest-passed}
+use Rattle.app_run.proofs.NewestReceipts.{newest-found, newest-passed}
 use Rattle.app_run.proofs.receipts.newest_number.Goals as goal
 
 pub loop-place-init : goal.loop-place-init

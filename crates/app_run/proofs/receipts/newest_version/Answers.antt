@@ -1,7 +1,7 @@
 use Rattle.std.proofs.Common.{◌≡◌, ◌-◌, suc, None, ap, sym, ◌∙◌, arith, drop, subst}
 use Rattle.std.proofs.lemmas.List.{drop_all}
 use Rattle.app_run.specs.Received.{newest_version}
-use Rattle.app_run.proofs.NewestHeld.{version-found, version-passed}
+use Rattle.app_run.proofs.NewestVersions.{version-found, version-passed}
 use Rattle.app_run.proofs.receipts.newest_version.Goals as goal
 
 pub loop-place-init : goal.loop-place-init

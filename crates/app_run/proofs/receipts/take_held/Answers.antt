@@ -1,6 +1,6 @@
 use Rattle.std.proofs.Common.{◌++◌, ◌∷◌, [], sym, ap, ◌∙◌, append-nil}
 use Rattle.std.specs.Option.{option_map}
-use Rattle.app_run.proofs.TakenHeld.{few-held, held-one, held-none}
+use Rattle.app_run.proofs.VersionReceipts.{few-held, held-one, held-none}
 use Rattle.app_run.proofs.receipts.take_held.Goals as goal
 
 pub held_receipt-requires : goal.held_receipt-requires

@@ -1,6 +1,6 @@
 use Rattle.std.proofs.Common.{◌++◌, ◌∷◌, [], sym, ap, ◌∙◌, append-nil}
 use Rattle.std.specs.Option.{option_map}
-use Rattle.app_run.proofs.Taken.{is-message, taken-one, taken-none}
+use Rattle.app_run.proofs.MessageReceipts.{is-message, taken-one, taken-none}
 use Rattle.app_run.proofs.receipts.take_receipt.Goals as goal
 
 pub of_message-requires : goal.of_message-requires

@@ -2,7 +2,7 @@ use Rattle.std.proofs.Common.{◌+◌, drop, fold, ap, ◌∙◌, arith}
 use Rattle.script_settings.specs.declared.account.Account.{Account}
 use Rattle.script_settings.specs.Accounts.{counted}
 use Rattle.app_script.proofs.PartLemmas.{waits_few, buffers_few}
-use Rattle.app_script.proofs.LinesCounted.{counted_none, counted_more, counted_all, counted_within}
+use Rattle.app_script.proofs.LineCounts.{counted_none, counted_more, counted_all, counted_within}
 use Rattle.app_script.proofs.app.account_of.Goals as goal
 
 pub loop-line-init : goal.loop-line-init

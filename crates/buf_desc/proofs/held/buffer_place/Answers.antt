@@ -1,7 +1,7 @@
 use Rattle.std.proofs.Common.{rules}
 use Rattle.std.proofs.lemmas.List.Sorted.{answers_always}
 use Rattle.buf_desc.specs.Block.{Unsent}
-use Rattle.buf_desc.proofs.Ordered.{searched}
+use Rattle.buf_desc.proofs.RisingKeys.{searched}
 use Rattle.buf_desc.proofs.held.buffer_place.Goals as goal
 
 pub returns : goal.returns

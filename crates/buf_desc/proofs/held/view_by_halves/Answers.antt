@@ -1,6 +1,6 @@
 use Rattle.std.proofs.Common.{rules, ℕ}
 use Rattle.std.proofs.lemmas.List.Sorted.{answers_always}
-use Rattle.buf_desc.proofs.Ordered.{searched}
+use Rattle.buf_desc.proofs.RisingKeys.{searched}
 use Rattle.buf_desc.proofs.held.view_by_halves.Goals as goal
 
 pub returns : goal.returns

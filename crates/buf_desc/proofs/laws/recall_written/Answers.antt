@@ -1,5 +1,5 @@
 use Rattle.buf_desc.proofs.Lists.{length_over}
-use Rattle.buf_desc.proofs.Written.{seen_written}
+use Rattle.buf_desc.proofs.ByteWrites.{seen_written}
 use Rattle.buf_desc.proofs.laws.recall_written.Goals as goal
 
 pub returns-clause-seen : goal.returns-clause-seen

@@ -1,5 +1,5 @@
 use Rattle.std.proofs.Common.{refl}
-use Rattle.bus_service.proofs.Allowed.{also_last}
+use Rattle.bus_service.proofs.PermitTests.{also_last}
 use Rattle.bus_service.proofs.kind.may_end.Goals as goal
 
 pub returns-then-any : goal.returns-then-any

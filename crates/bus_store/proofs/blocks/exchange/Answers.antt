@@ -5,7 +5,7 @@ use Rattle.buf_desc.specs.Desk.{Buffers}
 use Rattle.buf_desc.specs.Held.{view_at}
 use Rattle.buf_desc.specs.Slots.{slot_at, sealed_at, is_sealed}
 use Rattle.bus_store.specs.Inside.{let_go}
-use Rattle.bus_store.proofs.Exchanged.{next_sealed, given_sealed, given_loan, given_uses, given_viewed, view_still, exchanged}
+use Rattle.bus_store.proofs.ViewExchanges.{next_sealed, given_sealed, given_loan, given_uses, given_viewed, view_still, exchanged}
 use Rattle.bus_store.proofs.blocks.exchange.Goals as goal
 
 pub view-view-requires-clause-sealed : goal.view-view-requires-clause-sealed

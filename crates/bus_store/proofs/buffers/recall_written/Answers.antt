@@ -1,4 +1,4 @@
-use Rattle.bus_store.proofs.Relisted.{still_written}
+use Rattle.bus_store.proofs.ListChanges.{still_written}
 use Rattle.bus_store.proofs.buffers.recall_written.Goals as goal
 
 pub returns-clause-buffers : goal.returns-clause-buffers

@@ -2,7 +2,7 @@
 use Rattle.std.proofs.Common.{ap, ◌∙◌, arith}
 use Rattle.lend_block.specs.Loan.{LentBytes}
 use Rattle.buf_desc.specs.Held.{Holding}
-use Rattle.bus_store.proofs.Relieved.{round_others, round_places, round_same, round_account, round_had}
+use Rattle.bus_store.proofs.AllReleases.{round_others, round_places, round_same, round_account, round_had}
 use Rattle.bus_store.proofs.buffers.release_each.Goals as goal
 
 pub loop-preserved : goal.loop-preserved

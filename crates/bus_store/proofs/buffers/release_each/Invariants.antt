@@ -6,7 +6,7 @@ use Rattle.bus_words.specs.Bus.{unsent_of, has_unsent, without_all_unsent}
 use Rattle.bus_store.specs.Bag.{HoldsBuffers}
 use Rattle.bus_store.specs.Words.{desc_of}
 use Rattle.bus_store.proofs.Accounts.{OutAlone}
-use Rattle.bus_store.proofs.Relieved.{BuffersAlone}
+use Rattle.bus_store.proofs.AllReleases.{BuffersAlone}
 use Rattle.bus_store.proofs.buffers.release_each.Given as goal
 
 abbrev pub invariant-loop : goal.invariant-loop

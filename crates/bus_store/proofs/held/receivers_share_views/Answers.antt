@@ -1,4 +1,4 @@
-use Rattle.bus_store.proofs.Shared.{one_view}
+use Rattle.bus_store.proofs.SharedViews.{one_view}
 use Rattle.bus_store.proofs.held.receivers_share_views.Goals as goal
 
 pub returns : goal.returns

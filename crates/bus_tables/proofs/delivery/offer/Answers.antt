@@ -1,5 +1,5 @@
 -- What an offer leaves, by the verdict at the subscription's pipe.
-use Rattle.std.proofs.Common.{◌≡◌, ℕ, Bool, List, [], ◌∷◌, ◌++◌, map, leb, cond, refl, ap, sym, ◌∙◌, subst, arith, Option, Some}
+use Rattle.std.proofs.Common.{◌≡◌, ℕ, Bool, List, [], ◌∷◌, ◌++◌, map, leb, cond, refl, ap, sym, ◌∙◌, subst, arith, Option, Some, is_some}
 use Rattle.std.specs.Option.{option_map, option_to_list}
 use Rattle.std.proofs.lemmas.List.{append-nil}
 use Rattle.pipe_queue.specs.declared.item.Item.{Item}
@@ -7,15 +7,15 @@ use Rattle.bus_words.specs.Pipes.{with_pipe, without_front, offered_over, is_que
 use Rattle.pipe_table.specs.Table.{Pipes}
 use Rattle.subscriptions.specs.Subs.{Subscription, live_at, one_more, with_change}
 use Rattle.bus_tables.specs.Missed.{Missed}
-use Rattle.bus_tables.specs.declared.misses.Miss.{Miss}
-use Rattle.bus_tables.specs.declared.misses.MissCause.TheVariants.{OverLimit, Full, Oldest}
+use Rattle.bus_words.specs.declared.miss.Miss.{Miss}
+use Rattle.bus_words.specs.declared.miss.MissCause.TheVariants.{OverLimit, Full, Oldest}
 use Rattle.bus_tables.specs.declared.tables.ItemRow.{ItemRow}
 use Rattle.bus_tables.specs.Rows.{row_misses, row_drops}
-use Rattle.bus_tables.specs.Inside.{AreQueued, item_in, row_in, sub_in, still, fewer_by}
+use Rattle.bus_tables.specs.Inside.{AreQueued, item_in, row_in, sub_in, still}
 use Rattle.bus_tables.proofs.Offers.{pipe_here, pipe_is, waiting_is, placed_is, over_is, told_by, told_is, taken_is, missed_is, dropped_is, left_is, offered_rows, stays, goes_on, makes_way, oldest_there, own_number, with_item, queued_more}
 use Rattle.bus_tables.proofs.OffersLists.{some_there}
 use Rattle.bus_tables.proofs.OffersRows.{rising_after}
-use Rattle.bus_tables.proofs.Takings.{takes_front, waits_if, queued_if, still_fewer, live_fewer}
+use Rattle.bus_tables.proofs.Takes.{takes_front, waits_if, queued_if, still_fewer, live_fewer}
 use Rattle.bus_tables.proofs.OffersSubs.{still-with_change}
 use Rattle.bus_tables.proofs.delivery.offer.Goals as goal
 
@@ -123,8 +123,8 @@ returns-in-OverLimit-clause-missed c = λ x live.
     let told = told_is c.args.pipes.now.live x found.0 found.1 c.args.message.now c.at-row.result.pipe c.eq-is_over.result c.offer-offered.result.verdict number over c.offer-offered.ensures.told ∙ c.in-OverLimit.is in
     let drops = row_drops c.args.message.now (sub_in x) (map row_in c.args.pipes.now.live) in
     c.push.ensures
-    ∙ drops_none c.args.misses.now (record { pipe = c.at-row.result.pipe; cause = OverLimit } ∷ []) drops (dropped_is c.args.pipes.now.live x found.0 found.1 c.args.message.now ∙ ap (λ v. option_to_list (option_map item_in (dropped_at v found.0.queue))) told)
-    ∙ ap (λ n. behind c.args.misses.now (record { pipe = n; cause = OverLimit } ∷ []) drops) number
+    ∙ drops_none c.args.misses.now (record { pipe = c.at.result.pipe; cause = OverLimit } ∷ []) drops (dropped_is c.args.pipes.now.live x found.0 found.1 c.args.message.now ∙ ap (λ v. option_to_list (option_map item_in (dropped_at v found.0.queue))) told)
+    ∙ ap (λ n. behind c.args.misses.now (record { pipe = n; cause = OverLimit } ∷ []) drops) (pipe_is c.args.subs.now c.args.sub x c.at.result c.at.ensures live)
     ∙ ap (λ l. behind c.args.misses.now l drops) (sym (missed_is c.args.pipes.now.live x found.0 found.1 c.args.message.now ∙ ap (told_by x.pipe) told))
 
 pub returns-in-OverLimit-clause-queued : goal.returns-in-OverLimit-clause-queued
@@ -169,8 +169,8 @@ returns-in-Full-clause-missed c = λ x live.
     let told = told_is c.args.pipes.now.live x found.0 found.1 c.args.message.now c.at-row.result.pipe c.eq-is_over.result c.offer-offered.result.verdict number over c.offer-offered.ensures.told ∙ c.in-Full.is in
     let drops = row_drops c.args.message.now (sub_in x) (map row_in c.args.pipes.now.live) in
     c.push-in-Full.ensures
-    ∙ drops_none c.args.misses.now (record { pipe = c.at-row.result.pipe; cause = Full } ∷ []) drops (dropped_is c.args.pipes.now.live x found.0 found.1 c.args.message.now ∙ ap (λ v. option_to_list (option_map item_in (dropped_at v found.0.queue))) told)
-    ∙ ap (λ n. behind c.args.misses.now (record { pipe = n; cause = Full } ∷ []) drops) number
+    ∙ drops_none c.args.misses.now (record { pipe = c.at-in-Full.result.pipe; cause = Full } ∷ []) drops (dropped_is c.args.pipes.now.live x found.0 found.1 c.args.message.now ∙ ap (λ v. option_to_list (option_map item_in (dropped_at v found.0.queue))) told)
+    ∙ ap (λ n. behind c.args.misses.now (record { pipe = n; cause = Full } ∷ []) drops) (pipe_is c.args.subs.now c.args.sub x c.at-in-Full.result c.at-in-Full.ensures live)
     ∙ ap (λ l. behind c.args.misses.now l drops) (sym (missed_is c.args.pipes.now.live x found.0 found.1 c.args.message.now ∙ ap (told_by x.pipe) told))
 
 pub returns-in-Full-clause-queued : goal.returns-in-Full-clause-queued
@@ -218,7 +218,7 @@ returns-in-In-clause-missed c = λ x live.
     (dropped_is c.args.pipes.now.live x found.0 found.1 c.args.message.now ∙ ap (λ v. option_to_list (option_map item_in (dropped_at v found.0.queue))) told)
 
 pub returns-in-In-clause-subs : goal.returns-in-In-clause-subs
-returns-in-In-clause-subs c = ap still c.queued.ensures ∙ still-with_change c.args.subs.now c.args.sub one_more (λ s. refl)
+returns-in-In-clause-subs c = ap still c.add_waiting.ensures ∙ still-with_change c.args.subs.now c.args.sub one_more (λ s. refl)
 
 pub returns-in-In-clause-queued : goal.returns-in-In-clause-queued
 returns-in-In-clause-queued c =
@@ -231,7 +231,7 @@ returns-in-In-clause-queued c =
     let told = told_is c.args.pipes.now.live x found.0 found.1 c.args.message.now c.at-row.result.pipe c.eq-is_over.result c.offer-offered.result.verdict number over c.offer-offered.ensures.told ∙ c.in-In.is in
     let item : Item = record { desc = c.args.message.now.desc; number = c.args.message.now.number; sub = c.args.sub } in
     let after = left c.args.pipes.now c.offer-offered.new.self c.args.message.now.sender c.eq-is_over.result (leb x.limit x.waiting) item c.at-row.result.pipe x.pipe number over c.offer-offered.ensures.after in
-    subst (λ s. AreQueued c.offer-offered.new.self.live s) (sym c.queued.ensures)
+    subst (λ s. AreQueued c.offer-offered.new.self.live s) (sym c.add_waiting.ensures)
     (subst (λ l. AreQueued l (with_change c.args.subs.now c.args.sub one_more)) (sym (after ∙ goes_on c.args.pipes.now.live x found.0 found.1 c.args.message.now item told))
     (queued_more c.args.pipes.now.live c.args.subs.now c.args.sub x found.0 item c.recall_order-2.ensures c.requires.queued live found.1 refl))
 
@@ -251,8 +251,13 @@ count_down-requires c =
     let first = oldest_there c.args.pipes.now.live x found.0 found.1 c.args.message.now c.offer-offered.result.dropped told gone in
     waits_if without_front takes_front c.args.pipes.now.live c.args.subs.now x.pipe c.requires.queued c.offer-offered.result.dropped first
 
-pub queued-requires-in-Oldest : goal.queued-requires-in-Oldest
-queued-requires-in-Oldest c = λ y live_now.
+pub add_waiting-requires-in-Oldest-clause-live : goal.add_waiting-requires-in-Oldest-clause-live
+add_waiting-requires-in-Oldest-clause-live c =
+    let it = some_there (live_at c.args.subs.now c.args.sub) c.requires.live in
+    ap is_some (ap (λ s. live_at s c.args.sub) c.count_down.ensures ∙ (live_fewer c.args.subs.now c.args.sub it.0 c.offer-offered.result.dropped it.1).1)
+
+pub add_waiting-requires-in-Oldest-clause-few : goal.add_waiting-requires-in-Oldest-clause-few
+add_waiting-requires-in-Oldest-clause-few c = λ y live_now.
     let it = some_there (live_at c.args.subs.now c.args.sub) c.requires.live in
     let t = live_fewer c.args.subs.now c.args.sub it.0 c.offer-offered.result.dropped it.1 in
     let same : ◌≡◌ {A = Option Subscription} (Some t.0) (Some y) = sym t.1 ∙ ap (λ s. live_at s c.args.sub) (sym c.count_down.ensures) ∙ live_now in
@@ -290,13 +295,13 @@ returns-in-Oldest-clause-missed c = λ x live.
     let drops : option_to_list c.item_row.result ≡ row_drops c.args.message.now (sub_in x) (map row_in c.args.pipes.now.live) =
     ap (λ o. option_to_list o) (c.item_row.ensures ∙ ap (option_map item_in) gone) ∙ sym (dropped_is c.args.pipes.now.live x found.0 found.1 c.args.message.now) in
     c.push_drop.ensures
-    ∙ ap (λ n. behind c.args.misses.now (record { pipe = n; cause = Oldest } ∷ []) (option_to_list c.item_row.result)) number
+    ∙ ap (λ n. behind c.args.misses.now (record { pipe = n; cause = Oldest } ∷ []) (option_to_list c.item_row.result)) (pipe_is c.args.subs.now c.args.sub x c.at-in-Oldest.result c.at-in-Oldest.ensures live)
     ∙ ap (λ l. behind c.args.misses.now l (option_to_list c.item_row.result)) (sym (missed_is c.args.pipes.now.live x found.0 found.1 c.args.message.now ∙ ap (told_by x.pipe) told))
     ∙ ap (behind c.args.misses.now (row_misses c.args.message.now (sub_in x) (map row_in c.args.pipes.now.live))) drops
 
 pub returns-in-Oldest-clause-subs : goal.returns-in-Oldest-clause-subs
 returns-in-Oldest-clause-subs c =
-    ap still c.queued-in-Oldest.ensures
+    ap still c.add_waiting-in-Oldest.ensures
     ∙ still-with_change c.count_down.new.subs c.args.sub one_more (λ s. refl)
     ∙ ap still c.count_down.ensures
     ∙ still_fewer c.args.subs.now c.offer-offered.result.dropped
@@ -323,7 +328,7 @@ returns-in-Oldest-clause-queued c =
     let live_now : live_at c.count_down.new.subs c.args.sub ≡ Some t.0 = ap (λ s. live_at s c.args.sub) c.count_down.ensures ∙ t.1 in
     let rising = rising_after without_front x.pipe 0 c.args.pipes.now.live (λ r. refl) c.recall_order.ensures.order in
     let pipe = pipe_here rows c.count_down.new.subs c.args.sub t.0 rising queued live_now in
-    subst (λ s. AreQueued c.offer-offered.new.self.live s) (sym c.queued-in-Oldest.ensures)
+    subst (λ s. AreQueued c.offer-offered.new.self.live s) (sym c.add_waiting-in-Oldest.ensures)
     (subst (λ l. AreQueued l (with_change c.count_down.new.subs c.args.sub one_more))
     (sym (after ∙ makes_way c.args.pipes.now.live x found.0 found.1 c.args.message.now item told ∙ ap (λ n. with_pipe (with_item item) n rows) (sym t.3)))
     (queued_more rows c.count_down.new.subs c.args.sub t.0 pipe.0 item c.recall_order-in-Oldest.ensures queued live_now pipe.1 refl))

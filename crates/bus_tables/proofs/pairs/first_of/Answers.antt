@@ -1,7 +1,7 @@
 use Rattle.std.proofs.Common.{◌≡◌, ◌+◌, drop, take, Some, sym, ◌∙◌, subst, arith}
 use Rattle.std.proofs.lemmas.List.{drop_all}
 use Rattle.routing.specs.Routing.{dests_at, route_of}
-use Rattle.bus_tables.proofs.Along.{route_within, none_of_id, none_left}
+use Rattle.bus_tables.proofs.Deliveries.{route_within, none_of_id, none_left}
 use Rattle.bus_tables.proofs.FirstOf.{Passed, none_unrouted, as_many, passed_none, is_live, found_here, passed_more, stands, none_behind}
 use Rattle.bus_tables.proofs.pairs.first_of.Goals as goal
 

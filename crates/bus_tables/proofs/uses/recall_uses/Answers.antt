@@ -1,4 +1,4 @@
-use Rattle.bus_tables.proofs.UsesCounted.{delivered_uses, taken_uses, front_uses, last_uses}
+use Rattle.bus_tables.proofs.UseCounts.{delivered_uses, taken_uses, front_uses, last_uses}
 use Rattle.bus_tables.proofs.uses.recall_uses.Goals as goal
 
 pub returns-clause-delivered : goal.returns-clause-delivered

@@ -1,4 +1,4 @@
-use Rattle.bus_words.proofs.Told.{desk_after-legal}
+use Rattle.bus_words.proofs.EventDesks.{desk_after-legal}
 use Rattle.bus_words.proofs.laws.events_are_told.Goals as goal
 
 pub returns : goal.returns

@@ -1,4 +1,4 @@
-use Rattle.bus_words.proofs.Counted.{tells_as_sends}
+use Rattle.bus_words.proofs.Statistics.{tells_as_sends}
 use Rattle.bus_words.proofs.laws.housekeeping_is_a_send.Goals as goal
 
 pub returns : goal.returns

@@ -1,4 +1,4 @@
-use Rattle.bus_words.proofs.Counted.{statistics_after-legal, AreCapped-after}
+use Rattle.bus_words.proofs.Statistics.{statistics_after-legal, AreCapped-after}
 use Rattle.bus_words.proofs.laws.statistics_are_counted.Goals as goal
 
 pub returns : goal.returns

@@ -1,6 +1,6 @@
 use Rattle.std.proofs.Common.{◌≡◌, ℕ, ◌*◌, suc, Option, IfSome, refl, sym, subst, true≢false, arith}
 use Rattle.fsw_base.specs.Limits.{limits_of}
-use Rattle.cost_bus.proofs.Loading.{left_by_register, may_act, opened_may, opened_number, opened_holds}
+use Rattle.cost_bus.proofs.VersionCounts.{left_by_register, may_act, opened_may, opened_number, opened_holds}
 use Rattle.cost_bus.proofs.loads.load_and_read.Goals as goal
 
 pub register-requires : goal.register-requires

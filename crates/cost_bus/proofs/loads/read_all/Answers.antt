@@ -1,5 +1,5 @@
 use Rattle.std.proofs.Common.{◌*◌, ◌-◌, ◌+◌, arith}
-use Rattle.cost_bus.proofs.Loading.{fewer}
+use Rattle.cost_bus.proofs.VersionCounts.{fewer}
 use Rattle.cost_bus.proofs.loads.read_all.Goals as goal
 
 pub read_once-requires : goal.read_once-requires

@@ -1,7 +1,7 @@
 -- Three calls, each of which leaves one fewer.
 use Rattle.std.proofs.Common.{◌+◌, suc, refl, sym, true≢false, arith}
 use Rattle.tbl_words.specs.declared.history.Call.TheVariants.{Load, GetAddress, ReleaseAddress}
-use Rattle.cost_bus.proofs.Loading.{left_by_load, left_by_address, left_by_release, may_act, next_left, fewer, from_start}
+use Rattle.cost_bus.proofs.VersionCounts.{left_by_load, left_by_address, left_by_release, may_act, next_left, fewer, from_start}
 use Rattle.cost_bus.proofs.loads.read_once.Goals as goal
 
 pub load-requires : goal.load-requires

@@ -1,8 +1,8 @@
--- 17 calls for each turn so far.
+-- One send for each turn so far.
 use Rattle.std.proofs.Common.{◌≡◌, ◌*◌, length}
 use Rattle.sb_plain.specs.Bags.{HasBag}
 use Rattle.cost_bus.specs.Calls.{Made}
 use Rattle.cost_bus.proofs.turns.carry_all.Given as goal
 
 abbrev pub invariant-loop-turn : goal.invariant-loop-turn
-invariant-loop-turn g l = Made l.initial.core l.core (17 * l.turn) × HasBag l.core l.app l.held × (length l.message ≡ length l.initial.message)
+invariant-loop-turn g l = Made l.initial.core l.core 0 l.turn × HasBag l.core l.app l.held × (length l.message ≡ length l.initial.message)

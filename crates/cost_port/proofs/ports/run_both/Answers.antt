@@ -1,7 +1,7 @@
 use denote.Ref.{NamedLft}
 use denote.Param.Send.{IsSend, IsSync, sendable, shr_send}
 use denote.Param.SendFields.{declared_send}
-use Rattle.bus_service.proofs.Crossing.{bus_sync, port_send}
+use Rattle.bus_service.proofs.Threads.{bus_sync, port_send}
 use Rattle.cost_port.specs.contracts.ports.Job as job
 use Rattle.cost_port.proofs.shares.Share.TheSendSync as share
 use Rattle.cost_port.proofs.ports.run_both.Goals as goal

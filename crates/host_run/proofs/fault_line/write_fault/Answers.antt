@@ -2,7 +2,7 @@ use Rattle.std.proofs.Common.{append-nil, ◌∙◌}
 use Rattle.std.proofs.lemmas.Result.{on_err_weaker}
 use Rattle.fsw_base.specs.ScriptFaults.{fault_name}
 use Rattle.host_run.specs.Serve.{fault_text}
-use Rattle.text_page.proofs.Putting.{◌▸◌, on_ok_both, puts_as, puts_never_falls, puts_part, puts_rose, puts_whole}
+use Rattle.text_page.proofs.PieceTexts.{◌▸◌, on_ok_both, puts_as, puts_never_falls, puts_part, puts_rose, puts_whole}
 use Rattle.host_run.proofs.fault_line.write_fault.Goals as goal
 
 pub returns : goal.returns

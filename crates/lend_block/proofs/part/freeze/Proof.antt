@@ -1,6 +1,6 @@
 -- `freeze` lends the borrow for a lifetime that it begins, and hands out the whole of that lifetime's token.
 use Rattle.left_right.proofs.PartSteps.{freezes, Frozen}
-use Rattle.lend_block.proofs.Borrowed.{readable_laws, Lends-borrow}
+use Rattle.lend_block.proofs.Borrows.{readable_laws, Lends-borrow}
 use Rattle.lend_block.proofs.Fields.{words_at, PartWords, part_made, DeedWords, deed_made}
 use Rattle.lend_block.proofs.Steps.{ℕ, ◌^◌, List, [], ◌∷◌, ◌++◌, refl, arith, proved, leaves, also, Lft, Share, Fml, Incl-refl, ftrue, fsep, fex, feq, flft, SProp, emp, fact_i, tables, SliceRefMutOf, u8, no, RattleType, Valss, owns, Ptr, block_ptr, MutBor, types_at, plain, named_lft, mut_slice_vals, mut_slice_Tells, nothing, Stays, stay_dropped, walk_of, Goes-spent_slice, named, Val, vstruct, vcons, vnil, of_list, alloc_all, pass_all, free_all, look_at, look_in_at, get, sets, ‵, raw, ◌⊛◌, later, ◌$◌, ◌∵◌, !, qed, by, move, keep, split, join, fsplit, fjoin, fjoin3, fpick, fpack, use0, use2, await, feq_i, agg, sub, whole, stop, fld, hop, from, addr, no_more, and_then, returns, enter}
 use Rattle.lend_block.proofs.part.freeze.Code as code

@@ -1,7 +1,7 @@
 -- `thaw` ends the loan's lifetime by all of its parts, and the borrow is back: its name and place too, since it was never taken apart.
 use Rattle.left_right.proofs.PartSteps.{thaws}
 use Rattle.left_right.specs.Parted.{tokens}
-use Rattle.lend_block.proofs.Borrowed.{readable_laws}
+use Rattle.lend_block.proofs.Borrows.{readable_laws}
 use Rattle.lend_block.proofs.Fields.{words_at, part_told, deed_told}
 use Rattle.lend_block.proofs.Steps.{◌≡◌, ℕ, ◌^◌, List, [], ◌∷◌, length, refl, sym, subst, w64, proved, leaves, Lft, Share, ftrue, flft, SProp, ent, emp, id⊢, fact, fact_i, tables, u8, usize, yes, no, uint_vals, uint_Tells, RattleType, owns, Ptr, block_ptr, block_of, count_of, MutBor, types_at, plain, named_lft, MutSlice, slice_val, nothing, heard, Stays, stay_dropped, walk_of, Goes-dropped, named, Val, vint, WpFn, alloc_all, pass_all, free_all, look_at, get, get_in, sets, sets_last, env, ‵, raw, ◌⊛◌, later, at_ret, ◌$◌, ◌∵◌, !, qed, by, move, keep, drop, split, split3, join, fsplit, fsplit3, fjoin, use0, use2, await, rewrite, suffices, agg, sub, whole, stop, fld, of_opd, no_more, and_then, first, blocks, exec, returns, enter}
 use Rattle.lend_block.proofs.part.thaw.Code as code

@@ -1,5 +1,5 @@
 use Rattle.std.proofs.Common.{map, codes, sym}
-use Rattle.text_page.proofs.Putting.{◌▸◌, puts_as}
+use Rattle.text_page.proofs.PieceTexts.{◌▸◌, puts_as}
 use Rattle.line_spelling.specs.Spelling.{line_words, filter_text}
 use Rattle.line_spelling.proofs.PieceLemmas.{spaced_parts}
 use Rattle.line_spelling.proofs.event_lines.put_register_events.Goals as goal

@@ -1,5 +1,5 @@
 use Rattle.std.proofs.Common.{◌∷◌, ◌++◌, codes, decimal, sym, ap}
-use Rattle.text_page.proofs.Putting.{◌▸◌, puts_as}
+use Rattle.text_page.proofs.PieceTexts.{◌▸◌, puts_as}
 use Rattle.fsw_base.specs.Events.{kind_number}
 use Rattle.line_spelling.specs.Spelling.{line_words, text_words}
 use Rattle.line_spelling.proofs.PieceLemmas.{spaced_parts}

@@ -1,4 +1,4 @@
-use Rattle.text_page.proofs.Putting.{◌▸◌}
+use Rattle.text_page.proofs.PieceTexts.{◌▸◌}
 use Rattle.line_spelling.specs.Spelling.{line_words}
 use Rattle.line_spelling.proofs.memory_lines.put_pool_get.Goals as goal
 

@@ -1,7 +1,7 @@
 use Rattle.std.proofs.Common.{ℕ, List, sym, ap, ◌∙◌}
 use Rattle.tbl_rules.specs.declared.rules.Rule.{Rule}
 use Rattle.script_lines.specs.declared.line.Line.TheVariants.{Create, Find, SendRaw, SendEvent, TableRegister, TableShare, Put}
-use Rattle.text_page.proofs.Putting.{puts_as}
+use Rattle.text_page.proofs.PieceTexts.{puts_as}
 use Rattle.line_spelling.specs.Spelling.{line_words, line_text}
 use Rattle.line_spelling.proofs.printing.print_line.Goals as goal
 

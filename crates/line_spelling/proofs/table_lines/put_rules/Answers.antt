@@ -1,8 +1,8 @@
 use Rattle.std.proofs.Common.{◌∷◌, ap, ◌∙◌, length, ◌≤◌, arith}
 use Rattle.std.proofs.lemmas.List.{take_all}
 use Rattle.std.specs.List.{flat_map}
-use Rattle.text_page.proofs.Following.{flat_map-next}
-use Rattle.text_page.proofs.Putting.{◌▸◌, puts_as}
+use Rattle.text_page.proofs.ListTexts.{flat_map-next}
+use Rattle.text_page.proofs.PieceTexts.{◌▸◌, puts_as}
 use Rattle.line_spelling.specs.Spelling.{rule_text}
 use Rattle.line_spelling.proofs.PieceLemmas.{behind-map}
 use Rattle.line_spelling.proofs.table_lines.put_rules.Goals as goal

@@ -1,6 +1,6 @@
 use Rattle.std.proofs.Common.{◌∷◌, ◌++◌, map, codes, decimal, sym}
 use Rattle.text_page.specs.Texts.{name_text}
-use Rattle.text_page.proofs.Putting.{◌▸◌, puts_as}
+use Rattle.text_page.proofs.PieceTexts.{◌▸◌, puts_as}
 use Rattle.line_spelling.specs.Spelling.{line_words, rule_text}
 use Rattle.line_spelling.proofs.PieceLemmas.{spaced_parts}
 use Rattle.line_spelling.proofs.table_lines.put_table_register.Goals as goal

@@ -1,4 +1,4 @@
-use Rattle.text_page.proofs.Putting.{◌▸◌}
+use Rattle.text_page.proofs.PieceTexts.{◌▸◌}
 use Rattle.line_spelling.proofs.words.put_bytes_word.Goals as goal
 
 pub returns : goal.returns

@@ -1,6 +1,6 @@
 use Rattle.std.proofs.Common.{◌≡◌, ◌<◌, length, get_or, Some, sym, ap, ◌∙◌, arith}
 use Rattle.std.proofs.lemmas.List.{get_or_read}
-use Rattle.pipe_table.proofs.Filing.{under_index, under_none}
+use Rattle.pipe_table.proofs.NumberedPipes.{under_index, under_none}
 use Rattle.pipe_table.proofs.table.at_number.Goals as goal
 
 pub returns-in-Some : goal.returns-in-Some

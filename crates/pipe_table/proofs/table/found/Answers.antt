@@ -1,6 +1,6 @@
 use Rattle.std.proofs.Common.{sym, ap, ◌∙◌}
 use Rattle.pipe_table.specs.Inside.{PlaceState}
-use Rattle.pipe_table.proofs.Filing.{ordered, stands_under, read_some, read_none}
+use Rattle.pipe_table.proofs.NumberedPipes.{ordered, stands_under, read_some, read_none}
 use Rattle.pipe_table.proofs.table.found.Goals as goal
 
 pub at_number-requires : goal.at_number-requires

@@ -4,7 +4,7 @@ use Rattle.std.specs.Result.{MatchResult}
 use Rattle.std.proofs.lemmas.Bool.{cases_lt}
 use Rattle.std.proofs.lemmas.List.Sorted.{searched}
 use Rattle.pipe_table.specs.Inside.{AreRising}
-use Rattle.pipe_table.proofs.Filing.{rising_all}
+use Rattle.pipe_table.proofs.NumberedPipes.{rising_all}
 use Rattle.pipe_table.proofs.table.index_by_halves.Goals as goal
 
 pub returns-in-Ok-clause-some : goal.returns-in-Ok-clause-some

@@ -1,4 +1,4 @@
-use Rattle.pool_words.proofs.Numbered.{numbered_new, numbered_get, numbered_put, numbered_end}
+use Rattle.pool_words.proofs.GrantNumbers.{numbered_new, numbered_get, numbered_put, numbered_end}
 use Rattle.pool_words.proofs.laws.recall_grants_numbered.Goals as goal
 
 pub returns-clause-creations : goal.returns-clause-creations

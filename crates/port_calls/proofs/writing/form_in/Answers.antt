@@ -5,7 +5,7 @@ use Rattle.script_runs.specs.Written.{with_bytes}
 use Rattle.app_calls.specs.Buffers.{WritesBag}
 use Rattle.app_calls.specs.Callers.{written_in}
 use Rattle.bus_service.specs.Ports.{PortView}
-use Rattle.port_calls.proofs.Formed.{formed-long, writes-whole}
+use Rattle.port_calls.proofs.BufferMessages.{formed-long, writes-whole}
 use Rattle.port_calls.proofs.writing.form_in.Goals as goal
 
 pub returns-then-holds_buffer-clause-bag : goal.returns-then-holds_buffer-clause-bag

@@ -1,4 +1,4 @@
-use Rattle.run_check.proofs.Wrong.{wrong_lines}
+use Rattle.run_check.proofs.WrongLines.{wrong_lines}
 use Rattle.run_check.proofs.laws.wrong_lines_are_first.Goals as goal
 
 pub returns : goal.returns

@@ -1,5 +1,5 @@
 use Rattle.std.proofs.Common.{[], ap, codes, sym, ◌∙◌, append-nil}
-use Rattle.text_page.proofs.Putting.{puts_as, waits_behind}
+use Rattle.text_page.proofs.PieceTexts.{puts_as, waits_behind}
 use Rattle.run_report.specs.CounterText.{field_text}
 use Rattle.run_report.proofs.Versions.{oldest_told, oldest_untold}
 use Rattle.run_report.proofs.counters.put_oldest.Goals as goal

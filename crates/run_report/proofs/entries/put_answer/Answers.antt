@@ -1,6 +1,6 @@
 use Rattle.std.proofs.Common.{◌++◌, sym, ap, ◌∙◌, codes, inl, inr}
 use Rattle.run_report.specs.BusText.{answer_text}
-use Rattle.text_page.proofs.Putting.{◌▸◌, puts_as}
+use Rattle.text_page.proofs.PieceTexts.{◌▸◌, puts_as}
 use Rattle.run_report.proofs.entries.put_answer.Goals as goal
 
 pub returns-in-Number : goal.returns-in-Number

@@ -1,7 +1,7 @@
 use Rattle.bus_words.specs.Entries.{lent_of}
 use Rattle.run_report.specs.BusText.{entry_text}
-use Rattle.text_page.proofs.Following.{numbered-next}
-use Rattle.text_page.proofs.Putting.{◌▸◌, puts_as}
+use Rattle.text_page.proofs.ListTexts.{numbered-next}
+use Rattle.text_page.proofs.PieceTexts.{◌▸◌, puts_as}
 use Rattle.run_report.proofs.entries.put_entries.Goals as goal
 
 pub loop-i-preserved : goal.loop-i-preserved

@@ -1,5 +1,5 @@
 use Rattle.std.proofs.Common.{decimal, ap}
-use Rattle.text_page.proofs.Putting.{◌▸◌, puts_as}
+use Rattle.text_page.proofs.PieceTexts.{◌▸◌, puts_as}
 use Rattle.run_report.proofs.entries.put_line.Goals as goal
 
 pub returns : goal.returns

@@ -1,4 +1,4 @@
-use Rattle.text_page.proofs.Putting.{◌▸◌}
+use Rattle.text_page.proofs.PieceTexts.{◌▸◌}
 use Rattle.run_report.proofs.entries.put_numbered.Goals as goal
 
 pub returns : goal.returns

@@ -1,6 +1,6 @@
 use Rattle.std.proofs.Common.{◌≡◌, ℕ, ◌==◌, false, List, [], ◌∷◌, length, refl, sym, ◌∙◌}
 use Rattle.run_report.specs.EventText.{behind_blank}
-use Rattle.text_page.proofs.Putting.{◌▸◌, puts_as}
+use Rattle.text_page.proofs.PieceTexts.{◌▸◌, puts_as}
 use Rattle.run_report.proofs.events.put_behind_blank.Goals as goal
 
 pub returns-then-not-is_empty : goal.returns-then-not-is_empty

@@ -1,7 +1,7 @@
 use Rattle.evs_events.specs.Views.{line_shown}
 use Rattle.run_report.specs.EventText.{log_line_text}
-use Rattle.text_page.proofs.Following.{flat_map-next}
-use Rattle.text_page.proofs.Putting.{◌▸◌, puts_as}
+use Rattle.text_page.proofs.ListTexts.{flat_map-next}
+use Rattle.text_page.proofs.PieceTexts.{◌▸◌, puts_as}
 use Rattle.run_report.proofs.events.put_log.Goals as goal
 
 pub loop-i-preserved : goal.loop-i-preserved

@@ -2,7 +2,7 @@ use Rattle.std.proofs.Common.{append-nil}
 use Rattle.std.proofs.lemmas.Result.{on_err_weaker}
 use Rattle.evs_events.specs.Views.{line_shown}
 use Rattle.run_report.specs.EventText.{log_line_text}
-use Rattle.text_page.proofs.Putting.{◌▸◌, on_ok_both, puts_as, puts_never_falls, puts_part, puts_rose, puts_whole}
+use Rattle.text_page.proofs.PieceTexts.{◌▸◌, on_ok_both, puts_as, puts_never_falls, puts_part, puts_rose, puts_whole}
 use Rattle.run_report.proofs.events.write_log_line.Goals as goal
 
 pub returns : goal.returns

@@ -6,10 +6,10 @@ use Rattle.run_report.specs.EventText.{log_text}
 use Rattle.run_report.specs.ReceiptText.{receipts_text}
 use Rattle.run_report.specs.Report.{ending_text}
 use Rattle.run_report.specs.TableText.{table_entries_text}
-use Rattle.run_report.proofs.Legal.{legal_answers}
-use Rattle.run_report.proofs.TableLegal.{legal_table_answers}
-use Rattle.run_report.proofs.TableTelling.{reports_tell, table_lines_tell}
-use Rattle.run_report.proofs.Telling.{lines_tell}
+use Rattle.run_report.proofs.LegalAnswers.{legal_answers}
+use Rattle.run_report.proofs.LegalTableAnswers.{legal_table_answers}
+use Rattle.run_report.proofs.TableLines.{reports_tell, table_lines_tell}
+use Rattle.run_report.proofs.ReportLines.{lines_tell}
 use Rattle.run_report.proofs.Versions.{behind_version, behind_opening}
 use Rattle.run_report.proofs.laws.reports_tell_applications_and_answers.Goals as goal
 

@@ -1,6 +1,6 @@
 use Rattle.std.proofs.Common.{[], codes, decimal, ap, sym, ◌∙◌, append-nil}
 use Rattle.run_report.specs.CounterText.{account_read, field_text}
-use Rattle.text_page.proofs.Putting.{◌▸◌, puts_as, waits_behind}
+use Rattle.text_page.proofs.PieceTexts.{◌▸◌, puts_as, waits_behind}
 use Rattle.run_report.proofs.Accounts.{class-cut, class-uncut, free-read, made-read}
 use Rattle.run_report.proofs.pools.put_class.Goals as goal
 

@@ -1,5 +1,5 @@
 use Rattle.run_report.specs.CounterText.{account_read, class_text}
-use Rattle.text_page.proofs.Putting.{◌▸◌, puts_as}
+use Rattle.text_page.proofs.PieceTexts.{◌▸◌, puts_as}
 use Rattle.run_report.proofs.Accounts.{flat_map-range}
 use Rattle.run_report.proofs.pools.put_classes.Goals as goal
 

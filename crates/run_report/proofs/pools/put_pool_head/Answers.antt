@@ -1,6 +1,6 @@
 use Rattle.std.proofs.Common.{ap, sym}
 use Rattle.run_report.specs.CounterText.{pool_head}
-use Rattle.text_page.proofs.Putting.{◌▸◌, puts_as}
+use Rattle.text_page.proofs.PieceTexts.{◌▸◌, puts_as}
 use Rattle.run_report.proofs.pools.put_pool_head.Goals as goal
 
 pub returns-in-Applications : goal.returns-in-Applications

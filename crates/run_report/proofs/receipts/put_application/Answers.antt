@@ -1,6 +1,6 @@
 use Rattle.run_report.specs.ReceiptText.{receipt_text}
-use Rattle.text_page.proofs.Following.{flat_map-next}
-use Rattle.text_page.proofs.Putting.{◌▸◌, puts_as}
+use Rattle.text_page.proofs.ListTexts.{flat_map-next}
+use Rattle.text_page.proofs.PieceTexts.{◌▸◌, puts_as}
 use Rattle.run_report.proofs.receipts.put_application.Goals as goal
 
 pub loop-i-preserved : goal.loop-i-preserved

@@ -1,8 +1,8 @@
 use Rattle.std.proofs.Common.{length, refl}
 use Rattle.std.proofs.lemmas.Option.{slice_get_read}
 use Rattle.run_report.specs.ReceiptText.{application_text}
-use Rattle.text_page.proofs.Following.{numbered-map-next}
-use Rattle.text_page.proofs.Putting.{◌▸◌, puts_as}
+use Rattle.text_page.proofs.ListTexts.{numbered-map-next}
+use Rattle.text_page.proofs.PieceTexts.{◌▸◌, puts_as}
 use Rattle.run_report.proofs.receipts.put_receipts.Goals as goal
 
 pub loop-i-preserved : goal.loop-i-preserved

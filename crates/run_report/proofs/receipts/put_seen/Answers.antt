@@ -1,7 +1,7 @@
 use Rattle.std.proofs.Common.{sym, ap}
 use Rattle.text_page.specs.Texts.{hex_bytes}
 use Rattle.run_report.specs.ReceiptText.{seen_text}
-use Rattle.text_page.proofs.Putting.{◌▸◌, puts_as}
+use Rattle.text_page.proofs.PieceTexts.{◌▸◌, puts_as}
 use Rattle.run_report.proofs.receipts.put_seen.Goals as goal
 
 pub returns-in-Message : goal.returns-in-Message

@@ -1,7 +1,7 @@
 use Rattle.std.proofs.Common.{ap, append-nil}
 use Rattle.std.proofs.lemmas.Result.{on_err_weaker}
 use Rattle.run_report.specs.ReceiptText.{receipt_text}
-use Rattle.text_page.proofs.Putting.{◌▸◌, on_ok_both, puts_as, puts_never_falls, puts_part, puts_rose, puts_whole}
+use Rattle.text_page.proofs.PieceTexts.{◌▸◌, on_ok_both, puts_as, puts_never_falls, puts_part, puts_rose, puts_whole}
 use Rattle.run_report.proofs.receipts.write_receipt.Goals as goal
 
 pub returns : goal.returns

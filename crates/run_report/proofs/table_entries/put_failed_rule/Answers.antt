@@ -1,6 +1,6 @@
 use Rattle.std.proofs.Common.{sym, ap}
 use Rattle.run_report.specs.TableText.{failed_rule_text}
-use Rattle.text_page.proofs.Putting.{◌▸◌, puts_as}
+use Rattle.text_page.proofs.PieceTexts.{◌▸◌, puts_as}
 use Rattle.run_report.proofs.table_entries.put_failed_rule.Goals as goal
 
 pub returns-in-Validation : goal.returns-in-Validation

@@ -1,7 +1,7 @@
 use Rattle.std.proofs.Common.{◌≡◌, sym, ap}
 use Rattle.tbl_words.specs.Statuses.{tbl_name}
 use Rattle.run_report.specs.TableText.{table_answer_text}
-use Rattle.text_page.proofs.Putting.{◌▸◌, puts_as}
+use Rattle.text_page.proofs.PieceTexts.{◌▸◌, puts_as}
 use Rattle.run_report.proofs.table_entries.put_table_answer.Goals as goal
 
 pub returns-in-Address : goal.returns-in-Address

@@ -1,7 +1,7 @@
 use Rattle.tbl_words.specs.Entries.{entry_of}
 use Rattle.run_report.specs.TableText.{table_entry_text}
-use Rattle.text_page.proofs.Following.{numbered-next}
-use Rattle.text_page.proofs.Putting.{◌▸◌, puts_as}
+use Rattle.text_page.proofs.ListTexts.{numbered-next}
+use Rattle.text_page.proofs.PieceTexts.{◌▸◌, puts_as}
 use Rattle.run_report.proofs.table_entries.put_table_entries.Goals as goal
 
 pub loop-i-preserved : goal.loop-i-preserved

@@ -1,6 +1,6 @@
 use Rattle.std.proofs.Common.{ap}
 use Rattle.run_report.specs.CounterText.{uses_text}
-use Rattle.text_page.proofs.Putting.{◌▸◌, puts_as}
+use Rattle.text_page.proofs.PieceTexts.{◌▸◌, puts_as}
 use Rattle.run_report.proofs.writer.put_ending.Goals as goal
 
 pub returns : goal.returns

@@ -1,7 +1,7 @@
 use Rattle.std.proofs.Common.{append-nil}
 use Rattle.std.proofs.lemmas.Result.{on_err_weaker}
 use Rattle.run_report.specs.Report.{ending_text, figures_read, table_figures_read}
-use Rattle.text_page.proofs.Putting.{◌▸◌, on_ok_both, puts_as, puts_never_falls, puts_part, puts_rose, puts_whole}
+use Rattle.text_page.proofs.PieceTexts.{◌▸◌, on_ok_both, puts_as, puts_never_falls, puts_part, puts_rose, puts_whole}
 use Rattle.run_report.proofs.writer.write_ending.Goals as goal
 
 pub returns : goal.returns

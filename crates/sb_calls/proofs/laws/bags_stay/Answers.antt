@@ -1,4 +1,4 @@
-use Rattle.sb_calls.proofs.Alone.{shown}
+use Rattle.sb_calls.proofs.PipeMessages.{shown}
 use Rattle.sb_calls.proofs.OpeningBags.{opens}
 use Rattle.sb_calls.proofs.OthersBags.{others_keep, others_behind, called_by, called_further}
 use Rattle.sb_calls.proofs.laws.bags_stay.Goals as goal

@@ -1,7 +1,7 @@
 use Rattle.std.proofs.Common.{◌∙◌}
 use Rattle.std.proofs.lemmas.Result.{on_err_weaker, on_ok_weaker}
 use Rattle.fsw_base.specs.Limits.{limits_of}
-use Rattle.text_page.proofs.Putting.{◌▸◌, on_ok_both, puts_as, puts_never_falls, puts_part, puts_rose, puts_whole}
+use Rattle.text_page.proofs.PieceTexts.{◌▸◌, on_ok_both, puts_as, puts_never_falls, puts_part, puts_rose, puts_whole}
 use Rattle.script_printing.specs.ScriptSpelling.{spelled_script}
 use Rattle.script_printing.proofs.AppsBack.{scripts_back}
 use Rattle.script_printing.proofs.PrintLemmas.{spelled}

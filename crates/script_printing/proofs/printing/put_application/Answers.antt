@@ -1,4 +1,4 @@
-use Rattle.text_page.proofs.Putting.{◌▸◌, puts_as}
+use Rattle.text_page.proofs.PieceTexts.{◌▸◌, puts_as}
 use Rattle.script_printing.proofs.printing.put_application.Goals as goal
 
 pub returns : goal.returns

@@ -2,8 +2,8 @@ use Rattle.std.proofs.Common.{Some, ap, sym, ◌∙◌}
 use Rattle.std.specs.List.{flat_map}
 use Rattle.std.proofs.lemmas.List.{take_all}
 use Rattle.std.proofs.lemmas.Option.{slice_get-get_or}
-use Rattle.text_page.proofs.Following.{flat_map-next}
-use Rattle.text_page.proofs.Putting.{◌▸◌, puts_as}
+use Rattle.text_page.proofs.ListTexts.{flat_map-next}
+use Rattle.text_page.proofs.PieceTexts.{◌▸◌, puts_as}
 use Rattle.script_printing.specs.ScriptSpelling.{app_lines, ended}
 use Rattle.script_printing.proofs.PrintLemmas.{ended-flat}
 use Rattle.script_printing.proofs.printing.put_applications.Goals as goal

@@ -2,8 +2,8 @@ use Rattle.std.proofs.Common.{◌∷◌, ◌<◌, ◌≤◌, length, get_or, dec
 use Rattle.std.specs.List.{flat_map}
 use Rattle.std.proofs.lemmas.List.{take_all}
 use Rattle.std.proofs.lemmas.Option.{slice_get-get_or}
-use Rattle.text_page.proofs.Following.{flat_map-next}
-use Rattle.text_page.proofs.Putting.{◌▸◌, puts_as}
+use Rattle.text_page.proofs.ListTexts.{flat_map-next}
+use Rattle.text_page.proofs.PieceTexts.{◌▸◌, puts_as}
 use Rattle.line_spelling.proofs.PieceLemmas.{behind-map}
 use Rattle.script_printing.proofs.printing.put_each_size.Goals as goal
 

@@ -1,4 +1,4 @@
-use Rattle.text_page.proofs.Putting.{◌▸◌, puts_as}
+use Rattle.text_page.proofs.PieceTexts.{◌▸◌, puts_as}
 use Rattle.std.proofs.Common.{sym, ◌∙◌}
 use Rattle.fsw_base.specs.Limits.{limits_of}
 use Rattle.script_settings.specs.declared.settings.LimitName.TheVariants.{MsgIds, Pipes, Dests, Depth, MsgMax, Pool, AppPool, Tables, Handles, TableMax, TablePool}

@@ -1,7 +1,7 @@
 use Rattle.std.proofs.Common.{◌≡◌, true, false, [], sym, append-nil}
 use Rattle.fsw_base.specs.Blocks.{usual_sizes}
 use Rattle.script_words.specs.Text.{is_same}
-use Rattle.text_page.proofs.Putting.{◌▸◌, puts_as, waits_behind}
+use Rattle.text_page.proofs.PieceTexts.{◌▸◌, puts_as, waits_behind}
 use Rattle.script_printing.proofs.PrintLemmas.{sizes_lines_usual, sizes_lines_other}
 use Rattle.script_printing.proofs.printing.put_sizes.Goals as goal
 

@@ -1,4 +1,4 @@
-use Rattle.text_page.proofs.Putting.{◌▸◌}
+use Rattle.text_page.proofs.PieceTexts.{◌▸◌}
 use Rattle.script_printing.proofs.printing.put_start.Goals as goal
 
 pub returns : goal.returns

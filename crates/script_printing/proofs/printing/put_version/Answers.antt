@@ -1,5 +1,5 @@
 use Rattle.std.proofs.Common.{[], sym, append-nil}
-use Rattle.text_page.proofs.Putting.{◌▸◌, puts_as, waits_behind}
+use Rattle.text_page.proofs.PieceTexts.{◌▸◌, puts_as, waits_behind}
 use Rattle.script_printing.proofs.PrintLemmas.{version_lines_first, version_lines_other}
 use Rattle.script_printing.proofs.printing.put_version.Goals as goal
 

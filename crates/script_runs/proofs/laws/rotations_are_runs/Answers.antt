@@ -1,5 +1,5 @@
-use Rattle.script_runs.proofs.Merged.{rotation-legal}
-use Rattle.script_runs.proofs.TablesMerged.{rotation-legal_tables, rotation-merges_both}
+use Rattle.script_runs.proofs.ScriptHistories.{rotation-legal}
+use Rattle.script_runs.proofs.TableHistories.{rotation-legal_tables, rotation-merges_both}
 use Rattle.script_runs.proofs.laws.rotations_are_runs.Goals as goal
 
 pub returns : goal.returns

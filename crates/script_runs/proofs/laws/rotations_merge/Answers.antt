@@ -1,5 +1,5 @@
-use Rattle.script_runs.proofs.Merged.{rotation-ends, rotation-legal, rotation-holds_nothing}
-use Rattle.script_runs.proofs.TablesMerged.{rotation-legal_tables, rotation-merges_both, rotation-holds_no_tables}
+use Rattle.script_runs.proofs.ScriptHistories.{rotation-ends, rotation-legal, rotation-holds_nothing}
+use Rattle.script_runs.proofs.TableHistories.{rotation-legal_tables, rotation-merges_both, rotation-holds_no_tables}
 use Rattle.script_runs.proofs.laws.rotations_merge.Goals as goal
 
 pub returns : goal.returns

@@ -1,6 +1,6 @@
 use Rattle.tbl_load.proofs.OpeningBags.{opens}
 use Rattle.tbl_load.proofs.OthersBags.{others_keep, others_behind, called_by, called_further}
-use Rattle.tbl_load.proofs.Shown.{shown}
+use Rattle.tbl_load.proofs.BagViews.{shown}
 use Rattle.tbl_load.proofs.laws.bags_stay.Goals as goal
 
 pub returns-clause-opens : goal.returns-clause-opens

@@ -1,5 +1,5 @@
 use Rattle.std.proofs.Common.{Some, refl, sym, ap, ◌∙◌}
-use Rattle.tbl_registry.proofs.Numbered.{found, missed}
+use Rattle.tbl_registry.proofs.HandleNumbers.{found, missed}
 use Rattle.tbl_registry.proofs.handles.find.Goals as goal
 
 pub returns-in-Some : goal.returns-in-Some

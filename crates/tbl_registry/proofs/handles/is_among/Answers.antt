@@ -1,7 +1,7 @@
 use Rattle.std.proofs.Common.{◌≡◌, ℕ, Option, Some, None, IfSome, is_some, refl, sym, ◌∙◌, subst}
 use Rattle.tbl_registry.specs.Listing.{is_live}
 use Rattle.tbl_registry.specs.Inside.{HasNumber}
-use Rattle.tbl_registry.proofs.Numbered.{live, not_live}
+use Rattle.tbl_registry.proofs.HandleNumbers.{live, not_live}
 use Rattle.tbl_registry.proofs.handles.is_among.Goals as goal
 
 pub returns : goal.returns

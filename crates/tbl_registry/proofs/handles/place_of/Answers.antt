@@ -1,7 +1,7 @@
 -- The closure tells a handle's number, so the search by halves finds the handle, or tells that it isn't there.
 use Rattle.std.proofs.Common.{rules}
 use Rattle.std.proofs.lemmas.List.Sorted.{answers_always}
-use Rattle.tbl_registry.proofs.Numbered.{search_finds, search_misses}
+use Rattle.tbl_registry.proofs.HandleNumbers.{search_finds, search_misses}
 use Rattle.tbl_registry.proofs.handles.place_of.Goals as goal
 
 pub returns-in-Ok-clause-some : goal.returns-in-Ok-clause-some

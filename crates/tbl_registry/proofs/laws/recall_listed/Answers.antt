@@ -1,5 +1,5 @@
 use Rattle.tbl_registry.proofs.Listings.{finds_alike, new_handle_listed, new_table_listed, leaves_listed}
-use Rattle.tbl_registry.proofs.Leaving.{drop_leaves, handles_go_on}
+use Rattle.tbl_registry.proofs.HandleDrops.{drop_leaves, handles_go_on}
 use Rattle.tbl_registry.proofs.laws.recall_listed.Goals as goal
 
 pub returns-clause-found : goal.returns-clause-found

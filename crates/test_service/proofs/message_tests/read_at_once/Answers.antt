@@ -2,7 +2,7 @@ use denote.Ref.{NamedLft}
 use denote.Param.Send.{IsSend, IsSync, sendable, shr_send}
 use denote.Param.SendFields.{declared_send}
 use Rattle.std.proofs.Crossing.{crosses}
-use Rattle.bus_service.proofs.Crossing.{bus_sync, port_send}
+use Rattle.bus_service.proofs.Threads.{bus_sync, port_send}
 use Rattle.test_service.specs.contracts.message_tests.Job as job
 use Rattle.test_service.proofs.message_tests.read_at_once.Goals as goal
 

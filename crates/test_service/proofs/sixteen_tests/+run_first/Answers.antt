@@ -3,12 +3,12 @@ use denote.Param.Send.{IsSend, IsSync, sendable, shr_send}
 use denote.Param.SendFields.{declared_send}
 use Rattle.std.proofs.Common.{◌≤◌, ap, arith}
 use Rattle.std.proofs.Crossing.{crosses}
-use Rattle.bus_service.proofs.Crossing.{bus_sync, port_send}
+use Rattle.bus_service.proofs.Threads.{bus_sync, port_send}
 use Rattle.bus_service.specs.Ports.{MainView}
 use Rattle.test_service.specs.Sixteen.{joined}
 use Rattle.test_service.specs.contracts.sixteen_tests.Job as job
 use Rattle.test_service.specs.contracts.sixteen_tests.SharedBus as shared
-use Rattle.test_service.proofs.Joining.{next_made, none_more, all_but}
+use Rattle.test_service.proofs.Joins.{next_made, none_more, all_but}
 use Rattle.test_service.proofs.sixteen_tests.+run_first.Goals as goal
 
 -- an application's job may go to its thread

@@ -1,5 +1,5 @@
 use Rattle.std.proofs.Common.{take}
-use Rattle.text_page.proofs.Putting.{◌▸◌, waits_behind}
+use Rattle.text_page.proofs.PieceTexts.{◌▸◌, waits_behind}
 use Rattle.text_page.proofs.pages.put_front.Goals as goal
 
 pub returns-clause-puts : goal.returns-clause-puts

@@ -1,5 +1,5 @@
 use Rattle.std.proofs.Common.{length, length-drop, ap, arith}
-use Rattle.text_page.proofs.Putting.{puts_more, rest_of}
+use Rattle.text_page.proofs.PieceTexts.{puts_more, rest_of}
 use Rattle.text_page.proofs.pages.put_over.Goals as goal
 
 pub loop-taken-preserved : goal.loop-taken-preserved

@@ -3,7 +3,7 @@ use Rattle.std.specs.Slice.Iter.{chunks_rest}
 use Rattle.std.proofs.lemmas.Grind.{flat_map-append}
 use Rattle.std.proofs.lemmas.List.{nil_from_length}
 use Rattle.text_page.specs.Texts.{hex_byte, hex_bytes}
-use Rattle.text_page.proofs.Putting.{◌▸◌, puts_as, waits_behind}
+use Rattle.text_page.proofs.PieceTexts.{◌▸◌, puts_as, waits_behind}
 use Rattle.text_page.proofs.pieces.put_hex_bytes.Goals as goal
 
 pub loop-piece-init : goal.loop-piece-init

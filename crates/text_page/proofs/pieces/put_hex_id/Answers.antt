@@ -1,5 +1,5 @@
 use Rattle.text_page.specs.Texts.{hex_id}
-use Rattle.text_page.proofs.Putting.{puts_as}
+use Rattle.text_page.proofs.PieceTexts.{puts_as}
 use Rattle.text_page.proofs.pieces.put_hex_id.Goals as goal
 
 pub returns : goal.returns

@@ -1,5 +1,5 @@
 use Rattle.std.proofs.Common.{length, length-drop, arith, ap, ◌∙◌}
-use Rattle.text_page.proofs.Putting.{cut_at, grew_more, rest_of}
+use Rattle.text_page.proofs.PieceTexts.{cut_at, grew_more, rest_of}
 use Rattle.text_page.proofs.writes.write_text.Goals as goal
 
 pub loop-taken-preserved : goal.loop-taken-preserved

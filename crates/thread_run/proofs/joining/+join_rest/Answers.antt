@@ -1,5 +1,5 @@
 use Rattle.std.proofs.Common.{sym, subst}
-use Rattle.thread_run.proofs.Joined.{joined-one, joined-one_at_tables}
+use Rattle.thread_run.proofs.Joins.{joined-one, joined-one_at_tables}
 use Rattle.thread_run.specs.Mains.{IsJoined, AreJoined}
 use Rattle.thread_run.proofs.joining.+join_rest.Goals as goal
 

@@ -1,5 +1,5 @@
 use Rattle.std.proofs.Common.{◌∙◌}
-use Rattle.thread_run.proofs.Joined.{bus-joined, closed-receipts, closed-run, tables-joined}
+use Rattle.thread_run.proofs.Joins.{bus-joined, closed-receipts, closed-run, tables-joined}
 use Rattle.thread_run.proofs.joining.close_all.Goals as goal
 
 pub close-requires-clause-joined : goal.close-requires-clause-joined

@@ -1,6 +1,6 @@
 use Rattle.std.proofs.Common.{◌≡◌, ◌+◌, ◌-◌, ◌≤◌, ℕ, suc, refl, arith}
 use Rattle.thread_run.proofs.Numbers.{not-yet}
-use Rattle.thread_run.proofs.Opened.{next-open, next-open_at_tables, work-opened}
+use Rattle.thread_run.proofs.FirstTurns.{next-open, next-open_at_tables, work-opened}
 use Rattle.thread_run.proofs.opening.open_one.Goals as goal
 
 again : (app : ℕ) → 1 ≤ app → app ≡ app - 1 + 1

@@ -1,5 +1,5 @@
 use denote.Param.Send.{IsSync, sendable}
-use Rattle.thread_run.proofs.Crossing.{job_send}
+use Rattle.thread_run.proofs.Threads.{job_send}
 use Rattle.thread_run.proofs.starting.+begin_rest.Goals as goal
 
 -- an application's job may go to its thread

@@ -1,5 +1,5 @@
 use Rattle.std.proofs.Common.{refl}
-use Rattle.app_calls.proofs.Answered.{answers-kept}
+use Rattle.app_calls.proofs.CoreAnswers.{answers-kept}
 use Rattle.app_calls.proofs.app_calls.CoreCallsCalls.clear_log.Goals as goal
 
 pub returns : goal.returns

@@ -1,4 +1,4 @@
-use Rattle.app_calls.proofs.TablesAnswered.{table-answers-held}
+use Rattle.app_calls.proofs.TableAnswers.{table-answers-held}
 use Rattle.app_calls.proofs.app_calls.CoreCallsCalls.table_call.Goals as goal
 
 pub returns : goal.returns

@@ -1,4 +1,4 @@
-use Rattle.app_run.proofs.UnderWay.{first}
+use Rattle.app_run.proofs.TurnConditions.{first}
 use Rattle.app_run.proofs.runner.Runner.new.Goals as goal
 
 pub returns-clause-may_turn : goal.returns-clause-may_turn

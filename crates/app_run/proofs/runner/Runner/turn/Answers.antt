@@ -1,4 +1,4 @@
-use Rattle.app_run.proofs.UnderWay.{again, ready}
+use Rattle.app_run.proofs.TurnConditions.{again, ready}
 use Rattle.app_run.proofs.runner.Runner.turn.Goals as goal
 
 pub make_turn-requires : goal.make_turn-requires

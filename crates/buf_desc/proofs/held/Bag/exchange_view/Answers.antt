@@ -5,7 +5,7 @@ use Rattle.std.specs.List.{find}
 use Rattle.std.proofs.lemmas.List.{length-set}
 use Rattle.buf_desc.specs.Held.{Holding, view_at}
 use Rattle.buf_desc.specs.Inside.{IsAt}
-use Rattle.buf_desc.proofs.Changed.{part_there, changed_rises, find_changed}
+use Rattle.buf_desc.proofs.ElementChanges.{part_there, changed_rises, find_changed}
 use Rattle.buf_desc.proofs.Finds.{found, seen_part, ok_where_found}
 use Rattle.buf_desc.proofs.Keys.{chosen_part}
 use Rattle.buf_desc.proofs.held.Bag.exchange_view.Goals as goal

@@ -1,5 +1,6 @@
 use Rattle.std.proofs.Common.{◌≡◌, take}
-use Rattle.bus_records.specs.Records.{told_all, miss_events}
+use Rattle.bus_words.specs.Events.{miss_events}
+use Rattle.bus_records.specs.Records.{told_all}
 use Rattle.bus_records.proofs.records.Records.tell_misses.Given as goal
 
 -- the misses so far are told

@@ -3,8 +3,8 @@ use Rattle.sb_calls.specs.Core.{Core}
 use Rattle.bus_service.specs.Ports.{MainView}
 use Rattle.bus_service.proofs.bus.Bus.new.Goals as goal
 
-pub new-service-requires : goal.new-service-requires
-new-service-requires c = ap (λ (k : Core). k.log.entries) c.in_ok-core.ensures
+pub new-requires-2 : goal.new-requires-2
+new-requires-2 c = ap (λ (k : Core). k.log.entries) c.in_ok-core.ensures
 
 pub invariant_of-result-2 : goal.invariant_of-result-2
 invariant_of-result-2 c =

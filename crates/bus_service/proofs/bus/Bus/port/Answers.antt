@@ -9,17 +9,17 @@ use Rattle.sb_calls.specs.Core.{Core}
 use Rattle.bus_service.specs.Inside.{with_bag}
 use Rattle.bus_service.specs.Ports.{PortView, DoneView, MainView, buffers_for}
 use Rattle.bus_service.proofs.Openings.{fresh_permits, buffers_given}
-use Rattle.bus_service.proofs.Unowned.{empty_bag}
+use Rattle.bus_service.proofs.EmptyBags.{empty_bag}
 use Rattle.bus_service.proofs.bus.Bus.port.Goals as goal
 
 -- a port of an application that made no call, with this bag, and a bag with nothing in it
-fresh_port : TableId → ℕ → Core → Holding LentBytes → PortView
+abbrev fresh_port : TableId → ℕ → Core → Holding LentBytes → PortView
 fresh_port lock app seen bag = record { lock = lock; app = app; seen = seen; mine = []; bag = bag }
 
-empty_holding : ℕ → ℕ → Holding LentBytes
+abbrev empty_holding : ℕ → ℕ → Holding LentBytes
 empty_holding views blocks = record { views = []; buffers = []; view_room = views; buffer_room = blocks }
 
-with_one_more : ℕ → MainView → MainView
+abbrev with_one_more : ℕ → MainView → MainView
 with_one_more app main = record main { apps = main.apps ++ app ∷ [] }
 
 pub port-port-requires-clause-main : goal.port-port-requires-clause-main

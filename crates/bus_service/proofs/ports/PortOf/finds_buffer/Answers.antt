@@ -6,7 +6,7 @@ use Rattle.buf_desc.specs.Held.{buffer_at}
 use Rattle.bus_words.specs.Bus.{has_unsent}
 use Rattle.sb_calls.specs.Core.{state_of}
 use Rattle.bus_service.specs.Ports.{PortView}
-use Rattle.bus_service.proofs.Lent.{some-mapped, unsent_found}
+use Rattle.bus_service.proofs.LentBuffers.{some-mapped, unsent_found}
 use Rattle.bus_service.proofs.ports.PortOf.finds_buffer.Goals as goal
 
 pub returns-clause-there : goal.returns-clause-there

@@ -1,4 +1,4 @@
-use Rattle.bus_service.proofs.Refused.{refused_unowned}
+use Rattle.bus_service.proofs.Refusals.{refused_unowned}
 use Rattle.bus_service.proofs.receiving.ReceivePortCall.make.Goals as goal
 
 pub returns-clause-left : goal.returns-clause-left

@@ -3,7 +3,7 @@ use Rattle.fsw_base.specs.PoolAccounts.{has_room}
 use Rattle.zero_copy.specs.Held.{Held, held_by}
 use Rattle.bus_store.specs.Store.{Store}
 use Rattle.bus_store.proofs.Pool.{room_counted}
-use Rattle.bus_store.proofs.Given.{none_there, given_keeps, given_held, given_descs, given_others, given_bag}
+use Rattle.bus_store.proofs.NewBuffers.{none_there, given_keeps, given_held, given_descs, given_others, given_bag}
 use Rattle.bus_store.proofs.store.BusStore.allocate.Goals as goal
 
 pub drawn_empty-block-requires : goal.drawn_empty-block-requires

@@ -1,4 +1,4 @@
-use Rattle.bus_store.proofs.Created.{created_bags}
+use Rattle.bus_store.proofs.NewPipes.{created_bags}
 use Rattle.bus_store.proofs.store.BusStore.create_pipe.Goals as goal
 
 pub returns-clause-bags : goal.returns-clause-bags

@@ -1,6 +1,6 @@
 use Rattle.std.proofs.Common.{ap, ◌∙◌}
 use Rattle.bus_store.specs.Store.{Store}
-use Rattle.bus_store.proofs.Removed.{loan_other, deleted_store}
+use Rattle.bus_store.proofs.PipeRemovals.{loan_other, deleted_store}
 use Rattle.bus_store.proofs.store.BusStore.delete_pipe.Goals as goal
 
 pub returns-clause-after : goal.returns-clause-after

@@ -1,7 +1,7 @@
 use Rattle.std.proofs.Common.{subst}
 use Rattle.bus_store.specs.Store.{Store}
 use Rattle.bus_store.specs.Blocks.{AreBlocks}
-use Rattle.bus_store.proofs.BlocksShown.{are_blocks}
+use Rattle.bus_store.proofs.ShownBlocks.{are_blocks}
 use Rattle.bus_store.proofs.store.BusStore.desk.Goals as goal
 
 pub returns-clause-blocks : goal.returns-clause-blocks

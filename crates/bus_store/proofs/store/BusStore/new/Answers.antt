@@ -2,7 +2,7 @@ use Rattle.std.proofs.Common.{refl, ap, ◌∙◌}
 use Rattle.fsw_base.specs.Limits.{limits_of}
 use Rattle.buf_desc.specs.Desk.{Buffers, uncut}
 use Rattle.es_pool.specs.Pool.{most_cut}
-use Rattle.bus_store.proofs.Opened.{opened_keeps, opened_store, lists_are}
+use Rattle.bus_store.proofs.NewStores.{opened_keeps, opened_store, lists_are}
 use Rattle.bus_store.proofs.store.BusStore.new.Goals as goal
 
 pub invariant_of-result-2 : goal.invariant_of-result-2

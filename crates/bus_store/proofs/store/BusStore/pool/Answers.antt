@@ -4,8 +4,8 @@ use Rattle.es_pool.specs.Account.{IsAccountOf}
 use Rattle.bus_words.specs.Held.{held, block_of}
 use Rattle.bus_store.specs.Blocks.{IsBlockPool}
 use Rattle.bus_store.specs.Store.{Store}
-use Rattle.bus_store.proofs.Blocked.{in_use_held}
-use Rattle.bus_store.proofs.BlocksShown.{are_blocks}
+use Rattle.bus_store.proofs.BlocksOut.{in_use_held}
+use Rattle.bus_store.proofs.ShownBlocks.{are_blocks}
 use Rattle.bus_store.proofs.store.BusStore.pool.Goals as goal
 
 pub returns-clause-blocks : goal.returns-clause-blocks

@@ -4,7 +4,7 @@ use Rattle.bus_words.specs.Bus.{Item}
 use Rattle.bus_words.specs.Held.{items_of}
 use Rattle.bus_store.specs.Store.{Store}
 use Rattle.bus_store.specs.Blocks.{IsGiven, AreOfOneSend}
-use Rattle.bus_store.proofs.BlocksShown.{are_given, are_alike}
+use Rattle.bus_store.proofs.ShownBlocks.{are_given, are_alike}
 use Rattle.bus_store.proofs.store.BusStore.recall_sends.Goals as goal
 
 pub returns-clause-given : goal.returns-clause-given

@@ -5,8 +5,8 @@ use Rattle.buf_desc.specs.Desk.{Buffers}
 use Rattle.bus_words.specs.Held.{held, bytes_in_use}
 use Rattle.bus_store.specs.Store.{Store}
 use Rattle.bus_store.specs.Inside.{let_go, store_of}
-use Rattle.bus_store.proofs.Fewer.{IsLess, less_exchanged, holds_less}
-use Rattle.bus_store.proofs.Received.{last_sealed, last_used, last_viewed, last_lent, last_seen, room_left, front_sealed, next_few, received_keeps, received_held, received_loans, received_bag, received_others, received_number}
+use Rattle.bus_store.proofs.BlockReturns.{IsLess, less_exchanged, holds_less}
+use Rattle.bus_store.proofs.ReceiverBags.{last_sealed, last_used, last_viewed, last_lent, last_seen, room_left, front_sealed, next_few, received_keeps, received_held, received_loans, received_bag, received_others, received_number}
 use Rattle.bus_store.proofs.store.BusStore.receive.Goals as goal
 
 pub show_next-number-requires-clause-seen : goal.show_next-number-requires-clause-seen

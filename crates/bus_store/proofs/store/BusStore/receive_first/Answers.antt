@@ -2,7 +2,7 @@ use Rattle.std.proofs.Common.{length, None, refl, ap, ◌∙◌, add-zero, arith
 use Rattle.lend_block.specs.Loan.{LentBytes}
 use Rattle.buf_desc.specs.Held.{Holding}
 use Rattle.bus_store.proofs.FirstReceives.{nothing_last}
-use Rattle.bus_store.proofs.Received.{room_left, front_sealed, next_few, received_keeps, received_held, received_loans, received_bag, received_others, received_number}
+use Rattle.bus_store.proofs.ReceiverBags.{room_left, front_sealed, next_few, received_keeps, received_held, received_loans, received_bag, received_others, received_number}
 use Rattle.bus_store.proofs.store.BusStore.receive_first.Goals as goal
 
 pub show-number-requires-clause-room : goal.show-number-requires-clause-room

@@ -1,9 +1,9 @@
 use Rattle.std.proofs.Common.{◌-◌, ◌<◌, set, ap, sym, ◌∙◌, subst}
 use Rattle.bucket_list.specs.Lists.{times_in}
 use Rattle.zero_copy.specs.Held.{Held, held_by, without}
-use Rattle.bus_store.proofs.Freed.{is_freed}
-use Rattle.bus_store.proofs.Relisted.{list_of}
-use Rattle.bus_store.proofs.Taken.{own_block, in_list, numbered_block}
+use Rattle.bus_store.proofs.BufferReleases.{is_freed}
+use Rattle.bus_store.proofs.ListChanges.{list_of}
+use Rattle.bus_store.proofs.OwnBuffers.{own_block, in_list, numbered_block}
 use Rattle.bus_store.proofs.store.BusStore.release.Goals as goal
 
 pub let_go-requires-clause-held : goal.let_go-requires-clause-held

@@ -1,7 +1,7 @@
 use Rattle.std.proofs.Common.{ap, refl, ◌∙◌}
 use Rattle.lend_block.specs.Loan.{LentBytes}
 use Rattle.buf_desc.specs.Held.{Holding}
-use Rattle.bus_store.proofs.Relieved.{relieved_store, bag_empty}
+use Rattle.bus_store.proofs.AllReleases.{relieved_store, bag_empty}
 use Rattle.bus_store.proofs.store.BusStore.release_all.Goals as goal
 
 pub returns-clause-after : goal.returns-clause-after

@@ -2,8 +2,8 @@ use Rattle.std.proofs.Common.{ap, sym, ◌∙◌}
 use Rattle.zero_copy.specs.Held.{held_by}
 use Rattle.buf_desc.specs.Desk.{freed}
 use Rattle.bus_words.specs.Bus.{has_unsent}
-use Rattle.bus_store.proofs.Freed.{is_freed, without_newest, newest_mine, newest_has, newest_block, has_apart}
-use Rattle.bus_store.proofs.Taken.{own_block, number_is}
+use Rattle.bus_store.proofs.BufferReleases.{is_freed, without_newest, newest_mine, newest_has, newest_block, has_apart}
+use Rattle.bus_store.proofs.OwnBuffers.{own_block, number_is}
 use Rattle.bus_store.proofs.store.BusStore.release_newest.Goals as goal
 
 pub give_up-requires : goal.give_up-requires

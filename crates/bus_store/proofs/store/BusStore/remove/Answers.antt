@@ -1,4 +1,4 @@
-use Rattle.bus_store.proofs.Removed.{rows_wait, rows_last, removed_keeps, removed_store, removed_bags}
+use Rattle.bus_store.proofs.PipeRemovals.{rows_wait, rows_last, removed_keeps, removed_store, removed_bags}
 use Rattle.bus_store.proofs.store.BusStore.remove.Goals as goal
 
 pub delete_pipe-requires-clause-waits : goal.delete_pipe-requires-clause-waits

@@ -8,7 +8,7 @@ use Rattle.bus_store.specs.Store.{Store}
 use Rattle.bus_store.specs.Inside.{AreLoose, all_dropped}
 use Rattle.bus_store.proofs.Pool.{room_counted}
 use Rattle.bus_store.proofs.Stores.{sent_keeps, sent_reached, sent_loose, sent_drops, sent_held, sent_bags}
-use Rattle.bus_store.proofs.Tied.{sealed_live}
+use Rattle.bus_store.proofs.Ties.{sealed_live}
 use Rattle.bus_store.proofs.store.BusStore.send.Goals as goal
 
 pub put_message-desc-requires-clause-room : goal.put_message-desc-requires-clause-room
@@ -23,17 +23,17 @@ invariant_of-self g c =
     sent_keeps c.self.inside c.args.self.now c.args.sender c.args.bytes.now c.args.inc c.id_of-id.result (c.self.inside.given + 1) c.put_message-desc.result c.deliver-reached.result c.next_count-count.result
     c.put_message-desc.new.desk c.settle_message.new.desk c.next_count-count.new.tables c.deliver-reached.new.self c.deliver-reached.new.misses
     c.self.view_is c.self.invariant c.recall_order.ensures c.requires.least c.requires.room c.id_of-id.ensures c.next_count-count.ensures.count c.next_count-count.ensures.after refl
-    c.put_message-desc.ensures.added c.recall_live.ensures.live c.recall_live-2.ensures.live
+    c.put_message-desc.ensures.added c.recall_live.ensures.live c.put_message-desc.ensures.live
     c.deliver-reached.ensures.after c.deliver-reached.ensures.reached c.deliver-reached.ensures.missed c.settle_message.ensures.after
     (sealed_live (slot_at c.put_message-desc.new.desk.slots c.put_message-desc.result) c.put_message-desc.ensures.added.seals.sealed)
-    c.drop_uses.new.desk c.recall_live-3.ensures.live (c.drop_uses.ensures.dropped ∙ ap (all_dropped c.settle_message.new.desk) c.dropped_messages.ensures)
+    c.drop_uses.new.desk c.settle_message.ensures.live (c.drop_uses.ensures.dropped ∙ ap (all_dropped c.settle_message.new.desk) c.dropped_messages.ensures)
 
 pub returns-clause-reached : goal.returns-clause-reached
 returns-clause-reached g c =
     sent_reached c.self.inside c.args.self.now c.args.sender c.args.bytes.now c.args.inc c.id_of-id.result (c.self.inside.given + 1) c.put_message-desc.result c.deliver-reached.result c.next_count-count.result
     c.put_message-desc.new.desk c.settle_message.new.desk c.next_count-count.new.tables c.deliver-reached.new.self c.deliver-reached.new.misses
     c.self.view_is c.self.invariant c.recall_order.ensures c.requires.least c.requires.room c.id_of-id.ensures c.next_count-count.ensures.count c.next_count-count.ensures.after refl
-    c.put_message-desc.ensures.added c.recall_live.ensures.live c.recall_live-2.ensures.live
+    c.put_message-desc.ensures.added c.recall_live.ensures.live c.put_message-desc.ensures.live
     c.deliver-reached.ensures.after c.deliver-reached.ensures.reached c.deliver-reached.ensures.missed c.settle_message.ensures.after
     (sealed_live (slot_at c.put_message-desc.new.desk.slots c.put_message-desc.result) c.put_message-desc.ensures.added.seals.sealed)
 
@@ -42,20 +42,20 @@ returns-clause-after g c =
     sent_held c.self.inside c.args.self.now c.args.sender c.args.bytes.now c.args.inc c.id_of-id.result (c.self.inside.given + 1) c.put_message-desc.result c.deliver-reached.result c.next_count-count.result
     c.put_message-desc.new.desk c.settle_message.new.desk c.next_count-count.new.tables c.deliver-reached.new.self c.deliver-reached.new.misses
     c.self.view_is c.self.invariant c.recall_order.ensures c.requires.least c.requires.room c.id_of-id.ensures c.next_count-count.ensures.count c.next_count-count.ensures.after refl
-    c.put_message-desc.ensures.added c.recall_live.ensures.live c.recall_live-2.ensures.live
+    c.put_message-desc.ensures.added c.recall_live.ensures.live c.put_message-desc.ensures.live
     c.deliver-reached.ensures.after c.deliver-reached.ensures.reached c.deliver-reached.ensures.missed c.settle_message.ensures.after
     (sealed_live (slot_at c.put_message-desc.new.desk.slots c.put_message-desc.result) c.put_message-desc.ensures.added.seals.sealed)
-    c.drop_uses.new.desk c.recall_live-3.ensures.live (c.drop_uses.ensures.dropped ∙ ap (all_dropped c.settle_message.new.desk) c.dropped_messages.ensures) c.recall_live-4.ensures.live
+    c.drop_uses.new.desk c.settle_message.ensures.live (c.drop_uses.ensures.dropped ∙ ap (all_dropped c.settle_message.new.desk) c.dropped_messages.ensures) c.drop_uses.ensures.live
 
 pub returns-clause-bags : goal.returns-clause-bags
 returns-clause-bags g c =
     sent_bags c.self.inside c.args.self.now c.args.sender c.args.bytes.now c.args.inc c.id_of-id.result (c.self.inside.given + 1) c.put_message-desc.result c.deliver-reached.result c.next_count-count.result
     c.put_message-desc.new.desk c.settle_message.new.desk c.next_count-count.new.tables c.deliver-reached.new.self c.deliver-reached.new.misses
     c.self.view_is c.self.invariant c.recall_order.ensures c.requires.least c.requires.room c.id_of-id.ensures c.next_count-count.ensures.count c.next_count-count.ensures.after refl
-    c.put_message-desc.ensures.added c.recall_live.ensures.live c.recall_live-2.ensures.live
+    c.put_message-desc.ensures.added c.recall_live.ensures.live c.put_message-desc.ensures.live
     c.deliver-reached.ensures.after c.deliver-reached.ensures.reached c.deliver-reached.ensures.missed c.settle_message.ensures.after
     (sealed_live (slot_at c.put_message-desc.new.desk.slots c.put_message-desc.result) c.put_message-desc.ensures.added.seals.sealed)
-    c.drop_uses.new.desk c.recall_live-3.ensures.live (c.drop_uses.ensures.dropped ∙ ap (all_dropped c.settle_message.new.desk) c.dropped_messages.ensures)
+    c.drop_uses.new.desk c.settle_message.ensures.live (c.drop_uses.ensures.dropped ∙ ap (all_dropped c.settle_message.new.desk) c.dropped_messages.ensures)
 
 pub drop_uses-requires : goal.drop_uses-requires
 drop_uses-requires g c =
@@ -64,7 +64,7 @@ drop_uses-requires g c =
           (sent_loose c.self.inside c.args.self.now c.args.sender c.args.bytes.now c.args.inc c.id_of-id.result (c.self.inside.given + 1) c.put_message-desc.result c.deliver-reached.result c.next_count-count.result
           c.put_message-desc.new.desk c.settle_message.new.desk c.next_count-count.new.tables c.deliver-reached.new.self c.deliver-reached.new.misses
           c.self.view_is c.self.invariant c.recall_order.ensures c.requires.least c.requires.room c.id_of-id.ensures c.next_count-count.ensures.count c.next_count-count.ensures.after refl
-          c.put_message-desc.ensures.added c.recall_live.ensures.live c.recall_live-2.ensures.live
+          c.put_message-desc.ensures.added c.recall_live.ensures.live c.put_message-desc.ensures.live
           c.deliver-reached.ensures.after c.deliver-reached.ensures.reached c.deliver-reached.ensures.missed c.settle_message.ensures.after
           (sealed_live (slot_at c.put_message-desc.new.desk.slots c.put_message-desc.result) c.put_message-desc.ensures.added.seals.sealed));
     }
@@ -75,7 +75,7 @@ returns-clause-cost g c =
     sent_drops c.self.inside c.args.self.now c.args.sender c.args.bytes.now c.args.inc c.id_of-id.result (c.self.inside.given + 1) c.put_message-desc.result c.deliver-reached.result c.next_count-count.result
     c.put_message-desc.new.desk c.settle_message.new.desk c.next_count-count.new.tables c.deliver-reached.new.self c.deliver-reached.new.misses
     c.self.view_is c.self.invariant c.recall_order.ensures c.requires.least c.requires.room c.id_of-id.ensures c.next_count-count.ensures.count c.next_count-count.ensures.after refl
-    c.put_message-desc.ensures.added c.recall_live.ensures.live c.recall_live-2.ensures.live
+    c.put_message-desc.ensures.added c.recall_live.ensures.live c.put_message-desc.ensures.live
     c.deliver-reached.ensures.after c.deliver-reached.ensures.reached c.deliver-reached.ensures.missed c.settle_message.ensures.after
     (sealed_live (slot_at c.put_message-desc.new.desk.slots c.put_message-desc.result) c.put_message-desc.ensures.added.seals.sealed) in
     let same =

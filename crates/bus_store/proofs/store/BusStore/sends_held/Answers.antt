@@ -2,7 +2,7 @@ use Rattle.std.proofs.Common.{◌≡◌, ap, length, subst, ◌∙◌}
 use Rattle.es_pool.specs.Pool.{PoolState, out_among}
 use Rattle.bus_words.specs.Held.{held}
 use Rattle.bus_store.specs.Store.{Store}
-use Rattle.bus_store.proofs.Blocked.{out_all}
+use Rattle.bus_store.proofs.BlocksOut.{out_all}
 use Rattle.bus_store.proofs.store.BusStore.sends_held.Goals as goal
 
 pub returns : goal.returns

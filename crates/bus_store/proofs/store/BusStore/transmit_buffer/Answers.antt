@@ -12,9 +12,9 @@ use Rattle.bus_tables.specs.Tables.{Tables}
 use Rattle.bus_store.specs.Store.{Store}
 use Rattle.bus_store.specs.Words.{passing_of}
 use Rattle.bus_store.specs.Inside.{AreLoose, all_dropped}
-use Rattle.bus_store.proofs.Passed.{front_long, passed_keeps, passed_reached, passed_loose, passed_drops, passed_at, passed_views, passed_descs, passed_others, passed_bag}
-use Rattle.bus_store.proofs.Relisted.{list_of}
-use Rattle.bus_store.proofs.Taken.{given_number, own_block, in_list, numbered_block, size_block, bytes_are, seals_as}
+use Rattle.bus_store.proofs.BufferSends.{front_long, passed_keeps, passed_reached, passed_loose, passed_drops, passed_at, passed_views, passed_descs, passed_others, passed_bag}
+use Rattle.bus_store.proofs.ListChanges.{list_of}
+use Rattle.bus_store.proofs.OwnBuffers.{given_number, own_block, in_list, numbered_block, size_block, bytes_are, seals_as}
 use Rattle.bus_store.proofs.store.BusStore.transmit_buffer.Goals as goal
 
 pub let_go-requires-clause-held : goal.let_go-requires-clause-held
@@ -45,12 +45,12 @@ invariant_of-self g c =
     (c.let_go.ensures.after ∙ ap (λ n. let v : Held = record c.self.inside.lists { lists = set c.self.inside.lists.lists (c.args.app - 1) (without n (held_by c.self.inside.lists c.args.app)) } in v) c.desc.ensures)
     (c.id_of-id.ensures ∙ ap message_id c.bytes.ensures) c.next_count-count.ensures.count c.next_count-count.ensures.after
     (seals_as c.self.inside c.args.self.now c.args.app c.args.buf c.self.view_is c.self.invariant c.requires.has c.args.held.now c.requires.bag c.unwrap-block.result (sym c.unwrap-block.ensures ∙ c.take_buffer.ensures.found) c.seal_front-desc.new.desk _ c.seal_front-desc.ensures.seals)
-    c.seal_front-desc.ensures.pool c.seal_front-desc.ensures.numbers c.recall_live-2.ensures.live
+    c.seal_front-desc.ensures.pool c.seal_front-desc.ensures.numbers c.seal_front-desc.ensures.live
     (c.deliver-reached.ensures.after ∙ ap (λ d. let v : Tables = record c.next_count-count.new.tables { pipes = deliver_rows (record { sender = c.args.app; number = c.args.buf; desc = d }) (route c.next_count-count.new.tables.subscriptions c.id_of-id.result) c.next_count-count.new.tables.pipes } in v) c.seal_front-desc.ensures.desc)
     (c.deliver-reached.ensures.reached ∙ ap (λ d. reached_rows (record { sender = c.args.app; number = c.args.buf; desc = d }) (route c.next_count-count.new.tables.subscriptions c.id_of-id.result) c.next_count-count.new.tables.pipes) c.seal_front-desc.ensures.desc)
     (c.deliver-reached.ensures.missed ∙ ap (λ d. let v : Missed = record c.self.inside.misses { items = missed_rows (record { sender = c.args.app; number = c.args.buf; desc = d }) (route c.next_count-count.new.tables.subscriptions c.id_of-id.result) c.next_count-count.new.tables.pipes; dropped = dropped_rows (record { sender = c.args.app; number = c.args.buf; desc = d }) (route c.next_count-count.new.tables.subscriptions c.id_of-id.result) c.next_count-count.new.tables.pipes } in v) c.seal_front-desc.ensures.desc)
     (c.settle_message.ensures.after ∙ ap (λ d. after_settle (resealed c.seal_front-desc.new.desk d (record (sealed_at c.seal_front-desc.new.desk.slots d) { uses = c.deliver-reached.result })) d) c.seal_front-desc.ensures.desc)
-    c.drop_uses.new.desk c.recall_live-3.ensures.live (c.drop_uses.ensures.dropped ∙ ap (all_dropped c.settle_message.new.desk) c.dropped_messages.ensures)
+    c.drop_uses.new.desk c.settle_message.ensures.live (c.drop_uses.ensures.dropped ∙ ap (all_dropped c.settle_message.new.desk) c.dropped_messages.ensures)
 
 pub returns-clause-reached : goal.returns-clause-reached
 returns-clause-reached g c =
@@ -61,7 +61,7 @@ returns-clause-reached g c =
     (c.let_go.ensures.after ∙ ap (λ n. let v : Held = record c.self.inside.lists { lists = set c.self.inside.lists.lists (c.args.app - 1) (without n (held_by c.self.inside.lists c.args.app)) } in v) c.desc.ensures)
     (c.id_of-id.ensures ∙ ap message_id c.bytes.ensures) c.next_count-count.ensures.count c.next_count-count.ensures.after
     (seals_as c.self.inside c.args.self.now c.args.app c.args.buf c.self.view_is c.self.invariant c.requires.has c.args.held.now c.requires.bag c.unwrap-block.result (sym c.unwrap-block.ensures ∙ c.take_buffer.ensures.found) c.seal_front-desc.new.desk _ c.seal_front-desc.ensures.seals)
-    c.seal_front-desc.ensures.pool c.seal_front-desc.ensures.numbers c.recall_live-2.ensures.live
+    c.seal_front-desc.ensures.pool c.seal_front-desc.ensures.numbers c.seal_front-desc.ensures.live
     (c.deliver-reached.ensures.after ∙ ap (λ d. let v : Tables = record c.next_count-count.new.tables { pipes = deliver_rows (record { sender = c.args.app; number = c.args.buf; desc = d }) (route c.next_count-count.new.tables.subscriptions c.id_of-id.result) c.next_count-count.new.tables.pipes } in v) c.seal_front-desc.ensures.desc)
     (c.deliver-reached.ensures.reached ∙ ap (λ d. reached_rows (record { sender = c.args.app; number = c.args.buf; desc = d }) (route c.next_count-count.new.tables.subscriptions c.id_of-id.result) c.next_count-count.new.tables.pipes) c.seal_front-desc.ensures.desc)
     (c.deliver-reached.ensures.missed ∙ ap (λ d. let v : Missed = record c.self.inside.misses { items = missed_rows (record { sender = c.args.app; number = c.args.buf; desc = d }) (route c.next_count-count.new.tables.subscriptions c.id_of-id.result) c.next_count-count.new.tables.pipes; dropped = dropped_rows (record { sender = c.args.app; number = c.args.buf; desc = d }) (route c.next_count-count.new.tables.subscriptions c.id_of-id.result) c.next_count-count.new.tables.pipes } in v) c.seal_front-desc.ensures.desc)
@@ -75,13 +75,13 @@ returns-clause-after g c =
     (c.let_go.ensures.after ∙ ap (λ n. let v : Held = record c.self.inside.lists { lists = set c.self.inside.lists.lists (c.args.app - 1) (without n (held_by c.self.inside.lists c.args.app)) } in v) c.desc.ensures)
     (c.id_of-id.ensures ∙ ap message_id c.bytes.ensures) c.next_count-count.ensures.count c.next_count-count.ensures.after
     (seals_as c.self.inside c.args.self.now c.args.app c.args.buf c.self.view_is c.self.invariant c.requires.has c.args.held.now c.requires.bag c.unwrap-block.result (sym c.unwrap-block.ensures ∙ c.take_buffer.ensures.found) c.seal_front-desc.new.desk _ c.seal_front-desc.ensures.seals)
-    c.seal_front-desc.ensures.pool c.seal_front-desc.ensures.numbers c.recall_live-2.ensures.live
+    c.seal_front-desc.ensures.pool c.seal_front-desc.ensures.numbers c.seal_front-desc.ensures.live
     (c.deliver-reached.ensures.after ∙ ap (λ d. let v : Tables = record c.next_count-count.new.tables { pipes = deliver_rows (record { sender = c.args.app; number = c.args.buf; desc = d }) (route c.next_count-count.new.tables.subscriptions c.id_of-id.result) c.next_count-count.new.tables.pipes } in v) c.seal_front-desc.ensures.desc)
     (c.deliver-reached.ensures.reached ∙ ap (λ d. reached_rows (record { sender = c.args.app; number = c.args.buf; desc = d }) (route c.next_count-count.new.tables.subscriptions c.id_of-id.result) c.next_count-count.new.tables.pipes) c.seal_front-desc.ensures.desc)
     (c.deliver-reached.ensures.missed ∙ ap (λ d. let v : Missed = record c.self.inside.misses { items = missed_rows (record { sender = c.args.app; number = c.args.buf; desc = d }) (route c.next_count-count.new.tables.subscriptions c.id_of-id.result) c.next_count-count.new.tables.pipes; dropped = dropped_rows (record { sender = c.args.app; number = c.args.buf; desc = d }) (route c.next_count-count.new.tables.subscriptions c.id_of-id.result) c.next_count-count.new.tables.pipes } in v) c.seal_front-desc.ensures.desc)
     (c.settle_message.ensures.after ∙ ap (λ d. after_settle (resealed c.seal_front-desc.new.desk d (record (sealed_at c.seal_front-desc.new.desk.slots d) { uses = c.deliver-reached.result })) d) c.seal_front-desc.ensures.desc)
-    c.drop_uses.new.desk c.recall_live-3.ensures.live (c.drop_uses.ensures.dropped ∙ ap (all_dropped c.settle_message.new.desk) c.dropped_messages.ensures)
-    (bytes_at c.args.held.now c.args.buf) (bytes_are c.self.inside c.args.self.now c.args.app c.args.buf c.self.view_is c.self.invariant c.requires.has c.args.held.now c.requires.bag c.unwrap-block.result (sym c.unwrap-block.ensures ∙ c.take_buffer.ensures.found)) c.recall_live-4.ensures.live
+    c.drop_uses.new.desk c.settle_message.ensures.live (c.drop_uses.ensures.dropped ∙ ap (all_dropped c.settle_message.new.desk) c.dropped_messages.ensures)
+    (bytes_at c.args.held.now c.args.buf) (bytes_are c.self.inside c.args.self.now c.args.app c.args.buf c.self.view_is c.self.invariant c.requires.has c.args.held.now c.requires.bag c.unwrap-block.result (sym c.unwrap-block.ensures ∙ c.take_buffer.ensures.found)) c.drop_uses.ensures.live
 
 pub returns-clause-first : goal.returns-clause-first
 returns-clause-first g c = given_number c.self.inside c.args.self.now c.args.app c.args.buf c.self.view_is c.self.invariant c.requires.has
@@ -94,12 +94,12 @@ returns-clause-descs g c =
     (c.let_go.ensures.after ∙ ap (λ n. let v : Held = record c.self.inside.lists { lists = set c.self.inside.lists.lists (c.args.app - 1) (without n (held_by c.self.inside.lists c.args.app)) } in v) c.desc.ensures)
     (c.id_of-id.ensures ∙ ap message_id c.bytes.ensures) c.next_count-count.ensures.count c.next_count-count.ensures.after
     (seals_as c.self.inside c.args.self.now c.args.app c.args.buf c.self.view_is c.self.invariant c.requires.has c.args.held.now c.requires.bag c.unwrap-block.result (sym c.unwrap-block.ensures ∙ c.take_buffer.ensures.found) c.seal_front-desc.new.desk _ c.seal_front-desc.ensures.seals)
-    c.seal_front-desc.ensures.pool c.seal_front-desc.ensures.numbers c.recall_live-2.ensures.live
+    c.seal_front-desc.ensures.pool c.seal_front-desc.ensures.numbers c.seal_front-desc.ensures.live
     (c.deliver-reached.ensures.after ∙ ap (λ d. let v : Tables = record c.next_count-count.new.tables { pipes = deliver_rows (record { sender = c.args.app; number = c.args.buf; desc = d }) (route c.next_count-count.new.tables.subscriptions c.id_of-id.result) c.next_count-count.new.tables.pipes } in v) c.seal_front-desc.ensures.desc)
     (c.deliver-reached.ensures.reached ∙ ap (λ d. reached_rows (record { sender = c.args.app; number = c.args.buf; desc = d }) (route c.next_count-count.new.tables.subscriptions c.id_of-id.result) c.next_count-count.new.tables.pipes) c.seal_front-desc.ensures.desc)
     (c.deliver-reached.ensures.missed ∙ ap (λ d. let v : Missed = record c.self.inside.misses { items = missed_rows (record { sender = c.args.app; number = c.args.buf; desc = d }) (route c.next_count-count.new.tables.subscriptions c.id_of-id.result) c.next_count-count.new.tables.pipes; dropped = dropped_rows (record { sender = c.args.app; number = c.args.buf; desc = d }) (route c.next_count-count.new.tables.subscriptions c.id_of-id.result) c.next_count-count.new.tables.pipes } in v) c.seal_front-desc.ensures.desc)
     (c.settle_message.ensures.after ∙ ap (λ d. after_settle (resealed c.seal_front-desc.new.desk d (record (sealed_at c.seal_front-desc.new.desk.slots d) { uses = c.deliver-reached.result })) d) c.seal_front-desc.ensures.desc)
-    c.drop_uses.new.desk c.recall_live-3.ensures.live (c.drop_uses.ensures.dropped ∙ ap (all_dropped c.settle_message.new.desk) c.dropped_messages.ensures)
+    c.drop_uses.new.desk c.settle_message.ensures.live (c.drop_uses.ensures.dropped ∙ ap (all_dropped c.settle_message.new.desk) c.dropped_messages.ensures)
 
 pub returns-clause-bag : goal.returns-clause-bag
 returns-clause-bag g c =
@@ -109,12 +109,12 @@ returns-clause-bag g c =
     (c.let_go.ensures.after ∙ ap (λ n. let v : Held = record c.self.inside.lists { lists = set c.self.inside.lists.lists (c.args.app - 1) (without n (held_by c.self.inside.lists c.args.app)) } in v) c.desc.ensures)
     (c.id_of-id.ensures ∙ ap message_id c.bytes.ensures) c.next_count-count.ensures.count c.next_count-count.ensures.after
     (seals_as c.self.inside c.args.self.now c.args.app c.args.buf c.self.view_is c.self.invariant c.requires.has c.args.held.now c.requires.bag c.unwrap-block.result (sym c.unwrap-block.ensures ∙ c.take_buffer.ensures.found) c.seal_front-desc.new.desk _ c.seal_front-desc.ensures.seals)
-    c.seal_front-desc.ensures.pool c.seal_front-desc.ensures.numbers c.recall_live-2.ensures.live
+    c.seal_front-desc.ensures.pool c.seal_front-desc.ensures.numbers c.seal_front-desc.ensures.live
     (c.deliver-reached.ensures.after ∙ ap (λ d. let v : Tables = record c.next_count-count.new.tables { pipes = deliver_rows (record { sender = c.args.app; number = c.args.buf; desc = d }) (route c.next_count-count.new.tables.subscriptions c.id_of-id.result) c.next_count-count.new.tables.pipes } in v) c.seal_front-desc.ensures.desc)
     (c.deliver-reached.ensures.reached ∙ ap (λ d. reached_rows (record { sender = c.args.app; number = c.args.buf; desc = d }) (route c.next_count-count.new.tables.subscriptions c.id_of-id.result) c.next_count-count.new.tables.pipes) c.seal_front-desc.ensures.desc)
     (c.deliver-reached.ensures.missed ∙ ap (λ d. let v : Missed = record c.self.inside.misses { items = missed_rows (record { sender = c.args.app; number = c.args.buf; desc = d }) (route c.next_count-count.new.tables.subscriptions c.id_of-id.result) c.next_count-count.new.tables.pipes; dropped = dropped_rows (record { sender = c.args.app; number = c.args.buf; desc = d }) (route c.next_count-count.new.tables.subscriptions c.id_of-id.result) c.next_count-count.new.tables.pipes } in v) c.seal_front-desc.ensures.desc)
     (c.settle_message.ensures.after ∙ ap (λ d. after_settle (resealed c.seal_front-desc.new.desk d (record (sealed_at c.seal_front-desc.new.desk.slots d) { uses = c.deliver-reached.result })) d) c.seal_front-desc.ensures.desc)
-    c.drop_uses.new.desk c.recall_live-3.ensures.live (c.drop_uses.ensures.dropped ∙ ap (all_dropped c.settle_message.new.desk) c.dropped_messages.ensures)
+    c.drop_uses.new.desk c.settle_message.ensures.live (c.drop_uses.ensures.dropped ∙ ap (all_dropped c.settle_message.new.desk) c.dropped_messages.ensures)
     c.args.held.now c.take_buffer.new.self c.requires.bag c.take_buffer.ensures.seen
 
 pub returns-clause-other_bags : goal.returns-clause-other_bags
@@ -125,12 +125,12 @@ returns-clause-other_bags g c =
     (c.let_go.ensures.after ∙ ap (λ n. let v : Held = record c.self.inside.lists { lists = set c.self.inside.lists.lists (c.args.app - 1) (without n (held_by c.self.inside.lists c.args.app)) } in v) c.desc.ensures)
     (c.id_of-id.ensures ∙ ap message_id c.bytes.ensures) c.next_count-count.ensures.count c.next_count-count.ensures.after
     (seals_as c.self.inside c.args.self.now c.args.app c.args.buf c.self.view_is c.self.invariant c.requires.has c.args.held.now c.requires.bag c.unwrap-block.result (sym c.unwrap-block.ensures ∙ c.take_buffer.ensures.found) c.seal_front-desc.new.desk _ c.seal_front-desc.ensures.seals)
-    c.seal_front-desc.ensures.pool c.seal_front-desc.ensures.numbers c.recall_live-2.ensures.live
+    c.seal_front-desc.ensures.pool c.seal_front-desc.ensures.numbers c.seal_front-desc.ensures.live
     (c.deliver-reached.ensures.after ∙ ap (λ d. let v : Tables = record c.next_count-count.new.tables { pipes = deliver_rows (record { sender = c.args.app; number = c.args.buf; desc = d }) (route c.next_count-count.new.tables.subscriptions c.id_of-id.result) c.next_count-count.new.tables.pipes } in v) c.seal_front-desc.ensures.desc)
     (c.deliver-reached.ensures.reached ∙ ap (λ d. reached_rows (record { sender = c.args.app; number = c.args.buf; desc = d }) (route c.next_count-count.new.tables.subscriptions c.id_of-id.result) c.next_count-count.new.tables.pipes) c.seal_front-desc.ensures.desc)
     (c.deliver-reached.ensures.missed ∙ ap (λ d. let v : Missed = record c.self.inside.misses { items = missed_rows (record { sender = c.args.app; number = c.args.buf; desc = d }) (route c.next_count-count.new.tables.subscriptions c.id_of-id.result) c.next_count-count.new.tables.pipes; dropped = dropped_rows (record { sender = c.args.app; number = c.args.buf; desc = d }) (route c.next_count-count.new.tables.subscriptions c.id_of-id.result) c.next_count-count.new.tables.pipes } in v) c.seal_front-desc.ensures.desc)
     (c.settle_message.ensures.after ∙ ap (λ d. after_settle (resealed c.seal_front-desc.new.desk d (record (sealed_at c.seal_front-desc.new.desk.slots d) { uses = c.deliver-reached.result })) d) c.seal_front-desc.ensures.desc)
-    c.drop_uses.new.desk c.recall_live-3.ensures.live (c.drop_uses.ensures.dropped ∙ ap (all_dropped c.settle_message.new.desk) c.dropped_messages.ensures)
+    c.drop_uses.new.desk c.settle_message.ensures.live (c.drop_uses.ensures.dropped ∙ ap (all_dropped c.settle_message.new.desk) c.dropped_messages.ensures)
 
 pub returns-clause-view_bags : goal.returns-clause-view_bags
 returns-clause-view_bags g c =
@@ -140,12 +140,12 @@ returns-clause-view_bags g c =
     (c.let_go.ensures.after ∙ ap (λ n. let v : Held = record c.self.inside.lists { lists = set c.self.inside.lists.lists (c.args.app - 1) (without n (held_by c.self.inside.lists c.args.app)) } in v) c.desc.ensures)
     (c.id_of-id.ensures ∙ ap message_id c.bytes.ensures) c.next_count-count.ensures.count c.next_count-count.ensures.after
     (seals_as c.self.inside c.args.self.now c.args.app c.args.buf c.self.view_is c.self.invariant c.requires.has c.args.held.now c.requires.bag c.unwrap-block.result (sym c.unwrap-block.ensures ∙ c.take_buffer.ensures.found) c.seal_front-desc.new.desk _ c.seal_front-desc.ensures.seals)
-    c.seal_front-desc.ensures.pool c.seal_front-desc.ensures.numbers c.recall_live-2.ensures.live
+    c.seal_front-desc.ensures.pool c.seal_front-desc.ensures.numbers c.seal_front-desc.ensures.live
     (c.deliver-reached.ensures.after ∙ ap (λ d. let v : Tables = record c.next_count-count.new.tables { pipes = deliver_rows (record { sender = c.args.app; number = c.args.buf; desc = d }) (route c.next_count-count.new.tables.subscriptions c.id_of-id.result) c.next_count-count.new.tables.pipes } in v) c.seal_front-desc.ensures.desc)
     (c.deliver-reached.ensures.reached ∙ ap (λ d. reached_rows (record { sender = c.args.app; number = c.args.buf; desc = d }) (route c.next_count-count.new.tables.subscriptions c.id_of-id.result) c.next_count-count.new.tables.pipes) c.seal_front-desc.ensures.desc)
     (c.deliver-reached.ensures.missed ∙ ap (λ d. let v : Missed = record c.self.inside.misses { items = missed_rows (record { sender = c.args.app; number = c.args.buf; desc = d }) (route c.next_count-count.new.tables.subscriptions c.id_of-id.result) c.next_count-count.new.tables.pipes; dropped = dropped_rows (record { sender = c.args.app; number = c.args.buf; desc = d }) (route c.next_count-count.new.tables.subscriptions c.id_of-id.result) c.next_count-count.new.tables.pipes } in v) c.seal_front-desc.ensures.desc)
     (c.settle_message.ensures.after ∙ ap (λ d. after_settle (resealed c.seal_front-desc.new.desk d (record (sealed_at c.seal_front-desc.new.desk.slots d) { uses = c.deliver-reached.result })) d) c.seal_front-desc.ensures.desc)
-    c.drop_uses.new.desk c.recall_live-3.ensures.live (c.drop_uses.ensures.dropped ∙ ap (all_dropped c.settle_message.new.desk) c.dropped_messages.ensures)
+    c.drop_uses.new.desk c.settle_message.ensures.live (c.drop_uses.ensures.dropped ∙ ap (all_dropped c.settle_message.new.desk) c.dropped_messages.ensures)
 
 pub drop_uses-requires : goal.drop_uses-requires
 drop_uses-requires g c =
@@ -157,7 +157,7 @@ drop_uses-requires g c =
           (c.let_go.ensures.after ∙ ap (λ n. let v : Held = record c.self.inside.lists { lists = set c.self.inside.lists.lists (c.args.app - 1) (without n (held_by c.self.inside.lists c.args.app)) } in v) c.desc.ensures)
           (c.id_of-id.ensures ∙ ap message_id c.bytes.ensures) c.next_count-count.ensures.count c.next_count-count.ensures.after
           (seals_as c.self.inside c.args.self.now c.args.app c.args.buf c.self.view_is c.self.invariant c.requires.has c.args.held.now c.requires.bag c.unwrap-block.result (sym c.unwrap-block.ensures ∙ c.take_buffer.ensures.found) c.seal_front-desc.new.desk _ c.seal_front-desc.ensures.seals)
-          c.seal_front-desc.ensures.pool c.seal_front-desc.ensures.numbers c.recall_live-2.ensures.live
+          c.seal_front-desc.ensures.pool c.seal_front-desc.ensures.numbers c.seal_front-desc.ensures.live
           (c.deliver-reached.ensures.after ∙ ap (λ d. let v : Tables = record c.next_count-count.new.tables { pipes = deliver_rows (record { sender = c.args.app; number = c.args.buf; desc = d }) (route c.next_count-count.new.tables.subscriptions c.id_of-id.result) c.next_count-count.new.tables.pipes } in v) c.seal_front-desc.ensures.desc)
           (c.deliver-reached.ensures.reached ∙ ap (λ d. reached_rows (record { sender = c.args.app; number = c.args.buf; desc = d }) (route c.next_count-count.new.tables.subscriptions c.id_of-id.result) c.next_count-count.new.tables.pipes) c.seal_front-desc.ensures.desc)
           (c.deliver-reached.ensures.missed ∙ ap (λ d. let v : Missed = record c.self.inside.misses { items = missed_rows (record { sender = c.args.app; number = c.args.buf; desc = d }) (route c.next_count-count.new.tables.subscriptions c.id_of-id.result) c.next_count-count.new.tables.pipes; dropped = dropped_rows (record { sender = c.args.app; number = c.args.buf; desc = d }) (route c.next_count-count.new.tables.subscriptions c.id_of-id.result) c.next_count-count.new.tables.pipes } in v) c.seal_front-desc.ensures.desc)
@@ -174,7 +174,7 @@ returns-clause-cost g c =
     (c.let_go.ensures.after ∙ ap (λ n. let v : Held = record c.self.inside.lists { lists = set c.self.inside.lists.lists (c.args.app - 1) (without n (held_by c.self.inside.lists c.args.app)) } in v) c.desc.ensures)
     (c.id_of-id.ensures ∙ ap message_id c.bytes.ensures) c.next_count-count.ensures.count c.next_count-count.ensures.after
     (seals_as c.self.inside c.args.self.now c.args.app c.args.buf c.self.view_is c.self.invariant c.requires.has c.args.held.now c.requires.bag c.unwrap-block.result (sym c.unwrap-block.ensures ∙ c.take_buffer.ensures.found) c.seal_front-desc.new.desk _ c.seal_front-desc.ensures.seals)
-    c.seal_front-desc.ensures.pool c.seal_front-desc.ensures.numbers c.recall_live-2.ensures.live
+    c.seal_front-desc.ensures.pool c.seal_front-desc.ensures.numbers c.seal_front-desc.ensures.live
     (c.deliver-reached.ensures.after ∙ ap (λ d. let v : Tables = record c.next_count-count.new.tables { pipes = deliver_rows (record { sender = c.args.app; number = c.args.buf; desc = d }) (route c.next_count-count.new.tables.subscriptions c.id_of-id.result) c.next_count-count.new.tables.pipes } in v) c.seal_front-desc.ensures.desc)
     (c.deliver-reached.ensures.reached ∙ ap (λ d. reached_rows (record { sender = c.args.app; number = c.args.buf; desc = d }) (route c.next_count-count.new.tables.subscriptions c.id_of-id.result) c.next_count-count.new.tables.pipes) c.seal_front-desc.ensures.desc)
     (c.deliver-reached.ensures.missed ∙ ap (λ d. let v : Missed = record c.self.inside.misses { items = missed_rows (record { sender = c.args.app; number = c.args.buf; desc = d }) (route c.next_count-count.new.tables.subscriptions c.id_of-id.result) c.next_count-count.new.tables.pipes; dropped = dropped_rows (record { sender = c.args.app; number = c.args.buf; desc = d }) (route c.next_count-count.new.tables.subscriptions c.id_of-id.result) c.next_count-count.new.tables.pipes } in v) c.seal_front-desc.ensures.desc)

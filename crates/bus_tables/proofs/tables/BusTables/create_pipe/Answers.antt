@@ -1,8 +1,8 @@
 use Rattle.std.proofs.Common.{◌+◌, sym, subst}
 use Rattle.pipe_table.specs.Table.{Pipes}
 use Rattle.bus_tables.specs.Inside.{AreTied}
-use Rattle.bus_tables.proofs.Makings.{queued_more}
-use Rattle.bus_tables.proofs.Placed.{placed_more}
+use Rattle.bus_tables.proofs.PipeChanges.{queued_more}
+use Rattle.bus_tables.proofs.PipePlaces.{placed_more}
 use Rattle.bus_tables.proofs.tables.BusTables.create_pipe.Goals as goal
 
 pub invariant_of-self : goal.invariant_of-self

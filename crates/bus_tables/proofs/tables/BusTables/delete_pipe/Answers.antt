@@ -7,7 +7,7 @@ use Rattle.routing.specs.Routing.{Routing}
 use Rattle.subscriptions.specs.Subs.{Subscribed}
 use Rattle.bus_tables.specs.Inside.{AreQueued, ArePlaced, row_in, sub_in}
 use Rattle.bus_tables.proofs.Ties.{seen_left}
-use Rattle.bus_tables.proofs.Placed.{placed_removed}
+use Rattle.bus_tables.proofs.PipePlaces.{placed_removed}
 use Rattle.bus_tables.proofs.Removals.{queued_removed}
 use Rattle.bus_tables.proofs.tables.BusTables.delete_pipe.Goals as goal
 

@@ -1,22 +1,28 @@
-use Rattle.std.proofs.Common.{◌+◌, ◌%◌, ◌≡◌, List, true, is_some, ap, sym, ◌∙◌, subst}
+use Rattle.std.proofs.Common.{◌+◌, ◌%◌, ◌≡◌, List, Some, ap, sym, ◌∙◌, subst}
 use Rattle.fsw_base.specs.Starts.{start_of}
 use Rattle.routing.specs.Routing.{Routing, route_at}
-use Rattle.bus_tables.specs.Rows.{RouteRow, has_way, counted_in, counted_on}
+use Rattle.bus_tables.specs.Rows.{RouteRow, counted_in, counted_on, way_of}
 use Rattle.bus_tables.specs.Tables.{Tables}
 use Rattle.bus_tables.specs.Inside.{tables_in, AreTied}
-use Rattle.bus_tables.proofs.Counting.{some_way, found, routed_counted}
+use Rattle.bus_tables.specs.contracts.tables.BusTables.{the_view}
+use Rattle.bus_tables.specs.declared.tables.BusTables.TheInside.{Inside}
+use Rattle.bus_tables.specs.declared.route_no.RouteNo.{RouteNo}
+use Rattle.bus_tables.proofs.Readers.{place_there}
+use Rattle.bus_tables.proofs.Routes.{IsRouteOf, found, routed_counted}
 use Rattle.bus_tables.proofs.tables.BusTables.next_count.Goals as goal
 
-pub unwrap-route-requires : goal.unwrap-route-requires
-unwrap-route-requires c =
-    let s = c.self.inside in
-    let P : Tables → Type 0 = λ t. has_way t.routes c.args.id ≡ true in
-    ap is_some c.route_of.ensures ∙ some_way s.routes c.args.id (subst P (sym c.self.view_is) c.requires)
+-- where the route stands
+there : (s : Inside) (now : Tables) (way : RouteNo) → the_view s ≡ now → way_of now.routes way.id ≡ Some way.place → IsRouteOf s.routes way.id way.place
+there s now way is stands =
+    found s.routes way.id way.place
+    (sym (place_there 0 s.routes.routes way.id)
+    ∙ ap (λ (t : Tables). way_of t.routes way.id) is
+    ∙ stands)
 
 pub next_count-requires : goal.next_count-requires
 next_count-requires c =
     let s = c.self.inside in
-    (found s.routes c.args.id c.unwrap-route.result (sym c.route_of.ensures ∙ c.unwrap-route.ensures)).within
+    (there s c.args.self.now c.args.way c.self.view_is c.requires).within
 
 pub invariant_of-self : goal.invariant_of-self
 invariant_of-self c =
@@ -25,24 +31,24 @@ invariant_of-self c =
     subst P (sym c.next_count.ensures.after) (record {
       queued = c.self.invariant.queued;
       placed = c.self.invariant.placed;
-      routed = routed_counted s.subs s.routes c.unwrap-route.result c.self.invariant.routed;
+      routed = routed_counted s.subs s.routes c.args.way.place c.self.invariant.routed;
       room = c.self.invariant.room;
     })
 
 pub returns-clause-count : goal.returns-clause-count
 returns-clause-count c =
     let s = c.self.inside in
-    let at = found s.routes c.args.id c.unwrap-route.result (sym c.route_of.ensures ∙ c.unwrap-route.ensures) in
+    let at = there s c.args.self.now c.args.way c.self.view_is c.requires in
     c.next_count.ensures.count
-    ∙ ap (λ id. (start_of s.routes.starts id + (route_at s.routes c.unwrap-route.result).counted + 1) % 16384) at.named
-    ∙ ap (λ n. (start_of s.routes.starts c.args.id + n + 1) % 16384) (sym at.counted)
-    ∙ ap (λ (t : Tables). (start_of t.room.starts c.args.id + counted_in t.routes c.args.id + 1) % 16384) c.self.view_is
+    ∙ ap (λ id. (start_of s.routes.starts id + (route_at s.routes c.args.way.place).counted + 1) % 16384) at.named
+    ∙ ap (λ n. (start_of s.routes.starts c.args.way.id + n + 1) % 16384) (sym at.counted)
+    ∙ ap (λ (t : Tables). (start_of t.room.starts c.args.way.id + counted_in t.routes c.args.way.id + 1) % 16384) c.self.view_is
 
 pub returns-clause-after : goal.returns-clause-after
 returns-clause-after c =
     let s = c.self.inside in
-    let at = found s.routes c.args.id c.unwrap-route.result (sym c.route_of.ensures ∙ c.unwrap-route.ensures) in
-    let F : Tables → Tables = λ t. record t { routes = counted_on t.routes c.args.id } in
+    let at = there s c.args.self.now c.args.way c.self.view_is c.requires in
+    let F : Tables → Tables = λ t. record t { routes = counted_on t.routes c.args.way.id } in
     ap (λ (r : Routing). tables_in s.pipes s.subs r) c.next_count.ensures.after
     ∙ ap (λ (routes : List RouteRow). record (tables_in s.pipes s.subs s.routes) { routes = routes }) at.on
     ∙ ap F c.self.view_is

@@ -4,7 +4,7 @@ use Rattle.bus_words.specs.Pipes.{with_pipe, with_bits}
 use Rattle.bus_tables.specs.Rows.{Row}
 use Rattle.bus_tables.specs.Tables.{Tables}
 use Rattle.bus_tables.specs.Inside.{tables_in, AreTied}
-use Rattle.bus_tables.proofs.Makings.{queued_changed, bits_keep, rows_changed}
+use Rattle.bus_tables.proofs.PipeChanges.{queued_changed, bits_keep, rows_changed}
 use Rattle.bus_tables.proofs.tables.BusTables.set_bits.Goals as goal
 
 pub invariant_of-self : goal.invariant_of-self

@@ -10,10 +10,10 @@ use Rattle.routing.specs.Routing.{Routing, dests_at, with_dests}
 use Rattle.bus_tables.specs.Rows.{Row, has_way, with_route}
 use Rattle.bus_tables.specs.Tables.{Tables}
 use Rattle.bus_tables.specs.Inside.{way_in, tables_in, IsPlaced, AreTied}
-use Rattle.bus_tables.proofs.Placed.{place_there}
+use Rattle.bus_tables.proofs.PipePlaces.{place_there}
 use Rattle.bus_tables.proofs.Readers.{way_there}
-use Rattle.bus_tables.proofs.Counting.{found}
-use Rattle.bus_tables.proofs.MakingsRouted.{leads, dests_few, room_left, taken, routed_more, queued_more, live_found, none_tied, seen_more}
+use Rattle.bus_tables.proofs.Routes.{found}
+use Rattle.bus_tables.proofs.NewSubscriptions.{leads, dests_few, room_left, taken, routed_more, queued_more, live_found, none_tied, seen_more}
 use Rattle.bus_tables.proofs.tables.BusTables.subscribe.Goals as goal
 
 pub unwrap-place-requires : goal.unwrap-place-requires

@@ -5,7 +5,7 @@ use Rattle.bus_words.specs.Pipes.{after_receive, last_on, oldest_on}
 use Rattle.bus_tables.specs.Tables.{Tables}
 use Rattle.bus_tables.specs.Inside.{item_in}
 use Rattle.bus_tables.proofs.Readers.{last_there, oldest_there}
-use Rattle.bus_tables.proofs.Takings.{takes_oldest, taken_row_seen, waits_if, front_tied, front_tables}
+use Rattle.bus_tables.proofs.Takes.{takes_oldest, taken_row_seen, waits_if, front_tied, front_tables}
 use Rattle.bus_tables.proofs.tables.BusTables.take.Goals as goal
 
 pub count_down-requires : goal.count_down-requires

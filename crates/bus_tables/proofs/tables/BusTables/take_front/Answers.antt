@@ -5,7 +5,7 @@ use Rattle.bus_words.specs.Pipes.{without_front, oldest_on}
 use Rattle.bus_tables.specs.Tables.{Tables}
 use Rattle.bus_tables.specs.Inside.{item_in}
 use Rattle.bus_tables.proofs.Readers.{oldest_there}
-use Rattle.bus_tables.proofs.Takings.{takes_front, front_row_seen, waits_if, front_tied, front_tables}
+use Rattle.bus_tables.proofs.Takes.{takes_front, front_row_seen, waits_if, front_tied, front_tables}
 use Rattle.bus_tables.proofs.tables.BusTables.take_front.Goals as goal
 
 pub count_down-requires : goal.count_down-requires

@@ -5,7 +5,7 @@ use Rattle.bus_words.specs.Pipes.{with_pipe, without_last, last_on}
 use Rattle.bus_tables.specs.Rows.{Row}
 use Rattle.bus_tables.specs.Tables.{Tables}
 use Rattle.bus_tables.specs.Inside.{item_in, tables_in, AreTied}
-use Rattle.bus_tables.proofs.Makings.{queued_changed, rows_changed}
+use Rattle.bus_tables.proofs.PipeChanges.{queued_changed, rows_changed}
 use Rattle.bus_tables.proofs.Readers.{last_there}
 use Rattle.bus_tables.proofs.tables.BusTables.take_last.Goals as goal
 

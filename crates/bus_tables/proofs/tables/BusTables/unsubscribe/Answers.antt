@@ -6,7 +6,7 @@ use Rattle.subscriptions.specs.Subs.{Subscribed}
 use Rattle.bus_tables.specs.Tables.{Tables}
 use Rattle.bus_tables.specs.Inside.{AreQueued, ArePlaced, of_id, sub_in, ties}
 use Rattle.bus_tables.proofs.EndingsLists.{found_passes}
-use Rattle.bus_tables.proofs.Placed.{placed_left}
+use Rattle.bus_tables.proofs.PipePlaces.{placed_left}
 use Rattle.bus_tables.proofs.Ties.{tied_one, tied_live, without_tied, none_tied, tied_id, subscribed_seen, route_seen, queued_left, seen_left}
 use Rattle.bus_tables.proofs.tables.BusTables.unsubscribe.Goals as goal
 

@@ -4,8 +4,8 @@ use Rattle.turn_lock.proofs.Callers.{ready_in}
 use Rattle.core_port.specs.Histories.{history_of}
 use Rattle.core_port.specs.Inside.{GuardedView, port_in, seen_in}
 use Rattle.core_port.specs.Ports.{PortView, AnswersLook, look_entries}
-use Rattle.core_port.proofs.Entering.{entered_from, view_from}
-use Rattle.core_port.proofs.Found.{others_called, known_found, may_found}
+use Rattle.core_port.proofs.TurnsAfterSleep.{entered_from, view_from}
+use Rattle.core_port.proofs.TurnFinds.{others_called, known_found, may_found}
 use Rattle.core_port.proofs.Visits.{known_after, made_one, looked, stays_port, seen_after, seen_idle, idle, stays_idle}
 use Rattle.core_port.proofs.port.Port.look.Goals as goal
 

@@ -4,8 +4,8 @@ use Rattle.turn_lock.proofs.Callers.{ready_in}
 use Rattle.core_port.specs.Histories.{history_of}
 use Rattle.core_port.specs.Inside.{GuardedView, seen_in, port_in}
 use Rattle.core_port.specs.Ports.{PortView, Answers}
-use Rattle.core_port.proofs.Entering.{entered_from, view_from}
-use Rattle.core_port.proofs.Found.{others_called, may_found}
+use Rattle.core_port.proofs.TurnsAfterSleep.{entered_from, view_from}
+use Rattle.core_port.proofs.TurnFinds.{others_called, may_found}
 use Rattle.core_port.proofs.Visits.{known_after, made_one, visited, stays_port, seen_after}
 use Rattle.core_port.proofs.port.Port.visit.Goals as goal
 

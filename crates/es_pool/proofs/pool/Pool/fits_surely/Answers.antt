@@ -2,7 +2,7 @@ use Rattle.std.proofs.Common.{◌-◌, ◌<◌, ◌≤◌, length, get_or, IsTru
 use Rattle.std.proofs.lemmas.Bool.Decides.{nat_tests}
 use Rattle.es_pool.specs.Pool.{PoolState, fits}
 use Rattle.es_pool.specs.Inside.{state_of}
-use Rattle.es_pool.proofs.Surely.{fits_surely}
+use Rattle.es_pool.proofs.SureFits.{fits_surely}
 use Rattle.es_pool.proofs.pool.Pool.fits_surely.Goals as goal
 
 pub returns-then-size-at : goal.returns-then-size-at

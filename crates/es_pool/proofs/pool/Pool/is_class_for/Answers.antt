@@ -2,7 +2,7 @@ use Rattle.std.proofs.Common.{◌≡◌, ℕ, ◌-◌, ◌<◌, ◌≤◌, suc, 
 use Rattle.std.proofs.lemmas.Bool.Decides.{nat_tests}
 use Rattle.fsw_base.specs.Blocks.{class_of}
 use Rattle.es_pool.specs.Pool.{PoolState}
-use Rattle.es_pool.proofs.Recent.{class_is}
+use Rattle.es_pool.proofs.ClassChoice.{class_is}
 use Rattle.es_pool.proofs.pool.Pool.is_class_for.Goals as goal
 
 pub returns-else-class-eq0 : goal.returns-else-class-eq0

@@ -1,10 +1,10 @@
-use Rattle.std.proofs.Common.{ℕ, ◌+◌, ◌<◌, ◌∙◌, true, false, length, get_or, set, sym, subst, ap, arith}
-use Rattle.std.proofs.lemmas.List.{get_or_default}
-use Rattle.es_pool.specs.Pool.{PoolState, Draws, Reuses}
+use Rattle.std.proofs.Common.{◌≡◌, ℕ, ◌+◌, ◌<◌, ◌∙◌, true, false, List, length, get_or, set, refl, sym, subst, ap, arith}
+use Rattle.std.proofs.lemmas.List.{get_or_default, get_or_read}
+use Rattle.es_pool.specs.Pool.{PoolState, Draws, Reuses, out_among}
 use Rattle.es_pool.specs.Inside.{state_of}
 use Rattle.es_pool.specs.declared.blocks.CutBlock.{CutBlock}
 use Rattle.es_pool.proofs.Totals.{block}
-use Rattle.es_pool.proofs.Keeps.{reused_read}
+use Rattle.es_pool.proofs.Keeps.{reused_read, kept_at}
 use Rattle.es_pool.proofs.pool.Pool.reuse.Goals as goal
 
 pub overflow_add-self : goal.overflow_add-self
@@ -19,7 +19,15 @@ invariant_of-self g c =
     let s = c.self.inside in
     let h : c.args.class < length s.sizes = omega (arith, c.requires.class, ap (λ v. length v.sizes) c.self.view_is) in
     let done = reused_read (state_of s) s.rest s.in_use s.made.items s.free c.pop.new.self s.blocks.cap c.args.class c.in-Some.block c.at.result c.saturating_add-self-inside.result c.self.invariant.kept h c.in-Some.ensures.front c.in-Some.ensures.after c.at.ensures in
-    record { kept = done.kept; out = ap (λ (n : ℕ). n + 1) c.self.invariant.out ∙ sym done.out; recent = h }
+    let b = c.index_mut.result.now in
+    let same : b.class ≡ c.args.class = ap (λ (x : CutBlock). x.class) (get_or_read s.blocks.items c.in-Some.block b done.within c.index_mut.ensures.value (block c.args.class true) ∙ done.was_free) in
+    let blocks : ℕ → List CutBlock = λ i. set s.blocks.items c.in-Some.block (block i true) in
+    let to : ℕ → PoolState = λ i. record (state_of s) { blocks = blocks i; requests = c.saturating_add-self-inside.result } in
+    record {
+      kept = kept_at (to c.args.class) (to b.class) s.rest (s.in_use + c.at.result) s.made.items c.pop.new.self c.pop.new.self s.blocks.cap s.blocks.cap (ap to same) refl refl done.kept;
+      out = ap (λ (n : ℕ). n + 1) c.self.invariant.out ∙ (sym done.out ∙ sym (ap (λ i. out_among (blocks i)) same));
+      recent = h;
+    }
 
 pub returns-clause-drawn : goal.returns-clause-drawn
 returns-clause-drawn g c =
@@ -28,9 +36,11 @@ returns-clause-drawn g c =
     let n = c.in-Some.block in
     let h : k < length s.sizes = omega (arith, c.requires.class, ap (λ v. length v.sizes) c.self.view_is) in
     let done = reused_read (state_of s) s.rest s.in_use s.made.items s.free c.pop.new.self s.blocks.cap k n c.at.result c.saturating_add-self-inside.result c.self.invariant.kept h c.in-Some.ensures.front c.in-Some.ensures.after c.at.ensures in
-    let to : ℕ → PoolState = λ requests. record (state_of s) { blocks = set s.blocks.items n (block k true); requests = requests } in
-    subst (λ (v : PoolState). Draws v (to c.saturating_add-self-inside.result) k n) c.self.view_is
-    (Reuses done.within done.was_free (ap to c.saturating_add-self-inside.ensures))
+    let b = c.index_mut.result.now in
+    let same : b.class ≡ k = ap (λ (x : CutBlock). x.class) (get_or_read s.blocks.items n b done.within c.index_mut.ensures.value (block k true) ∙ done.was_free) in
+    let to : ℕ → ℕ → PoolState = λ i requests. record (state_of s) { blocks = set s.blocks.items n (block i true); requests = requests } in
+    subst (λ (v : PoolState). Draws v (to b.class c.saturating_add-self-inside.result) k n) c.self.view_is
+    (Reuses done.within done.was_free (ap (λ i. to i c.saturating_add-self-inside.result) same ∙ ap (to k) c.saturating_add-self-inside.ensures))
 
 pub returns-clause-was_not_out : goal.returns-clause-was_not_out
 returns-clause-was_not_out g c =

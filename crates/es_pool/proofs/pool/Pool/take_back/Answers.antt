@@ -1,6 +1,6 @@
-use Rattle.std.proofs.Common.{◌≡◌, ◌∙◌, ◌-◌, true, false, set, refl, ap, arith}
+use Rattle.std.proofs.Common.{◌≡◌, ℕ, ◌∙◌, ◌-◌, true, false, List, set, refl, sym, ap, arith}
 use Rattle.std.proofs.lemmas.List.{get_or_read}
-use Rattle.es_pool.specs.Pool.{PoolState, is_out}
+use Rattle.es_pool.specs.Pool.{PoolState, is_out, out_among}
 use Rattle.es_pool.specs.Inside.{state_of}
 use Rattle.es_pool.specs.declared.blocks.CutBlock.{CutBlock}
 use Rattle.es_pool.proofs.Totals.{block}
@@ -23,10 +23,13 @@ invariant_of-self g c =
     let out : is_out (state_of s) n ≡ true = ap (λ v. is_out v n) c.self.view_is ∙ c.requires in
     let class = ap (λ (b : CutBlock). b.class) (get_or_read s.blocks.items n c.index.result.now (inside_from_out s.blocks.items n out) c.index.ensures (block 0 true)) in
     let done = back (state_of s) s.rest s.in_use s.made.items s.free s.blocks.cap c.index.result.now.class n c.at.result c.self.invariant.kept out class c.at.ensures in
-    let now : PoolState = record (state_of s) { blocks = set s.blocks.items n (block c.index.result.now.class false) } in
+    let b = c.index_mut.result.now in
+    let same : b.class ≡ c.index.result.now.class = ap (λ (x : CutBlock). x.class) (get_or_read s.blocks.items n b done.within c.index_mut.ensures.value (block 0 true)) ∙ sym class in
+    let blocks : ℕ → List CutBlock = λ i. set s.blocks.items n (block i false) in
+    let now : ℕ → PoolState = λ i. record (state_of s) { blocks = blocks i } in
     record {
-      kept = kept_at now now s.rest (s.in_use - c.at.result) s.made.items _ c.push.new.self s.blocks.cap s.blocks.cap refl c.push.ensures.after refl done.kept;
-      out = omega (arith, done.out, c.self.invariant.out);
+      kept = kept_at (now c.index.result.now.class) (now b.class) s.rest (s.in_use - c.at.result) s.made.items _ c.push.new.self s.blocks.cap s.blocks.cap (ap now same) c.push.ensures.after refl done.kept;
+      out = omega (arith, done.out, c.self.invariant.out, ap (λ i. out_among (blocks i)) same);
       recent = c.self.invariant.recent;
     }
 

@@ -7,7 +7,7 @@ use denote.Struct.Laws.{RawPtr-copy, field_copy}
 use denote.Struct.Lending.{of_Lends}
 use Rattle.left_right.proofs.PartSteps.{lent_laws, Lends-part}
 use Rattle.std.specs.contracts.marker.PhantomData as marker
-use Rattle.lend_block.proofs.Borrowed.{readable_laws}
+use Rattle.lend_block.proofs.Borrows.{readable_laws}
 use Rattle.lend_block.proofs.part.Part.TheLaw.Statement.{statement}
 use Rattle.lend_block.specs.Inside.{readable}
 use Rattle.lend_block.specs.contracts.part.Part as part

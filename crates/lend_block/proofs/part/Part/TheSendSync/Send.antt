@@ -7,7 +7,7 @@ use denote.Struct.Owning.{shape, fields, to}
 use denote.Struct.Struct.{exits_of}
 use Rattle.std.specs.contracts.marker.PhantomData as marker
 use Rattle.std_alloc.proofs.SendSync.{quiet}
-use Rattle.lend_block.proofs.Crossing.{readable_anywhere}
+use Rattle.lend_block.proofs.Threads.{readable_anywhere}
 use Rattle.lend_block.specs.contracts.part.Part.{the_row, the_type}
 
 pub send : (r : NamedLft) → IsSend (the_row r)

@@ -5,7 +5,7 @@ use denote.Ref.{NamedLft}
 use denote.Struct.Field.{shr_ref_field}
 use denote.Struct.Owning.{shape, to}
 use Rattle.std.specs.contracts.marker.PhantomData as marker
-use Rattle.lend_block.proofs.Crossing.{readable_anywhere}
+use Rattle.lend_block.proofs.Threads.{readable_anywhere}
 use Rattle.lend_block.specs.contracts.part.Part.{the_row, the_type}
 
 pub sync : (r : NamedLft) → IsSync (the_row r)

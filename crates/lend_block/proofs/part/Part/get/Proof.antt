@@ -1,7 +1,7 @@
 -- `get` shows a front of the bytes for as long as the part is borrowed.
 use borrow.Table.Elements.{length-take-le}
 use Rattle.left_right.proofs.PartSteps.{part_sees}
-use Rattle.lend_block.proofs.Borrowed.{readable_laws, front_shared}
+use Rattle.lend_block.proofs.Borrows.{readable_laws, front_shared}
 use Rattle.lend_block.proofs.Fields.{words_at, PartWords, part_told, part_opened}
 use Rattle.lend_block.proofs.Steps.{◌≡◌, ℕ, ◌*◌, ◌^◌, ◌≤◌, List, [], ◌∷◌, ◌++◌, length, take, sym, refl, ap, ◌∙◌, arith, w64, w8, proved, leaves, Lft, Share, Fml, Incl-refl, ftrue, fsep, flft, fhide, SProp, emp, fact, fact_i, ⊑_meet, tables, RefOf, u8, usize, yes, Is, shows, cell_at, hidden_shr, unhide, hide, uint_vals, uint_Tells, uint_row_laws, RattleType, owns, Ptr, block_ptr, block_of, count_of, ShrRef, shr_vals, shr_Tells, shortens, types_at, plain, named_lft, slice_val, elements_shared, elements_shr_laws, nothing, peeks, heard, looks, shuts, lent_out, Stays, stay_dropped, walk_of, Goes-dropped, named, Val, vptr, vint, alloc_all, pass_all, free_all, look_at, get, through, sets, sets_last, env, ‵, raw, ◌⊛◌, at_ret, ◌$◌, ◌∵◌, !, qed, by, move, keep, split, join, fsplit, fjoin, use0, use1, rewrite, feq_i, flt_i, agg, sub, whole, look_in, stop, fld, load, of_opd, no_more, and_then, first, blocks, exec, returns, enter}
 use Rattle.lend_block.proofs.part.Part.get.Code as code

@@ -1,7 +1,7 @@
 -- `split_one` cuts one part off the token, and both parts read the bytes.
 use Rattle.left_right.proofs.PartSteps.{tokens_cut}
 use Rattle.left_right.specs.Parted.{tokens}
-use Rattle.lend_block.proofs.Borrowed.{readable_laws}
+use Rattle.lend_block.proofs.Borrows.{readable_laws}
 use Rattle.lend_block.proofs.Fields.{words_at, PartWords, part_told, part_made}
 use Rattle.lend_block.proofs.Steps.{◌≡◌, ℕ, ◌-◌, ◌^◌, ◌<◌, ◌≤◌, List, [], ◌∷◌, sym, refl, ap, ◌∙◌, arith, proved, leaves, also, Lft, Fml, ftrue, fsep, flft, full_share, SProp, emp, fact, fact_i, tables, Is, shows, cell_at, RattleType, owns, Ptr, block_ptr, block_of, count_of, mut_vals, mut_Tells, contraction, types_at, plain, named_lft, nothing, peeks, heard, opens, closes, Stays, stay_ref, walk_of, Goes-ref, named, Val, vptr, alloc_all, pass_all, free_all, look_at, get, through, sets, ‵, raw, ◌⊛◌, ◌$◌, ◌∵◌, !, qed, by, move, keep, split, join, fsplit, fsplit3, fjoin, fjoin3, use0, use1, rewrite, feq_i, agg, sub, whole, look_in, stop, fld, load, of_opd, no_more, and_then, returns, enter}
 use Rattle.lend_block.proofs.part.Part.split_one.Code as code

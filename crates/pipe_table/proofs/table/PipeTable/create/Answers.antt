@@ -6,7 +6,7 @@ use Rattle.bus_words.specs.Pipes.{PipeOf, new_pipe}
 use Rattle.pipe_queue.specs.declared.item.Item.{Item}
 use Rattle.pipe_table.specs.Table.{Pipes}
 use Rattle.pipe_table.specs.Inside.{PlaceState, IsFree, AreKept, table_of}
-use Rattle.pipe_table.proofs.Filing.{nowhere, as_many, live_many}
+use Rattle.pipe_table.proofs.NumberedPipes.{nowhere, as_many, live_many}
 use Rattle.pipe_table.proofs.Changes.{created_table, created_kept, room_at, all_last}
 use Rattle.pipe_table.proofs.table.PipeTable.create.Goals as goal
 

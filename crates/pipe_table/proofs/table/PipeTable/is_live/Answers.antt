@@ -2,7 +2,7 @@ use Rattle.std.proofs.Common.{ap, sym, ◌∙◌, eqb, Option, Some, None, refl,
 use Rattle.std.specs.Option.{is_some, option_map}
 use Rattle.bus_words.specs.Pipes.{PipeOf, pipe_at}
 use Rattle.pipe_queue.specs.declared.item.Item.{Item}
-use Rattle.pipe_table.proofs.Filing.{any-find}
+use Rattle.pipe_table.proofs.NumberedPipes.{any-find}
 use Rattle.pipe_table.proofs.table.PipeTable.is_live.Goals as goal
 
 same_some : (o : Option (PipeOf Item)) → is_some (option_map (λ pipe. pipe.bits) o) ≡ is_some o

@@ -1,7 +1,7 @@
 -- The places that aren't free have the live pipes.
 use Rattle.std.proofs.Common.{length, ap, arith}
 use Rattle.pipe_table.specs.Table.{Pipes}
-use Rattle.pipe_table.proofs.Filing.{live_many}
+use Rattle.pipe_table.proofs.NumberedPipes.{live_many}
 use Rattle.pipe_table.proofs.table.PipeTable.len.Goals as goal
 
 pub returns : goal.returns

@@ -6,7 +6,7 @@ use Rattle.bus_words.specs.Pipes.{PipeOf, pipe_at, with_pipe, verdict_over, drop
 use Rattle.pipe_queue.specs.declared.item.Item.{Item}
 use Rattle.pipe_table.specs.Table.{Pipes, place_of}
 use Rattle.pipe_table.specs.Inside.{PlaceState}
-use Rattle.pipe_table.proofs.Filing.{place_seen, stands_under, seen_at, nowhere}
+use Rattle.pipe_table.proofs.NumberedPipes.{place_seen, stands_under, seen_at, nowhere}
 use Rattle.pipe_table.proofs.Changes.{changed_table, changed_kept, same-offered_over}
 use Rattle.pipe_table.proofs.table.PipeTable.offer.Goals as goal
 

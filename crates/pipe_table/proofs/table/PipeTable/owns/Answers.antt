@@ -3,7 +3,7 @@ use Rattle.std.specs.Option.{option_map_or}
 use Rattle.bus_words.specs.Pipes.{PipeOf, owns}
 use Rattle.pipe_queue.specs.declared.item.Item.{Item}
 use Rattle.pipe_table.specs.Table.{Pipes}
-use Rattle.pipe_table.proofs.Filing.{passes_here}
+use Rattle.pipe_table.proofs.NumberedPipes.{passes_here}
 use Rattle.pipe_table.proofs.table.PipeTable.owns.Goals as goal
 
 pub returns-in-Some : goal.returns-in-Some

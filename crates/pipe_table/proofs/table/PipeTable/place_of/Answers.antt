@@ -1,6 +1,6 @@
 use Rattle.std.proofs.Common.{ap, ◌∙◌}
 use Rattle.pipe_table.specs.Table.{Pipes, place_of}
-use Rattle.pipe_table.proofs.Filing.{ordered, place_seen}
+use Rattle.pipe_table.proofs.NumberedPipes.{ordered, place_seen}
 use Rattle.pipe_table.proofs.table.PipeTable.place_of.Goals as goal
 
 pub at_number-requires : goal.at_number-requires

@@ -1,7 +1,7 @@
 use Rattle.std.proofs.Common.{◌≡◌, map, subst}
 use Rattle.bus_words.specs.Pipes.{IsRising}
 use Rattle.pipe_table.specs.Table.{Pipes}
-use Rattle.pipe_table.proofs.Filing.{in_pairs}
+use Rattle.pipe_table.proofs.NumberedPipes.{in_pairs}
 use Rattle.pipe_table.proofs.Order.{in_order}
 use Rattle.pipe_table.proofs.table.PipeTable.recall_order.Goals as goal
 

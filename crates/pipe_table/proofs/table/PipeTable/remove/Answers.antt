@@ -4,7 +4,7 @@ use Rattle.std.proofs.lemmas.List.{get_or_default, get_or_read, length-set, leng
 use Rattle.bus_words.specs.Pipes.{without_pipe}
 use Rattle.pipe_table.specs.Table.{Pipes, without_place}
 use Rattle.pipe_table.specs.Inside.{PlaceState, AreKept, table_of}
-use Rattle.pipe_table.proofs.Filing.{ordered, as_many, under_index, under_none, stands_under, nowhere}
+use Rattle.pipe_table.proofs.NumberedPipes.{ordered, as_many, under_index, under_none, stands_under, nowhere}
 use Rattle.pipe_table.proofs.Changes.{removed_table, removed_kept, room_at, unremoved}
 use Rattle.pipe_table.proofs.table.PipeTable.remove.Goals as goal
 

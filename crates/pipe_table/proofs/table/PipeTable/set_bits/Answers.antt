@@ -2,7 +2,7 @@ use Rattle.std.proofs.Common.{refl, ap, sym, ◌∙◌, arith}
 use Rattle.std.proofs.lemmas.List.{get_or_default, length-set}
 use Rattle.bus_words.specs.Pipes.{with_pipe, with_bits}
 use Rattle.pipe_table.specs.Table.{Pipes}
-use Rattle.pipe_table.proofs.Filing.{ordered, stands_under, nowhere}
+use Rattle.pipe_table.proofs.NumberedPipes.{ordered, stands_under, nowhere}
 use Rattle.pipe_table.proofs.Changes.{changed_table, changed_kept, unchanged}
 use Rattle.pipe_table.proofs.table.PipeTable.set_bits.Goals as goal
 

@@ -3,7 +3,7 @@ use Rattle.std.specs.Option.{option_and_then}
 use Rattle.std.proofs.lemmas.List.{get_or_default, length-set}
 use Rattle.bus_words.specs.Pipes.{with_pipe, without_last, last_on}
 use Rattle.pipe_table.specs.Table.{Pipes}
-use Rattle.pipe_table.proofs.Filing.{ordered, stands_under, nowhere, seen_at, read_none}
+use Rattle.pipe_table.proofs.NumberedPipes.{ordered, stands_under, nowhere, seen_at, read_none}
 use Rattle.pipe_table.proofs.Changes.{changed_table, changed_kept, unchanged}
 use Rattle.pipe_table.proofs.table.PipeTable.take_last.Goals as goal
 

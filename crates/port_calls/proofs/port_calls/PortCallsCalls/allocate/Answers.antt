@@ -1,5 +1,5 @@
 use Rattle.port_calls.proofs.Buffers.{given}
-use Rattle.port_calls.proofs.Answered.{port-may, port-has, port-room, port-answers, bus-answered}
+use Rattle.port_calls.proofs.PortAnswers.{port-may, port-has, port-room, port-answers, bus-answered}
 use Rattle.port_calls.proofs.port_calls.PortCallsCalls.allocate.Goals as goal
 
 pub allocate-requires-clause-may : goal.allocate-requires-clause-may

@@ -1,5 +1,5 @@
 use Rattle.app_calls.proofs.BufferCalls.{leaves-none}
-use Rattle.port_calls.proofs.Answered.{port-may, port-answers, bus-answered}
+use Rattle.port_calls.proofs.PortAnswers.{port-may, port-answers, bus-answered}
 use Rattle.port_calls.proofs.port_calls.PortCallsCalls.bus_end.Goals as goal
 
 pub end-requires-clause-may : goal.end-requires-clause-may

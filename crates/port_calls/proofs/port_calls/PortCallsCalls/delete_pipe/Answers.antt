@@ -1,6 +1,6 @@
 use Rattle.std.proofs.Common.{refl}
 use Rattle.app_calls.proofs.BufferCalls.{leaves-views}
-use Rattle.port_calls.proofs.Answered.{port-may, port-answers, bus-answered}
+use Rattle.port_calls.proofs.PortAnswers.{port-may, port-answers, bus-answered}
 use Rattle.port_calls.proofs.port_calls.PortCallsCalls.delete_pipe.Goals as goal
 
 pub delete_pipe-requires-clause-may : goal.delete_pipe-requires-clause-may

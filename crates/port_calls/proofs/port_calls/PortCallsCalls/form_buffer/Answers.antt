@@ -1,7 +1,7 @@
 use Rattle.std.proofs.Common.{length, ap}
 use Rattle.script_runs.specs.Messages.{sent_message}
 use Rattle.bus_service.specs.Ports.{PortView}
-use Rattle.port_calls.proofs.Answered.{port-sizes, port-writes, bus-answered}
+use Rattle.port_calls.proofs.PortAnswers.{port-sizes, port-writes, bus-answered}
 use Rattle.port_calls.proofs.port_calls.PortCallsCalls.form_buffer.Goals as goal
 
 pub form_in-requires : goal.form_in-requires

@@ -1,6 +1,6 @@
 use Rattle.std.proofs.Common.{refl}
 use Rattle.app_calls.proofs.BufferCalls.{leaves-views}
-use Rattle.port_calls.proofs.Answered.{port-may_look, port-looks, bus-answered}
+use Rattle.port_calls.proofs.PortAnswers.{port-may_look, port-looks, bus-answered}
 use Rattle.port_calls.proofs.port_calls.PortCallsCalls.look.Goals as goal
 
 pub look-requires-clause-may : goal.look-requires-clause-may

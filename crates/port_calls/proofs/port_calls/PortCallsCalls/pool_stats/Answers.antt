@@ -1,6 +1,6 @@
 use Rattle.std.proofs.Common.{refl}
 use Rattle.port_calls.proofs.Buffers.{kept}
-use Rattle.port_calls.proofs.Answered.{port-may, port-answers, bus-answered}
+use Rattle.port_calls.proofs.PortAnswers.{port-may, port-answers, bus-answered}
 use Rattle.port_calls.proofs.port_calls.PortCallsCalls.pool_stats.Goals as goal
 
 pub pool_stats-requires-clause-may : goal.pool_stats-requires-clause-may

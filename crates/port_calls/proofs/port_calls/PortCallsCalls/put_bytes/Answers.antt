@@ -1,7 +1,7 @@
 use Rattle.std.proofs.Common.{ap}
 use Rattle.script_runs.specs.Written.{put_in}
 use Rattle.bus_service.specs.Ports.{PortView}
-use Rattle.port_calls.proofs.Answered.{port-writes, bus-answered}
+use Rattle.port_calls.proofs.PortAnswers.{port-writes, bus-answered}
 use Rattle.port_calls.proofs.port_calls.PortCallsCalls.put_bytes.Goals as goal
 
 pub invariant_of-self : goal.invariant_of-self

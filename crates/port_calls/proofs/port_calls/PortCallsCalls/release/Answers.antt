@@ -1,5 +1,5 @@
 use Rattle.port_calls.proofs.Buffers.{back}
-use Rattle.port_calls.proofs.Answered.{port-may, port-has, port-answers, bus-answered}
+use Rattle.port_calls.proofs.PortAnswers.{port-may, port-has, port-answers, bus-answered}
 use Rattle.port_calls.proofs.port_calls.PortCallsCalls.release.Goals as goal
 
 pub release-requires-clause-may : goal.release-requires-clause-may

@@ -1,6 +1,6 @@
 use Rattle.std.proofs.Common.{refl}
 use Rattle.port_calls.proofs.Buffers.{kept}
-use Rattle.port_calls.proofs.Answered.{port-may, port-answers, bus-answered}
+use Rattle.port_calls.proofs.PortAnswers.{port-may, port-answers, bus-answered}
 use Rattle.port_calls.proofs.port_calls.PortCallsCalls.send_event.Goals as goal
 
 pub send_event-requires-clause-may : goal.send_event-requires-clause-may

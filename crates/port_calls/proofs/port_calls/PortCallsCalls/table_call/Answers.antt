@@ -1,4 +1,4 @@
-use Rattle.port_calls.proofs.Answered.{tables-may, tables-answers, tables-answered}
+use Rattle.port_calls.proofs.PortAnswers.{tables-may, tables-answers, tables-answered}
 use Rattle.port_calls.proofs.port_calls.PortCallsCalls.table_call.Goals as goal
 
 pub make-requires-clause-may : goal.make-requires-clause-may

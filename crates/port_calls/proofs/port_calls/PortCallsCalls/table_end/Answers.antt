@@ -1,4 +1,4 @@
-use Rattle.port_calls.proofs.Answered.{tables-may, tables-answers, tables-answered}
+use Rattle.port_calls.proofs.PortAnswers.{tables-may, tables-answers, tables-answered}
 use Rattle.port_calls.proofs.port_calls.PortCallsCalls.table_end.Goals as goal
 
 pub end-requires-clause-may : goal.end-requires-clause-may

@@ -1,6 +1,6 @@
 use Rattle.buf_desc.specs.Held.{bytes_at}
 use Rattle.port_calls.proofs.Buffers.{gone}
-use Rattle.port_calls.proofs.Answered.{port-may_send, port-has, port-sends, bus-answered}
+use Rattle.port_calls.proofs.PortAnswers.{port-may_send, port-has, port-sends, bus-answered}
 use Rattle.port_calls.proofs.port_calls.PortCallsCalls.transmit_buffer.Goals as goal
 
 pub transmit_buffer-requires-clause-may : goal.transmit_buffer-requires-clause-may

@@ -1,6 +1,6 @@
 use Rattle.std.proofs.Common.{refl}
 use Rattle.port_calls.proofs.Buffers.{kept}
-use Rattle.port_calls.proofs.Answered.{port-may, port-answers, bus-answered}
+use Rattle.port_calls.proofs.PortAnswers.{port-may, port-answers, bus-answered}
 use Rattle.port_calls.proofs.port_calls.PortCallsCalls.unsubscribe.Goals as goal
 
 pub unsubscribe-requires-clause-may : goal.unsubscribe-requires-clause-may

@@ -4,7 +4,7 @@ use Rattle.routing.specs.Dests.{DestTable, dests_in, last_node, has_node}
 use Rattle.routing.specs.Inside.{rings, dests_seen}
 use Rattle.routing.proofs.Nodes.{Changed, ring, inside, adds, taken_loose, last_inside}
 use Rattle.routing.proofs.Room.{node_left}
-use Rattle.routing.proofs.Seen.{list_inside, list_long, adds_seen}
+use Rattle.routing.proofs.ListViews.{list_inside, list_long, adds_seen}
 use Rattle.routing.proofs.dests.DestLists.add.Goals as goal
 
 pub overflow_add-anchor : goal.overflow_add-anchor

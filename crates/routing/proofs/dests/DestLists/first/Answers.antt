@@ -3,7 +3,7 @@ use Rattle.routing.specs.Dests.{dests_in, first_dest}
 use Rattle.routing.specs.Inside.{rings}
 use Rattle.routing.proofs.Links.{first_shown, shown}
 use Rattle.routing.proofs.Nodes.{length-rings, ring, below}
-use Rattle.routing.proofs.Seen.{length-seen, get_or-seen, shown_exists, seen_room}
+use Rattle.routing.proofs.ListViews.{length-seen, get_or-seen, shown_exists, seen_room}
 use Rattle.routing.proofs.dests.DestLists.first.Goals as goal
 
 pub overflow_add-anchor : goal.overflow_add-anchor

@@ -3,7 +3,7 @@ use Rattle.std.proofs.lemmas.List.{get_or_read}
 use Rattle.routing.specs.Dests.{dests_in}
 use Rattle.routing.specs.Inside.{rings}
 use Rattle.routing.proofs.Nodes.{length-rings, length-ring}
-use Rattle.routing.proofs.Seen.{length-seen, get_or-seen, length-dests}
+use Rattle.routing.proofs.ListViews.{length-seen, get_or-seen, length-dests}
 use Rattle.routing.proofs.dests.DestLists.len.Goals as goal
 
 pub index-requires : goal.index-requires

@@ -1,6 +1,6 @@
 use Rattle.std.proofs.Common.{◌+◌, ◌*◌, refl, ap, arith}
 use Rattle.routing.specs.Dests.{DestTable}
-use Rattle.routing.proofs.Made.{made}
+use Rattle.routing.proofs.NewLists.{made}
 use Rattle.routing.proofs.dests.DestLists.new.Goals as goal
 
 pub invariant_of-result : goal.invariant_of-result

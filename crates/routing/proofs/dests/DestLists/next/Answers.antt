@@ -3,7 +3,7 @@ use Rattle.routing.specs.Dests.{dests_in}
 use Rattle.routing.specs.Inside.{rings}
 use Rattle.routing.proofs.Links.{behind_shown, shown}
 use Rattle.routing.proofs.Nodes.{length-rings, ring, below}
-use Rattle.routing.proofs.Seen.{length-seen, get_or-seen, shown_exists, seen_room}
+use Rattle.routing.proofs.ListViews.{length-seen, get_or-seen, shown_exists, seen_room}
 use Rattle.routing.proofs.dests.DestLists.next.Goals as goal
 
 pub dest_behind-requires-clause-place : goal.dest_behind-requires-clause-place

@@ -2,7 +2,7 @@ use Rattle.std.proofs.Common.{◌≡◌, ◌<◌, length, get_or, ap, sym, ◌�
 use Rattle.routing.specs.Dests.{dests_in}
 use Rattle.routing.specs.Inside.{rings}
 use Rattle.routing.proofs.Nodes.{length-rings, length-ring}
-use Rattle.routing.proofs.Seen.{length-seen, get_or-seen, length-dests}
+use Rattle.routing.proofs.ListViews.{length-seen, get_or-seen, length-dests}
 use Rattle.routing.proofs.dests.DestLists.recall_limit.Goals as goal
 
 pub returns : goal.returns

@@ -6,7 +6,7 @@ use Rattle.routing.specs.Dests.{DestTable, dests_in, has_sub, without}
 use Rattle.routing.specs.Inside.{rings, place_before}
 use Rattle.routing.proofs.Links.{Has, left_of}
 use Rattle.routing.proofs.Nodes.{Changed, ring, ring_chain, below, removed, removes}
-use Rattle.routing.proofs.Seen.{list_inside, list_seen, list_long, removes_seen}
+use Rattle.routing.proofs.ListViews.{list_inside, list_seen, list_long, removes_seen}
 use Rattle.routing.proofs.dests.DestLists.remove.Goals as goal
 
 pub overflow_add-anchor : goal.overflow_add-anchor

@@ -2,9 +2,9 @@ use Rattle.std.proofs.Common.{◌≤◌, length, sym, subst}
 use Rattle.bus_words.specs.declared.history.Call.TheVariants.{Allocate}
 use Rattle.sb_calls.specs.Core.{Core, apps_of}
 use Rattle.sb_calls.proofs.CoreBags.{bag_in, bag_out}
-use Rattle.sb_calls.proofs.MadeBuffers.{made_allocate}
+use Rattle.sb_calls.proofs.BufferEffects.{made_allocate}
 use Rattle.sb_calls.proofs.OthersBags.{others_keep}
-use Rattle.sb_calls.proofs.Over.{may_act, few_sends, stands_over, does_over}
+use Rattle.sb_calls.proofs.EntryLemma.{may_act, few_sends, stands_over, does_over}
 use Rattle.sb_calls.proofs.bus_core.BusCore.allocate.Goals as goal
 
 pub allocate-result-requires : goal.allocate-result-requires

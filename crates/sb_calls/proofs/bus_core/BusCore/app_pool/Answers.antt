@@ -2,7 +2,7 @@ use Rattle.std.proofs.Common.{IsTrue, sym, subst}
 use Rattle.es_pool.specs.Account.{IsAccountOf}
 use Rattle.pool_words.specs.Grants.{is_pool, pool_in, pool_account}
 use Rattle.bus_words.specs.Bus.{State}
-use Rattle.sb_calls.proofs.Over.{bus_now}
+use Rattle.sb_calls.proofs.EntryLemma.{bus_now}
 use Rattle.sb_calls.proofs.bus_core.BusCore.app_pool.Goals as goal
 
 pub app_pool-requires : goal.app_pool-requires

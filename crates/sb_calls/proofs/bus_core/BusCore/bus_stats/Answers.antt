@@ -2,8 +2,8 @@ use Rattle.std.proofs.Common.{refl}
 use Rattle.bus_words.specs.declared.calls.BusAnswer.TheVariants.{Bus}
 use Rattle.bus_words.specs.declared.history.Call.TheVariants.{Figures}
 use Rattle.sb_calls.proofs.CoreBags.{bags_over}
-use Rattle.sb_calls.proofs.Made.{made_plain}
-use Rattle.sb_calls.proofs.Over.{stands_over, does_over}
+use Rattle.sb_calls.proofs.CallEffects.{made_plain}
+use Rattle.sb_calls.proofs.EntryLemma.{stands_over, does_over}
 use Rattle.sb_calls.proofs.bus_core.BusCore.bus_stats.Goals as goal
 
 pub invariant_of-self : goal.invariant_of-self

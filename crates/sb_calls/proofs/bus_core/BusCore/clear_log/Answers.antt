@@ -2,8 +2,8 @@ use Rattle.std.proofs.Common.{refl}
 use Rattle.bus_words.specs.declared.calls.BusAnswer.TheVariants.{Done}
 use Rattle.bus_words.specs.declared.history.Call.TheVariants.{ClearLog}
 use Rattle.sb_calls.proofs.CoreBags.{bags_over}
-use Rattle.sb_calls.proofs.Made.{made_plain}
-use Rattle.sb_calls.proofs.Over.{may_act, stands_over, does_over}
+use Rattle.sb_calls.proofs.CallEffects.{made_plain}
+use Rattle.sb_calls.proofs.EntryLemma.{may_act, stands_over, does_over}
 use Rattle.sb_calls.proofs.bus_core.BusCore.clear_log.Goals as goal
 
 pub clear_log-requires : goal.clear_log-requires

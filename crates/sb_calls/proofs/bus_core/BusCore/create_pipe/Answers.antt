@@ -1,8 +1,8 @@
 use Rattle.std.proofs.Common.{refl}
 use Rattle.bus_words.specs.declared.history.Call.TheVariants.{Create}
 use Rattle.sb_calls.proofs.CoreBags.{bags_over}
-use Rattle.sb_calls.proofs.Made.{made_plain, created-nothing}
-use Rattle.sb_calls.proofs.Over.{may_act, pipe_left, stands_over, does_over}
+use Rattle.sb_calls.proofs.CallEffects.{made_plain, created-nothing}
+use Rattle.sb_calls.proofs.EntryLemma.{may_act, pipe_left, stands_over, does_over}
 use Rattle.sb_calls.proofs.bus_core.BusCore.create_pipe.Goals as goal
 
 pub create_pipe-result-requires : goal.create_pipe-result-requires

@@ -2,9 +2,9 @@ use Rattle.std.proofs.Common.{ap}
 use Rattle.bus_words.specs.declared.history.Call.TheVariants.{Delete}
 use Rattle.sb_plain.specs.Core.{Plain}
 use Rattle.sb_calls.proofs.CoreBags.{bag_in, bag_out}
-use Rattle.sb_calls.proofs.Made.{made_delete}
+use Rattle.sb_calls.proofs.CallEffects.{made_delete}
 use Rattle.sb_calls.proofs.OthersBags.{others_keep}
-use Rattle.sb_calls.proofs.Over.{may_act, stands_over, does_over}
+use Rattle.sb_calls.proofs.EntryLemma.{may_act, stands_over, does_over}
 use Rattle.sb_calls.proofs.bus_core.BusCore.delete_pipe.Goals as goal
 
 pub delete_pipe-result-requires : goal.delete_pipe-result-requires

@@ -6,7 +6,7 @@ use Rattle.bus_store.specs.Blocks.{AreBlocks}
 use Rattle.sb_calls.specs.Bags.{loans_of, descs_of}
 use Rattle.sb_calls.specs.Core.{Core, state_of}
 use Rattle.sb_calls.proofs.CoreBlocks.{blocks_over}
-use Rattle.sb_calls.proofs.Over.{bus_is}
+use Rattle.sb_calls.proofs.EntryLemma.{bus_is}
 use Rattle.sb_calls.proofs.bus_core.BusCore.desk.Goals as goal
 
 pub returns-clause-blocks : goal.returns-clause-blocks

@@ -1,9 +1,9 @@
 use Rattle.bus_words.specs.declared.calls.BusAnswer.TheVariants.{Done}
 use Rattle.bus_words.specs.declared.history.Call.TheVariants.{End}
 use Rattle.sb_calls.proofs.CoreBags.{bag_in, bag_out}
-use Rattle.sb_calls.proofs.Made.{made_end}
+use Rattle.sb_calls.proofs.CallEffects.{made_end}
 use Rattle.sb_calls.proofs.OthersBags.{others_keep}
-use Rattle.sb_calls.proofs.Over.{may_act, stands_over, does_over}
+use Rattle.sb_calls.proofs.EntryLemma.{may_act, stands_over, does_over}
 use Rattle.sb_calls.proofs.bus_core.BusCore.end.Goals as goal
 
 pub end-requires : goal.end-requires

@@ -2,7 +2,7 @@ use Rattle.std.proofs.Common.{◌≡◌, length, ap, ◌∙◌, subst}
 use Rattle.bus_words.specs.Bus.{State}
 use Rattle.bus_words.specs.Machine.{desk_after}
 use Rattle.sb_calls.specs.Core.{Core, apps_of}
-use Rattle.sb_calls.proofs.Over.{bus_is, bus_now}
+use Rattle.sb_calls.proofs.EntryLemma.{bus_is, bus_now}
 use Rattle.sb_calls.proofs.bus_core.BusCore.events.Goals as goal
 
 pub returns-clause-desk : goal.returns-clause-desk

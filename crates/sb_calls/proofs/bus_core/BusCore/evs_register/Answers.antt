@@ -1,8 +1,8 @@
 use Rattle.bus_words.specs.declared.calls.BusAnswer.TheVariants.{Done}
 use Rattle.bus_words.specs.declared.history.Call.TheVariants.{Register}
 use Rattle.sb_calls.proofs.CoreBags.{bags_over}
-use Rattle.sb_calls.proofs.Made.{made_register}
-use Rattle.sb_calls.proofs.Over.{may_act, stands_over, does_over}
+use Rattle.sb_calls.proofs.CallEffects.{made_register}
+use Rattle.sb_calls.proofs.EntryLemma.{may_act, stands_over, does_over}
 use Rattle.sb_calls.proofs.bus_core.BusCore.evs_register.Goals as goal
 
 pub evs_register-requires : goal.evs_register-requires

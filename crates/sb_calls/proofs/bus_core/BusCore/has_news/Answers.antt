@@ -4,7 +4,7 @@ use Rattle.bus_words.specs.Bus.{State, standing_of, waited_on}
 use Rattle.bus_words.specs.Machine.{pended_answer}
 use Rattle.sb_plain.specs.News.{has_news, is_waiting}
 use Rattle.sb_calls.specs.Core.{state_of}
-use Rattle.sb_calls.proofs.Over.{bus_is}
+use Rattle.sb_calls.proofs.EntryLemma.{bus_is}
 use Rattle.sb_calls.proofs.bus_core.BusCore.has_news.Goals as goal
 
 pub returns-clause-told : goal.returns-clause-told

@@ -3,7 +3,7 @@ use Rattle.housekeeping.specs.Peaks.{greater}
 use Rattle.bus_words.specs.Bus.{State}
 use Rattle.bus_words.specs.Held.{in_use}
 use Rattle.sb_calls.specs.Core.{Core, state_of}
-use Rattle.sb_calls.proofs.Over.{bus_is, bus_now}
+use Rattle.sb_calls.proofs.EntryLemma.{bus_is, bus_now}
 use Rattle.sb_calls.proofs.bus_core.BusCore.in_use.Goals as goal
 
 pub returns-clause-now : goal.returns-clause-now

@@ -2,7 +2,7 @@ use Rattle.std.proofs.Common.{subst}
 use Rattle.sb_calls.specs.Bags.{AreOneLoan}
 use Rattle.sb_calls.specs.Core.{Core, StandAlone, IsNoted}
 use Rattle.sb_calls.specs.Inside.{core_of}
-use Rattle.sb_calls.proofs.Alone.{all_alone}
+use Rattle.sb_calls.proofs.PipeMessages.{all_alone}
 use Rattle.sb_calls.proofs.CoreBags.{one_loan}
 use Rattle.sb_calls.proofs.bus_core.BusCore.journal.Goals as goal
 

@@ -4,12 +4,12 @@ use Rattle.bus_words.specs.declared.history.Call.TheVariants.{Look}
 use Rattle.sb_calls.specs.Answers.{waited}
 use Rattle.sb_calls.specs.Core.{MayCall, Looks, state_of}
 use Rattle.sb_calls.specs.Inside.{core_of, Stands}
-use Rattle.sb_calls.proofs.Alone.{looked_alone}
+use Rattle.sb_calls.proofs.PipeMessages.{looked_alone}
 use Rattle.sb_calls.proofs.CoreBags.{bag_in, bag_out}
 use Rattle.sb_calls.proofs.Looks.{pending_is, looks-still, makes_look, looks-found, waited_here}
-use Rattle.sb_calls.proofs.Made.{looks_own, made_look}
+use Rattle.sb_calls.proofs.CallEffects.{looks_own, made_look}
 use Rattle.sb_calls.proofs.OthersBags.{others_looked}
-use Rattle.sb_calls.proofs.Over.{may_act, few_sends, stands_over, does_over}
+use Rattle.sb_calls.proofs.EntryLemma.{may_act, few_sends, stands_over, does_over}
 use Rattle.sb_calls.proofs.bus_core.BusCore.look.Goals as goal
 
 pub pipe_waited_on-pipe-requires : goal.pipe_waited_on-pipe-requires

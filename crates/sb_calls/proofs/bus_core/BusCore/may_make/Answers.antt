@@ -3,8 +3,8 @@ use Rattle.bus_words.specs.Entries.{call_of}
 use Rattle.bus_words.specs.Log.{Log, left_of}
 use Rattle.journal_store.specs.Budgets.{allowance_of}
 use Rattle.sb_calls.specs.Core.{Core, apps_of}
-use Rattle.sb_calls.proofs.Over.{apps_are}
-use Rattle.sb_calls.proofs.Allowed.{permitted}
+use Rattle.sb_calls.proofs.EntryLemma.{apps_are}
+use Rattle.sb_calls.proofs.PermitTests.{permitted}
 use Rattle.sb_calls.proofs.bus_core.BusCore.may_make.Goals as goal
 
 pub is_open-lets-requires : goal.is_open-lets-requires

@@ -9,7 +9,7 @@ use Rattle.bus_words.specs.Held.{is_unsent}
 use Rattle.sb_calls.specs.Core.{IsLegalCore}
 use Rattle.sb_calls.specs.Notes.{NotedLog, AreDue}
 use Rattle.sb_calls.proofs.UnsentBuffers.{none-first}
-use Rattle.sb_calls.proofs.Opened.{entries_left-allowances}
+use Rattle.sb_calls.proofs.Budgets.{entries_left-allowances}
 use Rattle.sb_calls.proofs.bus_core.BusCore.new.Goals as goal
 
 pub invariant_of-result : goal.invariant_of-result

@@ -1,11 +1,11 @@
 use Rattle.std.proofs.Common.{ap}
 use Rattle.bus_words.specs.declared.history.Call.TheVariants.{Pend}
-use Rattle.sb_calls.proofs.Alone.{pended_alone}
+use Rattle.sb_calls.proofs.PipeMessages.{pended_alone}
 use Rattle.sb_plain.specs.Core.{Plain}
 use Rattle.sb_calls.proofs.CoreBags.{bag_in, bag_out}
-use Rattle.sb_calls.proofs.Made.{made_pend}
+use Rattle.sb_calls.proofs.CallEffects.{made_pend}
 use Rattle.sb_calls.proofs.OthersBags.{others_keep}
-use Rattle.sb_calls.proofs.Over.{may_act, few_sends, stands_over, does_over}
+use Rattle.sb_calls.proofs.EntryLemma.{may_act, few_sends, stands_over, does_over}
 use Rattle.sb_calls.proofs.bus_core.BusCore.pend.Goals as goal
 
 pub pend-result-requires : goal.pend-result-requires

@@ -1,8 +1,8 @@
 use Rattle.std.proofs.Common.{refl}
 use Rattle.bus_words.specs.declared.history.Call.TheVariants.{PipeName}
 use Rattle.sb_calls.proofs.CoreBags.{bags_over}
-use Rattle.sb_calls.proofs.Made.{made_plain, named-nothing}
-use Rattle.sb_calls.proofs.Over.{stands_over, does_over}
+use Rattle.sb_calls.proofs.CallEffects.{made_plain, named-nothing}
+use Rattle.sb_calls.proofs.EntryLemma.{stands_over, does_over}
 use Rattle.sb_calls.proofs.bus_core.BusCore.pipe_name.Goals as goal
 
 pub invariant_of-self : goal.invariant_of-self

@@ -7,7 +7,7 @@ use Rattle.bus_store.specs.Blocks.{IsBlockPool}
 use Rattle.sb_calls.specs.Bags.{loans_of, descs_of}
 use Rattle.sb_calls.specs.Core.{Core, state_of}
 use Rattle.sb_calls.proofs.CoreBlocks.{pool_over}
-use Rattle.sb_calls.proofs.Over.{bus_is}
+use Rattle.sb_calls.proofs.EntryLemma.{bus_is}
 use Rattle.sb_calls.proofs.bus_core.BusCore.pool.Goals as goal
 
 pub returns-clause-blocks : goal.returns-clause-blocks

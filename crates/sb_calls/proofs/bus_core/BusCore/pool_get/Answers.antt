@@ -1,8 +1,8 @@
 use Rattle.std.proofs.Common.{refl}
 use Rattle.bus_words.specs.declared.history.Call.TheVariants.{PoolGet}
 use Rattle.sb_calls.proofs.CoreBags.{bags_over}
-use Rattle.sb_calls.proofs.Made.{made_plain, grant-nothing}
-use Rattle.sb_calls.proofs.Over.{may_act, few_grants, stands_over, does_over}
+use Rattle.sb_calls.proofs.CallEffects.{made_plain, grant-nothing}
+use Rattle.sb_calls.proofs.EntryLemma.{may_act, few_grants, stands_over, does_over}
 use Rattle.sb_calls.proofs.bus_core.BusCore.pool_get.Goals as goal
 
 pub pool_get-result-requires : goal.pool_get-result-requires

@@ -1,6 +1,6 @@
 use Rattle.std.proofs.Common.{ap, ◌∙◌}
 use Rattle.bus_words.specs.Bus.{State}
-use Rattle.sb_calls.proofs.Over.{bus_now}
+use Rattle.sb_calls.proofs.EntryLemma.{bus_now}
 use Rattle.sb_calls.proofs.bus_core.BusCore.pools.Goals as goal
 
 pub returns : goal.returns

@@ -4,7 +4,7 @@ use Rattle.bus_store.specs.Blocks.{IsGiven, AreOfOneSend}
 use Rattle.bus_words.specs.Bus.{Item, State}
 use Rattle.bus_words.specs.Held.{items_of}
 use Rattle.sb_calls.specs.Core.{Core, state_of}
-use Rattle.sb_calls.proofs.Over.{bus_is}
+use Rattle.sb_calls.proofs.EntryLemma.{bus_is}
 use Rattle.sb_calls.proofs.bus_core.BusCore.recall_sends.Goals as goal
 
 pub returns-clause-given : goal.returns-clause-given

@@ -1,12 +1,12 @@
 use Rattle.std.proofs.Common.{ap, ◌∙◌}
 use Rattle.bus_words.specs.declared.history.Call.TheVariants.{Receive}
 use Rattle.bus_words.specs.Bus.{State, owns}
-use Rattle.sb_calls.proofs.Alone.{received_alone}
+use Rattle.sb_calls.proofs.PipeMessages.{received_alone}
 use Rattle.sb_plain.specs.Core.{Plain}
 use Rattle.sb_calls.proofs.CoreBags.{bag_in, bag_out}
-use Rattle.sb_calls.proofs.Made.{made_receive}
+use Rattle.sb_calls.proofs.CallEffects.{made_receive}
 use Rattle.sb_calls.proofs.OthersBags.{others_keep}
-use Rattle.sb_calls.proofs.Over.{bus_now, may_act, few_sends, stands_over, does_over}
+use Rattle.sb_calls.proofs.EntryLemma.{bus_now, may_act, few_sends, stands_over, does_over}
 use Rattle.sb_calls.proofs.bus_core.BusCore.receive.Goals as goal
 
 pub receive-result-requires : goal.receive-result-requires

@@ -1,8 +1,8 @@
 use Rattle.bus_words.specs.declared.history.Call.TheVariants.{Release}
 use Rattle.sb_calls.proofs.CoreBags.{bag_in, bag_out}
-use Rattle.sb_calls.proofs.MadeBuffers.{made_release}
+use Rattle.sb_calls.proofs.BufferEffects.{made_release}
 use Rattle.sb_calls.proofs.OthersBags.{others_keep}
-use Rattle.sb_calls.proofs.Over.{may_act, stands_over, does_over}
+use Rattle.sb_calls.proofs.EntryLemma.{may_act, stands_over, does_over}
 use Rattle.sb_calls.proofs.bus_core.BusCore.release.Goals as goal
 
 pub release-result-requires : goal.release-result-requires

@@ -1,8 +1,8 @@
 use Rattle.std.proofs.Common.{refl}
 use Rattle.bus_words.specs.declared.history.Call.TheVariants.{SendEvent}
 use Rattle.sb_calls.proofs.CoreBags.{bags_over}
-use Rattle.sb_calls.proofs.Made.{made_plain, event-nothing}
-use Rattle.sb_calls.proofs.Over.{may_act, stands_over, does_over}
+use Rattle.sb_calls.proofs.CallEffects.{made_plain, event-nothing}
+use Rattle.sb_calls.proofs.EntryLemma.{may_act, stands_over, does_over}
 use Rattle.sb_calls.proofs.bus_core.BusCore.send_event.Goals as goal
 
 pub send_event-result-requires : goal.send_event-result-requires

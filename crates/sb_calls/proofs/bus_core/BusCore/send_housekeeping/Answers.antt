@@ -4,8 +4,8 @@ use Rattle.housekeeping.specs.Packet.{housekeeping_id}
 use Rattle.bus_words.specs.Bus.{State, route}
 use Rattle.sb_calls.specs.Core.{drops_for}
 use Rattle.sb_calls.proofs.CoreBags.{bags_over}
-use Rattle.sb_calls.proofs.Made.{made_plain, sent-nothing}
-use Rattle.sb_calls.proofs.Over.{may_act, few_sends, stands_over, does_over, bus_now}
+use Rattle.sb_calls.proofs.CallEffects.{made_plain, sent-nothing}
+use Rattle.sb_calls.proofs.EntryLemma.{may_act, few_sends, stands_over, does_over, bus_now}
 use Rattle.sb_calls.proofs.bus_core.BusCore.send_housekeeping.Goals as goal
 
 pub send_housekeeping-result-requires : goal.send_housekeeping-result-requires

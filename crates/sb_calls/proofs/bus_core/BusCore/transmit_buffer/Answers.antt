@@ -8,9 +8,9 @@ use Rattle.bus_words.specs.Bus.{State, route}
 use Rattle.bus_words.specs.Log.{with_entry}
 use Rattle.sb_calls.specs.Core.{drops_for}
 use Rattle.sb_calls.proofs.CoreBags.{bag_in, bag_out}
-use Rattle.sb_calls.proofs.MadeBuffers.{made_transmit_buffer, brings-held, some_pushed, pushed_then_answered}
+use Rattle.sb_calls.proofs.BufferEffects.{made_transmit_buffer, brings-held, some_pushed, pushed_then_answered}
 use Rattle.sb_calls.proofs.OthersBags.{others_keep}
-use Rattle.sb_calls.proofs.Over.{may_act, stands_over, does_over, bus_now}
+use Rattle.sb_calls.proofs.EntryLemma.{may_act, stands_over, does_over, bus_now}
 use Rattle.sb_calls.proofs.bus_core.BusCore.transmit_buffer.Goals as goal
 
 pub transmit_buffer-result-requires : goal.transmit_buffer-result-requires

@@ -2,8 +2,8 @@ use Rattle.std.proofs.Common.{length, ap, arith, refl}
 use Rattle.bus_words.specs.declared.history.Call.TheVariants.{Unsubscribe}
 use Rattle.bus_words.specs.Bus.{State, route}
 use Rattle.sb_calls.proofs.CoreBags.{bags_over}
-use Rattle.sb_calls.proofs.Made.{made_plain, done-nothing}
-use Rattle.sb_calls.proofs.Over.{may_act, stands_over, does_over, bus_now}
+use Rattle.sb_calls.proofs.CallEffects.{made_plain, done-nothing}
+use Rattle.sb_calls.proofs.EntryLemma.{may_act, stands_over, does_over, bus_now}
 use Rattle.sb_calls.proofs.bus_core.BusCore.unsubscribe.Goals as goal
 
 pub unsubscribe-result-requires : goal.unsubscribe-result-requires

@@ -1,7 +1,7 @@
 use Rattle.std.proofs.Common.{length, ap, ◌∙◌, arith}
 use Rattle.journal_store.specs.Budgets.{entries_left}
 use Rattle.bus_words.specs.Log.{Log, left_of}
-use Rattle.sb_calls.proofs.Opened.{entries_left-allowances}
+use Rattle.sb_calls.proofs.Budgets.{entries_left-allowances}
 use Rattle.sb_calls.proofs.noted.NotedJournal.new.Goals as goal
 
 pub invariant_of-result : goal.invariant_of-result

@@ -5,7 +5,7 @@ use Rattle.journal_store.specs.Budgets.{HasRoom, entries_left}
 use Rattle.bus_words.specs.Entries.{call_bytes, entry_of}
 use Rattle.bus_words.specs.Log.{Log, left_of}
 use Rattle.sb_calls.specs.Notes.{NotedLog}
-use Rattle.sb_calls.proofs.Pushed.{place_left, room_left}
+use Rattle.sb_calls.proofs.NoteRoom.{place_left, room_left}
 use Rattle.sb_calls.proofs.noted.NotedJournal.push.Goals as goal
 
 pub push_reserved-requires : goal.push_reserved-requires

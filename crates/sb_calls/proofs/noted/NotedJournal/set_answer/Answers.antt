@@ -1,7 +1,7 @@
 use Rattle.std.proofs.Common.{◌≤◌, length, ap, sym, ◌∙◌, subst, arith}
 use Rattle.journal_store.specs.Budgets.{entries_left}
 use Rattle.sb_calls.specs.Notes.{NotedLog}
-use Rattle.sb_calls.proofs.Pushed.{as_many, as_much_left}
+use Rattle.sb_calls.proofs.NoteRoom.{as_many, as_much_left}
 use Rattle.sb_calls.proofs.noted.NotedJournal.set_answer.Goals as goal
 
 pub invariant_of-self : goal.invariant_of-self

@@ -4,9 +4,9 @@ use Rattle.bus_words.specs.declared.calls.BusAnswer.TheVariants.{Number}
 use Rattle.bus_words.specs.declared.history.Call.TheVariants.{Allocate}
 use Rattle.bus_words.specs.Machine.{by_bus, allocate_cause}
 use Rattle.bus_store.specs.Store.{Store}
-use Rattle.sb_plain.proofs.After.{acts_looked, seen_keeps, refused_acts}
+use Rattle.sb_plain.proofs.CallLaws.{acts_looked, seen_keeps, refused_acts}
 use Rattle.sb_plain.proofs.Bags.{others_left, views_still}
-use Rattle.sb_plain.proofs.Buffers.{given_keeps, given_sizes, given_made, given_many}
+use Rattle.sb_plain.proofs.BufferCalls.{given_keeps, given_sizes, given_made, given_many}
 use Rattle.sb_plain.proofs.Numbers.{send_left}
 use Rattle.sb_plain.proofs.Peaks.{blocks_seen}
 use Rattle.sb_plain.proofs.Refusals.{at_fields}

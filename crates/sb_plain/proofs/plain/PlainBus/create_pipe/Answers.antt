@@ -7,7 +7,7 @@ use Rattle.bus_words.specs.Machine.{by_bus}
 use Rattle.bus_store.specs.Store.{Store}
 use Rattle.bus_store.specs.Words.{loan_of}
 use Rattle.sb_plain.specs.Inside.{means}
-use Rattle.sb_plain.proofs.After.{bare, acts_looked, seen_keeps, refused_acts}
+use Rattle.sb_plain.proofs.CallLaws.{bare, acts_looked, seen_keeps, refused_acts}
 use Rattle.sb_plain.proofs.Bags.{bags_kept, loan_before, loan_pushed}
 use Rattle.sb_plain.proofs.Changes.{created_keeps}
 use Rattle.sb_plain.proofs.Numbers.{pipe_left}

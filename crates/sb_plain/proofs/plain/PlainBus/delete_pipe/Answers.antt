@@ -7,7 +7,7 @@ use Rattle.bus_words.specs.Machine.{by_bus, unowned_cause}
 use Rattle.bus_store.specs.Store.{Store}
 use Rattle.sb_plain.specs.Inside.{means}
 use Rattle.sb_plain.proofs.Actives.{is_active, active_deletes}
-use Rattle.sb_plain.proofs.After.{bare, acts_looked, seen_keeps, refused_acts}
+use Rattle.sb_plain.proofs.CallLaws.{bare, acts_looked, seen_keeps, refused_acts}
 use Rattle.sb_plain.proofs.Bags.{others_kept}
 use Rattle.sb_plain.proofs.Changes.{deleted_keeps}
 use Rattle.sb_plain.proofs.Refusals.{at_fields, not_unowned}

@@ -14,7 +14,7 @@ use Rattle.sb_plain.specs.declared.activities.Activity.TheVariants as activities
 use Rattle.sb_plain.specs.Inside.{means}
 use Rattle.sb_plain.specs.Rows.{in_use_at}
 use Rattle.sb_plain.proofs.Actives.{known_here}
-use Rattle.sb_plain.proofs.After.{acts_seen, seen_keeps}
+use Rattle.sb_plain.proofs.CallLaws.{acts_seen, seen_keeps}
 use Rattle.sb_plain.proofs.Bags.{others_left, still_blocks}
 use Rattle.sb_plain.proofs.Ends.{ended_keeps, ended_made, no_view, both_left, both_out, both_sizes, both_room, first_same, then_views}
 use Rattle.sb_plain.proofs.plain.PlainBus.end.Goals as goal

@@ -5,7 +5,7 @@ use Rattle.bus_words.specs.declared.history.Call.TheVariants.{Register}
 use Rattle.bus_words.specs.Acts.{reads_in}
 use Rattle.bus_records.proofs.Leaves.{registered_left}
 use Rattle.sb_plain.specs.Inside.{means}
-use Rattle.sb_plain.proofs.After.{acts_from}
+use Rattle.sb_plain.proofs.CallLaws.{acts_from}
 use Rattle.sb_plain.proofs.plain.PlainBus.evs_register.Goals as goal
 
 pub returns-clause-does : goal.returns-clause-does

@@ -3,7 +3,7 @@ use Rattle.fsw_base.specs.declared.statuses.SbStatus.TheVariants.{BadArgument}
 use Rattle.housekeeping.specs.declared.names.CounterName.TheVariants as counters
 use Rattle.bus_words.specs.declared.history.Call.TheVariants.{GetOpts}
 use Rattle.bus_words.specs.Refusals.{OfBus}
-use Rattle.sb_plain.proofs.After.{acts_still, cause_told, refused_acts}
+use Rattle.sb_plain.proofs.CallLaws.{acts_still, cause_told, refused_acts}
 use Rattle.sb_plain.proofs.Asks.{bits_made, bits_refused}
 use Rattle.sb_plain.proofs.plain.PlainBus.get_opts.Goals as goal
 

@@ -7,7 +7,7 @@ use Rattle.sb_plain.specs.declared.activities.Activity.TheVariants as activities
 use Rattle.sb_plain.specs.Answers.{waited}
 use Rattle.sb_plain.specs.Core.{Plain}
 use Rattle.sb_plain.proofs.Actives.{is_waiting, known_here}
-use Rattle.sb_plain.proofs.After.{acts_still, acts_looked, seen_keeps}
+use Rattle.sb_plain.proofs.CallLaws.{acts_still, acts_looked, seen_keeps}
 use Rattle.sb_plain.proofs.Bags.{others_kept}
 use Rattle.sb_plain.proofs.Looks.{look_keeps, look_made, look_still}
 use Rattle.sb_plain.proofs.plain.PlainBus.look.Goals as goal

@@ -1,5 +1,5 @@
 use Rattle.fsw_base.specs.Limits.{limits_of}
-use Rattle.sb_plain.proofs.Opened.{opened_plain, opened_keeps}
+use Rattle.sb_plain.proofs.NewCores.{opened_plain, opened_keeps}
 use Rattle.sb_plain.proofs.plain.PlainBus.new.Goals as goal
 
 pub invariant_of-result : goal.invariant_of-result

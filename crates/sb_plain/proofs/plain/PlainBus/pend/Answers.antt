@@ -8,7 +8,7 @@ use Rattle.sb_plain.specs.Answers.{waited}
 use Rattle.sb_plain.specs.Core.{Plain}
 use Rattle.sb_plain.specs.Inside.{means}
 use Rattle.sb_plain.proofs.Actives.{is_active, known_here, active_pends, active_first}
-use Rattle.sb_plain.proofs.After.{acts_looked, seen_keeps, refused_acts}
+use Rattle.sb_plain.proofs.CallLaws.{acts_looked, seen_keeps, refused_acts}
 use Rattle.sb_plain.proofs.Bags.{others_kept}
 use Rattle.sb_plain.proofs.Refusals.{at_fields, not_unowned}
 use Rattle.sb_plain.proofs.Looks.{pend_keeps, pend_made, pend_refused, pend_counts}

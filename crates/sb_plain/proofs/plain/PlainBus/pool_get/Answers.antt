@@ -1,8 +1,8 @@
 use Rattle.std.proofs.Common.{◌≡◌, ◌+◌, IfOk, refl, subst}
 use Rattle.bus_words.specs.declared.history.Call.TheVariants.{PoolGet}
 use Rattle.sb_plain.specs.Answers.{pool_told}
-use Rattle.sb_plain.proofs.After.{acts_quiet}
-use Rattle.sb_plain.proofs.Pools.{get_made, get_numbered}
+use Rattle.sb_plain.proofs.CallLaws.{acts_quiet}
+use Rattle.sb_plain.proofs.PoolCalls.{get_made, get_numbered}
 use Rattle.pool_words.specs.Grants.{pool_in}
 use Rattle.sb_plain.specs.Core.{Plain}
 use Rattle.sb_plain.proofs.plain.PlainBus.pool_get.Goals as goal

@@ -3,7 +3,7 @@ use Rattle.fsw_base.specs.Limits.{limits_of}
 use Rattle.bus_words.specs.declared.history.Call.TheVariants.{PoolPut}
 use Rattle.sb_plain.specs.Answers.{grant_back}
 use Rattle.sb_plain.specs.Inside.{means}
-use Rattle.sb_plain.proofs.After.{bare, acts_quiet}
+use Rattle.sb_plain.proofs.CallLaws.{bare, acts_quiet}
 use Rattle.sb_plain.proofs.plain.PlainBus.pool_put.Goals as goal
 
 pub returns-clause-does : goal.returns-clause-does

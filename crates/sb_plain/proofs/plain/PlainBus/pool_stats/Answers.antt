@@ -3,7 +3,7 @@ use Rattle.fsw_base.specs.Limits.{limits_of}
 use Rattle.bus_words.specs.declared.history.Call.TheVariants.{PoolFigures}
 use Rattle.sb_plain.specs.Answers.{figures_told}
 use Rattle.sb_plain.specs.Inside.{means}
-use Rattle.sb_plain.proofs.After.{bare, acts_still}
+use Rattle.sb_plain.proofs.CallLaws.{bare, acts_still}
 use Rattle.sb_plain.proofs.plain.PlainBus.pool_stats.Goals as goal
 
 pub returns : goal.returns

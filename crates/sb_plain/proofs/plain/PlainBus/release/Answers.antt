@@ -6,9 +6,9 @@ use Rattle.bus_words.specs.declared.calls.BusAnswer.TheVariants.{Done}
 use Rattle.bus_words.specs.declared.history.Call.TheVariants.{Release}
 use Rattle.bus_words.specs.Machine.{by_bus, release_cause}
 use Rattle.bus_store.specs.Store.{Store}
-use Rattle.sb_plain.proofs.After.{acts_looked, seen_keeps, refused_acts}
+use Rattle.sb_plain.proofs.CallLaws.{acts_looked, seen_keeps, refused_acts}
 use Rattle.sb_plain.proofs.Bags.{others_left, views_still}
-use Rattle.sb_plain.proofs.Buffers.{gone_keeps, released_made, release_told, looked_at}
+use Rattle.sb_plain.proofs.BufferCalls.{gone_keeps, released_made, release_told, looked_at}
 use Rattle.sb_plain.proofs.Refusals.{at_fields}
 use Rattle.sb_plain.proofs.plain.PlainBus.release.Goals as goal
 

@@ -5,8 +5,8 @@ use Rattle.bus_words.specs.Acts.{reads_in}
 use Rattle.bus_records.proofs.Leaves.{filter_reset_left}
 use Rattle.sb_plain.specs.Answers.{event_told}
 use Rattle.sb_plain.specs.Inside.{means}
-use Rattle.sb_plain.proofs.After.{acts_from}
-use Rattle.sb_plain.proofs.Events.{reset_made}
+use Rattle.sb_plain.proofs.CallLaws.{acts_from}
+use Rattle.sb_plain.proofs.EventCalls.{reset_made}
 use Rattle.sb_plain.proofs.plain.PlainBus.reset_filter.Goals as goal
 
 pub returns-clause-does : goal.returns-clause-does

@@ -6,7 +6,7 @@ use Rattle.bus_words.specs.declared.history.Call.TheVariants.{SetOpts}
 use Rattle.bus_words.specs.Machine.{by_bus}
 use Rattle.bus_store.specs.Store.{Store}
 use Rattle.sb_plain.specs.Inside.{means}
-use Rattle.sb_plain.proofs.After.{bare, acts_looked, seen_keeps, refused_acts}
+use Rattle.sb_plain.proofs.CallLaws.{bare, acts_looked, seen_keeps, refused_acts}
 use Rattle.sb_plain.proofs.Bags.{bags_kept}
 use Rattle.sb_plain.proofs.Changes.{set_keeps}
 use Rattle.sb_plain.proofs.plain.PlainBus.set_opts.Goals as goal

@@ -13,7 +13,7 @@ use Rattle.bus_records.specs.Records.{Recordings}
 use Rattle.bus_records.proofs.Leaves.{subscribed_left, duplicate_left}
 use Rattle.sb_plain.specs.Core.{Plain}
 use Rattle.sb_plain.specs.Inside.{means}
-use Rattle.sb_plain.proofs.After.{acts_from, acts_seen, seen_keeps, told_keeps, refused_acts}
+use Rattle.sb_plain.proofs.CallLaws.{acts_from, acts_seen, seen_keeps, told_keeps, refused_acts}
 use Rattle.sb_plain.proofs.Numbers.{subscription_left}
 use Rattle.sb_plain.proofs.Refusals.{at_fields, has_route-rows}
 use Rattle.sb_plain.proofs.Owners.{live_owned}

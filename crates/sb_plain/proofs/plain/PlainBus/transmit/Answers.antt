@@ -9,15 +9,16 @@ use Rattle.bus_words.specs.declared.calls.BusAnswer.TheVariants.{Sent}
 use Rattle.bus_words.specs.declared.history.Call.TheVariants.{Transmit}
 use Rattle.bus_words.specs.Acts.{reads_in}
 use Rattle.bus_words.specs.Bus.{route}
+use Rattle.bus_words.specs.Events.{miss_events}
 use Rattle.bus_words.specs.Machine.{by_bus, transmit_cause}
-use Rattle.bus_records.specs.Records.{Recordings, miss_events, told_event, peaks_raised}
+use Rattle.bus_records.specs.Records.{Recordings, told_event, peaks_raised}
 use Rattle.bus_records.proofs.Leaves.{unheard_left, sent_left}
 use Rattle.bus_store.specs.Store.{Store}
 use Rattle.bus_store.specs.Words.{sending_of}
 use Rattle.sb_plain.specs.Core.{Plain, drops_for}
 use Rattle.sb_plain.specs.Inside.{means}
 use Rattle.sb_plain.specs.Rows.{in_use_at}
-use Rattle.sb_plain.proofs.After.{acts_from, acts_seen, seen_keeps, told_keeps, refused_acts}
+use Rattle.sb_plain.proofs.CallLaws.{acts_from, acts_seen, seen_keeps, told_keeps, refused_acts}
 use Rattle.sb_plain.proofs.Bags.{bags_kept}
 use Rattle.sb_plain.proofs.Drops.{drops_are}
 use Rattle.sb_plain.proofs.Numbers.{send_left}

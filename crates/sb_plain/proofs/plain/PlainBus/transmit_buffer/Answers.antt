@@ -9,17 +9,18 @@ use Rattle.bus_words.specs.declared.calls.BusAnswer.TheVariants.{Sent}
 use Rattle.bus_words.specs.declared.history.Call.TheVariants.{TransmitBuffer}
 use Rattle.bus_words.specs.Acts.{reads_in}
 use Rattle.bus_words.specs.Bus.{route}
+use Rattle.bus_words.specs.Events.{miss_events}
 use Rattle.bus_words.specs.Machine.{by_bus, transmit_buffer_cause}
-use Rattle.bus_records.specs.Records.{Recordings, miss_events, told_event, peaks_raised}
+use Rattle.bus_records.specs.Records.{Recordings, told_event, peaks_raised}
 use Rattle.bus_records.proofs.Leaves.{unheard_buffer_left, sent_buffer_left}
 use Rattle.bus_store.specs.Store.{Store}
 use Rattle.bus_store.specs.Words.{passing_of}
 use Rattle.sb_plain.specs.Core.{Plain, drops_for}
 use Rattle.sb_plain.specs.Inside.{means}
 use Rattle.sb_plain.specs.Rows.{in_use_at}
-use Rattle.sb_plain.proofs.After.{acts_seen, seen_keeps, refused_acts}
+use Rattle.sb_plain.proofs.CallLaws.{acts_seen, seen_keeps, refused_acts}
 use Rattle.sb_plain.proofs.Bags.{bag_before, bag_after, blocked_views, others_left, views_still}
-use Rattle.sb_plain.proofs.Buffers.{gone_keeps, unheard_made, passed_keeps, passed_made, passed_told, passed_many, transmit_told}
+use Rattle.sb_plain.proofs.BufferCalls.{gone_keeps, unheard_made, passed_keeps, passed_made, passed_told, passed_many, transmit_told}
 use Rattle.sb_plain.proofs.Drops.{drops_are}
 use Rattle.sb_plain.proofs.Peaks.{told_peak, blocks_seen}
 use Rattle.sb_plain.proofs.Refusals.{at_fields}

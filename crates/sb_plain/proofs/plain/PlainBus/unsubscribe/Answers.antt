@@ -9,7 +9,7 @@ use Rattle.bus_words.specs.Machine.{by_bus}
 use Rattle.bus_records.specs.Records.{Recordings, told_event, peaks_raised}
 use Rattle.sb_plain.specs.Inside.{means}
 use Rattle.sb_plain.specs.Rows.{in_use_at}
-use Rattle.sb_plain.proofs.After.{bare, acts_seen, seen_keeps, refused_acts}
+use Rattle.sb_plain.proofs.CallLaws.{bare, acts_seen, seen_keeps, refused_acts}
 use Rattle.sb_plain.proofs.Changes.{unsubscribed_keeps}
 use Rattle.sb_plain.proofs.Subscribes.{unsubscribed_left}
 use Rattle.sb_plain.proofs.plain.PlainBus.unsubscribe.Goals as goal

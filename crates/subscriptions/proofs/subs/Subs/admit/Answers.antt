@@ -4,7 +4,7 @@ use Rattle.std.specs.Option.{option_map_or}
 use Rattle.subscriptions.specs.declared.words.Verdict.TheVariants.{Inside}
 use Rattle.subscriptions.specs.Subs.{live_at, row_of, verdict_of}
 use Rattle.subscriptions.specs.Inside.{held_at}
-use Rattle.subscriptions.proofs.Kept.{live_found, live_ended}
+use Rattle.subscriptions.proofs.Slots.{live_found, live_ended}
 use Rattle.subscriptions.proofs.subs.Subs.admit.Goals as goal
 
 pub returns-in-Some : goal.returns-in-Some

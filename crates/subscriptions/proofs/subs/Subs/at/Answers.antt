@@ -2,7 +2,7 @@
 use Rattle.std.proofs.Common.{Some, option_map, IsSome, subst, sym, ap, ◌∙◌}
 use Rattle.subscriptions.specs.Subs.{live_at, row_of}
 use Rattle.subscriptions.specs.Inside.{held_at}
-use Rattle.subscriptions.proofs.Kept.{live_found, held_if_live}
+use Rattle.subscriptions.proofs.Slots.{live_found, held_if_live}
 use Rattle.subscriptions.proofs.subs.Subs.at.Goals as goal
 
 pub unwrap-requires : goal.unwrap-requires

@@ -4,8 +4,8 @@ use Rattle.subscriptions.specs.contracts.subs.Subs.{the_view, the_invariant}
 use Rattle.subscriptions.specs.declared.subs.Subs.TheInside.{Inside}
 use Rattle.subscriptions.specs.Subs.{live_at, one_fewer, with_change}
 use Rattle.subscriptions.specs.Inside.{held_in, recounted}
-use Rattle.subscriptions.proofs.Kept.{live_here}
-use Rattle.subscriptions.proofs.Waiting.{IsRecounted, recounts, recounts_none, still_kept}
+use Rattle.subscriptions.proofs.Slots.{live_here}
+use Rattle.subscriptions.proofs.WaitingCounts.{IsRecounted, recounts, recounts_none, still_kept}
 use Rattle.subscriptions.proofs.subs.Subs.unqueued.Goals as goal
 use Rattle.subscriptions.proofs.subs.Subs.unqueued.Goals.{in-Some, in_default}
 
@@ -32,6 +32,14 @@ recount c =
           (ap (λ (i : Inside). i.slots.items) w.self-inside-is) (sym (w.in_default.ensures.item.4 (omega arith) None))
     ]
 
+-- the list has the room that it had
+same_room : (c : goal.Joined-get_mut) → vec_capacity c.match-get_mut.self-inside.slots ≡ vec_capacity c.self.inside.slots
+same_room c =
+    elim c.match-get_mut.branch [
+      | in-Some w ↦ ap (λ (i : Inside). vec_capacity i.slots) w.self-inside-is
+      | in_default w ↦ ap (λ (i : Inside). vec_capacity i.slots) w.self-inside-is
+    ]
+
 -- the rest stays
 rest : (c : goal.Joined-get_mut) → c.match-get_mut.self-inside ≡ record c.self.inside { slots = c.match-get_mut.self-inside.slots }
 rest c =
@@ -42,10 +50,10 @@ rest c =
 
 pub returns : goal.returns
 returns c =
-    ap the_view (rest c) ∙ ((recount c).live ∙ ap (λ v. with_change v c.args.sub one_fewer) c.self.view_is)
+    ap the_view (rest c) ∙ ((recount c).live c.self.inside.room ∙ ap (λ v. with_change v c.args.sub one_fewer) c.self.view_is)
 
 pub invariant_of-self : goal.invariant_of-self
 invariant_of-self c =
     let s = c.self.inside in
     subst the_invariant (sym (rest c))
-    (still_kept c.match-get_mut.self-inside.slots.items s.slots.items s.free.items s.made c.args.sub (λ waiting. waiting - 1) (vec_capacity s.free) s.top (recount c) c.self.invariant)
+    (still_kept c.match-get_mut.self-inside.slots.items s.slots.items s.free.items s.made c.args.sub (λ waiting. waiting - 1) s.room (vec_capacity s.free) (vec_capacity s.slots) (vec_capacity c.match-get_mut.self-inside.slots) (recount c) (same_room c) c.self.invariant)

@@ -6,7 +6,7 @@ use Rattle.tbl_blocks.specs.Memory.{GoesBack, slot_at}
 use Rattle.tbl_blocks.specs.Blocks.{Stored}
 use Rattle.tbl_blocks.specs.Inside.{IsStore}
 use Rattle.tbl_blocks.proofs.Store.{held_here, held_back}
-use Rattle.tbl_blocks.proofs.Opening.{store_closed, other_stays}
+use Rattle.tbl_blocks.proofs.TableOpenings.{store_closed, other_stays}
 use Rattle.tbl_blocks.proofs.blocks.TableBlocks.close.Goals as goal
 
 pub give_back-requires-clause-whole : goal.give_back-requires-clause-whole

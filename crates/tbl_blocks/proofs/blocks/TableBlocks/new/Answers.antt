@@ -2,7 +2,7 @@
 use Rattle.std.proofs.Common.{ap, ◌∙◌, arith}
 use Rattle.tbl_blocks.specs.Contents.{kept_at}
 use Rattle.tbl_blocks.specs.Blocks.{buffers_taken}
-use Rattle.tbl_blocks.proofs.Opened.{none_kept, none_taken}
+use Rattle.tbl_blocks.proofs.NewStores.{none_kept, none_taken}
 use Rattle.tbl_blocks.proofs.blocks.TableBlocks.new.Goals as goal
 
 pub invariant_of-result : goal.invariant_of-result

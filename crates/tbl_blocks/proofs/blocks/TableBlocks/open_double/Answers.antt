@@ -6,7 +6,7 @@ use Rattle.tbl_blocks.specs.Memory.{Takes}
 use Rattle.tbl_blocks.specs.Blocks.{Stored}
 use Rattle.tbl_blocks.specs.Inside.{IsStore}
 use Rattle.tbl_blocks.proofs.Store.{held_taken}
-use Rattle.tbl_blocks.proofs.Opening.{double_of, held_double, store_opened, fits_other, opens}
+use Rattle.tbl_blocks.proofs.TableOpenings.{double_of, held_double, store_opened, fits_other, opens}
 use Rattle.tbl_blocks.proofs.blocks.TableBlocks.open_double.Goals as goal
 
 pub unwrap-second-requires : goal.unwrap-second-requires

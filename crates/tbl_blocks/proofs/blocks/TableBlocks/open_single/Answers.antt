@@ -4,7 +4,7 @@ use Rattle.tbl_blocks.specs.Contents.{is_open}
 use Rattle.tbl_blocks.specs.Blocks.{Stored}
 use Rattle.tbl_blocks.specs.Inside.{IsStore}
 use Rattle.tbl_blocks.proofs.Store.{held_taken}
-use Rattle.tbl_blocks.proofs.Opening.{single_of, held_single, store_opened}
+use Rattle.tbl_blocks.proofs.TableOpenings.{single_of, held_single, store_opened}
 use Rattle.tbl_blocks.proofs.blocks.TableBlocks.open_single.Goals as goal
 
 pub invariant_of-self : goal.invariant_of-self

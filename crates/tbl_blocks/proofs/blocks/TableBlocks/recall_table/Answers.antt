@@ -3,7 +3,7 @@ use Rattle.std.specs.Vec.{vec_capacity}
 use Rattle.tbl_blocks.specs.Contents.{is_open, content_at}
 use Rattle.tbl_blocks.specs.Blocks.{Stored, IsWhole}
 use Rattle.tbl_blocks.proofs.Store.{held_here}
-use Rattle.tbl_blocks.proofs.Opening.{whole_here}
+use Rattle.tbl_blocks.proofs.TableOpenings.{whole_here}
 use Rattle.tbl_blocks.proofs.blocks.TableBlocks.recall_table.Goals as goal
 
 pub returns : goal.returns

@@ -2,7 +2,7 @@ use Rattle.std.proofs.Common.{[], length, ap, sym, ◌∙◌, subst, arith}
 use Rattle.journal_store.specs.Budgets.{entries_left}
 use Rattle.tbl_words.specs.Log.{Log, left_of}
 use Rattle.tbl_load.specs.Notes.{AreDue}
-use Rattle.tbl_load.proofs.Opened.{entries_left-allowances}
+use Rattle.tbl_load.proofs.Budgets.{entries_left-allowances}
 use Rattle.tbl_load.proofs.noted.NotedJournal.new.Goals as goal
 
 pub invariant_of-result : goal.invariant_of-result

@@ -7,7 +7,7 @@ use Rattle.tbl_words.specs.Entries.{call_bytes, entry_of}
 use Rattle.tbl_words.specs.Log.{Log, left_of}
 use Rattle.tbl_load.specs.Notes.{NotedLog, AreDue}
 use Rattle.tbl_load.proofs.Notes.{due-push, even-due}
-use Rattle.tbl_load.proofs.Pushed.{place_left, room_left}
+use Rattle.tbl_load.proofs.NoteRoom.{place_left, room_left}
 use Rattle.tbl_load.proofs.noted.NotedJournal.push.Goals as goal
 
 pub push_reserved-requires : goal.push_reserved-requires

@@ -4,7 +4,7 @@ use Rattle.tbl_words.specs.Tables.{State, account_of}
 use Rattle.tbl_plain.specs.Blocks.{AreTableBlocks}
 use Rattle.tbl_load.specs.Bags.{lent_tables}
 use Rattle.tbl_load.specs.Core.{Core, state_of}
-use Rattle.tbl_load.proofs.Located.{blocks_of_history}
+use Rattle.tbl_load.proofs.TablePlaces.{blocks_of_history}
 use Rattle.tbl_load.proofs.tables.TblCore.blocks.Goals as goal
 
 pub returns-clause-blocks : goal.returns-clause-blocks

@@ -3,10 +3,10 @@ use Rattle.tbl_words.specs.declared.calls.TblAnswer.TheVariants.{Done}
 use Rattle.tbl_words.specs.declared.history.Call.TheVariants.{End}
 use Rattle.tbl_words.specs.Tables.{Handle, State}
 use Rattle.tbl_blocks.specs.Held.{HeldViews}
-use Rattle.tbl_load.proofs.Made.{made_taking, none_stays}
+use Rattle.tbl_load.proofs.CallEffects.{made_taking, none_stays}
 use Rattle.tbl_load.proofs.CoreBags.{bag_in, bag_out}
 use Rattle.tbl_load.proofs.OthersBags.{others_keep}
-use Rattle.tbl_load.proofs.Over.{may_act, may_push, stands_over, does_over, state_now}
+use Rattle.tbl_load.proofs.EntryLemma.{may_act, may_push, stands_over, does_over, state_now}
 use Rattle.tbl_load.proofs.tables.TblCore.end.Goals as goal
 
 pub end-requires : goal.end-requires

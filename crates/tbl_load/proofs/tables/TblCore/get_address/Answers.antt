@@ -3,10 +3,10 @@ use Rattle.tbl_words.specs.declared.history.Call.TheVariants.{GetAddress}
 use Rattle.tbl_blocks.specs.Held.{held_at}
 use Rattle.tbl_plain.specs.Core.{loan_of}
 use Rattle.tbl_load.specs.Notes.{note_due, note_seen}
-use Rattle.tbl_load.proofs.Made.{made_giving, address_due, address_for, address_stays}
+use Rattle.tbl_load.proofs.CallEffects.{made_giving, address_due, address_for, address_stays}
 use Rattle.tbl_load.proofs.CoreBags.{bag_in, bag_out}
 use Rattle.tbl_load.proofs.OthersBags.{others_keep}
-use Rattle.tbl_load.proofs.Over.{may_act, few_versions, may_push, stands_over, does_over}
+use Rattle.tbl_load.proofs.EntryLemma.{may_act, few_versions, may_push, stands_over, does_over}
 use Rattle.tbl_load.proofs.tables.TblCore.get_address.Goals as goal
 
 pub get_address-result-requires : goal.get_address-result-requires

@@ -3,7 +3,7 @@ use Rattle.journal_store.specs.Budgets.{allowance_of}
 use Rattle.tbl_words.specs.Entries.{call_of}
 use Rattle.tbl_words.specs.Log.{Log, left_of}
 use Rattle.tbl_load.specs.Core.{Core, apps_of}
-use Rattle.tbl_load.proofs.Allowed.{permitted}
+use Rattle.tbl_load.proofs.PermitTests.{permitted}
 use Rattle.tbl_load.proofs.tables.TblCore.may_make.Goals as goal
 
 pub returns : goal.returns

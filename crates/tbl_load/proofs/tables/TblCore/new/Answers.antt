@@ -9,7 +9,7 @@ use Rattle.tbl_words.specs.Uses.{peak_after}
 use Rattle.tbl_plain.specs.Core.{Plain}
 use Rattle.tbl_load.specs.Core.{IsLegalCore}
 use Rattle.tbl_load.specs.Notes.{NotedLog}
-use Rattle.tbl_load.proofs.Opened.{entries_left-allowances}
+use Rattle.tbl_load.proofs.Budgets.{entries_left-allowances}
 use Rattle.tbl_load.proofs.tables.TblCore.new.Goals as goal
 
 pub invariant_of-result : goal.invariant_of-result

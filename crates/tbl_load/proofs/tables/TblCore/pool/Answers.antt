@@ -5,7 +5,7 @@ use Rattle.tbl_words.specs.Tables.{State, account_of, bytes_in_use}
 use Rattle.tbl_plain.specs.Blocks.{IsTablePool}
 use Rattle.tbl_load.specs.Bags.{lent_tables}
 use Rattle.tbl_load.specs.Core.{Core, state_of}
-use Rattle.tbl_load.proofs.Located.{pool_of_history}
+use Rattle.tbl_load.proofs.TablePlaces.{pool_of_history}
 use Rattle.tbl_load.proofs.tables.TblCore.pool.Goals as goal
 
 pub returns-clause-blocks : goal.returns-clause-blocks

@@ -1,8 +1,8 @@
 use Rattle.std.proofs.Common.{refl}
 use Rattle.tbl_words.specs.declared.history.Call.TheVariants.{Register}
 use Rattle.tbl_load.proofs.CoreBags.{bags_over}
-use Rattle.tbl_load.proofs.Made.{made_quiet, quiet_bags, entered_as, nothing_due, registered-nothing}
-use Rattle.tbl_load.proofs.Over.{may_act, handle_left, may_push, stands_over, does_over}
+use Rattle.tbl_load.proofs.CallEffects.{made_quiet, quiet_bags, entered_as, nothing_due, registered-nothing}
+use Rattle.tbl_load.proofs.EntryLemma.{may_act, handle_left, may_push, stands_over, does_over}
 use Rattle.tbl_load.proofs.tables.TblCore.register.Goals as goal
 
 pub register-result-requires : goal.register-result-requires

@@ -1,9 +1,9 @@
 use Rattle.std.proofs.Common.{refl}
 use Rattle.tbl_words.specs.declared.history.Call.TheVariants.{ReleaseAddress}
-use Rattle.tbl_load.proofs.Made.{made_taking, taken_stays, nothing_due, done-nothing}
+use Rattle.tbl_load.proofs.CallEffects.{made_taking, taken_stays, nothing_due, done-nothing}
 use Rattle.tbl_load.proofs.CoreBags.{bag_in, bag_out}
 use Rattle.tbl_load.proofs.OthersBags.{others_keep}
-use Rattle.tbl_load.proofs.Over.{may_act, may_push, stands_over, does_over}
+use Rattle.tbl_load.proofs.EntryLemma.{may_act, may_push, stands_over, does_over}
 use Rattle.tbl_load.proofs.tables.TblCore.release_address.Goals as goal
 
 pub release_address-result-requires : goal.release_address-result-requires

@@ -1,8 +1,8 @@
 use Rattle.std.proofs.Common.{refl}
 use Rattle.tbl_words.specs.declared.history.Call.TheVariants.{Share}
 use Rattle.tbl_load.proofs.CoreBags.{bags_over}
-use Rattle.tbl_load.proofs.Made.{made_quiet, quiet_bags, nothing_due, shared-nothing}
-use Rattle.tbl_load.proofs.Over.{may_act, handle_left, may_push, stands_over, does_over}
+use Rattle.tbl_load.proofs.CallEffects.{made_quiet, quiet_bags, nothing_due, shared-nothing}
+use Rattle.tbl_load.proofs.EntryLemma.{may_act, handle_left, may_push, stands_over, does_over}
 use Rattle.tbl_load.proofs.tables.TblCore.share.Goals as goal
 
 pub share-result-requires : goal.share-result-requires

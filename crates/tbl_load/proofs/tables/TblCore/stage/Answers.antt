@@ -1,8 +1,8 @@
 use Rattle.std.proofs.Common.{refl}
 use Rattle.tbl_words.specs.declared.history.Call.TheVariants.{Stage}
 use Rattle.tbl_load.proofs.CoreBags.{bags_over}
-use Rattle.tbl_load.proofs.Made.{made_quiet, quiet_bags, nothing_due, done-nothing}
-use Rattle.tbl_load.proofs.Over.{may_act, may_push, stands_over, does_over}
+use Rattle.tbl_load.proofs.CallEffects.{made_quiet, quiet_bags, nothing_due, done-nothing}
+use Rattle.tbl_load.proofs.EntryLemma.{may_act, may_push, stands_over, does_over}
 use Rattle.tbl_load.proofs.tables.TblCore.stage.Goals as goal
 
 pub stage-result-requires : goal.stage-result-requires

@@ -1,8 +1,8 @@
 use Rattle.std.proofs.Common.{refl}
 use Rattle.tbl_words.specs.declared.history.Call.TheVariants.{Status}
 use Rattle.tbl_load.proofs.CoreBags.{bags_over}
-use Rattle.tbl_load.proofs.Made.{made_quiet, quiet_bags, nothing_due, figures-nothing}
-use Rattle.tbl_load.proofs.Over.{may_act, few_versions, may_push, stands_over, does_over}
+use Rattle.tbl_load.proofs.CallEffects.{made_quiet, quiet_bags, nothing_due, figures-nothing}
+use Rattle.tbl_load.proofs.EntryLemma.{may_act, few_versions, may_push, stands_over, does_over}
 use Rattle.tbl_load.proofs.tables.TblCore.status.Goals as goal
 
 pub status-result-requires : goal.status-result-requires

@@ -9,9 +9,9 @@ use Rattle.tbl_registry.specs.Listing.{is_registered}
 use Rattle.tbl_blocks.specs.Blocks.{Stored}
 use Rattle.tbl_blocks.specs.Contents.{content_at, older_in, without_staged}
 use Rattle.tbl_plain.proofs.Aborts.{unstaged_abort, staged_abort, aborted_here, aborted_keeps}
-use Rattle.tbl_plain.proofs.Beside.{beside_keeps, beside_acts}
-use Rattle.tbl_plain.proofs.Called.{own_content, call_barred, call_asked, call_refused}
-use Rattle.tbl_plain.proofs.Reached.{reaches}
+use Rattle.tbl_plain.proofs.OtherVersions.{beside_keeps, beside_acts}
+use Rattle.tbl_plain.proofs.TableQuestions.{own_content, call_barred, call_asked, call_refused}
+use Rattle.tbl_plain.proofs.HandleCalls.{reaches}
 use Rattle.tbl_plain.proofs.Registers.{none_staged}
 use Rattle.tbl_plain.proofs.plain.PlainTables.abort_load.Goals as goal
 

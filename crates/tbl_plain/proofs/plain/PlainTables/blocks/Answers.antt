@@ -3,7 +3,7 @@ use Rattle.es_pool.specs.Account.{IsAccountOf}
 use Rattle.tbl_words.specs.Tables.{account_of}
 use Rattle.tbl_plain.specs.Blocks.{AreTableBlocks}
 use Rattle.tbl_plain.specs.Core.{Plain}
-use Rattle.tbl_plain.proofs.Located.{are_table_blocks}
+use Rattle.tbl_plain.proofs.TablePlaces.{are_table_blocks}
 use Rattle.tbl_plain.proofs.plain.PlainTables.blocks.Goals as goal
 
 pub returns-clause-blocks : goal.returns-clause-blocks

@@ -1,4 +1,4 @@
-use Rattle.tbl_plain.proofs.Standing.{first_here}
+use Rattle.tbl_plain.proofs.Standings.{first_here}
 use Rattle.tbl_plain.proofs.plain.PlainTables.first_of.Goals as goal
 
 pub returns : goal.returns

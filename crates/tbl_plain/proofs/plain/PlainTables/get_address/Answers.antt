@@ -2,14 +2,14 @@ use Rattle.std.proofs.Common.{cond, eqb, Option, None, refl, ap, sym, ◌∙◌,
 use Rattle.std.proofs.lemmas.Result.{err_from_is_err_and}
 use Rattle.lend_block.specs.Loan.{LentBytes}
 use Rattle.tbl_words.specs.declared.history.Call.TheVariants.{GetAddress}
-use Rattle.tbl_registry.proofs.Numbered.{same_number}
+use Rattle.tbl_registry.proofs.HandleNumbers.{same_number}
 use Rattle.tbl_blocks.specs.Held.{held_at}
 use Rattle.tbl_plain.specs.Core.{Plain, Holds}
 use Rattle.tbl_plain.proofs.Addresses.{between_open_at, view_room_at, address_keeps, address_acts, address_bag}
 use Rattle.tbl_plain.proofs.Bags.{known_handle}
-use Rattle.tbl_plain.proofs.Called.{own_content, call_barred, call_asked}
+use Rattle.tbl_plain.proofs.TableQuestions.{own_content, call_barred, call_asked}
 use Rattle.tbl_plain.proofs.Others.{given_others, given_itself}
-use Rattle.tbl_plain.proofs.Reached.{reaches, app_reached}
+use Rattle.tbl_plain.proofs.HandleCalls.{reaches, app_reached}
 use Rattle.tbl_plain.proofs.Returns.{its_view, views_out, room_left}
 use Rattle.tbl_plain.proofs.plain.PlainTables.get_address.Goals as goal
 

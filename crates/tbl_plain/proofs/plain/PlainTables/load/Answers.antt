@@ -9,9 +9,9 @@ use Rattle.tbl_registry.specs.Listing.{is_registered}
 use Rattle.tbl_blocks.specs.Blocks.{Stored}
 use Rattle.tbl_blocks.specs.Contents.{content_at}
 use Rattle.tbl_plain.specs.Inside.{means}
-use Rattle.tbl_plain.proofs.Called.{table_by, own_content, call_barred, call_asked, call_refused, barred_behind_last, refused_behind_last, locked_behind_last}
+use Rattle.tbl_plain.proofs.TableQuestions.{table_by, own_content, call_barred, call_asked, call_refused, barred_behind_last, refused_behind_last, locked_behind_last}
 use Rattle.tbl_plain.proofs.Loads.{load_checked, loaded_so, is_next, never_next, next_here, next_left}
-use Rattle.tbl_plain.proofs.Reached.{reaches}
+use Rattle.tbl_plain.proofs.HandleCalls.{reaches}
 use Rattle.tbl_plain.proofs.Stagings.{stage_alike, staging_refused, can_stage, none_apart, locked_alike, unlent}
 use Rattle.tbl_plain.proofs.Updates.{update_keeps, update_acts}
 use Rattle.tbl_plain.proofs.Validations.{row_rules, row_fits}

@@ -1,6 +1,6 @@
 use Rattle.std.proofs.Common.{ap, ◌∙◌}
 use Rattle.fsw_base.specs.Limits.{limits_of}
-use Rattle.tbl_plain.proofs.Opened.{with_sizes, opened_plain, opened_keeps}
+use Rattle.tbl_plain.proofs.NewCores.{with_sizes, opened_plain, opened_keeps}
 use Rattle.tbl_plain.proofs.plain.PlainTables.new.Goals as goal
 
 pub invariant_of-result : goal.invariant_of-result

@@ -1,7 +1,7 @@
 use Rattle.std.proofs.Common.{true, false, length, Some, None, sym, refl, ◌∙◌, arith}
 use Rattle.tbl_words.specs.declared.statuses.TblStatus.TheVariants.{ErrRegistryFull, ErrHandlesFull, ErrMemBlockSize}
 use Rattle.tbl_words.specs.Machine.{new_table_cause}
-use Rattle.tbl_plain.proofs.After.{at_core}
+use Rattle.tbl_plain.proofs.CallLaws.{at_core}
 use Rattle.tbl_plain.proofs.RegisterCalls.{below, at_least, new_table_checked}
 use Rattle.tbl_plain.proofs.plain.PlainTables.new_table_cause.Goals as goal
 

@@ -20,26 +20,26 @@ overflow_cast-row c = omega (arith, (has_content c.self.inside c.self.invariant 
 pub recall_versions-requires : goal.recall_versions-requires
 recall_versions-requires c = (has_content c.self.inside c.self.invariant c.recall_ties.ensures c.args.handle c.in-Some.row (sym c.find.ensures ∙ c.in-Some.is)).present
 
-pub returns-then-row-its-clause-apart : goal.returns-then-row-its-clause-apart
-returns-then-row-its-clause-apart c =
+pub returns-then-row-other_row-clause-apart : goal.returns-then-row-other_row-clause-apart
+returns-then-row-other_row-clause-apart c =
     subst (λ (core : Plain). AreTwoLoans core c.args.handle c.args.other) c.self.view_is
-    (two_versions c.self.inside c.self.invariant c.recall_ties.ensures c.args.handle c.args.other c.in-Some.row c.in-Some-find.its (sym c.find.ensures ∙ c.in-Some.is) (sym c.find-2.ensures ∙ c.in-Some-find.is)
-    c.if-row-its.true c.recall_versions.ensures.apart)
+    (two_versions c.self.inside c.self.invariant c.recall_ties.ensures c.args.handle c.args.other c.in-Some.row c.in-Some-find.other_row (sym c.find.ensures ∙ c.in-Some.is) (sym c.find-2.ensures ∙ c.in-Some-find.is)
+    c.if-row-other_row.true c.recall_versions.ensures.apart)
 
 pub overflow_cast-row-2 : goal.overflow_cast-row-2
 overflow_cast-row-2 c = omega (arith, (has_content c.self.inside c.self.invariant c.recall_ties.ensures c.args.handle c.in-Some.row (sym c.find.ensures ∙ c.in-Some.is)).small)
 
-pub overflow_cast-its : goal.overflow_cast-its
-overflow_cast-its c = omega (arith, (has_content c.self.inside c.self.invariant c.recall_ties.ensures c.args.other c.in-Some-find.its (sym c.find-2.ensures ∙ c.in-Some-find.is)).small)
+pub overflow_cast-other_row : goal.overflow_cast-other_row
+overflow_cast-other_row c = omega (arith, (has_content c.self.inside c.self.invariant c.recall_ties.ensures c.args.other c.in-Some-find.other_row (sym c.find-2.ensures ∙ c.in-Some-find.is)).small)
 
 pub recall_apart-requires-clause-open : goal.recall_apart-requires-clause-open
 recall_apart-requires-clause-open c = (has_content c.self.inside c.self.invariant c.recall_ties.ensures c.args.handle c.in-Some.row (sym c.find.ensures ∙ c.in-Some.is)).present
 
 pub recall_apart-requires-clause-other_open : goal.recall_apart-requires-clause-other_open
-recall_apart-requires-clause-other_open c = (has_content c.self.inside c.self.invariant c.recall_ties.ensures c.args.other c.in-Some-find.its (sym c.find-2.ensures ∙ c.in-Some-find.is)).present
+recall_apart-requires-clause-other_open c = (has_content c.self.inside c.self.invariant c.recall_ties.ensures c.args.other c.in-Some-find.other_row (sym c.find-2.ensures ∙ c.in-Some-find.is)).present
 
 pub returns-clause-apart : goal.returns-clause-apart
 returns-clause-apart c =
     subst (λ (core : Plain). AreTwoLoans core c.args.handle c.args.other) c.self.view_is
-    (two_tables c.self.inside c.self.invariant c.recall_ties.ensures c.args.handle c.args.other c.in-Some.row c.in-Some-find.its (sym c.find.ensures ∙ c.in-Some.is) (sym c.find-2.ensures ∙ c.in-Some-find.is)
+    (two_tables c.self.inside c.self.invariant c.recall_ties.ensures c.args.handle c.args.other c.in-Some.row c.in-Some-find.other_row (sym c.find.ensures ∙ c.in-Some.is) (sym c.find-2.ensures ∙ c.in-Some-find.is)
     c.recall_apart.ensures.apart)

@@ -1,4 +1,4 @@
-use Rattle.tbl_plain.proofs.Standing.{rise_here, still_here}
+use Rattle.tbl_plain.proofs.Standings.{rise_here, still_here}
 use Rattle.tbl_plain.proofs.plain.PlainTables.recall_handles.Goals as goal
 
 pub returns-clause-rise : goal.returns-clause-rise

@@ -10,12 +10,12 @@ use Rattle.tbl_blocks.specs.Blocks.{Opens}
 use Rattle.tbl_blocks.specs.Contents.{content_at, is_open}
 use Rattle.tbl_plain.specs.Core.{Acts}
 use Rattle.tbl_plain.specs.Inside.{plain_of}
-use Rattle.tbl_plain.proofs.After.{at_fields}
-use Rattle.tbl_registry.proofs.Numbered.{same_number, other_number}
+use Rattle.tbl_plain.proofs.CallLaws.{at_fields}
+use Rattle.tbl_registry.proofs.HandleNumbers.{same_number, other_number}
 use Rattle.tbl_plain.proofs.Shares.{is_named, share_there}
 use Rattle.tbl_plain.proofs.Registers.{found_new, owner_key, key_within, key_small, key_closed}
 use Rattle.tbl_plain.proofs.RegisterCalls.{not_so, some_is, register_unowned, register_other_size, owner_live, register_again, register_full}
-use Rattle.tbl_plain.proofs.Registered.{on_ok, registered_fits, registered_all_keeps, registered_all_acts}
+use Rattle.tbl_plain.proofs.NewTables.{on_ok, registered_fits, registered_all_keeps, registered_all_acts}
 use Rattle.tbl_plain.proofs.Shares.{number_left}
 use Rattle.tbl_plain.proofs.plain.PlainTables.register.Goals as goal
 

@@ -7,7 +7,7 @@ use Rattle.tbl_blocks.specs.Held.{held_at}
 use Rattle.tbl_plain.specs.Core.{Plain, Holds}
 use Rattle.tbl_plain.proofs.Access.{access_by, refused_here, owned_here, app_of}
 use Rattle.tbl_plain.proofs.Addresses.{release_keeps, release_acts, release_bag}
-use Rattle.tbl_plain.proofs.After.{acts_refused}
+use Rattle.tbl_plain.proofs.CallLaws.{acts_refused}
 use Rattle.tbl_plain.proofs.Bags.{known_handle}
 use Rattle.tbl_plain.proofs.Figures.{has_content}
 use Rattle.tbl_plain.proofs.Others.{taken_others, taken_itself}

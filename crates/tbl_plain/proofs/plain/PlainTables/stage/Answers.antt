@@ -6,9 +6,9 @@ use Rattle.tbl_words.specs.Tables as state
 use Rattle.tbl_words.specs.Machine.{with_range, stage_cause, with_staged}
 use Rattle.tbl_blocks.specs.Contents.{content_at, staged_by}
 use Rattle.tbl_plain.specs.Inside.{means}
-use Rattle.tbl_plain.proofs.Beside.{beside_keeps, beside_acts}
-use Rattle.tbl_plain.proofs.Called.{own_content, call_barred, call_asked, call_refused}
-use Rattle.tbl_plain.proofs.Reached.{reaches}
+use Rattle.tbl_plain.proofs.OtherVersions.{beside_keeps, beside_acts}
+use Rattle.tbl_plain.proofs.TableQuestions.{own_content, call_barred, call_asked, call_refused}
+use Rattle.tbl_plain.proofs.HandleCalls.{reaches}
 use Rattle.tbl_plain.proofs.Stagings.{staged_so, whole_for, can_stage, none_apart, stage_alike, staged_keeps}
 use Rattle.tbl_plain.proofs.plain.PlainTables.stage.Goals as goal
 

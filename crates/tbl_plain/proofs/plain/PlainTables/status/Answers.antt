@@ -5,7 +5,7 @@ use Rattle.tbl_words.specs.declared.calls.TblState.{TblState}
 use Rattle.tbl_words.specs.declared.calls.TblAnswer.TheVariants.{State}
 use Rattle.tbl_registry.specs.Listing.{handle_at}
 use Rattle.tbl_plain.specs.Core.{Acts}
-use Rattle.tbl_plain.proofs.After.{acts_refused}
+use Rattle.tbl_plain.proofs.CallLaws.{acts_refused}
 use Rattle.tbl_plain.proofs.Access.{access_by, refused_here, owned_here}
 use Rattle.tbl_plain.proofs.Figures.{has_content, status_acts}
 use Rattle.tbl_plain.proofs.plain.PlainTables.status.Goals as goal

@@ -7,9 +7,9 @@ use Rattle.tbl_words.specs.Machine.{validate_cause, with_validated}
 use Rattle.tbl_registry.specs.Listing.{is_registered}
 use Rattle.tbl_blocks.specs.Blocks.{Stored}
 use Rattle.tbl_blocks.specs.Contents.{content_at, validated}
-use Rattle.tbl_plain.proofs.Beside.{beside_keeps, beside_acts}
-use Rattle.tbl_plain.proofs.Called.{own_content, call_barred, call_asked, call_refused}
-use Rattle.tbl_plain.proofs.Reached.{reaches}
+use Rattle.tbl_plain.proofs.OtherVersions.{beside_keeps, beside_acts}
+use Rattle.tbl_plain.proofs.TableQuestions.{own_content, call_barred, call_asked, call_refused}
+use Rattle.tbl_plain.proofs.HandleCalls.{reaches}
 use Rattle.tbl_plain.proofs.Registers.{none_staged}
 use Rattle.tbl_plain.proofs.Validations.{unstaged_cause, staged_checked, validated_here, validated_keeps, row_rules, row_fits}
 use Rattle.tbl_plain.proofs.plain.PlainTables.validate.Goals as goal

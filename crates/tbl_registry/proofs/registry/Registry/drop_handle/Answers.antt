@@ -3,7 +3,7 @@ use Rattle.std.specs.Option.{option_map_or}
 use Rattle.tbl_registry.specs.declared.rows.Handle.{Handle}
 use Rattle.tbl_registry.specs.Listing.{Listing, handle_at, has_handle, without_handle}
 use Rattle.tbl_registry.specs.Inside.{listing_of, IsKept, AreRising, HasNumber}
-use Rattle.tbl_registry.proofs.Numbered.{found, not_live, removed}
+use Rattle.tbl_registry.proofs.HandleNumbers.{found, not_live, removed}
 use Rattle.tbl_registry.proofs.Keeps.{kept_dropped}
 use Rattle.tbl_registry.proofs.registry.Registry.drop_handle.Goals as goal
 

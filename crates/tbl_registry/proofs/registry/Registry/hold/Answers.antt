@@ -2,7 +2,7 @@ use Rattle.std.proofs.Common.{◌≢◌, All, refl, sym, ap, ◌∙◌, subst, a
 use Rattle.tbl_registry.specs.declared.rows.Handle.{Handle}
 use Rattle.tbl_registry.specs.Listing.{Listing, with_handle, with_hold}
 use Rattle.tbl_registry.specs.Inside.{listing_of, IsKept, HasNumber}
-use Rattle.tbl_registry.proofs.Numbered.{changed, unchanged}
+use Rattle.tbl_registry.proofs.HandleNumbers.{changed, unchanged}
 use Rattle.tbl_registry.proofs.Keeps.{kept_changed}
 use Rattle.tbl_registry.proofs.registry.Registry.hold.Goals as goal
 

@@ -2,7 +2,7 @@ use Rattle.std.proofs.Common.{◌↔◌, IsTrue, subst}
 use Rattle.tbl_words.specs.Entries.{call_of}
 use Rattle.tbl_load.specs.Core.{MayCall}
 use Rattle.tbl_service.specs.Ports.{PortView}
-use Rattle.tbl_service.proofs.Allowed.{permitted}
+use Rattle.tbl_service.proofs.PermitTests.{permitted}
 use Rattle.tbl_service.proofs.ports.TblPort.may_make.Goals as goal
 
 pub returns : goal.returns

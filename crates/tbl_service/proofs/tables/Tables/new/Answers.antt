@@ -3,8 +3,8 @@ use Rattle.tbl_load.specs.Core.{Core}
 use Rattle.tbl_service.specs.Ports.{MainView}
 use Rattle.tbl_service.proofs.tables.Tables.new.Goals as goal
 
-pub new-service-requires : goal.new-service-requires
-new-service-requires c = ap (λ (k : Core). k.log.entries) c.in_ok-core.ensures
+pub new-requires-2 : goal.new-requires-2
+new-requires-2 c = ap (λ (k : Core). k.log.entries) c.in_ok-core.ensures
 
 pub invariant_of-result-2 : goal.invariant_of-result-2
 invariant_of-result-2 c =

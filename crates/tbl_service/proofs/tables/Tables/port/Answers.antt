@@ -8,17 +8,17 @@ use Rattle.tbl_load.specs.Core.{Core}
 use Rattle.tbl_service.specs.Inside.{with_bag}
 use Rattle.tbl_service.specs.Ports.{PortView, DoneView, MainView}
 use Rattle.tbl_service.proofs.Openings.{fresh_permits}
-use Rattle.tbl_service.proofs.Unowned.{empty_bag}
+use Rattle.tbl_service.proofs.EmptyBags.{empty_bag}
 use Rattle.tbl_service.proofs.tables.Tables.port.Goals as goal
 
 -- a port of an application that made no call, with this bag, and a bag with nothing in it
-fresh_port : TableId → ℕ → Core → HeldViews → PortView
+abbrev fresh_port : TableId → ℕ → Core → HeldViews → PortView
 fresh_port lock app seen bag = record { lock = lock; app = app; seen = seen; mine = []; bag = bag }
 
-empty_views : ℕ → HeldViews
+abbrev empty_views : ℕ → HeldViews
 empty_views room = record { views = []; room = room }
 
-with_one_more : ℕ → MainView → MainView
+abbrev with_one_more : ℕ → MainView → MainView
 with_one_more app main = record main { apps = main.apps ++ app ∷ [] }
 
 pub port-port-requires-clause-main : goal.port-port-requires-clause-main

@@ -2,7 +2,7 @@ use Rattle.std.proofs.Common.{arith}
 use Rattle.std.specs.Prelude.{◌==◌}
 use prog.Atomic.{either}
 use Rattle.turn_lock.proofs.TakesTurns.{seize_keeps_as}
-use Rattle.turn_lock.proofs.Counting.{seized}
+use Rattle.turn_lock.proofs.LockWords.{seized}
 use Rattle.turn_lock.proofs.board.Board.seize.Goals as goal
 
 pub compare_exchange-requires : goal.compare_exchange-requires

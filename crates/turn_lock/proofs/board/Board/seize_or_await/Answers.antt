@@ -1,6 +1,6 @@
 use Rattle.std.proofs.Common.{arith}
 use Rattle.turn_lock.proofs.TakesTurns.{seize_keeps_as}
-use Rattle.turn_lock.proofs.Counting.{awaited}
+use Rattle.turn_lock.proofs.LockWords.{awaited}
 use Rattle.turn_lock.proofs.board.Board.seize_or_await.Goals as goal
 
 pub swap-requires : goal.swap-requires

@@ -1,5 +1,5 @@
 use Rattle.std.proofs.Common.{◌∙◌, ap}
-use Rattle.turn_lock.proofs.Seated.{grows}
+use Rattle.turn_lock.proofs.SeatKnowledge.{grows}
 use Rattle.turn_lock.proofs.lock.TurnLock.give_back.Goals as goal
 
 pub pass-requires-clause-grows : goal.pass-requires-clause-grows

@@ -1,7 +1,7 @@
 use Rattle.std.proofs.Common.{◌≡◌, ◌∙◌, ◌∷◌, [], map, ap, sym, subst}
 use Rattle.turn_lock.specs.Seats.{SeatView, view_of, first_view}
 use Rattle.turn_lock.specs.Inside.{known}
-use Rattle.turn_lock.proofs.Seated.{one_seat, knows_first, main_first, away_first}
+use Rattle.turn_lock.proofs.SeatKnowledge.{one_seat, knows_first, main_first, away_first}
 use Rattle.turn_lock.proofs.seat.Seat.take_place.Goals as goal
 
 pub into_seat-requires : goal.into_seat-requires

@@ -1,7 +1,7 @@
 use Rattle.std.proofs.Common.{◌≡◌, ◌+◌, ◌-◌, ◌<◌, ◌≤◌, ◌∙◌, ◌∷◌, [], length, get_or, set, drop, refl, sym, subst, ap, arith}
 use Rattle.std.proofs.lemmas.List.{get_or_read, get_or-set_same, set-get_or, nil_from_length}
 use Rattle.bucket_list.specs.Lists.{times_in}
-use Rattle.bucket_list.proofs.Linked.{empty_or_not}
+use Rattle.bucket_list.proofs.ListInvariant.{empty_or_not}
 use Rattle.zero_copy.specs.Held.{Held, held_by, without}
 use Rattle.zero_copy.specs.Inside.{rings}
 use Rattle.zero_copy.proofs.Links.{first_in}

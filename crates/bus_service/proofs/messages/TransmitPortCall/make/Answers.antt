@@ -1,4 +1,0 @@
-use Rattle.bus_service.proofs.messages.TransmitPortCall.make.Goals as goal
-
-pub returns-clause-bag : goal.returns-clause-bag
-returns-clause-bag g c = c.transmit.ensures.bags _ _ c.requires.bag
