@@ -1,8 +1,6 @@
 mod ActiveStandings
 mod EmptyBags
-mod Laws
 mod LentBuffers
-mod Looks
 mod Openings
 pub mod OthersCalls
 mod PermitTests

@@ -9,10 +9,9 @@ ghost use Rattle.sb_calls.specs.Core.{MayCall};
 ghost use Rattle.bus_service.specs.Ports.{Answers, Adds, Takes};
 
 use crate::bus::Bus;
-use crate::kind::BusKind;
+use crate::calls::PortCall;
 use crate::ports::BusPort;
 use buf_desc::Held;
-use core_port::PortCall;
 use fsw_base::{AppNo, SbStatus};
 use sb_calls::{BusCore, Sent};
 use std::sync::Wait;
@@ -25,7 +24,7 @@ pub(crate) struct Allocate {
     size: u32,
 }
 
-impl<'r> PortCall<BusKind, BusCore<'r>> for Allocate {
+impl PortCall for Allocate {
     type Told = Result<u32, SbStatus>;
 
     ghost call = { λ c bag. made.Allocate c.size };
@@ -34,7 +33,7 @@ impl<'r> PortCall<BusKind, BusCore<'r>> for Allocate {
 
     ghost leaves = { λ c old new told. Adds c.size old new told };
 
-    fn make<L: Ledger>(
+    fn make<'r, L: Ledger>(
         self,
         core: &mut BusCore<'r>,
         app: AppNo,
@@ -54,7 +53,7 @@ pub(crate) struct TransmitBuffer {
     inc: bool,
 }
 
-impl<'r> PortCall<BusKind, BusCore<'r>> for TransmitBuffer {
+impl PortCall for TransmitBuffer {
     type Told = Result<Sent, SbStatus>;
 
     ghost call = { λ c bag. made.TransmitBuffer c.buf (bytes_at bag c.buf) c.inc };
@@ -63,7 +62,7 @@ impl<'r> PortCall<BusKind, BusCore<'r>> for TransmitBuffer {
 
     ghost leaves = { λ c old new told. Takes c.buf old new told };
 
-    fn make<L: Ledger>(
+    fn make<'r, L: Ledger>(
         self,
         core: &mut BusCore<'r>,
         app: AppNo,
@@ -81,7 +80,7 @@ pub(crate) struct Release {
     buf: u32,
 }
 
-impl<'r> PortCall<BusKind, BusCore<'r>> for Release {
+impl PortCall for Release {
     type Told = Result<(), SbStatus>;
 
     ghost call = { λ c bag. made.Release c.buf };
@@ -90,7 +89,7 @@ impl<'r> PortCall<BusKind, BusCore<'r>> for Release {
 
     ghost leaves = { λ c old new told. Takes c.buf old new told };
 
-    fn make<L: Ledger>(
+    fn make<'r, L: Ledger>(
         self,
         core: &mut BusCore<'r>,
         app: AppNo,

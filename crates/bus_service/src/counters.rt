@@ -7,10 +7,9 @@ ghost use Rattle.sb_calls.specs.Core.{MayCall};
 ghost use Rattle.bus_service.specs.Ports.{Answers};
 
 use crate::bus::Bus;
-use crate::kind::BusKind;
+use crate::calls::PortCall;
 use crate::ports::BusPort;
 use buf_desc::Held;
-use core_port::PortCall;
 use fsw_base::{AppNo, BusStats, SbStatus};
 use sb_calls::{BusCore, Sent};
 use std::sync::Wait;
@@ -20,7 +19,7 @@ use step_count::{Ledger, Steps};
 #[derive(Drop)]
 pub(crate) struct Housekeeping;
 
-impl<'r> PortCall<BusKind, BusCore<'r>> for Housekeeping {
+impl PortCall for Housekeeping {
     type Told = Result<Sent, SbStatus>;
 
     ghost call = { λ c bag. made.Housekeeping };
@@ -29,7 +28,7 @@ impl<'r> PortCall<BusKind, BusCore<'r>> for Housekeeping {
 
     ghost leaves = { λ c old new told. new ≡ old };
 
-    fn make<L: Ledger>(
+    fn make<'r, L: Ledger>(
         self,
         core: &mut BusCore<'r>,
         app: AppNo,
@@ -44,7 +43,7 @@ impl<'r> PortCall<BusKind, BusCore<'r>> for Housekeeping {
 #[derive(Drop)]
 pub(crate) struct Figures;
 
-impl<'r> PortCall<BusKind, BusCore<'r>> for Figures {
+impl PortCall for Figures {
     type Told = BusStats;
 
     ghost call = { λ c bag. made.Figures };
@@ -53,7 +52,7 @@ impl<'r> PortCall<BusKind, BusCore<'r>> for Figures {
 
     ghost leaves = { λ c old new told. new ≡ old };
 
-    fn make<L: Ledger>(
+    fn make<'r, L: Ledger>(
         self,
         core: &mut BusCore<'r>,
         app: AppNo,

@@ -7,10 +7,9 @@ ghost use Rattle.sb_calls.specs.Core.{MayCall};
 ghost use Rattle.bus_service.specs.Ports.{Answers};
 
 use crate::bus::Bus;
-use crate::kind::BusKind;
+use crate::calls::PortCall;
 use crate::ports::BusPort;
 use buf_desc::Held;
-use core_port::PortCall;
 use fsw_base::{AppNo, EventKind, EvsStatus, FilterList};
 use sb_calls::BusCore;
 use std::sync::Wait;
@@ -23,7 +22,7 @@ pub(crate) struct RegisterFilters<'a> {
     filters: &'a FilterList,
 }
 
-impl<'r> PortCall<BusKind, BusCore<'r>> for RegisterFilters<'_> {
+impl PortCall for RegisterFilters<'_> {
     type Told = ();
 
     ghost call = { λ c bag. made.Register c.filters.now };
@@ -32,7 +31,7 @@ impl<'r> PortCall<BusKind, BusCore<'r>> for RegisterFilters<'_> {
 
     ghost leaves = { λ c old new told. new ≡ old };
 
-    fn make<L: Ledger>(
+    fn make<'r, L: Ledger>(
         self,
         core: &mut BusCore<'r>,
         app: AppNo,
@@ -54,7 +53,7 @@ pub(crate) struct SendEvent<'a> {
     text: &'a [u8],
 }
 
-impl<'r> PortCall<BusKind, BusCore<'r>> for SendEvent<'_> {
+impl PortCall for SendEvent<'_> {
     type Told = Result<(), EvsStatus>;
 
     ghost call = { λ c bag. made.SendEvent c.id c.kind c.text.now };
@@ -63,7 +62,7 @@ impl<'r> PortCall<BusKind, BusCore<'r>> for SendEvent<'_> {
 
     ghost leaves = { λ c old new told. new ≡ old };
 
-    fn make<L: Ledger>(
+    fn make<'r, L: Ledger>(
         self,
         core: &mut BusCore<'r>,
         app: AppNo,
@@ -81,7 +80,7 @@ pub(crate) struct ResetFilter {
     id: u16,
 }
 
-impl<'r> PortCall<BusKind, BusCore<'r>> for ResetFilter {
+impl PortCall for ResetFilter {
     type Told = Result<(), EvsStatus>;
 
     ghost call = { λ c bag. made.ResetFilter c.id };
@@ -90,7 +89,7 @@ impl<'r> PortCall<BusKind, BusCore<'r>> for ResetFilter {
 
     ghost leaves = { λ c old new told. new ≡ old };
 
-    fn make<L: Ledger>(
+    fn make<'r, L: Ledger>(
         self,
         core: &mut BusCore<'r>,
         app: AppNo,
@@ -108,7 +107,7 @@ pub(crate) struct LogMode {
     mode: u8,
 }
 
-impl<'r> PortCall<BusKind, BusCore<'r>> for LogMode {
+impl PortCall for LogMode {
     type Told = ();
 
     ghost call = { λ c bag. made.LogMode c.mode };
@@ -117,7 +116,7 @@ impl<'r> PortCall<BusKind, BusCore<'r>> for LogMode {
 
     ghost leaves = { λ c old new told. new ≡ old };
 
-    fn make<L: Ledger>(
+    fn make<'r, L: Ledger>(
         self,
         core: &mut BusCore<'r>,
         app: AppNo,
@@ -132,7 +131,7 @@ impl<'r> PortCall<BusKind, BusCore<'r>> for LogMode {
 #[derive(Drop)]
 pub(crate) struct ClearLog;
 
-impl<'r> PortCall<BusKind, BusCore<'r>> for ClearLog {
+impl PortCall for ClearLog {
     type Told = ();
 
     ghost call = { λ c bag. made.ClearLog };
@@ -141,7 +140,7 @@ impl<'r> PortCall<BusKind, BusCore<'r>> for ClearLog {
 
     ghost leaves = { λ c old new told. new ≡ old };
 
-    fn make<L: Ledger>(
+    fn make<'r, L: Ledger>(
         self,
         core: &mut BusCore<'r>,
         app: AppNo,

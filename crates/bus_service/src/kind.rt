@@ -40,7 +40,7 @@ pub struct BusKind;
 
 impl Kind for BusKind {
     ghost use Rattle.bus_service.specs.Words.{bus};
-    ghost use Rattle.bus_service.proofs.Laws.{bus_laws};
+    ghost use Rattle.bus_service.specs.Laws.{bus_laws};
 
     type Seen = SeenBus;
 
@@ -101,7 +101,7 @@ impl<'r> PortLook<BusKind, BusCore<'r>> for LookAgain {
     ghost use Rattle.sb_calls.specs.Answers.{waited, is_pending};
     ghost use Rattle.sb_calls.specs.Core.{Looks, state_of};
     ghost use Rattle.sb_calls.specs.declared.results.Pended.TheVariants.{Pending};
-    ghost use Rattle.bus_service.proofs.Looks.{looked_in_vain, looked, same_look};
+    ghost use Rattle.bus_service.specs.Looks.{looked_in_vain, looked, same_look};
 
     type Told = Pended;
 

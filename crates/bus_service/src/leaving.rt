@@ -7,10 +7,9 @@ ghost use Rattle.sb_calls.specs.Core.{MayCall, state_of};
 ghost use Rattle.bus_service.specs.Ports.{Answers};
 
 use crate::bus::Bus;
-use crate::kind::BusKind;
+use crate::calls::PortCall;
 use crate::ports::BusPort;
 use buf_desc::Held;
-use core_port::PortCall;
 use fsw_base::AppNo;
 use sb_calls::BusCore;
 use std::sync::Wait;
@@ -20,7 +19,7 @@ use step_count::{Ledger, Steps};
 #[derive(Drop)]
 pub(crate) struct End;
 
-impl<'r> PortCall<BusKind, BusCore<'r>> for End {
+impl PortCall for End {
     type Told = ();
 
     ghost call = { λ c bag. made.End };
@@ -29,7 +28,7 @@ impl<'r> PortCall<BusKind, BusCore<'r>> for End {
 
     ghost leaves = { λ c old new told. new ≡ record old { views = []; buffers = [] } };
 
-    fn make<L: Ledger>(
+    fn make<'r, L: Ledger>(
         self,
         core: &mut BusCore<'r>,
         app: AppNo,

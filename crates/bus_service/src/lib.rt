@@ -78,6 +78,7 @@
 
 mod buffers;
 mod bus;
+mod calls;
 mod counters;
 mod events;
 mod kind;

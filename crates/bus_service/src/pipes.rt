@@ -6,11 +6,10 @@ ghost use Rattle.sb_calls.specs.Core.{MayCall};
 ghost use Rattle.bus_service.specs.Ports.{Answers};
 
 use crate::bus::Bus;
-use crate::kind::BusKind;
+use crate::calls::PortCall;
 use crate::ports::BusPort;
 use buf_desc::Held;
 use bus_words::PipeText;
-use core_port::PortCall;
 use fsw_base::{AppNo, SbStatus};
 use sb_calls::BusCore;
 use std::sync::Wait;
@@ -25,7 +24,7 @@ pub(crate) struct CreatePipe<'a> {
     name: &'a [u8],
 }
 
-impl<'r> PortCall<BusKind, BusCore<'r>> for CreatePipe<'_> {
+impl PortCall for CreatePipe<'_> {
     type Told = Result<u32, SbStatus>;
 
     ghost call = { λ c bag. made.Create c.depth c.name.now };
@@ -34,7 +33,7 @@ impl<'r> PortCall<BusKind, BusCore<'r>> for CreatePipe<'_> {
 
     ghost leaves = { λ c old new told. new ≡ old };
 
-    fn make<L: Ledger>(
+    fn make<'r, L: Ledger>(
         self,
         core: &mut BusCore<'r>,
         app: AppNo,
@@ -52,7 +51,7 @@ pub(crate) struct DeletePipe {
     pipe: u32,
 }
 
-impl<'r> PortCall<BusKind, BusCore<'r>> for DeletePipe {
+impl PortCall for DeletePipe {
     type Told = Result<(), SbStatus>;
 
     ghost call = { λ c bag. made.Delete c.pipe };
@@ -62,7 +61,7 @@ impl<'r> PortCall<BusKind, BusCore<'r>> for DeletePipe {
     ghost leaves = { λ c old new told.
         (new ≡ record old { views = new.views }) × OnErr told (new ≡ old) };
 
-    fn make<L: Ledger>(
+    fn make<'r, L: Ledger>(
         self,
         core: &mut BusCore<'r>,
         app: AppNo,
@@ -82,7 +81,7 @@ pub(crate) struct SetOpts {
     bits: u8,
 }
 
-impl<'r> PortCall<BusKind, BusCore<'r>> for SetOpts {
+impl PortCall for SetOpts {
     type Told = Result<(), SbStatus>;
 
     ghost call = { λ c bag. made.SetOpts c.pipe c.bits };
@@ -91,7 +90,7 @@ impl<'r> PortCall<BusKind, BusCore<'r>> for SetOpts {
 
     ghost leaves = { λ c old new told. new ≡ old };
 
-    fn make<L: Ledger>(
+    fn make<'r, L: Ledger>(
         self,
         core: &mut BusCore<'r>,
         app: AppNo,
@@ -109,7 +108,7 @@ pub(crate) struct GetOpts {
     pipe: u32,
 }
 
-impl<'r> PortCall<BusKind, BusCore<'r>> for GetOpts {
+impl PortCall for GetOpts {
     type Told = Result<u8, SbStatus>;
 
     ghost call = { λ c bag. made.GetOpts c.pipe };
@@ -118,7 +117,7 @@ impl<'r> PortCall<BusKind, BusCore<'r>> for GetOpts {
 
     ghost leaves = { λ c old new told. new ≡ old };
 
-    fn make<L: Ledger>(
+    fn make<'r, L: Ledger>(
         self,
         core: &mut BusCore<'r>,
         app: AppNo,
@@ -136,7 +135,7 @@ pub(crate) struct FindPipe<'a> {
     name: &'a [u8],
 }
 
-impl<'r> PortCall<BusKind, BusCore<'r>> for FindPipe<'_> {
+impl PortCall for FindPipe<'_> {
     type Told = Result<u32, SbStatus>;
 
     ghost call = { λ c bag. made.Find c.name.now };
@@ -145,7 +144,7 @@ impl<'r> PortCall<BusKind, BusCore<'r>> for FindPipe<'_> {
 
     ghost leaves = { λ c old new told. new ≡ old };
 
-    fn make<L: Ledger>(
+    fn make<'r, L: Ledger>(
         self,
         core: &mut BusCore<'r>,
         app: AppNo,
@@ -163,7 +162,7 @@ pub(crate) struct PipeName {
     pipe: u32,
 }
 
-impl<'r> PortCall<BusKind, BusCore<'r>> for PipeName {
+impl PortCall for PipeName {
     type Told = Result<PipeText, SbStatus>;
 
     ghost call = { λ c bag. made.PipeName c.pipe };
@@ -172,7 +171,7 @@ impl<'r> PortCall<BusKind, BusCore<'r>> for PipeName {
 
     ghost leaves = { λ c old new told. new ≡ old };
 
-    fn make<L: Ledger>(
+    fn make<'r, L: Ledger>(
         self,
         core: &mut BusCore<'r>,
         app: AppNo,

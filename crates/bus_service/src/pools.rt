@@ -6,10 +6,9 @@ ghost use Rattle.sb_calls.specs.Core.{MayCall};
 ghost use Rattle.bus_service.specs.Ports.{Answers};
 
 use crate::bus::Bus;
-use crate::kind::BusKind;
+use crate::calls::PortCall;
 use crate::ports::BusPort;
 use buf_desc::Held;
-use core_port::PortCall;
 use fsw_base::{AppNo, EsStatus, PoolStats};
 use sb_calls::BusCore;
 use std::sync::Wait;
@@ -22,7 +21,7 @@ pub(crate) struct PoolCreate {
     bytes: u32,
 }
 
-impl<'r> PortCall<BusKind, BusCore<'r>> for PoolCreate {
+impl PortCall for PoolCreate {
     type Told = Result<u32, EsStatus>;
 
     ghost call = { λ c bag. made.PoolCreate c.bytes };
@@ -31,7 +30,7 @@ impl<'r> PortCall<BusKind, BusCore<'r>> for PoolCreate {
 
     ghost leaves = { λ c old new told. new ≡ old };
 
-    fn make<L: Ledger>(
+    fn make<'r, L: Ledger>(
         self,
         core: &mut BusCore<'r>,
         app: AppNo,
@@ -51,7 +50,7 @@ pub(crate) struct PoolGet {
     size: u32,
 }
 
-impl<'r> PortCall<BusKind, BusCore<'r>> for PoolGet {
+impl PortCall for PoolGet {
     type Told = Result<u32, EsStatus>;
 
     ghost call = { λ c bag. made.PoolGet c.pool c.size };
@@ -60,7 +59,7 @@ impl<'r> PortCall<BusKind, BusCore<'r>> for PoolGet {
 
     ghost leaves = { λ c old new told. new ≡ old };
 
-    fn make<L: Ledger>(
+    fn make<'r, L: Ledger>(
         self,
         core: &mut BusCore<'r>,
         app: AppNo,
@@ -80,7 +79,7 @@ pub(crate) struct PoolPut {
     grant: u32,
 }
 
-impl<'r> PortCall<BusKind, BusCore<'r>> for PoolPut {
+impl PortCall for PoolPut {
     type Told = Result<(), EsStatus>;
 
     ghost call = { λ c bag. made.PoolPut c.pool c.grant };
@@ -89,7 +88,7 @@ impl<'r> PortCall<BusKind, BusCore<'r>> for PoolPut {
 
     ghost leaves = { λ c old new told. new ≡ old };
 
-    fn make<L: Ledger>(
+    fn make<'r, L: Ledger>(
         self,
         core: &mut BusCore<'r>,
         app: AppNo,
@@ -107,7 +106,7 @@ pub(crate) struct PoolFigures {
     pool: u32,
 }
 
-impl<'r> PortCall<BusKind, BusCore<'r>> for PoolFigures {
+impl PortCall for PoolFigures {
     type Told = Result<PoolStats, EsStatus>;
 
     ghost call = { λ c bag. made.PoolFigures c.pool };
@@ -116,7 +115,7 @@ impl<'r> PortCall<BusKind, BusCore<'r>> for PoolFigures {
 
     ghost leaves = { λ c old new told. new ≡ old };
 
-    fn make<L: Ledger>(
+    fn make<'r, L: Ledger>(
         self,
         core: &mut BusCore<'r>,
         app: AppNo,

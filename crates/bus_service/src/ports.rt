@@ -11,13 +11,14 @@ ghost use Rattle.bus_words.specs.Runs.{own_entries};
 ghost use Rattle.bus_service.specs.Ports.{Answers, FindsRoom, left_by};
 
 use crate::bus::Bus;
+use crate::calls::{Made, PortCall};
 use crate::kind::BusKind;
 use crate::unsent::MessageView;
 use buf_desc::{Bag, Memory};
-use core_port::{Port, PortCall};
+use core_port::Port;
 use fsw_base::AppNo;
 use lend_block::View;
-use sb_calls::{BusCore, bags_stay};
+use sb_calls::bags_stay;
 use std::marker::Model;
 use std::sync::Wait;
 
@@ -147,18 +148,14 @@ impl<'r> BusPort<'r> {
     }
 
     /// Makes one call of the core at the application's turn, which it waits for.
-    pub(crate) fn visit<R: Wait, C: PortCall<BusKind, BusCore<'r>>>(
-        &mut self,
-        bus: &Bus<'r>,
-        rt: &R,
-        call: C,
-    ) -> C::Told
+    pub(crate) fn visit<R: Wait, C: PortCall>(&mut self, bus: &Bus<'r>, rt: &R, call: C) -> C::Told
         requires bus { self.old.lock ≡ bus.now }
         requires may { MayCall self.old.seen self.old.app (C.call call self.old.bag) }
         requires room { FindsRoom self.old.bag (C.call call self.old.bag) }
         ensures answers { Answers self.old self.new (C.call call self.old.bag) (C.answer result) }
         ensures left { C.leaves call self.old.bag self.new.bag result }
     {
-        self.port.visit(&bus.service, rt, &mut self.bag, call)
+        self.port
+            .visit(&bus.service, rt, &mut self.bag, Made { call })
     }
 }

@@ -10,10 +10,10 @@ ghost use Rattle.bus_words.specs.Bus.{standing_of, waited_on};
 ghost use Rattle.bus_words.specs.declared.history.Call.TheVariants.{Look};
 
 use crate::bus::Bus;
-use crate::kind::{BusKind, LookAgain};
+use crate::calls::PortCall;
+use crate::kind::LookAgain;
 use crate::ports::BusPort;
 use buf_desc::Held;
-use core_port::PortCall;
 use fsw_base::{AppNo, SbStatus};
 use sb_calls::{BusCore, Pended};
 use std::sync::Wait;
@@ -26,7 +26,7 @@ pub(crate) struct Receive {
     pipe: u32,
 }
 
-impl<'r> PortCall<BusKind, BusCore<'r>> for Receive {
+impl PortCall for Receive {
     type Told = Result<u32, SbStatus>;
 
     ghost call = { λ c bag. made.Receive c.pipe };
@@ -36,7 +36,7 @@ impl<'r> PortCall<BusKind, BusCore<'r>> for Receive {
     ghost leaves = { λ c old new told.
         (new ≡ record old { views = new.views }) × (told ≡ Err BadArgument → new ≡ old) };
 
-    fn make<L: Ledger>(
+    fn make<'r, L: Ledger>(
         self,
         core: &mut BusCore<'r>,
         app: AppNo,
@@ -54,7 +54,7 @@ pub(crate) struct Pend {
     pipe: u32,
 }
 
-impl<'r> PortCall<BusKind, BusCore<'r>> for Pend {
+impl PortCall for Pend {
     type Told = Result<Pended, SbStatus>;
 
     ghost call = { λ c bag. made.Pend c.pipe };
@@ -64,7 +64,7 @@ impl<'r> PortCall<BusKind, BusCore<'r>> for Pend {
     ghost leaves = { λ c old new told.
         (new ≡ record old { views = new.views }) × OnErr told (new ≡ old) };
 
-    fn make<L: Ledger>(
+    fn make<'r, L: Ledger>(
         self,
         core: &mut BusCore<'r>,
         app: AppNo,

@@ -6,10 +6,9 @@ ghost use Rattle.sb_calls.specs.Core.{MayCall};
 ghost use Rattle.bus_service.specs.Ports.{Answers};
 
 use crate::bus::Bus;
-use crate::kind::BusKind;
+use crate::calls::PortCall;
 use crate::ports::BusPort;
 use buf_desc::Held;
-use core_port::PortCall;
 use fsw_base::{AppNo, SbStatus};
 use sb_calls::{BusCore, Sent};
 use std::sync::Wait;
@@ -24,7 +23,7 @@ pub(crate) struct Transmit<'a> {
     inc: bool,
 }
 
-impl<'r> PortCall<BusKind, BusCore<'r>> for Transmit<'_> {
+impl PortCall for Transmit<'_> {
     type Told = Result<Sent, SbStatus>;
 
     ghost call = { λ c bag. made.Transmit c.bytes.now c.inc };
@@ -33,7 +32,7 @@ impl<'r> PortCall<BusKind, BusCore<'r>> for Transmit<'_> {
 
     ghost leaves = { λ c old new told. new ≡ old };
 
-    fn make<L: Ledger>(
+    fn make<'r, L: Ledger>(
         self,
         core: &mut BusCore<'r>,
         app: AppNo,

@@ -6,10 +6,9 @@ ghost use Rattle.sb_calls.specs.Core.{MayCall};
 ghost use Rattle.bus_service.specs.Ports.{Answers};
 
 use crate::bus::Bus;
-use crate::kind::BusKind;
+use crate::calls::PortCall;
 use crate::ports::BusPort;
 use buf_desc::Held;
-use core_port::PortCall;
 use fsw_base::{AppNo, SbStatus, Scope};
 use sb_calls::BusCore;
 use std::sync::Wait;
@@ -28,7 +27,7 @@ pub(crate) struct Subscribe {
     scope: Scope,
 }
 
-impl<'r> PortCall<BusKind, BusCore<'r>> for Subscribe {
+impl PortCall for Subscribe {
     type Told = Result<(), SbStatus>;
 
     ghost call = { λ c bag. made.Subscribe c.id c.pipe c.limit c.scope };
@@ -37,7 +36,7 @@ impl<'r> PortCall<BusKind, BusCore<'r>> for Subscribe {
 
     ghost leaves = { λ c old new told. new ≡ old };
 
-    fn make<L: Ledger>(
+    fn make<'r, L: Ledger>(
         self,
         core: &mut BusCore<'r>,
         app: AppNo,
@@ -57,7 +56,7 @@ pub(crate) struct Unsubscribe {
     pipe: u32,
 }
 
-impl<'r> PortCall<BusKind, BusCore<'r>> for Unsubscribe {
+impl PortCall for Unsubscribe {
     type Told = Result<(), SbStatus>;
 
     ghost call = { λ c bag. made.Unsubscribe c.id c.pipe };
@@ -66,7 +65,7 @@ impl<'r> PortCall<BusKind, BusCore<'r>> for Unsubscribe {
 
     ghost leaves = { λ c old new told. new ≡ old };
 
-    fn make<L: Ledger>(
+    fn make<'r, L: Ledger>(
         self,
         core: &mut BusCore<'r>,
         app: AppNo,

@@ -1,6 +1,5 @@
 mod Allowances
 mod EmptyBags
-mod Laws
 mod Openings
 mod OthersCalls
 mod PermitTests

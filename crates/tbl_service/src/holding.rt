@@ -5,10 +5,9 @@ ghost use Rattle.tbl_plain.specs.Answers.{addressed, done};
 ghost use Rattle.tbl_load.specs.Core.{MayCall};
 ghost use Rattle.tbl_service.specs.Ports.{Answers, KeepsOthers};
 
-use crate::kind::TblKind;
+use crate::calls::PortCall;
 use crate::ports::TblPort;
 use crate::tables::Tables;
-use core_port::PortCall;
 use fsw_base::AppNo;
 use std::sync::Wait;
 use step_count::{Ledger, Steps};
@@ -21,17 +20,17 @@ pub(crate) struct GetAddress {
     handle: u32,
 }
 
-impl<'r> PortCall<TblKind, TblCore<'r>> for GetAddress {
+impl PortCall for GetAddress {
     type Told = Result<Address, TblStatus>;
 
-    ghost call = { λ c bag. made.GetAddress c.handle };
+    ghost call = { λ c. made.GetAddress c.handle };
 
     ghost answer = { addressed };
 
     ghost leaves = { λ c old new told.
         KeepsOthers c.handle old new × (new.room ≡ old.room) × OnErr told (new ≡ old) };
 
-    fn make<L: Ledger>(
+    fn make<'r, L: Ledger>(
         self,
         core: &mut TblCore<'r>,
         app: AppNo,
@@ -49,17 +48,17 @@ pub(crate) struct ReleaseAddress {
     handle: u32,
 }
 
-impl<'r> PortCall<TblKind, TblCore<'r>> for ReleaseAddress {
+impl PortCall for ReleaseAddress {
     type Told = Result<(), TblStatus>;
 
-    ghost call = { λ c bag. made.ReleaseAddress c.handle };
+    ghost call = { λ c. made.ReleaseAddress c.handle };
 
     ghost answer = { done };
 
     ghost leaves = { λ c old new told.
         KeepsOthers c.handle old new × (new.room ≡ old.room) × OnErr told (new ≡ old) };
 
-    fn make<L: Ledger>(
+    fn make<'r, L: Ledger>(
         self,
         core: &mut TblCore<'r>,
         app: AppNo,

@@ -36,7 +36,7 @@ pub struct TblKind;
 
 impl Kind for TblKind {
     ghost use Rattle.tbl_service.specs.Words.{tables};
-    ghost use Rattle.tbl_service.proofs.Laws.{table_laws};
+    ghost use Rattle.tbl_service.specs.Laws.{table_laws};
 
     type Seen = SeenTables;
 

@@ -7,10 +7,9 @@ ghost use Rattle.tbl_words.specs.Tables.{has_ended};
 ghost use Rattle.tbl_load.specs.Core.{MayCall, state_of};
 ghost use Rattle.tbl_service.specs.Ports.{Answers, KeepsOthers};
 
-use crate::kind::TblKind;
+use crate::calls::PortCall;
 use crate::ports::TblPort;
 use crate::tables::Tables;
-use core_port::PortCall;
 use fsw_base::AppNo;
 use std::sync::Wait;
 use step_count::{Ledger, Steps};
@@ -23,17 +22,17 @@ pub(crate) struct Unregister {
     handle: u32,
 }
 
-impl<'r> PortCall<TblKind, TblCore<'r>> for Unregister {
+impl PortCall for Unregister {
     type Told = Result<(), TblStatus>;
 
-    ghost call = { λ c bag. made.Unregister c.handle };
+    ghost call = { λ c. made.Unregister c.handle };
 
     ghost answer = { done };
 
     ghost leaves = { λ c old new told.
         KeepsOthers c.handle old new × (new.room ≡ old.room) × OnErr told (new ≡ old) };
 
-    fn make<L: Ledger>(
+    fn make<'r, L: Ledger>(
         self,
         core: &mut TblCore<'r>,
         app: AppNo,
@@ -48,16 +47,16 @@ impl<'r> PortCall<TblKind, TblCore<'r>> for Unregister {
 #[derive(Drop)]
 pub(crate) struct End;
 
-impl<'r> PortCall<TblKind, TblCore<'r>> for End {
+impl PortCall for End {
     type Told = ();
 
-    ghost call = { λ c bag. made.End };
+    ghost call = { λ c. made.End };
 
     ghost answer = { λ told. Done };
 
     ghost leaves = { λ c old new told. new ≡ record old { views = [] } };
 
-    fn make<L: Ledger>(
+    fn make<'r, L: Ledger>(
         self,
         core: &mut TblCore<'r>,
         app: AppNo,

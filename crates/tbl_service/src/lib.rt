@@ -48,6 +48,7 @@
 //! fairness, order in time between ports that never met, and that a port goes to another thread.
 #![tactic(auto)]
 
+mod calls;
 mod holding;
 mod kind;
 mod leaving;

@@ -5,10 +5,9 @@ ghost use Rattle.tbl_plain.specs.Answers.{done};
 ghost use Rattle.tbl_load.specs.Core.{MayCall};
 ghost use Rattle.tbl_service.specs.Ports.{Answers};
 
-use crate::kind::TblKind;
+use crate::calls::PortCall;
 use crate::ports::TblPort;
 use crate::tables::Tables;
-use core_port::PortCall;
 use fsw_base::AppNo;
 use std::sync::Wait;
 use step_count::{Ledger, Steps};
@@ -25,16 +24,16 @@ pub(crate) struct Stage<'a> {
     bytes: &'a [u8],
 }
 
-impl<'r> PortCall<TblKind, TblCore<'r>> for Stage<'_> {
+impl PortCall for Stage<'_> {
     type Told = Result<(), TblStatus>;
 
-    ghost call = { λ c bag. made.Stage c.handle c.offset c.bytes.now };
+    ghost call = { λ c. made.Stage c.handle c.offset c.bytes.now };
 
     ghost answer = { done };
 
     ghost leaves = { λ c old new told. new ≡ old };
 
-    fn make<L: Ledger>(
+    fn make<'r, L: Ledger>(
         self,
         core: &mut TblCore<'r>,
         app: AppNo,
@@ -52,16 +51,16 @@ pub(crate) struct Validate {
     handle: u32,
 }
 
-impl<'r> PortCall<TblKind, TblCore<'r>> for Validate {
+impl PortCall for Validate {
     type Told = Result<(), TblStatus>;
 
-    ghost call = { λ c bag. made.Validate c.handle };
+    ghost call = { λ c. made.Validate c.handle };
 
     ghost answer = { done };
 
     ghost leaves = { λ c old new told. new ≡ old };
 
-    fn make<L: Ledger>(
+    fn make<'r, L: Ledger>(
         self,
         core: &mut TblCore<'r>,
         app: AppNo,
@@ -79,16 +78,16 @@ pub(crate) struct Update {
     handle: u32,
 }
 
-impl<'r> PortCall<TblKind, TblCore<'r>> for Update {
+impl PortCall for Update {
     type Told = Result<(), TblStatus>;
 
-    ghost call = { λ c bag. made.Update c.handle };
+    ghost call = { λ c. made.Update c.handle };
 
     ghost answer = { done };
 
     ghost leaves = { λ c old new told. new ≡ old };
 
-    fn make<L: Ledger>(
+    fn make<'r, L: Ledger>(
         self,
         core: &mut TblCore<'r>,
         app: AppNo,
@@ -106,16 +105,16 @@ pub(crate) struct Abort {
     handle: u32,
 }
 
-impl<'r> PortCall<TblKind, TblCore<'r>> for Abort {
+impl PortCall for Abort {
     type Told = Result<(), TblStatus>;
 
-    ghost call = { λ c bag. made.Abort c.handle };
+    ghost call = { λ c. made.Abort c.handle };
 
     ghost answer = { done };
 
     ghost leaves = { λ c old new told. new ≡ old };
 
-    fn make<L: Ledger>(
+    fn make<'r, L: Ledger>(
         self,
         core: &mut TblCore<'r>,
         app: AppNo,
@@ -137,16 +136,16 @@ pub(crate) struct Load<'a> {
     bytes: &'a [u8],
 }
 
-impl<'r> PortCall<TblKind, TblCore<'r>> for Load<'_> {
+impl PortCall for Load<'_> {
     type Told = Result<(), TblStatus>;
 
-    ghost call = { λ c bag. made.Load c.handle c.offset c.bytes.now };
+    ghost call = { λ c. made.Load c.handle c.offset c.bytes.now };
 
     ghost answer = { done };
 
     ghost leaves = { λ c old new told. new ≡ old };
 
-    fn make<L: Ledger>(
+    fn make<'r, L: Ledger>(
         self,
         core: &mut TblCore<'r>,
         app: AppNo,

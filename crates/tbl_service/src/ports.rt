@@ -8,13 +8,14 @@ ghost use Rattle.tbl_load.specs.Bags.{HasBag, bytes_seen, held_bytes};
 ghost use Rattle.tbl_load.specs.Core.{MayCall, state_of};
 ghost use Rattle.tbl_service.specs.Ports.{Answers, left_by, own_entries};
 
+use crate::calls::{Made, PortCall};
 use crate::kind::TblKind;
 use crate::tables::Tables;
-use core_port::{Port, PortCall};
+use core_port::Port;
 use fsw_base::AppNo;
 use std::marker::Model;
 use std::sync::Wait;
-use tbl_load::{HeldTables, TblCore, bags_stay};
+use tbl_load::{HeldTables, bags_stay};
 
 /// One application's calls of Table Services, from a thread of its own. Each call waits for the
 /// application's turn at the core.
@@ -129,17 +130,18 @@ impl<'r> TblPort<'r> {
     }
 
     /// Makes one call of the core at the application's turn, which it waits for.
-    pub(crate) fn visit<R: Wait, C: PortCall<TblKind, TblCore<'r>>>(
+    pub(crate) fn visit<R: Wait, C: PortCall>(
         &mut self,
         tables: &Tables<'r>,
         rt: &R,
         call: C,
     ) -> C::Told
         requires tables { self.old.lock ≡ tables.now }
-        requires may { MayCall self.old.seen self.old.app (C.call call self.old.bag) }
-        ensures answers { Answers self.old self.new (C.call call self.old.bag) (C.answer result) }
+        requires may { MayCall self.old.seen self.old.app (C.call call) }
+        ensures answers { Answers self.old self.new (C.call call) (C.answer result) }
         ensures left { C.leaves call self.old.bag self.new.bag result }
     {
-        self.port.visit(&tables.service, rt, &mut self.bag, call)
+        self.port
+            .visit(&tables.service, rt, &mut self.bag, Made { call })
     }
 }

@@ -5,10 +5,9 @@ ghost use Rattle.tbl_plain.specs.Answers.{registered, shared, figures_told};
 ghost use Rattle.tbl_load.specs.Core.{MayCall};
 ghost use Rattle.tbl_service.specs.Ports.{Answers};
 
-use crate::kind::TblKind;
+use crate::calls::PortCall;
 use crate::ports::TblPort;
 use crate::tables::Tables;
-use core_port::PortCall;
 use fsw_base::AppNo;
 use std::sync::Wait;
 use step_count::{Ledger, Steps};
@@ -28,16 +27,16 @@ pub(crate) struct Register<'a> {
     rules: &'a RuleList,
 }
 
-impl<'r> PortCall<TblKind, TblCore<'r>> for Register<'_> {
+impl PortCall for Register<'_> {
     type Told = Result<Registered, TblStatus>;
 
-    ghost call = { λ c bag. made.Register c.name.now c.size c.option c.rules.now };
+    ghost call = { λ c. made.Register c.name.now c.size c.option c.rules.now };
 
     ghost answer = { registered };
 
     ghost leaves = { λ c old new told. new ≡ old };
 
-    fn make<L: Ledger>(
+    fn make<'r, L: Ledger>(
         self,
         core: &mut TblCore<'r>,
         app: AppNo,
@@ -55,16 +54,16 @@ pub(crate) struct Share<'a> {
     name: &'a [u8],
 }
 
-impl<'r> PortCall<TblKind, TblCore<'r>> for Share<'_> {
+impl PortCall for Share<'_> {
     type Told = Result<u32, TblStatus>;
 
-    ghost call = { λ c bag. made.Share c.name.now };
+    ghost call = { λ c. made.Share c.name.now };
 
     ghost answer = { shared };
 
     ghost leaves = { λ c old new told. new ≡ old };
 
-    fn make<L: Ledger>(
+    fn make<'r, L: Ledger>(
         self,
         core: &mut TblCore<'r>,
         app: AppNo,
@@ -82,16 +81,16 @@ pub(crate) struct Status {
     handle: u32,
 }
 
-impl<'r> PortCall<TblKind, TblCore<'r>> for Status {
+impl PortCall for Status {
     type Told = Result<TblState, TblStatus>;
 
-    ghost call = { λ c bag. made.Status c.handle };
+    ghost call = { λ c. made.Status c.handle };
 
     ghost answer = { figures_told };
 
     ghost leaves = { λ c old new told. new ≡ old };
 
-    fn make<L: Ledger>(
+    fn make<'r, L: Ledger>(
         self,
         core: &mut TblCore<'r>,
         app: AppNo,

@@ -10,7 +10,7 @@ pub visit-requires-clause-service : goal.visit-requires-clause-service
 visit-requires-clause-service g c = ap (λ (p : PortView). p.lock) c.self.view_is ∙ c.requires.tables ∙ sym c.tables.view_is
 
 pub visit-requires-clause-may : goal.visit-requires-clause-may
-visit-requires-clause-may g c = subst (λ (p : PortView). MayCall p.seen p.app (g.C.PortCall.call c.args.call p.bag)) (sym c.self.view_is) c.requires.may
+visit-requires-clause-may g c = subst (λ (p : PortView). MayCall p.seen p.app (g.C.PortCall.call c.args.call)) (sym c.self.view_is) c.requires.may
 
 pub visit-requires-clause-bag : goal.visit-requires-clause-bag
 visit-requires-clause-bag g c = c.self.invariant
@@ -23,8 +23,8 @@ invariant_of-self g c = subst (λ n. HasBag c.visit.new.self.seen n c.visit.new.
 
 pub returns-clause-answers : goal.returns-clause-answers
 returns-clause-answers g c =
-    subst (λ (p : PortView). Answers p (with_bag c.visit.new.self c.visit.new.bag) (g.C.PortCall.call c.args.call p.bag) (g.C.PortCall.answer c.visit.result)) c.self.view_is
-    (answered c.self.inside.port c.visit.new.self c.self.inside.bag c.visit.new.bag c.visit.ensures.bag (g.C.PortCall.call c.args.call c.self.inside.bag) (g.C.PortCall.answer c.visit.result) c.visit.ensures.answers)
+    subst (λ (p : PortView). Answers p (with_bag c.visit.new.self c.visit.new.bag) (g.C.PortCall.call c.args.call) (g.C.PortCall.answer c.visit.result)) c.self.view_is
+    (answered c.self.inside.port c.visit.new.self c.self.inside.bag c.visit.new.bag c.visit.ensures.bag (g.C.PortCall.call c.args.call) (g.C.PortCall.answer c.visit.result) c.visit.ensures.answers)
 
 pub returns-clause-left : goal.returns-clause-left
 returns-clause-left g c = subst (λ (p : PortView). g.C.PortCall.leaves c.args.call p.bag c.visit.new.bag c.visit.result) c.self.view_is c.visit.ensures.left

@@ -1,6 +1,6 @@
 use Rattle.std.proofs.Common.{ℕ, ap₂}
 use Rattle.journal_store.specs.declared.allowance.Allowance.{Allowance}
-use Rattle.bus_service.proofs.kind.BusCoreServed.permits.Goals as goal
+use Rattle.bus_service.proofs.kind.BusCoreServedBusKind.permits.Goals as goal
 
 abbrev so_much : ℕ → ℕ → Allowance
 so_much entries bytes = record { entries = entries; bytes = bytes }

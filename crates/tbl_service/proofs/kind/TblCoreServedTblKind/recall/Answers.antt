@@ -1,4 +1,4 @@
-use Rattle.tbl_service.proofs.kind.TblCoreServed.recall.Goals as goal
+use Rattle.tbl_service.proofs.kind.TblCoreServedTblKind.recall.Goals as goal
 
 pub returns : goal.returns
 returns c = record { legal = c.journal.ensures.legal; noted = c.journal.ensures.noted; loans = c.journal.ensures.loans }
