@@ -10,7 +10,7 @@ use Rattle.core_port.specs.Words.{Fixed, Laws}
 use Rattle.bus_service.specs.Words.{IsSound, bus}
 use Rattle.bus_words.proofs.OwnEntries.{callers_from_one}
 use Rattle.sb_calls.proofs.Notes.{even-due}
-use Rattle.bus_service.proofs.OthersCalls.{may_meanwhile}
+use Rattle.sb_calls.proofs.OthersCalls.{may_meanwhile}
 
 -- where the notes of a history are due, so are those of its two parts
 due-parts : (es more : List Entry) (ns fresh : List Note) → length ns ≡ length es → AreDue (es ++ more) (ns ++ fresh) → AreDue es ns × AreDue more fresh

@@ -1,8 +1,5 @@
-mod Allowances
 mod EmptyBags
 mod Openings
-mod OthersCalls
 mod PermitTests
-mod Standings
 pub mod Threads
 mod Visits

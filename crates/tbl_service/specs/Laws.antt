@@ -8,9 +8,9 @@ use Rattle.tbl_load.specs.Core.{apps_of}
 use Rattle.tbl_load.specs.Notes.{AreDue, note_due}
 use Rattle.core_port.specs.Words.{Fixed, Laws}
 use Rattle.tbl_service.specs.Words.{IsSound, tables}
-use Rattle.tbl_service.proofs.Standings.{callers_from_one}
+use Rattle.tbl_load.proofs.Standings.{callers_from_one}
 use Rattle.tbl_load.proofs.Notes.{even-due}
-use Rattle.tbl_service.proofs.OthersCalls.{may_meanwhile}
+use Rattle.tbl_load.proofs.OthersCalls.{may_meanwhile}
 
 -- where the notes of a history are due, so are those of its two parts
 due-parts : (es more : List Entry) (ns fresh : List Note) → length ns ≡ length es → AreDue (es ++ more) (ns ++ fresh) → AreDue es ns × AreDue more fresh

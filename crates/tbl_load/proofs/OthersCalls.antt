@@ -14,8 +14,8 @@ use Rattle.tbl_words.specs.Machine.{LegalFrom, state_from, step}
 use Rattle.tbl_load.specs.Bags.{CalledByOthers}
 use Rattle.tbl_load.specs.Core.{Core, MayCall, apps_of, state_of}
 use Rattle.tbl_load.proofs.Journals.{length-left_of}
-use Rattle.tbl_service.proofs.Allowances.{charged_other}
-use Rattle.tbl_service.proofs.Standings.{callers_from_one, stays_apart, opened}
+use Rattle.tbl_load.proofs.Allowances.{charged_other}
+use Rattle.tbl_load.proofs.Standings.{callers_from_one, stays_apart, opened}
 
 -- Two parts of a history. --
 
