@@ -331,6 +331,22 @@ impl<'r> Desk<'r> {
         }
     }
 
+    /// Gives a sealed block without uses, of which no view is out, back to the pool. No effect
+    /// where it has uses. At most 8 steps.
+    pub fn settle<L: Ledger>(&mut self, desc: u32, steps: &mut Steps<L>)
+        requires sealed { is_sealed (slot_at self.old.slots desc) ≡ true }
+        requires all_back { (sealed_at self.old.slots desc).uses ≡ 0 →
+            (sealed_at self.old.slots desc).views ≡ 0 }
+        ensures after { self.new ≡ after_settle self.old desc }
+        ensures cost { steps.new ≤ steps.old + 8 }
+    {
+        if uses_at(&self.slots, desc) > 0 {
+            return;
+        }
+        reopen(&mut self.slots, desc);
+        self.pool.put(desc, steps).unwrap();
+    }
+
     /// Counts so many uses of a sealed block that has none, and of which no view is out. Where
     /// there are none to count, it goes back to the pool. At most 8 steps.
     pub fn settle_at<L: Ledger>(&mut self, desc: u32, uses: u32, steps: &mut Steps<L>)
