@@ -1,5 +1,6 @@
 -- How many calls an application may still make, and what calls leave.
-use Rattle.std.specs.Prelude.{◌≡◌, ℕ, ◌+◌, ◌^◌, ◌<◌, ◌≤◌}
+use Rattle.std.specs.Prelude.{◌≡◌, ℕ, ◌+◌, ◌^◌, ◌<◌, ◌≤◌, []}
+use Rattle.bus_words.specs.Acts.{opening_whole}
 use Rattle.bus_words.specs.Bus.{Active, standing_of}
 use Rattle.sb_plain.specs.Core.{Plain, apps_in}
 
@@ -19,3 +20,12 @@ pub record Made (old new : Plain) (opened calls : ℕ) : Type 0 where
   pub pipes : new.whole.bus.pipes_created ≤ old.whole.bus.pipes_created + opened
   pub subscriptions : new.whole.bus.subscriptions_made ≤ old.whole.bus.subscriptions_made + opened
   pub sends : new.whole.bus.numbers_given ≤ old.whole.bus.numbers_given + calls
+
+-- a bus of one application on which no call was made
+abbrev pub IsUnused : Plain → Type 0
+IsUnused core = core ≡ record {
+  limits = core.limits;
+  whole = opening_whole core.limits 1;
+  loans = [];
+  descs = [];
+}

@@ -1,9 +1,8 @@
 //! Buffers that are written where they are sent from.
-ghost use Rattle.std.specs.Prelude.{◌≡◌, ◌*◌, ◌+◌, ◌<◌, ◌≤◌, [], length};
-ghost use Rattle.bus_words.specs.Acts.{opening_whole};
+ghost use Rattle.std.specs.Prelude.{◌≡◌, ◌*◌, ◌+◌, ◌<◌, ◌≤◌, length};
 ghost use Rattle.buf_desc.specs.Held.{bytes_at};
 ghost use Rattle.sb_plain.specs.Bags.{HasBag};
-ghost use Rattle.cost_bus.specs.Calls.{MayMake, Made};
+ghost use Rattle.cost_bus.specs.Calls.{MayMake, Made, IsUnused};
 ghost use Rattle.cost_bus.specs.Written.{IsWrittenOver};
 
 use crate::figures::Figures;
@@ -60,13 +59,7 @@ fn carry_buffers<'r, L: Ledger>(
     requires name { blank.name ≡ L.name }
     requires parts { blank.parts ≡ L.parts }
     requires some_part { 0 < blank.parts }
-    requires unused { core.old ≡
-        record {
-          limits = core.old.limits;
-          whole = opening_whole core.old.limits 1;
-          loans = [];
-          descs = [];
-        } }
+    requires unused { IsUnused core.old }
     requires rounds { rounds ≤ 100000000000 }
 {
     let app = AppNo::try_new(1).unwrap();

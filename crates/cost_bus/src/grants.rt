@@ -1,7 +1,6 @@
 //! Grants of a memory pool.
-ghost use Rattle.std.specs.Prelude.{◌≡◌, ◌<◌, ◌≤◌, [], length};
-ghost use Rattle.bus_words.specs.Acts.{opening_whole};
-ghost use Rattle.cost_bus.specs.Calls.{MayMake, Made};
+ghost use Rattle.std.specs.Prelude.{◌≡◌, ◌<◌, ◌≤◌, length};
+ghost use Rattle.cost_bus.specs.Calls.{MayMake, Made, IsUnused};
 
 use crate::buffers::BUFFER_SIZE;
 use crate::figures::Figures;
@@ -46,13 +45,7 @@ fn take_grants<L: Ledger>(core: &mut PlainBus<'_>, rounds: u64, blank: Blank) ->
     requires name { blank.name ≡ L.name }
     requires parts { blank.parts ≡ L.parts }
     requires some_part { 0 < blank.parts }
-    requires unused { core.old ≡
-        record {
-          limits = core.old.limits;
-          whole = opening_whole core.old.limits 1;
-          loans = [];
-          descs = [];
-        } }
+    requires unused { IsUnused core.old }
 {
     let app = AppNo::try_new(1).unwrap();
     let mut steps = Steps::<L>::new(blank);

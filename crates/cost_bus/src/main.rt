@@ -17,8 +17,8 @@
 //! that the next buffer or grant has.
 #![tactic(auto)]
 
-ghost use Rattle.std.specs.Prelude.{◌≡◌, ◌<◌, ◌≤◌, ◌*◌, [], length};
-ghost use Rattle.bus_words.specs.Acts.{opening_whole};
+ghost use Rattle.std.specs.Prelude.{◌≡◌, ◌<◌, ◌≤◌, ◌*◌, length};
+ghost use Rattle.cost_bus.specs.Calls.{IsUnused};
 
 mod buffers;
 mod figures;
@@ -124,13 +124,7 @@ fn carry_load<'r, L: Ledger>(
     requires name { blank.name ≡ L.name }
     requires parts { blank.parts ≡ L.parts }
     requires some_part { 0 < blank.parts }
-    requires unused { core.old ≡
-        record {
-          limits = core.old.limits;
-          whole = opening_whole core.old.limits 1;
-          loans = [];
-          descs = [];
-        } }
+    requires unused { IsUnused core.old }
     requires message { (7 ≤ length message.old) × (length message.old ≤ 65542) }
     requires load { (load.turns ≤ 100000000000) × (load.dests ≤ 16) × (load.reads ≤ 16) }
 {
